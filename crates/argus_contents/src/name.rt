@@ -58,8 +58,9 @@ impl Name {
     pub fn duplicate(&self, heap: Heap) -> Result<Name, OutOfMemory>
         ensures { IfOk result (λ name. name ≡ self.now) }
     {
+        let text = &self.text;
         Ok(Name {
-            text: String::from_str(heap, self.text.as_str())?,
+            text: String::from_str(heap, text.as_str())?,
         })
     }
 }
