@@ -1,0 +1,11 @@
+pub mod Bools
+pub mod Ancestors
+pub mod Standing
+pub mod Exclusion
+pub mod Work
+pub mod Contents
+pub mod OwnerRules
+pub mod HolderSteps
+pub mod Serial
+pub mod Topactions
+pub mod Run

@@ -1,0 +1,17 @@
+pub mod Event
+pub mod History
+pub mod Numbers
+pub mod Ancestors
+pub mod Status
+pub mod Owner
+pub mod Meaning
+pub mod Holders
+pub mod Contents
+pub mod Work
+pub mod Run
+pub mod Effects
+pub mod Lawful
+pub mod Rows
+pub mod OwnerSteps
+pub mod HolderSteps
+pub mod WorkSteps
