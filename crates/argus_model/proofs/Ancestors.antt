@@ -1,12 +1,13 @@
 -- Lineages go down in number, and an ancestor's ancestors are ancestors.
-use Rattle.std.proofs.Common.{Bool, List, [], ap, arith, cond, inl, inr, refl, subst, sym, true, ℕ, ⊎_elim, ◌++◌, ◌+◌, ◌<◌, ◌∙◌, ◌∷◌, ◌≡◌, ◌≢◌, ◌≤◌, ◌⊎◌}
-use Rattle.std.specs.Prelude.{◌==◌, ◌||◌}
-use Rattle.std.proofs.lemmas.Bool.{cases_eq, eqb-true, false≢true, ne_eqb, or_cases, or_left, or_right}
+use Rattle.std.proofs.Common.{List, [], ap, arith, cond, inl, inr, refl, subst, sym, true, ℕ, ⊎_elim, ◌++◌, ◌+◌, ◌<◌, ◌∙◌, ◌∷◌, ◌≡◌, ◌≢◌, ◌≤◌, ◌⊎◌}
+use Rattle.std.specs.Prelude.{◌==◌}
+use Rattle.std.proofs.lemmas.Bool.{cases_eq, eqb-true, ne_eqb, or_cases}
 use Rattle.std.proofs.lemmas.Bool.Decides.{nat_tests}
 use Rattle.argus_model.specs.Ancestors.{is_ancestor, is_under, lineage, parent, to_base}
 use Rattle.argus_model.specs.Event.{Aborted, Accessed, Began, Committed, Origin, parent_of}
 use Rattle.argus_model.specs.History.{History, Opened, folded, next_action, ◌▹◌}
-use Rattle.argus_model.specs.Numbers.{any_of, contains}
+use Rattle.argus_model.specs.Numbers.{contains}
+use Rattle.argus_model.proofs.Numbers.{any_found, any_from, contains_first, joined}
 
 -- each parent was begun before
 abbrev pub ParentsAreOlder : {V : Type 0} → History V → Type 0
@@ -25,9 +26,6 @@ next_pos (Accessed a o v ▹ h) = next_pos h
 
 pub lineage_cases : {V : Type 0} (h : History V) (from : Origin) (y : ℕ) → ((y ≡ next_action h) × (lineage (Began from ▹ h) y ≡ y ∷ lineage h (parent_of from))) ⊎ ((y ≢ next_action h) × (lineage (Began from ▹ h) y ≡ lineage h y))
 lineage_cases h from y = grind (arith, nat_tests)
-
-pub contains_first : (x : ℕ) (ys : List ℕ) → contains (x ∷ ys) x ≡ true
-contains_first x ys = grind (arith, nat_tests)
 
 pub ancestor_self : {V : Type 0} (h : History V) (y : ℕ) → is_ancestor h y y ≡ true
 ancestor_self (Opened n) y = ⊎_elim (λ e. subst (λ u. contains (to_base u) u ≡ true) (sym e) (contains_first 0 [])) (λ ne. ap (λ b. contains (cond b (0 ∷ []) (y ∷ 0 ∷ [])) y) (ne_eqb y 0 ne) ∙ contains_first y (0 ∷ [])) (cases_eq y 0)
@@ -57,14 +55,6 @@ ancestor_le (Began from ▹ h) x y f l a = small_step (next_action h) (parent_of
 ancestor_le (Committed b ▹ h) x y f l a = ancestor_le h x y f l a
 ancestor_le (Aborted b ▹ h) x y f l a = ancestor_le h x y f l a
 ancestor_le (Accessed b o v ▹ h) x y f l a = ancestor_le h x y f l a
-
-pub joined : (xs ys : List ℕ) (x : ℕ) → contains ys x ≡ true → contains (xs ++ ys) x ≡ true
-joined [] ys x h = h
-joined (y ∷ xs) ys x h = let ih = joined xs ys x h in grind arith
-
-pub joined_left : (xs ys : List ℕ) (x : ℕ) → contains xs x ≡ true → contains (xs ++ ys) x ≡ true
-joined_left [] ys x h = absurd (false≢true h)
-joined_left (y ∷ xs) ys x h = ⊎_elim (λ k. or_left (x == y) (contains (xs ++ ys) x) k) (λ k. or_right (x == y) (contains (xs ++ ys) x) (joined_left xs ys x k)) (or_cases (x == y) (contains xs x) h)
 
 -- the trail of y, down to x
 pub record Split (ty tx : List ℕ) (x : ℕ) : Type 0 where
@@ -188,27 +178,6 @@ folded_next (Began from ▹ h) = let ih = folded_next h in omega arith
 folded_next (Committed a ▹ h) = folded_next h
 folded_next (Aborted a ▹ h) = folded_next h
 folded_next (Accessed a o v ▹ h) = folded_next h
-
--- what stands under one of these
-pub any_found : (t : ℕ → Bool) (zs : List ℕ) → any_of t zs ≡ true → (z : ℕ) × (contains zs z ≡ true) × (t z ≡ true)
-any_found t [] m = absurd (false≢true m)
-any_found t (z ∷ zs) m =
-    ⊎_elim
-    (λ e. (z, contains_first z zs, e))
-    (λ e. let w = any_found t zs e in (w.0, or_right (w.0 == z) (contains zs w.0) w.1, w.2))
-    (or_cases (t z) (any_of t zs) m)
-
-pub any_from : (t : ℕ → Bool) (zs : List ℕ) (z : ℕ) → contains zs z ≡ true → t z ≡ true → any_of t zs ≡ true
-any_from t [] z m e = absurd (false≢true m)
-any_from t (y ∷ zs) z m e =
-    ⊎_elim
-    (λ k. or_left (t y) (any_of t zs) (subst (λ u. t u ≡ true) (eqb-true z y k) e))
-    (λ k. or_right (t y) (any_of t zs) (any_from t zs z k e))
-    (or_cases (z == y) (contains zs z) m)
-
-pub any_agree : (t u : ℕ → Bool) (zs : List ℕ) → ((z : ℕ) → contains zs z ≡ true → t z ≡ u z) → any_of t zs ≡ any_of u zs
-any_agree t u [] same = refl
-any_agree t u (z ∷ zs) same = ap (λ b. b || any_of t zs) (same z (contains_first z zs)) ∙ ap (λ b. u z || b) (any_agree t u zs (λ y m. same y (or_right (y == z) (contains zs y) m)))
 
 pub under_below : {V : Type 0} (h : History V) (zs : List ℕ) (x y : ℕ) → ParentsAreOlder h → y < next_action h → is_under h zs x ≡ true → is_ancestor h x y ≡ true → is_under h zs y ≡ true
 under_below h zs x y f l u a = let w = any_found (λ z. is_ancestor h z x) zs u in any_from (λ z. is_ancestor h z y) zs w.0 w.1 (ancestor_trans h w.0 x y f l w.2 a)

@@ -1,4 +1,5 @@
 pub mod Bools
+pub mod Numbers
 pub mod Ancestors
 pub mod Standing
 pub mod Exclusion
@@ -9,3 +10,10 @@ pub mod HolderSteps
 pub mod Serial
 pub mod Topactions
 pub mod Run
+pub mod Live
+pub mod Owner
+pub mod Holders
+pub mod Sees
+pub mod Effects
+pub mod Lawful
+pub mod Rows

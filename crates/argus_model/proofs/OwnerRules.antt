@@ -9,9 +9,10 @@ use Rattle.argus_model.specs.History.{History, Opened, folded, next_action, ◌�
 use Rattle.argus_model.specs.Numbers.{any_of, contains}
 use Rattle.argus_model.specs.OwnerSteps.{handed_up, is_exactly, owner_by_steps, stands, unless_lost}
 use Rattle.argus_model.specs.Status.{has_committed, is_doomed, was_aborted}
-use Rattle.argus_model.proofs.Ancestors.{ancestor_le, ancestor_old, ancestor_old_is, ancestor_self, ancestor_trans, any_agree, lineage_cases, parent_cases}
+use Rattle.argus_model.proofs.Ancestors.{ancestor_le, ancestor_old, ancestor_old_is, ancestor_self, ancestor_trans, lineage_cases, parent_cases}
 use Rattle.argus_model.proofs.Bools.{same_bool}
 use Rattle.argus_model.proofs.Exclusion.{above_parent}
+use Rattle.argus_model.proofs.Numbers.{any_agree}
 use Rattle.argus_model.proofs.Standing.{Orderly, at_some, handed_cases, handed_from, handed_stays, kept_cases, owned_begun, owner_begun, owner_cases, parent_begun, parent_is, parents_are_older, stands_abort, stands_begun, stands_commit, stands_unfolded, stands_upward}
 
 abbrev gone : Option ℕ → Bool

@@ -12,10 +12,11 @@ use Rattle.argus_model.specs.Numbers.{contains}
 use Rattle.argus_model.specs.OwnerSteps.{handed_up, owner_by_steps, standing_child, stands, unless_lost}
 use Rattle.argus_model.specs.Work.{Access, all_of, content_after, serial_order_to, work}
 use Rattle.argus_model.specs.WorkSteps.{LawfulSteps, Replays, accesses_by, owner_passes, visible_accesses}
-use Rattle.argus_model.proofs.Ancestors.{ParentsAreOlder, Split, ancestor_le, ancestor_self, ancestor_trans, any_found, joined_left, lineage_cases, lineage_old, next_pos, parent_older, split_lineage, under_below}
+use Rattle.argus_model.proofs.Ancestors.{ParentsAreOlder, Split, ancestor_le, ancestor_self, ancestor_trans, lineage_cases, lineage_old, next_pos, parent_older, split_lineage, under_below}
 use Rattle.argus_model.proofs.Bools.{same_bool}
 use Rattle.argus_model.proofs.Contents.{accesses_by_agree, content_front, content_past, replays_on}
 use Rattle.argus_model.proofs.Exclusion.{Guarded, above_parent, exclusion, has_used_all, has_used_begun}
+use Rattle.argus_model.proofs.Numbers.{any_found, joined_left}
 use Rattle.argus_model.proofs.Standing.{Orderly, alone, at_some, handed_from, handed_stays, kept_stays, owner_begun, owner_cases, parent_begun, parents_are_older, some_at, stands_abort, stands_begun, stands_commit, stands_old, stands_upward}
 use Rattle.argus_model.proofs.Work.{all_of-append, all_of_agree, find_writer, no_work, touches, touches-all_of, touches_all, user_of}
 
