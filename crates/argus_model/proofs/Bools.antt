@@ -53,3 +53,7 @@ pub kinds_apart : (here w t r s : Bool) → ((here && true) && t || (r || s)) �
 kinds_apart false w t r s = refl
 kinds_apart true true t r s = grind arith
 kinds_apart true false t r s = grind arith
+
+pub and_none : (b : Bool) → (b && false) ≡ false
+and_none true = refl
+and_none false = refl

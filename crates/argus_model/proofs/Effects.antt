@@ -20,7 +20,7 @@ use Rattle.argus_model.proofs.Contents.{content_past}
 use Rattle.argus_model.proofs.Exclusion.{has_used_begun, has_used_cases}
 use Rattle.argus_model.proofs.HolderSteps.{used_by_found, used_by_from}
 use Rattle.argus_model.proofs.Numbers.{contains_first, contains_insert, insert-IsRising}
-use Rattle.argus_model.proofs.Serial.{lineage-base, orderly, root_serial, serial_to-base, serials}
+use Rattle.argus_model.proofs.Serial.{base_serial, lineage-base, orderly, serial_to-base, serials}
 use Rattle.argus_model.proofs.Standing.{Orderly, at_some, handed_cases, kept_cases, owner_cases, parents_are_older, some_at, stands_begun}
 use Rattle.argus_model.proofs.Topactions.{serial_tops, tops_over}
 use Rattle.argus_model.proofs.Work.{all_of_agree, touches, user_of, work_final}
@@ -186,7 +186,7 @@ module _ {V C A : Type 0} (meaning : Meaning V C A) (opening : Opening C) where
   table_base h w o =
       table_effects_of (work h) (committed_topactions h) o
       ∙ ap (content_after meaning opening.contents o) (sym (serial_tops h (orderly meaning opening.contents h w)) ∙ sym (serial_to-base h))
-      ∙ (root_serial meaning opening.contents h w).sees o
+      ∙ (base_serial meaning opening.contents h w).sees o
 
   -- the new member: what the topaction sees in each object that it holds for writing
   pub effect_seen : (h : History V) → LawfulSteps meaning opening.contents h → (s : ℕ) → s ≢ 0 → stands h s ≡ true → parent h s ≡ 0

@@ -16,14 +16,14 @@ use Rattle.argus_model.proofs.Holders.{may_read_is, may_write_is}
 use Rattle.argus_model.proofs.Live.{child_is, live_stands}
 use Rattle.argus_model.proofs.Numbers.{every_at}
 use Rattle.argus_model.proofs.Sees.{sees_is}
-use Rattle.argus_model.proofs.Serial.{orderly, root_live}
+use Rattle.argus_model.proofs.Serial.{base_stands, orderly}
 use Rattle.argus_model.proofs.Standing.{Orderly}
 
--- the base stands
-pub base_stands : {V : Type 0} (h : History V) → Orderly h → (from : Origin) → (creator_of from == 0 || is_live h (creator_of from)) ≡ true → stands h (parent_of from) ≡ true
-base_stands h w Top e = root_live h w
-base_stands h w (Nested c) e = root_live h w
-base_stands h w (Sub p) e = ⊎_elim (λ k. subst (λ u. stands h u ≡ true) (sym (eqb-true p 0 k)) (root_live h w)) (λ k. (live_stands h w p k).1) (or_cases (p == 0) (is_live h p) e)
+-- the parent of an action that may begin
+pub parent_stands : {V : Type 0} (h : History V) → Orderly h → (from : Origin) → (creator_of from == 0 || is_live h (creator_of from)) ≡ true → stands h (parent_of from) ≡ true
+parent_stands h w Top e = base_stands h w
+parent_stands h w (Nested c) e = base_stands h w
+parent_stands h w (Sub p) e = ⊎_elim (λ k. subst (λ u. stands h u ≡ true) (sym (eqb-true p 0 k)) (base_stands h w)) (λ k. (live_stands h w p k).1) (or_cases (p == 0) (is_live h p) e)
 
 pub all_stand : {V : Type 0} (h : History V) → Orderly h → (actions : List ℕ) → every (is_live h) actions ≡ true → AllStand h actions
 all_stand h w actions e = λ a i. live_stands h w a (every_at (is_live h) actions a e i)
@@ -38,7 +38,7 @@ module _ {V C A : Type 0} (meaning : Meaning V C A) (opening : Opening C) where
 
   -- one more event
   pub step : (h : History V) (e : Event V) → LawfulSteps meaning opening.contents h → Allowed meaning opening h e → LawfulSteps meaning opening.contents (e ▹ h)
-  step h (Began from) s q = (base_stands h (orderly meaning opening.contents h s) from q, s)
+  step h (Began from) s q = (parent_stands h (orderly meaning opening.contents h s) from q, s)
   step h (Committed a) s q =
       let w = orderly meaning opening.contents h s in let l = live_stands h w a q.0 in
       (l.0, l.1, child_is h w a ∙ q.1, s)

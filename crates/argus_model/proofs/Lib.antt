@@ -17,3 +17,5 @@ pub mod Sees
 pub mod Effects
 pub mod Lawful
 pub mod Rows
+pub mod Theorems
+pub mod Counting

@@ -14,7 +14,7 @@ use Rattle.argus_model.specs.WorkSteps.{owner_passes}
 use Rattle.argus_model.proofs.Ancestors.{folded_next, lineage_cases, parent_cases, parent_older}
 use Rattle.argus_model.proofs.Live.{is_begun_parts}
 use Rattle.argus_model.proofs.OwnerRules.{owner_gone, owner_passed, owner_self}
-use Rattle.argus_model.proofs.Serial.{lineage-base, root_live}
+use Rattle.argus_model.proofs.Serial.{base_stands, lineage-base}
 use Rattle.argus_model.proofs.Standing.{Orderly, at_some, handed_cases, kept_cases, owner_cases, parents_are_older, stands_begun, stands_unfolded}
 
 pub parent_unfolded : {V : Type 0} (h : History V) → Orderly h → (a : ℕ) → folded h < a → a < next_action h → parent h a ≢ 0 → folded h < parent h a
@@ -47,7 +47,7 @@ up_is : {V : Type 0} (h : History V) → Orderly h → (n a : ℕ) → a < n →
 up_is h w zero a l u b = absurd (omega arith)
 up_is h w (suc n) a l u b =
     ⊎_elim
-    (λ e. subst (λ q. owner_up h (lineage h q) ≡ as_owner (owner_by_steps h q)) (sym e) (ap (owner_up h) (lineage-base h) ∙ sym (ap as_owner (at_some (owner_by_steps h 0) 0 (root_live h w)))))
+    (λ e. subst (λ q. owner_up h (lineage h q) ≡ as_owner (owner_by_steps h q)) (sym e) (ap (owner_up h) (lineage-base h) ∙ sym (ap as_owner (at_some (owner_by_steps h 0) 0 (base_stands h w)))))
     (λ ne. let t = parent_older h a (parents_are_older h w) (omega arith) b in
     let p = parent h a in
     let up = owner_up h (lineage h p) in

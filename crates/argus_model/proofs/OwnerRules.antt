@@ -20,7 +20,7 @@ gone None = true
 gone (Some x) = false
 
 -- an owner is an ancestor
-owner_ancestor : {V : Type 0} (h : History V) → Orderly h → (a x : ℕ) → owner_by_steps h a ≡ Some x → is_ancestor h x a ≡ true
+pub owner_ancestor : {V : Type 0} (h : History V) → Orderly h → (a x : ℕ) → owner_by_steps h a ≡ Some x → is_ancestor h x a ≡ true
 owner_ancestor (Opened n) w a x e = ⊎_elim (λ k. grind (arith, nat_tests)) (λ k. absurd (grind (arith, nat_tests))) (cases_eq a 0)
 owner_ancestor (Began from ▹ h) w a x e =
     ⊎_elim
@@ -96,7 +96,7 @@ doomed_gone (Aborted zs ▹ h) w a u l =
 doomed_gone (Accessed b o v ▹ h) w a u l = doomed_gone h w.3 a u l
 
 -- what is owned by another has committed
-moved : {V : Type 0} (h : History V) → Orderly h → (a x : ℕ) → owner_by_steps h a ≡ Some x → has_committed h a ≡ false → x ≡ a
+pub moved : {V : Type 0} (h : History V) → Orderly h → (a x : ℕ) → owner_by_steps h a ≡ Some x → has_committed h a ≡ false → x ≡ a
 moved (Opened m) w a x e n = ⊎_elim (λ k. grind (arith, nat_tests)) (λ k. absurd (grind (arith, nat_tests))) (cases_eq a 0)
 moved (Began from ▹ h) w a x e n = ⊎_elim (λ k. grind arith) (λ k. moved h w.1 a x (sym k.1 ∙ e) n) (owner_cases h from a)
 moved (Committed s ▹ h) w a x e n =
@@ -105,12 +105,23 @@ moved (Committed s ▹ h) w a x e n =
 moved (Aborted z ▹ h) w a x e n = moved h w.1 a x (kept_cases (is_under h z) (owner_by_steps h a) x e).0 n
 moved (Accessed b o v ▹ h) w a x e n = moved h w.3 a x e n
 
-committed_begun : {V : Type 0} (h : History V) → Orderly h → (a : ℕ) → has_committed h a ≡ true → (0 < a) × (a < next_action h)
+pub committed_begun : {V : Type 0} (h : History V) → Orderly h → (a : ℕ) → has_committed h a ≡ true → (0 < a) × (a < next_action h)
 committed_begun (Opened n) w a m = absurd (false≢true m)
 committed_begun (Began from ▹ h) w a m = let k = committed_begun h w.1 a m in (k.0, omega (arith, k.1))
 committed_begun (Committed s ▹ h) w a m = ⊎_elim (λ k. let e = eqb-true s a k in let l = stands_begun h s w.1 in let n = w.0 in (omega arith, omega arith)) (λ k. committed_begun h w.3 a k) (or_cases (s == a) (has_committed h a) m)
 committed_begun (Aborted z ▹ h) w a m = committed_begun h w.1 a m
 committed_begun (Accessed b o v ▹ h) w a m = committed_begun h w.3 a m
+
+pub committed_unfolded : {V : Type 0} (h : History V) → Orderly h → (a : ℕ) → has_committed h a ≡ true → folded h < a
+committed_unfolded (Opened n) w a m = absurd (false≢true m)
+committed_unfolded (Began from ▹ h) w a m = committed_unfolded h w.1 a m
+committed_unfolded (Committed s ▹ h) w a m =
+    ⊎_elim
+    (λ k. subst (λ u. folded h < u) (eqb-true s a k) (stands_unfolded h s w.0 w.1))
+    (λ k. committed_unfolded h w.3 a k)
+    (or_cases (s == a) (has_committed h a) m)
+committed_unfolded (Aborted z ▹ h) w a m = committed_unfolded h w.1 a m
+committed_unfolded (Accessed b o v ▹ h) w a m = committed_unfolded h w.3 a m
 
 -- what has committed has its parent's owner
 passed_on : {V : Type 0} (h : History V) → Orderly h → (a : ℕ) → has_committed h a ≡ true → owner_by_steps h a ≡ owner_by_steps h (parent h a)

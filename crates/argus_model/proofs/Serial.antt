@@ -45,14 +45,14 @@ rest_of h f y l =
     record { rest = lineage h (parent h y); is = w.1; less = λ z m. let q = ancestor_le h z (parent h y) f (omega arith) m in omega (arith, w.0) })
     (cases_eq y 0)
 
-pub root_live : {V : Type 0} (h : History V) → Orderly h → stands h 0 ≡ true
-root_live (Opened n) w = refl
-root_live (Began from ▹ h) w = stands_old h from 0 (let q = next_pos h in omega arith) ∙ root_live h w.1
-root_live (Committed s ▹ h) w = some_at (owner_by_steps (Committed s ▹ h) 0) 0 (handed_stays s (parent h s) (owner_by_steps h 0) 0 (at_some (owner_by_steps h 0) 0 (root_live h w.3)) (λ e. w.0 (sym e)))
-root_live (Aborted z ▹ h) w =
+pub base_stands : {V : Type 0} (h : History V) → Orderly h → stands h 0 ≡ true
+base_stands (Opened n) w = refl
+base_stands (Began from ▹ h) w = stands_old h from 0 (let q = next_pos h in omega arith) ∙ base_stands h w.1
+base_stands (Committed s ▹ h) w = some_at (owner_by_steps (Committed s ▹ h) 0) 0 (handed_stays s (parent h s) (owner_by_steps h 0) 0 (at_some (owner_by_steps h 0) 0 (base_stands h w.3)) (λ e. w.0 (sym e)))
+base_stands (Aborted z ▹ h) w =
     let k : is_under h z 0 ≡ false = false_from_ne_true (is_under h z 0) (λ m. let u = any_found (λ x. is_ancestor h x 0) z m in let q = ancestor_le h u.0 0 (parents_are_older h w.1) (next_pos h) u.2 in (w.0 u.0 u.1).0 (omega arith)) in
-    some_at (owner_by_steps (Aborted z ▹ h) 0) 0 (kept_stays (is_under h z) (owner_by_steps h 0) 0 (at_some (owner_by_steps h 0) 0 (root_live h w.1)) k)
-root_live (Accessed a o v ▹ h) w = root_live h w.3
+    some_at (owner_by_steps (Aborted z ▹ h) 0) 0 (kept_stays (is_under h z) (owner_by_steps h 0) 0 (at_some (owner_by_steps h 0) 0 (base_stands h w.1)) k)
+base_stands (Accessed a o v ▹ h) w = base_stands h w.3
 
 -- two tests of the owner agree where they agree at each owner
 owner_passes_agree : (t u : ℕ → Bool) (o : Option ℕ) → ((x : ℕ) → o ≡ Some x → t x ≡ u x) → owner_passes t o ≡ owner_passes u o
@@ -312,5 +312,5 @@ module _ {V C A : Type 0} (meaning : Meaning V C A) (contents : ℕ → C) where
   serials (Aborted z ▹ h) w = after_abort h z (orderly h w.1) (serials h w.1)
   serials (Accessed a o v ▹ h) w = after_access h a o v (orderly h w.5) w.0 w.1 w.3 (serials h w.5)
 
-  pub root_serial : (h : History V) → LawfulSteps meaning contents h → Serial h 0
-  root_serial h w = serials h w 0 (root_live h (orderly h w))
+  pub base_serial : (h : History V) → LawfulSteps meaning contents h → Serial h 0
+  base_serial h w = serials h w 0 (base_stands h (orderly h w))

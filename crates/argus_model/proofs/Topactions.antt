@@ -13,7 +13,7 @@ use Rattle.argus_model.proofs.OwnerRules.{stands_plain}
 use Rattle.argus_model.proofs.Standing.{Orderly, parent_is, parents_are_older}
 use Rattle.argus_model.proofs.Work.{all_of_agree, work_final}
 
-tops_committed : {V : Type 0} (h : History V) (z : ℕ) → contains (committed_topactions h) z ≡ true → has_committed h z ≡ true
+pub tops_committed : {V : Type 0} (h : History V) (z : ℕ) → contains (committed_topactions h) z ≡ true → has_committed h z ≡ true
 tops_committed (Opened n) z m = m
 tops_committed (Began from ▹ h) z m = tops_committed h z m
 tops_committed (Aborted a ▹ h) z m = tops_committed h z m
