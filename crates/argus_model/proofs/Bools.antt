@@ -57,3 +57,7 @@ kinds_apart true false t r s = grind arith
 pub and_none : (b : Bool) → (b && false) ≡ false
 and_none true = refl
 and_none false = refl
+
+pub and_all : (b : Bool) → (b && true) ≡ b
+and_all true = refl
+and_all false = refl

@@ -19,3 +19,6 @@ pub mod Lawful
 pub mod Rows
 pub mod Theorems
 pub mod Counting
+pub mod NextLive
+pub mod NextHolders
+pub mod NextSees

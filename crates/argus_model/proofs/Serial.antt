@@ -286,13 +286,17 @@ module _ {V C A : Type 0} (meaning : Meaning V C A) (contents : ℕ → C) where
             (ih s ls).replays);
       }
 
+    pub seen_aside : is_ancestor h (parent h s) y ≡ false → (o : ℕ) → content_after meaning contents o (visible_accesses h y) ≡ content_after meaning contents o (visible_accesses (Committed s ▹ h) y)
+    seen_aside off o =
+        accesses_by_agree meaning contents o (λ a. owner_passes (λ x. is_ancestor h x y) (owner_by_steps h a)) (λ a. owner_passes (λ x. is_ancestor h x y) (handed_up s (parent h s) (owner_by_steps h a))) h
+        (λ a u. owner_passes_handed (λ x. is_ancestor h x y) (λ x. is_ancestor h x y) s (parent h s) (owner_by_steps h a) (λ e. false_from_ne_true (is_ancestor h s y) not_below ∙ sym off) (λ x e k. refl))
+
     commit_aside : is_ancestor h (parent h s) y ≡ false → Serials h → Serial (Committed s ▹ h) y
     commit_aside off ih =
         let p = parent h s in
         carried h (Committed s ▹ h) y y
         (all_of_agree (work (Committed s ▹ h)) (work h) (lineage h y) (λ z m. work_stays z (λ e. both_ways (is_ancestor h p y) off (subst (λ u. is_ancestor h u y ≡ true) (sym e) m))))
-        (λ o. accesses_by_agree meaning contents o (λ a. owner_passes (λ x. is_ancestor h x y) (owner_by_steps h a)) (λ a. owner_passes (λ x. is_ancestor h x y) (handed_up s p (owner_by_steps h a))) h
-        (λ a u. owner_passes_handed (λ x. is_ancestor h x y) (λ x. is_ancestor h x y) s p (owner_by_steps h a) (λ e. false_from_ne_true (is_ancestor h s y) not_below ∙ sym off) (λ x e k. refl)))
+        (seen_aside off)
         (ih y ly)
 
   after_commit : (h : History V) (s : ℕ) → Orderly h → Guarded meaning.writes h → s ≢ 0 → stands h s ≡ true → standing_child h s h ≡ false → Serials h → Serials (Committed s ▹ h)

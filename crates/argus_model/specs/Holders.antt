@@ -1,10 +1,10 @@
 -- Who holds an object for reading and for writing, and the two lock rules (Moss 1981, locking rules).
-use Rattle.std.specs.Prelude.{Bool, List, false, filter, ℕ, ◌&&◌, ◌==◌, ◌||◌}
+use Rattle.std.specs.Prelude.{Bool, List, false, filter, if◌then◌else◌, ℕ, ◌&&◌, ◌==◌, ◌||◌}
 use Rattle.argus_model.specs.Ancestors.{is_ancestor}
 use Rattle.argus_model.specs.Event.{Aborted, Accessed, Began, Committed}
 use Rattle.argus_model.specs.History.{History, Opened, begun_actions, ◌▹◌}
 use Rattle.argus_model.specs.Meaning.{Meaning, reads}
-use Rattle.argus_model.specs.Numbers.{every}
+use Rattle.argus_model.specs.Numbers.{contains, every, insert, without}
 use Rattle.argus_model.specs.Owner.{is_held_by, owner}
 
 module _ {V : Type 0} (kind : V → Bool) where
@@ -23,6 +23,10 @@ module _ {V : Type 0} (kind : V → Bool) where
   -- all who do, in increasing number
   abbrev pub holders : History V → ℕ → List ℕ
   holders h o = filter (is_holder h o) (begun_actions h)
+
+-- these holders, after a has handed what it holds to p; the base is no holder
+abbrev pub inherited : ℕ → ℕ → List ℕ → List ℕ
+inherited a p xs = if contains xs a then (if p == 0 then without a xs else insert p (without a xs)) else xs
 
 module _ {V C A : Type 0} (meaning : Meaning V C A) where
   -- who holds the object for reading; a write access doesn't make a reader

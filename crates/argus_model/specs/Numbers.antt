@@ -1,5 +1,5 @@
 -- Lists of numbers, and tests of their members.
-use Rattle.std.specs.Prelude.{Bool, List, [], false, if◌then◌else◌, nat_lt, true, ℕ, ◌&&◌, ◌<◌, ◌==◌, ◌||◌, ◌∷◌, ◌≡◌}
+use Rattle.std.specs.Prelude.{Bool, List, [], false, filter, if◌then◌else◌, nat_lt, not, true, ℕ, ◌&&◌, ◌<◌, ◌==◌, ◌||◌, ◌∷◌, ◌≡◌}
 
 -- x is one of these
 abbrev pub contains : List ℕ → ℕ → Bool
@@ -25,3 +25,7 @@ IsRising (x ∷ xs) = ((y : ℕ) → contains xs y ≡ true → x < y) × IsRisi
 abbrev pub insert : ℕ → List ℕ → List ℕ
 insert x [] = x ∷ []
 insert x (y ∷ ys) = if x == y then y ∷ ys else if nat_lt x y then x ∷ y ∷ ys else y ∷ insert x ys
+
+-- the others
+abbrev pub without : ℕ → List ℕ → List ℕ
+without x ys = filter (λ y. not (y == x)) ys

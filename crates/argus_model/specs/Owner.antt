@@ -37,3 +37,13 @@ is_base _ = false
 abbrev pub is_held_by : ℕ → Owner → Bool
 is_held_by x (Held y) = y == x
 is_held_by x _ = false
+
+-- the owner, after a has handed what it answers for to p
+abbrev pub passed_up : ℕ → ℕ → Owner → Owner
+passed_up a p (Held x) = if x == a then (if p == 0 then Base else Held p) else Held x
+passed_up a p x = x
+
+-- the owner, after those that pass the test were aborted
+abbrev pub unless_gone : (ℕ → Bool) → Owner → Owner
+unless_gone test (Held x) = if test x then Gone else Held x
+unless_gone test x = x
