@@ -116,8 +116,8 @@ over_stays h e w a k n =
     let q = is_begun_parts h a k in
     let a0 : a ≢ 0 = λ i. let u = q.0 in omega arith in
     false_from_ne_true (is_live (e ▹ h) a) (λ m.
-        let s = stood h e w a q.1 (stands_is_live (e ▹ h) w a a0 ∙ m) in
-        both_ways (is_live h a) n (sym (stands_is_live h (orderly_older h e w) a a0) ∙ s))
+    let s = stood h e w a q.1 (stands_is_live (e ▹ h) w a a0 ∙ m) in
+    both_ways (is_live h a) n (sym (stands_is_live h (orderly_older h e w) a a0) ∙ s))
 
 -- the owner, up the parents
 pub owner_when_doomed : {V : Type 0} (h : History V) → Orderly h → (a : ℕ) → is_begun h a ≡ true → is_doomed h a ≡ true → owner h a ≡ Gone
@@ -181,3 +181,13 @@ tops_stay h w t m =
     let q = and_parts (has_committed h t) (parent h t == 0) (sym (tops_are h w t) ∙ m) in
     let c = committed_begun h w t q.0 in
     owner_when_top h w t (is_begun_from h t (committed_unfolded h w t q.0) c.1) q.0 (eqb-true (parent h t) 0 q.1)
+
+pub gone_stays : {V : Type 0} (h : History V) (e : Event V) → Orderly h → Orderly (e ▹ h) → (a : ℕ) → is_begun h a ≡ true → owner h a ≡ Gone → owner (e ▹ h) a ≡ Gone
+gone_stays h e w u a k g =
+    owner_is (e ▹ h) u a (begun_stays h e a k)
+    ∙ ap as_owner (none_stays h e a k (none_of (owner_by_steps h a) (sym (owner_is h w a k) ∙ g)))
+
+pub good_stays : {V : Type 0} (h : History V) (e : Event V) → Orderly h → Orderly (e ▹ h) → (a : ℕ) → is_begun h a ≡ true → owner h a ≡ Base → owner (e ▹ h) a ≡ Base
+good_stays h e w u a k g =
+    owner_is (e ▹ h) u a (begun_stays h e a k)
+    ∙ ap as_owner (base_stays h e u a (base_of (owner_by_steps h a) (sym (owner_is h w a k) ∙ g)))

@@ -4,7 +4,6 @@ use Rattle.std.specs.Prelude.{map, reverse, ◌&&◌, ◌==◌, ◌||◌}
 use Rattle.std.proofs.lemmas.Bool.{and_from, and_right, cases_Bool, cases_eq, eq-eqb, false≢true, ne_eqb, or_cases, or_left, or_right}
 use Rattle.std.proofs.lemmas.List.{reverse-append}
 use Rattle.argus_model.specs.Ancestors.{is_under, lineage, parent}
-use Rattle.argus_model.specs.Contents.{sees}
 use Rattle.argus_model.specs.Effects.{content_by, effect_of, effects, effects_of, table, written_objects}
 use Rattle.argus_model.specs.Event.{Aborted, Accessed, Began, Committed, Event}
 use Rattle.argus_model.specs.History.{History, Opened, Opening, ◌▹◌}
@@ -25,7 +24,7 @@ use Rattle.argus_model.proofs.Standing.{Orderly, at_some, handed_cases, kept_cas
 use Rattle.argus_model.proofs.Topactions.{serial_tops, tops_over}
 use Rattle.argus_model.proofs.Work.{all_of_agree, touches, user_of, work_final}
 
-map_agree : {X : Type 0} (f g : ℕ → X) (xs : List ℕ) → ((x : ℕ) → f x ≡ g x) → map f xs ≡ map g xs
+pub map_agree : {X : Type 0} (f g : ℕ → X) (xs : List ℕ) → ((x : ℕ) → f x ≡ g x) → map f xs ≡ map g xs
 map_agree f g [] same = refl
 map_agree f g (x ∷ xs) same = ap (λ u. u ∷ map f xs) (same x) ∙ ap (λ u. g x ∷ u) (map_agree f g xs same)
 

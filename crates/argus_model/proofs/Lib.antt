@@ -22,3 +22,5 @@ pub mod Counting
 pub mod NextLive
 pub mod NextHolders
 pub mod NextSees
+pub mod LockRules
+pub mod Commits

@@ -1,17 +1,17 @@
 -- What stands is what is live, and the lists of live children and siblings.
 use Rattle.std.proofs.Common.{[], ap, arith, cond, false, refl, sym, true, ℕ, ⊎_elim, ◌<◌, ◌∙◌, ◌∷◌, ◌≡◌, ◌≢◌}
 use Rattle.std.specs.Prelude.{nat_lt, not, ◌&&◌, ◌==◌, ◌||◌}
-use Rattle.std.proofs.lemmas.Bool.{and_from, and_parts, both_ways, cases_eq, eq-eqb, eqb-true, false≢true, lt-ltb, ltb-true, ne_eqb, not-true, or_left}
+use Rattle.std.proofs.lemmas.Bool.{and_from, and_parts, both_ways, cases_eq, eq-eqb, false≢true, lt-ltb, ltb-true, ne_eqb, not-true, or_left}
 use Rattle.std.proofs.lemmas.Bool.Decides.{nat_tests}
 use Rattle.argus_model.specs.Ancestors.{creator, parent}
 use Rattle.argus_model.specs.Event.{Aborted, Accessed, Began, Committed, creator_of, parent_of}
 use Rattle.argus_model.specs.History.{History, Opened, begun_actions, folded, next_action, ◌▹◌}
-use Rattle.argus_model.specs.Numbers.{IsRising, any_of, contains}
-use Rattle.argus_model.specs.OwnerSteps.{AllStand, owner_by_steps, standing_child, stands}
+use Rattle.argus_model.specs.Numbers.{IsRising, any_of, contains, every}
+use Rattle.argus_model.specs.OwnerSteps.{owner_by_steps, standing_child, stands}
 use Rattle.argus_model.specs.Status.{has_committed, has_live_child, is_begun, is_doomed, is_live, live_siblings}
 use Rattle.argus_model.proofs.Ancestors.{folded_next}
 use Rattle.argus_model.proofs.Bools.{and_turn, or_none, or_turn, same_bool}
-use Rattle.argus_model.proofs.Numbers.{any_agree, any_append, contains_filter, filter_contains, joined, joined_cases, joined_left, rising-more}
+use Rattle.argus_model.proofs.Numbers.{any_agree, any_append, contains_filter, every_from, filter_contains, joined, joined_cases, joined_left, rising-more}
 use Rattle.argus_model.proofs.OwnerRules.{owner_self, stands_plain}
 use Rattle.argus_model.proofs.Standing.{Orderly, some_at, stands_unfolded}
 
@@ -100,24 +100,15 @@ child_is h w y =
     ∙ any_agree (λ x. stands h x && (parent h x == y || creator h x == y)) (λ x. is_live h x && (parent h x == y || creator h x == y)) (begun_actions h)
     (λ x m. let f = contains_unfolded h x m in ap (λ b. b && (parent h x == y || creator h x == y)) (stands_is_live h w x (λ e. omega arith)))
 
--- what aborts its siblings names live ones
-pub siblings_stand : {V : Type 0} (h : History V) → Orderly h → (a : ℕ) → AllStand h (live_siblings h a)
-siblings_stand h w a = λ z m.
-    let q = contains_filter (λ x. is_live h x && (not (x == a) && (creator h x == creator h a))) (begun_actions h) z m in
-    live_stands h w z (and_parts (is_live h z) (not (z == a) && (creator h z == creator h a)) q.0).0
-
--- a sibling is another live action of the same creator
-pub siblings_are : {V : Type 0} (h : History V) (a x : ℕ) → contains (live_siblings h a) x ≡ true → (is_live h x ≡ true) × (x ≢ a) × (creator h x ≡ creator h a)
-siblings_are h a x m =
+-- who the siblings are
+pub contains_siblings : {V : Type 0} (h : History V) (a x : ℕ) → contains (live_siblings h a) x ≡ (is_live h x && (not (x == a) && creator h x == creator h a))
+contains_siblings h a x =
     let p = λ (x : ℕ). is_live h x && (not (x == a) && (creator h x == creator h a)) in
-    let q = and_parts (is_live h x) (not (x == a) && (creator h x == creator h a)) (contains_filter p (begun_actions h) x m).0 in
-    let r = and_parts (not (x == a)) (creator h x == creator h a) q.1 in
-    (q.0, λ e. both_ways (x == a) (not-true (x == a) r.0) (eq-eqb x a e), eqb-true (creator h x) (creator h a) r.1)
-
-pub are_siblings : {V : Type 0} (h : History V) (a x : ℕ) → is_live h x ≡ true → x ≢ a → creator h x ≡ creator h a → contains (live_siblings h a) x ≡ true
-are_siblings h a x l n e =
-    let p = λ (x : ℕ). is_live h x && (not (x == a) && (creator h x == creator h a)) in
+    same_bool (contains (live_siblings h a) x) (p x)
+    (λ m. (contains_filter p (begun_actions h) x m).0)
+    (λ m. let l = (and_parts (is_live h x) (not (x == a) && (creator h x == creator h a)) m).0 in
     let k = is_begun_parts h x (and_parts (is_begun h x) (not (has_committed h x) && not (is_doomed h x)) l).0 in
-    filter_contains p (begun_actions h) x
-    (and_from (is_live h x) (not (x == a) && (creator h x == creator h a)) l (and_from (not (x == a)) (creator h x == creator h a) (ap not (ne_eqb x a n)) (eq-eqb (creator h x) (creator h a) e)))
-    (begun_contains h x k.0 k.1)
+    filter_contains p (begun_actions h) x m (begun_contains h x k.0 k.1))
+
+pub siblings_live : {V : Type 0} (h : History V) (a : ℕ) → every (is_live h) (live_siblings h a) ≡ true
+siblings_live h a = every_from (is_live h) (live_siblings h a) (λ x m. (and_parts (is_live h x) (not (x == a) && (creator h x == creator h a)) (sym (contains_siblings h a x) ∙ m)).0)

@@ -126,8 +126,8 @@ module _ {V : Type 0} (kind : V → Bool) where
   holds_commit_own h s o ne =
       let g = Committed s ▹ h in
       false_from_ne_true (holds kind g o false s) (λ m.
-          let q = used_by_found kind (λ b. is_exactly (owner_by_steps g b) s) o false h m in
-          ⊎_elim (λ k. ne (sym k.1)) (λ k. k.1 refl) (handed_cases s (parent h s) (owner_by_steps h q.0) s (at_some (owner_by_steps g q.0) s q.2)))
+      let q = used_by_found kind (λ b. is_exactly (owner_by_steps g b) s) o false h m in
+      ⊎_elim (λ k. ne (sym k.1)) (λ k. k.1 refl) (handed_cases s (parent h s) (owner_by_steps h q.0) s (at_some (owner_by_steps g q.0) s q.2)))
 
   pub holders_after_commit : (h : History V) (s : ℕ) → Orderly (Committed s ▹ h) → (o : ℕ) → holders kind (Committed s ▹ h) o ≡ inherited s (parent h s) (holders kind h o)
   holders_after_commit h s w o =

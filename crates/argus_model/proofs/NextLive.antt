@@ -1,17 +1,17 @@
 -- Which actions are live, and who their owners are, after one more event.
-use Rattle.std.proofs.Common.{Bool, List, None, Option, Some, ap, arith, cond, false, refl, subst, sym, true, ℕ, ⊎_elim, ◌∙◌, ◌≡◌, ◌≢◌}
+use Rattle.std.proofs.Common.{Bool, List, None, Option, Some, ap, arith, cond, false, refl, subst, sym, true, ℕ, ⊎_elim, ◌∙◌, ◌∷◌, ◌≡◌, ◌≢◌}
 use Rattle.std.specs.Prelude.{not, ◌&&◌, ◌==◌, ◌||◌}
 use Rattle.std.proofs.lemmas.Bool.{and_from, and_parts, both_ways, cases_Bool, cases_eq, eq-eqb, false_from_ne_true, ne_eqb, not-true}
-use Rattle.argus_model.specs.Ancestors.{is_under, parent}
-use Rattle.argus_model.specs.Event.{Aborted, Accessed, Began, Committed, Origin}
+use Rattle.argus_model.specs.Ancestors.{is_under, lineage, parent}
+use Rattle.argus_model.specs.Event.{Aborted, Accessed, Began, Committed, Origin, parent_of}
 use Rattle.argus_model.specs.History.{History, next_action, ◌▹◌}
 use Rattle.argus_model.specs.Owner.{Base, Gone, Held, owner, passed_up, unless_gone}
 use Rattle.argus_model.specs.OwnerSteps.{as_owner, handed_up, owner_by_steps, stands, unless_lost}
 use Rattle.argus_model.specs.Status.{has_committed, is_begun, is_doomed, is_live}
-use Rattle.argus_model.proofs.Ancestors.{next_pos}
+use Rattle.argus_model.proofs.Ancestors.{folded_next, lineage_cases, next_pos}
 use Rattle.argus_model.proofs.Bools.{same_bool}
 use Rattle.argus_model.proofs.Counting.{as_held, base_spared, begun_stays}
-use Rattle.argus_model.proofs.Live.{is_begun_parts, stands_is_live}
+use Rattle.argus_model.proofs.Live.{is_begun_from, is_begun_parts, stands_is_live}
 use Rattle.argus_model.proofs.Owner.{owner_is}
 use Rattle.argus_model.proofs.Standing.{Orderly, at_some, handed_from, handed_stays, kept_stays, owner_cases, parents_are_older, some_at, stands_abort, stands_commit, stands_new, stands_old, stands_upward}
 
@@ -97,3 +97,14 @@ lost_is lost n (Some x) =
 
 pub owner_after_abort : {V : Type 0} (h : History V) (z : List ℕ) → Orderly (Aborted z ▹ h) → (x : ℕ) → is_begun h x ≡ true → owner (Aborted z ▹ h) x ≡ unless_gone (is_under h z) (owner h x)
 owner_after_abort h z w x k = owner_is (Aborted z ▹ h) w x k ∙ lost_is (is_under h z) (base_spared h z w) (owner_by_steps h x) ∙ ap (unless_gone (is_under h z)) (sym (owner_is h w.1 x k))
+
+pub new_owner : {V : Type 0} (h : History V) (from : Origin) → Orderly (Began from ▹ h) → owner (Began from ▹ h) (next_action h) ≡ Held (next_action h)
+new_owner h from w =
+    let f = folded_next h in
+    let n = next_action h in
+    owner_is (Began from ▹ h) w n (is_begun_from (Began from ▹ h) n f (omega arith))
+    ∙ ap as_owner (at_some (owner_by_steps (Began from ▹ h) n) n (stands_new h from n refl))
+    ∙ as_held n (λ e. omega arith)
+
+pub new_lineage : {V : Type 0} (h : History V) (from : Origin) → lineage (Began from ▹ h) (next_action h) ≡ next_action h ∷ lineage h (parent_of from)
+new_lineage h from = ⊎_elim (λ k. k.1) (λ k. absurd (k.0 refl)) (lineage_cases h from (next_action h))

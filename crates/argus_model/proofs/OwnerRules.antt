@@ -73,7 +73,6 @@ gone-kept lost None false same = refl
 gone-kept lost (Some x) b same =
     ap (λ q. q || false) (same x refl) ∙ ⊎_elim (λ k. ap (λ q. q || false) k ∙ sym (ap (λ q. gone (cond q None (Some x))) k)) (λ k. ap (λ q. q || false) k ∙ sym (ap (λ q. gone (cond q None (Some x))) k)) (cases_Bool (lost x))
 
-
 -- what is doomed has no owner, and nothing else
 doomed_gone : {V : Type 0} (h : History V) → Orderly h → (a : ℕ) → (a ≢ 0 → folded h < a) → a < next_action h → is_doomed h a ≡ gone (owner_by_steps h a)
 doomed_gone (Opened n) w a u l = let e : a ≡ 0 = ⊎_elim (λ k. k) (λ k. let q = u k in absurd (omega arith)) (cases_eq a 0) in sym (ap (λ u. gone (cond (u == 0) (Some 0) None)) e)

@@ -1,21 +1,22 @@
 -- The rows have the origin and the status of each action.
 use Rattle.std.proofs.Common.{Bool, List, None, Option, Some, [], ap, arith, cond, false, length, refl, subst, suc, sym, true, zero, ℕ, ⊎_elim, ◌++◌, ◌+◌, ◌<◌, ◌∙◌, ◌∷◌, ◌≡◌, ◌≢◌}
 use Rattle.std.specs.Prelude.{not, unwrap_or, ◌&&◌, ◌==◌, ◌||◌}
-use Rattle.std.proofs.lemmas.Bool.{cases_Bool, cases_eq, eq-eqb, ne_eqb}
-use Rattle.argus_model.specs.Ancestors.{creator, is_ancestor, is_under, parent}
+use Rattle.std.proofs.lemmas.Bool.{and_from, and_parts, both_ways, cases_Bool, cases_eq, eq-eqb, eqb-true, false_from_ne_true, ne_eqb, or_cases}
+use Rattle.argus_model.specs.Ancestors.{creator, is_ancestor, is_under, lineage, parent}
 use Rattle.argus_model.specs.Event.{Aborted, Accessed, Began, Committed, Origin, creator_of, parent_of}
 use Rattle.argus_model.specs.History.{History, Opened, begun_actions, folded, next_action, ◌▹◌}
 use Rattle.argus_model.specs.Numbers.{any_of, contains}
 use Rattle.argus_model.specs.OwnerSteps.{stands}
 use Rattle.argus_model.specs.Rows.{Row, has_live_row, is_above, is_live_status, mark, origin, row_at, row_of, rows, with_status}
 use Rattle.argus_model.specs.Status.{IsAborted, IsCommitted, IsFolded, IsLive, Status, has_committed, has_live_child, is_begun, is_doomed, is_live, status, was_aborted}
-use Rattle.argus_model.proofs.Ancestors.{folded_next, lineage_cases}
-use Rattle.argus_model.proofs.Bools.{or_none, or_turn}
+use Rattle.argus_model.proofs.Ancestors.{ancestor_le, folded_next, lineage_cases, parent_older}
+use Rattle.argus_model.proofs.Bools.{or_none, or_turn, same_bool}
 use Rattle.argus_model.proofs.Live.{is_begun_from, is_begun_parts}
 use Rattle.argus_model.proofs.Numbers.{any_agree, any_append}
+use Rattle.argus_model.proofs.Owner.{parent_unfolded}
 use Rattle.argus_model.proofs.OwnerRules.{stands_plain}
 use Rattle.argus_model.proofs.Serial.{lineage-base}
-use Rattle.argus_model.proofs.Standing.{Orderly, stands_begun, stands_new, stands_unfolded}
+use Rattle.argus_model.proofs.Standing.{Orderly, parents_are_older, stands_begun, stands_new, stands_unfolded}
 
 -- status, after one more step
 abbrev over : Bool → Bool → Status
@@ -230,8 +231,6 @@ under_listed n (r ∷ rs) f a each =
     unsome : (x y : Row) → Some x ≡ Some y → x ≡ y
     unsome x y e = ap (λ o. unwrap_or o x) e
 
-
-
 live_status_is : {V : Type 0} (h : History V) (k : ℕ) → is_live_status (status h k) ≡ is_live h k
 live_status_is h k =
     ⊎_elim
@@ -251,3 +250,60 @@ has_live_row_is h w a =
     under_listed (folded h) (rows h) (row_of h) a (λ k l m. row_is h w k (is_begun_from h k l (subst (λ u. k < u) (rows_length h) m)))
     ∙ ap (any_of (λ k. is_live_status (status h k) && (parent_of (origin h k) == a || creator_of (origin h k) == a))) (sym (begun_upto h))
     ∙ any_agree (λ k. is_live_status (status h k) && (parent_of (origin h k) == a || creator_of (origin h k) == a)) (λ k. is_live h k && (parent h k == a || creator h k == a)) (begun_actions h) (λ k m. ap (λ b. b && (parent_of (origin h k) == a || creator_of (origin h k) == a)) (live_status_is h k) ∙ ap (λ b. is_live h k && b) (ap (λ x. (x == a) || (creator_of (origin h k) == a)) (parent_of_origin h k) ∙ ap (λ x. (parent h k == a) || (x == a)) (creator_of_origin h k)))
+
+-- of a number with no row the rows say nothing
+is_above_unbegun : {V : Type 0} (h : History V) (x y : ℕ) → is_begun h y ≡ false → is_above (folded h) (rows h) x y ≡ false
+is_above_unbegun (Opened n) x y u = refl
+is_above_unbegun (Began from ▹ h) x y u =
+    let t = rows_length h in
+    let f = folded_next h in
+    let old : is_begun h y ≡ false = false_from_ne_true (is_begun h y) (λ k. let q = is_begun_parts h y k in both_ways (is_begun (Began from ▹ h) y) u (is_begun_from (Began from ▹ h) y q.0 (omega (arith, q.1)))) in
+    let top : y ≢ folded h + length (rows h) + 1 = λ e. both_ways (is_begun (Began from ▹ h) y) u (is_begun_from (Began from ▹ h) y (omega arith) (omega arith)) in
+    ap (λ b. cond b (x == y || is_above (folded h) (rows h) x (parent_of from)) (is_above (folded h) (rows h) x y)) (ne_eqb y (folded h + length (rows h) + 1) top)
+    ∙ is_above_unbegun h x y old
+is_above_unbegun (Committed s ▹ h) x y u = is_above-mark (folded h) (λ k. k == s) IsCommitted (rows h) x y ∙ is_above_unbegun h x y u
+is_above_unbegun (Aborted zs ▹ h) x y u = is_above-mark (folded h) (λ k. any_of (λ z. is_above (folded h) (rows h) z k) zs) IsAborted (rows h) x y ∙ is_above_unbegun h x y u
+is_above_unbegun (Accessed a o v ▹ h) x y u = is_above_unbegun h x y u
+
+-- the base has no row
+is_above_zero : (n : ℕ) (rs : List Row) (y : ℕ) → is_above n rs 0 y ≡ false
+is_above_zero n [] y = refl
+is_above_zero n (r ∷ rs) y =
+    let below = is_above n rs 0 (parent_of r.origin) in
+    ⊎_elim
+    (λ e. ap (λ b. cond b (0 == y || below) (is_above n rs 0 y)) (eq-eqb y (n + length rs + 1) e) ∙ ap (λ b. b || below) (ne_eqb 0 y (λ k. omega arith)) ∙ is_above_zero n rs (parent_of r.origin))
+    (λ e. ap (λ b. cond b (0 == y || below) (is_above n rs 0 y)) (ne_eqb y (n + length rs + 1) e) ∙ is_above_zero n rs y)
+    (cases_eq y (n + length rs + 1))
+
+-- an ancestor of what has begun has begun, but for the base
+ancestor_unfolded : {V : Type 0} (h : History V) → Orderly h → (n x y : ℕ) → y < n → folded h < y → y < next_action h → x ≢ 0 → is_ancestor h x y ≡ true → folded h < x
+ancestor_unfolded h w zero x y l u b x0 m = absurd (omega arith)
+ancestor_unfolded h w (suc n) x y l u b x0 m =
+    let t = parent_older h y (parents_are_older h w) (omega arith) b in
+    let p = parent h y in
+    ⊎_elim
+    (λ e. subst (λ z. folded h < z) (sym (eqb-true x y e)) u)
+    (λ e. ⊎_elim
+    (λ p0. absurd (both_ways (contains (lineage h p) x) (subst (λ z. contains (lineage h z) x ≡ false) (sym p0) (ap (λ k. contains k x) (lineage-base h) ∙ ap (λ b. b || false) (ne_eqb x 0 x0))) e))
+    (λ p0. ancestor_unfolded h w n x p (omega (arith, t.0)) (parent_unfolded h w y u b p0) (omega (arith, t.0)) x0 e)
+    (cases_eq p 0))
+    (or_cases (x == y) (contains (lineage h p) x) (subst (λ k. contains k x ≡ true) t.1 m))
+
+pub ancestor_begun : {V : Type 0} (h : History V) → Orderly h → (x y : ℕ) → is_begun h y ≡ true → x ≢ 0 → is_ancestor h x y ≡ true → is_begun h x ≡ true
+ancestor_begun h w x y k x0 m =
+    let q = is_begun_parts h y k in
+    let l = ancestor_le h x y (parents_are_older h w) q.1 m in
+    is_begun_from h x (ancestor_unfolded h w (suc y) x y (omega arith) q.0 q.1 x0 m) (omega (arith, q.1))
+
+pub is_above_exactly : {V : Type 0} (h : History V) → Orderly h → (x y : ℕ) → is_above (folded h) (rows h) x y ≡ ((is_begun h x && is_begun h y) && is_ancestor h x y)
+is_above_exactly h w x y =
+    let up = is_above (folded h) (rows h) x y in
+    same_bool up ((is_begun h x && is_begun h y) && is_ancestor h x y)
+    (λ m. let x0 : x ≢ 0 = λ e. both_ways up (subst (λ z. is_above (folded h) (rows h) z y ≡ false) (sym e) (is_above_zero (folded h) (rows h) y)) m in
+    let k : is_begun h y ≡ true = ⊎_elim (λ k. k) (λ k. absurd (both_ways up (is_above_unbegun h x y k) m)) (cases_Bool (is_begun h y)) in
+    let a = sym (is_above_is h w x y x0 k) ∙ m in
+    and_from (is_begun h x && is_begun h y) (is_ancestor h x y) (and_from (is_begun h x) (is_begun h y) (ancestor_begun h w x y k x0 a) k) a)
+    (λ m. let q = and_parts (is_begun h x && is_begun h y) (is_ancestor h x y) m in
+    let r = and_parts (is_begun h x) (is_begun h y) q.0 in
+    let b = is_begun_parts h x r.0 in
+    is_above_is h w x y (λ e. let u = b.0 in omega arith) r.1 ∙ q.1)

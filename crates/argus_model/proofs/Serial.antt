@@ -75,7 +75,6 @@ owner_passes_kept t lost (Some x) a =
     (λ e. sym (ap (λ b. owner_passes t (cond b None (Some x))) e))
     (cases_Bool (lost x))
 
-
 module _ {V C A : Type 0} (meaning : Meaning V C A) (contents : ℕ → C) where
   pub orderly : (h : History V) → LawfulSteps meaning contents h → Orderly h
   orderly (Opened n) w = tt

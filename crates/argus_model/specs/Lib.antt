@@ -15,3 +15,4 @@ pub mod Rows
 pub mod OwnerSteps
 pub mod HolderSteps
 pub mod WorkSteps
+pub mod Fold
