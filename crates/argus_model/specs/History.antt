@@ -37,3 +37,8 @@ begun_actions (Began from ▹ older) = begun_actions older ++ next_action older 
 begun_actions (Committed a ▹ older) = begun_actions older
 begun_actions (Aborted actions ▹ older) = begun_actions older
 begun_actions (Accessed a o v ▹ older) = begun_actions older
+
+-- these events, oldest first, after the history
+abbrev pub followed_by : {V : Type 0} → History V → List (Event V) → History V
+followed_by h [] = h
+followed_by h (e ∷ later) = followed_by (e ▹ h) later

@@ -16,3 +16,4 @@ pub mod OwnerSteps
 pub mod HolderSteps
 pub mod WorkSteps
 pub mod Fold
+pub mod Worked

@@ -26,3 +26,4 @@ pub mod second_forms;
 pub mod tables;
 pub mod trees;
 pub mod what_counts;
+pub mod worked;
