@@ -38,8 +38,7 @@ pub fn parallel_pair()
     ensures effect { effects numbers zeros pair_ends ≡ ((0, 5) ∷ []) ∷ [] }
     ensures owners { map (owner pair_ends) (1 ∷ 2 ∷ 3 ∷ []) ≡ Base ∷ Base ∷ Base ∷ [] }
     ensures free { writers numbers pair_ends 0 ≡ [] }
-{
-}
+{}
 
 /// Topaction 1 is aborted. The nested topaction 2, which it began, has committed, and its effect
 /// stays; the nested topaction 4, which its subaction 3 began, goes on.
@@ -63,8 +62,7 @@ pub fn nested_under_aborted_creator()
     ensures topactions { committed_topactions creator_outlived ≡ 4 ∷ 2 ∷ [] }
     ensures serial { serial_order creator_outlived ≡ looked 0 7 ∷ looked 1 0 ∷ put 0 7 0 ∷ [] }
     ensures effects { effects numbers zeros creator_outlived ≡ ((0, 7) ∷ []) ∷ [] ∷ [] }
-{
-}
+{}
 
 /// Subaction 9 of topaction 3 has its siblings aborted: the subaction 5 with 7 under it, and the
 /// nested topaction 6. Spared are 4, which has committed, and 8, a topaction that 5 began. Actions
@@ -90,8 +88,7 @@ pub fn siblings_are_aborted()
     ensures contents { map (base numbers opened_late siblings_end) (0 ∷ 1 ∷ []) ≡ 1 ∷ 0 ∷ [] }
     ensures own_view { sees numbers opened_late siblings_end 8 1 ≡ 3 }
     ensures effects { effects numbers opened_late siblings_end ≡ ((0, 1) ∷ []) ∷ [] }
-{
-}
+{}
 
 /// Topactions 3 and 4 take turns, from an opening where object 0 holds 4. Topaction 4 began last and
 /// commits first, so its work is first in the serial order. In the end the past is folded.
@@ -118,5 +115,4 @@ pub fn turns_are_taken()
         ≡ 6 ∷ 8 ∷ 0 ∷ [] }
     ensures numbers { (fold numbers opened_late turns_end 21).first_action ≡ 4
         × (fold numbers opened_late turns_end 21).first_entry ≡ 21 }
-{
-}
+{}
