@@ -56,7 +56,7 @@ ancestor_le (Committed b ▹ h) x y f l a = ancestor_le h x y f l a
 ancestor_le (Aborted b ▹ h) x y f l a = ancestor_le h x y f l a
 ancestor_le (Accessed b o v ▹ h) x y f l a = ancestor_le h x y f l a
 
--- the trail of y, down to x
+-- the lineage of y, down to x
 pub record Split (ty tx : List ℕ) (x : ℕ) : Type 0 where
   pub front : List ℕ
   pub is : ty ≡ front ++ tx
@@ -110,7 +110,7 @@ ancestor_trans h x y z f l a b = let s = split_lineage h y z f l b in rw (s.is) 
 pub parent_cases : {V : Type 0} (h : History V) (from : Origin) (y : ℕ) → ((y ≡ next_action h) × (parent (Began from ▹ h) y ≡ (parent_of from))) ⊎ ((y ≢ next_action h) × (parent (Began from ▹ h) y ≡ parent h y))
 parent_cases h from y = grind (arith, nat_tests)
 
--- the parent is older, and the trail goes on with its trail
+-- the parent is older, and the lineage goes on with its lineage
 parent_step : (n p y q q' : ℕ) (tp ty tq tq' t : List ℕ) → p < n → 0 < y → y < n + 1 → ((y ≡ n) × (t ≡ y ∷ tp)) ⊎ ((y ≢ n) × (t ≡ ty)) → ((y ≡ n) × (q' ≡ p)) ⊎ ((y ≢ n) × (q' ≡ q)) → (q' ≢ n → q' ≡ p → tq' ≡ tp) → (q' ≢ n → q' ≡ q → tq' ≡ tq) → (y < n → (q < y) × (ty ≡ y ∷ tq)) → (q' < y) × (t ≡ y ∷ tq')
 parent_step n p y q q' tp ty tq tq' t pn y0 yn k kq ep eq ih = (grind arith, grind arith)
 

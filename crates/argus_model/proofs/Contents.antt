@@ -32,7 +32,7 @@ module _ {V C A : Type 0} (meaning : Meaning V C A) (contents : ℕ → C) where
       let q = or_parts (x.object == o && (false || meaning.writes x.what)) (touches meaning.writes es o false) n in
       content_stays o x (es ++ fs) q.0 ∙ content_past o es fs q.1
 
-  -- what is picked of the writes to the object decides its content
+  -- which writes to the object are picked decides its content
   pub accesses_by_agree : (o : ℕ) (t u : ℕ → Bool) (k : History V) → ((a : ℕ) → has_used meaning.writes k a o false ≡ true → t a ≡ u a) → content_after meaning contents o (accesses_by t k) ≡ content_after meaning contents o (accesses_by u k)
   accesses_by_agree o t u (Opened n) same = refl
   accesses_by_agree o t u (Began from ▹ k) same = accesses_by_agree o t u k same

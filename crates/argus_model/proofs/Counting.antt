@@ -6,7 +6,7 @@ use Rattle.std.proofs.lemmas.Bool.Decides.{nat_tests}
 use Rattle.argus_model.specs.Ancestors.{is_ancestor, is_under, parent}
 use Rattle.argus_model.specs.Event.{Aborted, Accessed, Began, Committed, Event}
 use Rattle.argus_model.specs.History.{History, Opened, next_action, ◌▹◌}
-use Rattle.argus_model.specs.Numbers.{contains}
+use Rattle.argus_model.specs.Numbers.{IsDistinct, contains}
 use Rattle.argus_model.specs.Owner.{Base, Gone, Held, Owner, is_base, owner}
 use Rattle.argus_model.specs.OwnerSteps.{as_owner, handed_up, owner_by_steps, stands, unless_lost}
 use Rattle.argus_model.specs.Status.{has_committed, is_begun, is_doomed, is_live}
@@ -18,6 +18,7 @@ use Rattle.argus_model.proofs.Owner.{owner_is, parent_unfolded}
 use Rattle.argus_model.proofs.OwnerRules.{committed_begun, committed_unfolded, owner_ancestor, owner_gone, owner_passed}
 use Rattle.argus_model.proofs.Serial.{base_stands}
 use Rattle.argus_model.proofs.Standing.{Orderly, at_some, handed_cases, handed_stays, kept_cases, kept_stays, owned_begun, owner_cases, parent_is, parents_are_older, some_at, stands_abort, stands_begun, stands_commit, stands_new, stands_old, stands_upward}
+use Rattle.argus_model.proofs.Topactions.{tops_over}
 
 -- who answers is the base, or begun, and answers for itself
 pub owner_stands : {V : Type 0} (h : History V) → Orderly h → (a x : ℕ) → owner_by_steps h a ≡ Some x → stands h x ≡ true
@@ -191,3 +192,17 @@ pub good_stays : {V : Type 0} (h : History V) (e : Event V) → Orderly h → Or
 good_stays h e w u a k g =
     owner_is (e ▹ h) u a (begun_stays h e a k)
     ∙ ap as_owner (base_stays h e u a (base_of (owner_by_steps h a) (sym (owner_is h w a k) ∙ g)))
+
+-- who commits stood until then, so it is not among those who committed before
+pub tops-IsDistinct : {V : Type 0} (h : History V) → Orderly h → IsDistinct (committed_topactions h)
+tops-IsDistinct (Opened n) w = tt
+tops-IsDistinct (Began from ▹ h) w = tops-IsDistinct h w.1
+tops-IsDistinct (Aborted z ▹ h) w = tops-IsDistinct h w.1
+tops-IsDistinct (Accessed a o v ▹ h) w = tops-IsDistinct h w.3
+tops-IsDistinct (Committed s ▹ h) w =
+    let tops = committed_topactions h in
+    let rest = tops-IsDistinct h w.3 in
+    ⊎_elim
+    (λ e. subst (λ b. IsDistinct (cond b (s ∷ tops) tops)) (sym e) (false_from_ne_true (contains tops s) (λ m. both_ways (stands h s) (tops_over h w.3 s m) w.1), rest))
+    (λ e. subst (λ b. IsDistinct (cond b (s ∷ tops) tops)) (sym e) rest)
+    (cases_Bool (parent h s == 0))

@@ -41,7 +41,7 @@ module _ {C : Type 0} where
   table-more s [] m o = refl
   table-more s (k ∷ l) m o = table-more (λ x. content_by k x (s x)) l m o
 
-  -- where a journal goes on from a fold: the members before it, then its own
+  -- where a history goes on from a fold: the effects before it, then its own
   pub table-append : (s : ℕ → C) (l k : List (List (ℕ × C))) (o : ℕ) → table s (l ++ k) o ≡ table (table s l) k o
   table-append s [] k o = refl
   table-append s (m ∷ l) k o = table-append (λ x. content_by m x (s x)) l k o

@@ -146,7 +146,7 @@ passed_on (Committed s ▹ h) w a m =
 passed_on (Aborted z ▹ h) w a m = ap (unless_lost (is_under h z)) (passed_on h w.1 a m)
 passed_on (Accessed b o v ▹ h) w a m = passed_on h w.3 a m
 
--- the owner in plain words
+-- the owner by the words of its definition
 pub owner_gone : {V : Type 0} (h : History V) → Orderly h → (a : ℕ) → folded h < a → a < next_action h → is_doomed h a ≡ true → owner_by_steps h a ≡ None
 owner_gone h w a u l d = none_of (owner_by_steps h a) (sym (doomed_gone h w a (λ k. u) l) ∙ d)
   where

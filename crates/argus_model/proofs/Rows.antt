@@ -115,7 +115,7 @@ is_above_low (Committed s ▹ h) x y u = is_above-mark (folded h) (λ k. k == s)
 is_above_low (Aborted zs ▹ h) x y u = is_above-mark (folded h) (λ k. any_of (λ z. is_above (folded h) (rows h) z k) zs) IsAborted (rows h) x y ∙ is_above_low h x y u
 is_above_low (Accessed a o v ▹ h) x y u = is_above_low h x y u
 
--- the rows' ancestors are those of the entries
+-- the rows' ancestors are those of the history
 pub is_above_is : {V : Type 0} (h : History V) → Orderly h → (x y : ℕ) → x ≢ 0 → is_begun h y ≡ true → is_above (folded h) (rows h) x y ≡ is_ancestor h x y
 is_above_is {V} (Opened n) w x y x0 k = let q = is_begun_parts {V = V} (Opened n) y k in absurd (omega (arith, q.0, q.1))
 is_above_is (Began from ▹ h) w x y x0 k =
@@ -138,7 +138,7 @@ is_above_is (Committed s ▹ h) w x y x0 k = is_above-mark (folded h) (λ k. k =
 is_above_is (Aborted zs ▹ h) w x y x0 k = is_above-mark (folded h) (λ k. any_of (λ z. is_above (folded h) (rows h) z k) zs) IsAborted (rows h) x y ∙ is_above_is h w.1 x y x0 k
 is_above_is (Accessed a o v ▹ h) w x y x0 k = is_above_is h w.3 x y x0 k
 
--- and each row says what the entries say
+-- and each row says what the history says
 pub row_is : {V : Type 0} (h : History V) → Orderly h → (a : ℕ) → is_begun h a ≡ true → row_at (folded h) (rows h) a ≡ Some (row_of h a)
 row_is {V} (Opened n) w a k = let q = is_begun_parts {V = V} (Opened n) a k in absurd (omega (arith, q.0, q.1))
 row_is (Began from ▹ h) w a k =
@@ -244,7 +244,7 @@ live_status_is h k =
     by_tests false true = refl
     by_tests false false = refl
 
--- the rows' live children are those of the entries
+-- the rows' live children are those of the history
 pub has_live_row_is : {V : Type 0} (h : History V) → Orderly h → (a : ℕ) → has_live_row (rows h) a ≡ has_live_child h a
 has_live_row_is h w a =
     under_listed (folded h) (rows h) (row_of h) a (λ k l m. row_is h w k (is_begun_from h k l (subst (λ u. k < u) (rows_length h) m)))

@@ -20,7 +20,7 @@ use Rattle.argus_model.proofs.Numbers.{any_found, joined_left}
 use Rattle.argus_model.proofs.Standing.{Orderly, alone, at_some, handed_from, handed_stays, kept_stays, owner_begun, owner_cases, parent_begun, parents_are_older, some_at, stands_abort, stands_begun, stands_commit, stands_old, stands_upward}
 use Rattle.argus_model.proofs.Work.{all_of-append, all_of_agree, find_writer, no_work, touches, touches-all_of, touches_all, user_of}
 
--- the rest of a trail: smaller numbers
+-- the rest of a lineage: smaller numbers
 pub record Rest {V : Type 0} (h : History V) (y : ℕ) : Type 0 where
   pub rest : List ℕ
   pub is : lineage h y ≡ y ∷ rest

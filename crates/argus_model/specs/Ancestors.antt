@@ -20,6 +20,7 @@ creator (Committed b ▹ older) a = creator older a
 creator (Aborted bs ▹ older) a = creator older a
 creator (Accessed b o v ▹ older) a = creator older a
 
+-- an action and the base
 abbrev pub to_base : ℕ → List ℕ
 to_base a = if a == 0 then 0 ∷ [] else a ∷ 0 ∷ []
 

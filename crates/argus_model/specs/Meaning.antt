@@ -11,9 +11,11 @@ pub record Meaning (V C A : Type 0) : Type 0 where
   pub answer : V → C → A
   -- the answer that was given
   pub recorded : V → A
+  -- an access that doesn't write leaves the content as it is
   pub reads_keep : (v : V) → writes v ≡ false → (c : C) → after v c ≡ c
 
 module _ {V C A : Type 0} (meaning : Meaning V C A) where
+  -- whether it is a read access
   abbrev pub reads : V → Bool
   reads v = not (meaning.writes v)
 

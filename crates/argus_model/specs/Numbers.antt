@@ -21,11 +21,16 @@ abbrev pub IsRising : List ℕ → Type 0
 IsRising [] = Unit {0}
 IsRising (x ∷ xs) = ((y : ℕ) → contains xs y ≡ true → x < y) × IsRising xs
 
--- the number in its place of a rising list, unless it is there
+-- no number stands twice
+abbrev pub IsDistinct : List ℕ → Type 0
+IsDistinct [] = Unit {0}
+IsDistinct (x ∷ xs) = (contains xs x ≡ false) × IsDistinct xs
+
+-- the list, with the number in its place among smaller and greater ones, unless it is there
 abbrev pub insert : ℕ → List ℕ → List ℕ
 insert x [] = x ∷ []
 insert x (y ∷ ys) = if x == y then y ∷ ys else if nat_lt x y then x ∷ y ∷ ys else y ∷ insert x ys
 
--- the others
+-- the numbers other than x
 abbrev pub without : ℕ → List ℕ → List ℕ
 without x ys = filter (λ y. not (y == x)) ys

@@ -4,8 +4,9 @@ use Rattle.argus_model.specs.Ancestors.{is_ancestor, lineage}
 use Rattle.argus_model.specs.History.{History}
 use Rattle.argus_model.specs.Status.{has_committed, is_begun, is_doomed}
 
+-- who answers for a piece of work
 pub data Owner : Type 0 where
-  -- no one is left to ask: the action was folded, or never began
+  -- nobody is asked: the action was folded, or never began
   Folded : Owner
   -- what it did is undone
   Gone : Owner
@@ -30,10 +31,12 @@ counts_for h a Gone = false
 counts_for h a (Held x) = is_ancestor h x a
 counts_for h a Base = true
 
+-- it is there for good
 abbrev pub is_base : Owner → Bool
 is_base Base = true
 is_base _ = false
 
+-- it is what x answers for
 abbrev pub is_held_by : ℕ → Owner → Bool
 is_held_by x (Held y) = y == x
 is_held_by x _ = false

@@ -29,6 +29,7 @@ abbrev pub as_owner : Option ℕ → Owner
 as_owner None = Gone
 as_owner (Some x) = if x == 0 then Base else Held x
 
+-- the owner is a
 abbrev pub is_exactly : Option ℕ → ℕ → Bool
 is_exactly None a = false
 is_exactly (Some x) a = x == a

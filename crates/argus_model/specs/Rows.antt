@@ -5,7 +5,7 @@ use Rattle.argus_model.specs.History.{History, Opened, folded, next_action, ◌�
 use Rattle.argus_model.specs.Numbers.{any_of}
 use Rattle.argus_model.specs.Status.{IsAborted, IsCommitted, IsLive, Status, status}
 
--- the number of a row is one more than how many actions are folded or have an older row
+-- one action: its number is one more than how many are folded or have an older row
 pub record Row : Type 0 where
   pub origin : Origin
   pub status : Status
@@ -27,6 +27,7 @@ abbrev pub row_at : ℕ → List Row → ℕ → Option Row
 row_at n [] a = None
 row_at n (row ∷ older) a = if a == n + length older + 1 then Some row else row_at n older a
 
+-- the row, with another status
 abbrev pub with_status : Status → Row → Row
 with_status s row = record { origin = row.origin; status = s }
 
@@ -48,6 +49,7 @@ rows (Committed a ▹ older) = mark (folded older) (λ x. x == a) IsCommitted (r
 rows (Aborted actions ▹ older) = mark (folded older) (λ x. any_of (λ a. is_above (folded older) (rows older) a x) actions) IsAborted (rows older)
 rows (Accessed a o v ▹ older) = rows older
 
+-- the status of a live action
 abbrev pub is_live_status : Status → Bool
 is_live_status IsLive = true
 is_live_status _ = false

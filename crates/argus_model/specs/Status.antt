@@ -41,6 +41,7 @@ has_live_child h a = any_of (λ x. is_live h x && (parent h x == a || creator h 
 abbrev pub live_siblings : {V : Type 0} → History V → ℕ → List ℕ
 live_siblings h a = filter (λ x. is_live h x && (not (x == a) && (creator h x == creator h a))) (begun_actions h)
 
+-- what became of an action
 pub data Status : Type 0 where
   IsLive : Status
   IsCommitted : Status

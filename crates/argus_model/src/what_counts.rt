@@ -2,7 +2,7 @@
 ghost use Rattle.std.specs.Prelude.{◌≡◌, ◌≢◌, ℕ, true, false, ◌&&◌, ◌==◌};
 ghost use Rattle.argus_model.specs.Event.{Event};
 ghost use Rattle.argus_model.specs.History.{Opening, History, ◌▹◌};
-ghost use Rattle.argus_model.specs.Numbers.{contains};
+ghost use Rattle.argus_model.specs.Numbers.{contains, IsDistinct};
 ghost use Rattle.argus_model.specs.Ancestors.{parent, is_ancestor};
 ghost use Rattle.argus_model.specs.Status.{is_begun, has_committed, is_doomed, is_live};
 ghost use Rattle.argus_model.specs.Owner.{owner, Gone, Held, Base};
@@ -54,12 +54,14 @@ pub fn nothing_comes_back<V, C, A>()
         → is_live (e ▹ h) a ≡ false }
 {}
 
-/// The serial order has just the topactions that committed, and what each of them did is there for
-/// good.
+/// The serial order has just the topactions that committed, each once, and what each of them did is
+/// there for good.
 pub fn committed_topactions_stay<V, C, A>()
     ensures who { (meaning : Meaning V C A) (opening : Opening C) (h : History V) (a : ℕ)
         → Lawful meaning opening h
         → contains (committed_topactions h) a ≡ (has_committed h a && parent h a == 0) }
+    ensures once { (meaning : Meaning V C A) (opening : Opening C) (h : History V)
+        → Lawful meaning opening h → IsDistinct (committed_topactions h) }
     ensures for_good { (meaning : Meaning V C A) (opening : Opening C) (h : History V) (a : ℕ)
         → Lawful meaning opening h → contains (committed_topactions h) a ≡ true
         → owner h a ≡ Base }
