@@ -112,3 +112,9 @@ contains_siblings h a x =
 
 pub siblings_live : {V : Type 0} (h : History V) (a : ℕ) → every (is_live h) (live_siblings h a) ≡ true
 siblings_live h a = every_from (is_live h) (live_siblings h a) (λ x m. (and_parts (is_live h x) (not (x == a) && (creator h x == creator h a)) (sym (contains_siblings h a x) ∙ m)).0)
+
+pub begun_listed : {V : Type 0} (h : History V) (a : ℕ) → contains (begun_actions h) a ≡ is_begun h a
+begun_listed h a =
+    same_bool (contains (begun_actions h) a) (is_begun h a)
+    (λ m. is_begun_from h a (contains_unfolded h a m) (begun_below h a m))
+    (λ k. let q = is_begun_parts h a k in begun_contains h a q.0 q.1)

@@ -1,28 +1,32 @@
 -- The laws of every lawful history: exclusion, the serial order, the table of effects.
-use Rattle.std.proofs.Common.{List, ap, subst, sym, true, ℕ, ◌++◌, ◌∙◌, ◌≡◌}
+use Rattle.std.proofs.Common.{List, ap, arith, false, subst, sym, true, ℕ, ⊎_elim, ◌++◌, ◌<◌, ◌∙◌, ◌≡◌, ◌≢◌, ◌≤◌}
 use Rattle.std.specs.Prelude.{reverse, ◌||◌}
+use Rattle.std.proofs.lemmas.Bool.{or_cases}
 use Rattle.argus_model.specs.Ancestors.{is_ancestor}
 use Rattle.argus_model.specs.Contents.{base, sees}
 use Rattle.argus_model.specs.Effects.{effects, table}
 use Rattle.argus_model.specs.Event.{Event}
-use Rattle.argus_model.specs.History.{History, Opening, ◌▹◌}
-use Rattle.argus_model.specs.Holders.{readers, writers}
+use Rattle.argus_model.specs.History.{History, Opening, begun_actions, ◌▹◌}
+use Rattle.argus_model.specs.Holders.{is_holder, readers, writers}
 use Rattle.argus_model.specs.Lawful.{Lawful}
 use Rattle.argus_model.specs.Meaning.{Meaning}
 use Rattle.argus_model.specs.Numbers.{contains}
 use Rattle.argus_model.specs.Run.{AnswersAgain, run}
-use Rattle.argus_model.specs.Status.{is_live}
+use Rattle.argus_model.specs.Status.{has_live_child, is_begun, is_live}
 use Rattle.argus_model.specs.Work.{content_after, serial_order, serial_order_to}
 use Rattle.argus_model.specs.WorkSteps.{visible_accesses}
+use Rattle.argus_model.proofs.Ancestors.{ancestor_le, ancestor_trans}
 use Rattle.argus_model.proofs.Bools.{or_turn}
 use Rattle.argus_model.proofs.Effects.{effects_prefix, table_base, table_goes_on}
 use Rattle.argus_model.proofs.HolderSteps.{exclusive}
 use Rattle.argus_model.proofs.Holders.{listed, same_kinds}
 use Rattle.argus_model.proofs.Lawful.{lawful_orderly, lawful_steps}
-use Rattle.argus_model.proofs.Live.{live_stands}
+use Rattle.argus_model.proofs.Live.{begun_below, child_is, is_begun_parts, live_stands, stands_is_live}
+use Rattle.argus_model.proofs.Numbers.{contains_filter, joined}
 use Rattle.argus_model.proofs.Run.{run_content, runs}
 use Rattle.argus_model.proofs.Sees.{base_is, sees_is}
 use Rattle.argus_model.proofs.Serial.{Serial, base_serial, guarded, serial_to-base, serials}
+use Rattle.argus_model.proofs.Standing.{alone, parents_are_older, stands_upward}
 use Rattle.argus_model.proofs.Topactions.{serial_tops}
 
 module _ {V C A : Type 0} (meaning : Meaning V C A) (opening : Opening C) where
@@ -71,3 +75,24 @@ module _ {V C A : Type 0} (meaning : Meaning V C A) (opening : Opening C) where
 
   pub effects_only_grow : (h : History V) (e : Event V) → Lawful meaning opening (e ▹ h) → (more : List (List (ℕ × C))) × (effects meaning opening (e ▹ h) ≡ effects meaning opening h ++ more)
   effects_only_grow h e l = effects_prefix meaning opening h e (lawful_orderly meaning opening h l.1) (lawful_orderly meaning opening (e ▹ h) l)
+
+  pub writers_in_line : (h : History V) (o x y : ℕ) → Lawful meaning opening h → contains (writers meaning h o) x ≡ true → contains (writers meaning h o) y ≡ true → x < y → is_ancestor h x y ≡ true
+  writers_in_line h o x y l hx hy lt =
+      let w = lawful_orderly meaning opening h l in
+      let b = begun_below h x (contains_filter (is_holder meaning.writes h o) (begun_actions h) x hx).1 in
+      ⊎_elim
+      (λ k. k)
+      (λ k. let q = ancestor_le h y x (parents_are_older h w) b k in absurd (omega arith))
+      (or_cases (is_ancestor h x y) (is_ancestor h y x) (one_above_the_other h o x y l hx (joined (readers meaning h o) (writers meaning h o) y hy)))
+
+  pub ancestor_above : (h : History V) (x y a : ℕ) → Lawful meaning opening h → is_begun h a ≡ true → is_ancestor h x y ≡ true → is_ancestor h y a ≡ true → is_ancestor h x a ≡ true
+  ancestor_above h x y a l k m n = ancestor_trans h x y a (parents_are_older h (lawful_orderly meaning opening h l)) (is_begun_parts h a k).1 m n
+
+  pub ancestor_older : (h : History V) (x a : ℕ) → Lawful meaning opening h → is_begun h a ≡ true → is_ancestor h x a ≡ true → x ≤ a
+  ancestor_older h x a l k m = ancestor_le h x a (parents_are_older h (lawful_orderly meaning opening h l)) (is_begun_parts h a k).1 m
+
+  pub ancestor_live : (h : History V) (x a : ℕ) → Lawful meaning opening h → is_live h a ≡ true → is_ancestor h x a ≡ true → x ≢ 0 → is_live h x ≡ true
+  ancestor_live h x a l k m n = let w = lawful_orderly meaning opening h l in sym (stands_is_live h w x n) ∙ stands_upward h w x a (live_stands h w a k).1 m
+
+  pub live_alone : (h : History V) (x a : ℕ) → Lawful meaning opening h → is_live h a ≡ true → is_ancestor h x a ≡ true → has_live_child h x ≡ false → x ≡ a
+  live_alone h x a l k m n = let w = lawful_orderly meaning opening h l in alone h (parents_are_older h w) (stands_upward h w) x a (live_stands h w a k).1 m (child_is h w x ∙ n)

@@ -1,5 +1,5 @@
 //! Who may hold an object together.
-ghost use Rattle.std.specs.Prelude.{◌≡◌, ℕ, true, ◌||◌, ◌++◌, ◌↔◌};
+ghost use Rattle.std.specs.Prelude.{◌≡◌, ◌<◌, ℕ, true, ◌||◌, ◌++◌, ◌↔◌};
 ghost use Rattle.argus_model.specs.History.{Opening, History};
 ghost use Rattle.argus_model.specs.Numbers.{contains, IsRising};
 ghost use Rattle.argus_model.specs.Ancestors.{is_ancestor};
@@ -9,13 +9,18 @@ ghost use Rattle.argus_model.specs.Holders.{readers, writers, may_read, may_writ
 ghost use Rattle.argus_model.specs.Lawful.{Lawful};
 
 /// Of one who holds an object for writing and any other holder of it, one is an ancestor of the
-/// other (Moss 1981, locking rules).
+/// other (Moss 1981, locking rules). So the writers, which are listed in increasing number, are
+/// listed from ancestor to descendant.
 pub fn exclusion<V, C, A>()
-    ensures { (meaning : Meaning V C A) (opening : Opening C) (h : History V) (o x y : ℕ)
+    ensures related { (meaning : Meaning V C A) (opening : Opening C) (h : History V) (o x y : ℕ)
         → Lawful meaning opening h
         → contains (writers meaning h o) x ≡ true
         → contains (readers meaning h o ++ writers meaning h o) y ≡ true
         → (is_ancestor h x y || is_ancestor h y x) ≡ true }
+    ensures chain { (meaning : Meaning V C A) (opening : Opening C) (h : History V) (o x y : ℕ)
+        → Lawful meaning opening h
+        → contains (writers meaning h o) x ≡ true → contains (writers meaning h o) y ≡ true
+        → x < y → is_ancestor h x y ≡ true }
 {}
 
 /// Who holds an object is live, and is listed once, in increasing number.

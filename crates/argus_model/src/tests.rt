@@ -6,7 +6,9 @@ use crate::one_after_another::{
 };
 use crate::second_forms::{content_forms, holder_forms, owner_forms};
 use crate::tables::{checkpoint, effect_of_commit, table_of_effects};
-use crate::trees::{rows_say_what_happened, rows_tell_ancestors_and_children, siblings};
+use crate::trees::{
+    ancestors, begun, rows_say_what_happened, rows_tell_ancestors_and_children, siblings,
+};
 use crate::what_counts::{committed_topactions_stay, nothing_comes_back, owners, owners_are_live};
 use crate::worked::{
     nested_under_aborted_creator, parallel_pair, siblings_are_aborted, turns_are_taken,
@@ -36,6 +38,8 @@ fn laws_of_the_serial_order_and_of_tables(_rt: HostRuntime) {
 
 #[test]
 fn laws_of_trees_and_of_the_next_event(_rt: HostRuntime) {
+    ancestors::<u8, u32, bool>();
+    begun::<u8>();
     rows_say_what_happened::<u8, u32, bool>();
     rows_tell_ancestors_and_children::<u8, u32, bool>();
     siblings::<u8, u32, bool>();

@@ -1,13 +1,40 @@
-//! The actions as rows of a tree, and the siblings of an action.
-ghost use Rattle.std.specs.Prelude.{◌≡◌, ℕ, ◌+◌, true, not, ◌&&◌, ◌==◌, length, Some};
+//! Ancestors, the actions as rows of a tree, and the siblings of an action.
+ghost use Rattle.std.specs.Prelude.{◌≡◌, ◌≢◌, ◌≤◌, ℕ, ◌+◌, true, false, not, ◌&&◌, ◌==◌, length, Some};
 ghost use Rattle.argus_model.specs.Event.{Aborted, parent_of, creator_of};
-ghost use Rattle.argus_model.specs.History.{Opening, History, folded, next_action};
-ghost use Rattle.argus_model.specs.Numbers.{contains};
+ghost use Rattle.argus_model.specs.History.{Opening, History, begun_actions, folded, next_action};
+ghost use Rattle.argus_model.specs.Numbers.{contains, IsRising};
 ghost use Rattle.argus_model.specs.Ancestors.{parent, creator, is_ancestor};
 ghost use Rattle.argus_model.specs.Status.{is_begun, is_live, has_live_child, live_siblings};
 ghost use Rattle.argus_model.specs.Meaning.{Meaning};
 ghost use Rattle.argus_model.specs.Lawful.{Allowed, Lawful};
 ghost use Rattle.argus_model.specs.Rows.{origin, row_of, row_at, is_above, rows, has_live_row};
+
+/// An action is its own ancestor, ancestors of ancestors are ancestors, and they are older; of a live
+/// action they are live. Nothing live stands under an action that has no live child.
+pub fn ancestors<V, C, A>()
+    ensures own { (h : History V) (a : ℕ) → is_ancestor h a a ≡ true }
+    ensures base { (h : History V) (a : ℕ) → is_ancestor h 0 a ≡ true }
+    ensures above { (meaning : Meaning V C A) (opening : Opening C) (h : History V) (x y a : ℕ)
+        → Lawful meaning opening h → is_begun h a ≡ true
+        → is_ancestor h x y ≡ true → is_ancestor h y a ≡ true
+        → is_ancestor h x a ≡ true }
+    ensures older { (meaning : Meaning V C A) (opening : Opening C) (h : History V) (x a : ℕ)
+        → Lawful meaning opening h → is_begun h a ≡ true → is_ancestor h x a ≡ true
+        → x ≤ a }
+    ensures live { (meaning : Meaning V C A) (opening : Opening C) (h : History V) (x a : ℕ)
+        → Lawful meaning opening h → is_live h a ≡ true → is_ancestor h x a ≡ true → x ≢ 0
+        → is_live h x ≡ true }
+    ensures alone { (meaning : Meaning V C A) (opening : Opening C) (h : History V) (x a : ℕ)
+        → Lawful meaning opening h → is_live h a ≡ true → is_ancestor h x a ≡ true
+        → has_live_child h x ≡ false
+        → x ≡ a }
+{}
+
+/// The actions that began since the opening are listed in increasing number.
+pub fn begun<V>()
+    ensures listed { (h : History V) (a : ℕ) → contains (begun_actions h) a ≡ is_begun h a }
+    ensures in_order { (h : History V) → IsRising (begun_actions h) }
+{}
 
 /// The rows, changed by each event in turn, say of each action what the history says: its origin
 /// and its status. There is one for each action that began since the opening.

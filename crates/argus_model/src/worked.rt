@@ -40,8 +40,9 @@ pub fn parallel_pair()
     ensures free { writers numbers pair_ends 0 ≡ [] }
 {}
 
-/// Topaction 1 is aborted. The nested topaction 2, which it began, has committed, and its effect
-/// stays; the nested topaction 4, which its subaction 3 began, goes on.
+/// Topaction 1 is aborted, and with it its subaction 3 and the subaction 5 of that one. The nested
+/// topaction 2, which 1 began, has committed, and its effect stays; the nested topaction 4, which 3
+/// began, goes on.
 pub fn nested_under_aborted_creator()
     ensures lawful { Lawful numbers zeros creator_outlived }
 
@@ -50,11 +51,11 @@ pub fn nested_under_aborted_creator()
     ensures no_ancestor { is_ancestor creator_works 1 2 ≡ false }
     ensures creator_waits { may_read numbers creator_works 1 0 ≡ false }
 
-    // 2 has committed, 3 has put 1 into object 1 and begun 4, and 1 is aborted
-    ensures statuses { map (status creator_aborts) (1 ∷ 2 ∷ 3 ∷ 4 ∷ [])
-        ≡ IsAborted ∷ IsCommitted ∷ IsAborted ∷ IsLive ∷ [] }
-    ensures owners { map (owner creator_aborts) (1 ∷ 2 ∷ 3 ∷ 4 ∷ [])
-        ≡ Gone ∷ Base ∷ Gone ∷ Held 4 ∷ [] }
+    // 2 has committed, 3 has put 1 into object 1 and begun 4 and 5, and 1 is aborted
+    ensures statuses { map (status creator_aborts) (1 ∷ 2 ∷ 3 ∷ 4 ∷ 5 ∷ [])
+        ≡ IsAborted ∷ IsCommitted ∷ IsAborted ∷ IsLive ∷ IsAborted ∷ [] }
+    ensures owners { map (owner creator_aborts) (1 ∷ 2 ∷ 3 ∷ 4 ∷ 5 ∷ [])
+        ≡ Gone ∷ Base ∷ Gone ∷ Held 4 ∷ Gone ∷ [] }
     ensures undone { writers numbers creator_aborts 1 ≡ [] }
     ensures contents { map (base numbers zeros creator_aborts) (0 ∷ 1 ∷ []) ≡ 7 ∷ 0 ∷ [] }
 

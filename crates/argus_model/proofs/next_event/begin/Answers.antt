@@ -1,7 +1,11 @@
 -- The proof of the laws that stand on `begin`.
+use Rattle.argus_model.specs.Ancestors.{lineage}
+use Rattle.argus_model.specs.Contents.{base, sees}
 use Rattle.argus_model.specs.Event.{Began}
 use Rattle.argus_model.specs.History.{◌▹◌}
+use Rattle.argus_model.specs.Holders.{readers, writers}
 use Rattle.argus_model.specs.Meaning.{reads}
+use Rattle.argus_model.specs.Owner.{owner}
 use Rattle.argus_model.proofs.Ancestors.{lineage_old}
 use Rattle.argus_model.proofs.Lawful.{lawful_orderly}
 use Rattle.argus_model.proofs.NextHolders.{holders_after_begin}
