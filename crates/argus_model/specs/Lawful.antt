@@ -19,7 +19,9 @@ module _ {V C A : Type 0} (meaning : Meaning V C A) where
   Allowed opening h (Began from) = (creator_of from == 0 || is_live h (creator_of from)) ≡ true
   Allowed opening h (Committed a) = (is_live h a ≡ true) × (has_live_child h a ≡ false)
   Allowed opening h (Aborted actions) = every (is_live h) actions ≡ true
-  Allowed opening h (Accessed a o v) = (is_live h a ≡ true) × (has_live_child h a ≡ false) × (may_access h a o v ≡ true) × Fits meaning v (sees meaning opening h a o)
+  Allowed opening h (Accessed a o v) =
+      (is_live h a ≡ true) × (has_live_child h a ≡ false)
+      × (may_access h a o v ≡ true) × Fits meaning v (sees meaning opening h a o)
 
   -- the history goes on from this opening, and each of its events was allowed
   abbrev pub Lawful : Opening C → History V → Type 0

@@ -64,7 +64,9 @@ abbrev pub creator_works : History Deed
 creator_works = followed_by (Opened 0) (Began Top ∷ Began (Nested 1) ∷ Accessed 2 0 (Put 7 0) ∷ [])
 
 abbrev pub creator_aborts : History Deed
-creator_aborts = followed_by creator_works (Committed 2 ∷ Began (Sub 1) ∷ Accessed 3 1 (Put 1 0) ∷ Began (Nested 3) ∷ Began (Sub 3) ∷ Aborted (1 ∷ []) ∷ [])
+creator_aborts =
+    followed_by creator_works
+    (Committed 2 ∷ Began (Sub 1) ∷ Accessed 3 1 (Put 1 0) ∷ Began (Nested 3) ∷ Began (Sub 3) ∷ Aborted (1 ∷ []) ∷ [])
 
 abbrev pub creator_outlived : History Deed
 creator_outlived = followed_by creator_aborts (Accessed 4 1 (Look 0) ∷ Accessed 4 0 (Look 7) ∷ Committed 4 ∷ [])

@@ -9,8 +9,8 @@ ghost use Rattle.argus_model.specs.Meaning.{Meaning};
 ghost use Rattle.argus_model.specs.Lawful.{Allowed, Lawful};
 ghost use Rattle.argus_model.specs.Rows.{origin, row_of, row_at, is_above, rows, has_live_row};
 
-/// An action is its own ancestor, ancestors of ancestors are ancestors, and they are older; of a live
-/// action they are live. Nothing live stands under an action that has no live child.
+/// An action is its own ancestor, ancestors of ancestors are ancestors, and they are older; of a
+/// live action they are live. Nothing live stands under an action that has no live child.
 pub fn ancestors<V, C, A>()
     ensures own { (h : History V) (a : ℕ) → is_ancestor h a a ≡ true }
     ensures base { (h : History V) (a : ℕ) → is_ancestor h 0 a ≡ true }

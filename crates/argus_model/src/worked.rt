@@ -1,7 +1,8 @@
 //! Histories worked out, on objects that hold a number. Each is drawn as a table in docs/MODEL.md.
 ghost use Rattle.std.specs.Prelude.{◌≡◌, ℕ, true, false, List, [], ◌∷◌, map};
 ghost use Rattle.argus_model.specs.Ancestors.{is_ancestor};
-ghost use Rattle.argus_model.specs.Status.{is_live, has_live_child, live_siblings, status, IsLive, IsCommitted, IsAborted, IsFolded};
+ghost use Rattle.argus_model.specs.Status.{is_live, has_live_child, live_siblings, status};
+ghost use Rattle.argus_model.specs.Status.{IsLive, IsCommitted, IsAborted, IsFolded};
 ghost use Rattle.argus_model.specs.Owner.{owner, Folded, Gone, Held, Base};
 ghost use Rattle.argus_model.specs.Holders.{readers, writers, may_read, may_write};
 ghost use Rattle.argus_model.specs.Contents.{sees, base};
@@ -9,7 +10,11 @@ ghost use Rattle.argus_model.specs.Work.{work, committed_topactions, serial_orde
 ghost use Rattle.argus_model.specs.Effects.{effects};
 ghost use Rattle.argus_model.specs.Lawful.{Lawful};
 ghost use Rattle.argus_model.specs.Fold.{fold};
-ghost use Rattle.argus_model.specs.Worked.{numbers, looked, put, zeros, opened_late, pair_begins, pair_goes_on, pair_ends, creator_works, creator_aborts, creator_outlived, siblings_work, siblings_aborted, siblings_end, turns_taken, turns_end};
+ghost use Rattle.argus_model.specs.Worked.{numbers, looked, put, zeros, opened_late};
+ghost use Rattle.argus_model.specs.Worked.{pair_begins, pair_goes_on, pair_ends};
+ghost use Rattle.argus_model.specs.Worked.{creator_works, creator_aborts, creator_outlived};
+ghost use Rattle.argus_model.specs.Worked.{siblings_work, siblings_aborted, siblings_end};
+ghost use Rattle.argus_model.specs.Worked.{turns_taken, turns_end};
 
 /// Two subactions, 2 and 3, of topaction 1 at one object: 3 has to wait until 2 commits, and then
 /// sees what 2 left.
@@ -21,7 +26,8 @@ pub fn parallel_pair()
     ensures other_waits { may_read numbers pair_begins 3 0 ≡ false }
     ensures parent_waits { may_read numbers pair_begins 1 0 ≡ false }
     ensures parent_rests { has_live_child pair_begins 1 ≡ true }
-    ensures first { map (λ a. sees numbers zeros pair_begins a 0) (1 ∷ 2 ∷ 3 ∷ []) ≡ 0 ∷ 1 ∷ 0 ∷ [] }
+    ensures first { map (λ a. sees numbers zeros pair_begins a 0) (1 ∷ 2 ∷ 3 ∷ [])
+        ≡ 0 ∷ 1 ∷ 0 ∷ [] }
 
     // 2 has committed, and 3 has looked at object 0, put 5 there and looked at object 1
     ensures handed_up { owner pair_goes_on 2 ≡ Held 1 }
@@ -79,7 +85,8 @@ pub fn siblings_are_aborted()
 
     // 5 and 6 are aborted
     ensures statuses { map (status siblings_aborted) (2 ∷ 3 ∷ 4 ∷ 5 ∷ 6 ∷ 7 ∷ 8 ∷ 9 ∷ [])
-        ≡ IsFolded ∷ IsLive ∷ IsCommitted ∷ IsAborted ∷ IsAborted ∷ IsAborted ∷ IsLive ∷ IsLive ∷ [] }
+        ≡ IsFolded ∷ IsLive ∷ IsCommitted ∷ IsAborted ∷ IsAborted ∷ IsAborted ∷ IsLive ∷ IsLive
+        ∷ [] }
     ensures owners { map (owner siblings_aborted) (2 ∷ 4 ∷ 7 ∷ [])
         ≡ Folded ∷ Held 3 ∷ Gone ∷ [] }
     ensures free { readers numbers siblings_aborted 1 ≡ [] }
@@ -91,8 +98,8 @@ pub fn siblings_are_aborted()
     ensures effects { effects numbers opened_late siblings_end ≡ ((0, 1) ∷ []) ∷ [] }
 {}
 
-/// Topactions 3 and 4 take turns, from an opening where object 0 holds 4. Topaction 4 began last and
-/// commits first, so its work is first in the serial order. In the end the past is folded.
+/// Topactions 3 and 4 take turns, from an opening where object 0 holds 4. Topaction 4 began last
+/// and commits first, so its work is first in the serial order. In the end the past is folded.
 pub fn turns_are_taken()
     ensures lawful { Lawful numbers opened_late turns_end }
 
