@@ -4,7 +4,7 @@ use Rattle.std.specs.Prelude.{reverse, ◌==◌}
 use Rattle.std.proofs.lemmas.List.{reverse-append}
 use Rattle.argus_model.specs.Meaning.{Fits, Meaning}
 use Rattle.argus_model.specs.Run.{AnswersAgain, after_access, run}
-use Rattle.argus_model.specs.Work.{Access, content_after}
+use Rattle.argus_model.specs.Work.{Access, content_after, content_before}
 use Rattle.argus_model.specs.WorkSteps.{Replays}
 
 module _ {V C A : Type 0} (meaning : Meaning V C A) (contents : ℕ → C) where
@@ -28,3 +28,8 @@ module _ {V C A : Type 0} (meaning : Meaning V C A) (contents : ℕ → C) where
   runs (e ∷ es) r =
       subst (λ l. AnswersAgain meaning contents l) (sym (reverse-append (e ∷ []) es))
       (runs-more contents (reverse es) e (runs es r.1) (subst (λ c. Fits meaning e.what c) (sym (run_content es e.object)) r.0))
+
+  -- each access is answered by what went before it
+  pub replays_at : (later : List (Access V)) (e : Access V) (earlier : List (Access V)) → Replays meaning contents (later ++ e ∷ earlier) → Fits meaning e.what (content_before meaning contents e earlier)
+  replays_at [] e earlier r = r.0
+  replays_at (x ∷ later) e earlier r = replays_at later e earlier r.1

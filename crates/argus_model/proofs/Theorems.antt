@@ -1,5 +1,5 @@
 -- The laws of every lawful history: exclusion, the serial order, the table of effects.
-use Rattle.std.proofs.Common.{List, ap, arith, false, subst, sym, true, ℕ, ⊎_elim, ◌++◌, ◌<◌, ◌∙◌, ◌≡◌, ◌≢◌, ◌≤◌}
+use Rattle.std.proofs.Common.{List, ap, arith, false, subst, sym, true, ℕ, ⊎_elim, ◌++◌, ◌<◌, ◌∙◌, ◌∷◌, ◌≡◌, ◌≢◌, ◌≤◌}
 use Rattle.std.specs.Prelude.{reverse, ◌||◌}
 use Rattle.std.proofs.lemmas.Bool.{or_cases}
 use Rattle.argus_model.specs.Ancestors.{is_ancestor}
@@ -9,12 +9,12 @@ use Rattle.argus_model.specs.Event.{Event}
 use Rattle.argus_model.specs.History.{History, Opening, begun_actions, ◌▹◌}
 use Rattle.argus_model.specs.Holders.{is_holder, readers, writers}
 use Rattle.argus_model.specs.Lawful.{Lawful}
-use Rattle.argus_model.specs.Meaning.{Meaning}
+use Rattle.argus_model.specs.Meaning.{Fits, Meaning}
 use Rattle.argus_model.specs.Numbers.{contains}
 use Rattle.argus_model.specs.Run.{AnswersAgain, run}
 use Rattle.argus_model.specs.Status.{has_live_child, is_begun, is_live}
-use Rattle.argus_model.specs.Work.{content_after, serial_order, serial_order_to}
-use Rattle.argus_model.specs.WorkSteps.{visible_accesses}
+use Rattle.argus_model.specs.Work.{Access, content_after, content_before, serial_order, serial_order_to}
+use Rattle.argus_model.specs.WorkSteps.{Replays, visible_accesses}
 use Rattle.argus_model.proofs.Ancestors.{ancestor_le, ancestor_trans}
 use Rattle.argus_model.proofs.Bools.{or_turn}
 use Rattle.argus_model.proofs.Effects.{effects_prefix, table_base, table_goes_on}
@@ -23,7 +23,7 @@ use Rattle.argus_model.proofs.Holders.{listed, same_kinds}
 use Rattle.argus_model.proofs.Lawful.{lawful_orderly, lawful_steps}
 use Rattle.argus_model.proofs.Live.{begun_below, child_is, is_begun_parts, live_stands, stands_is_live}
 use Rattle.argus_model.proofs.Numbers.{contains_filter, joined}
-use Rattle.argus_model.proofs.Run.{run_content, runs}
+use Rattle.argus_model.proofs.Run.{replays_at, run_content, runs}
 use Rattle.argus_model.proofs.Sees.{base_is, sees_is}
 use Rattle.argus_model.proofs.Serial.{Serial, base_serial, guarded, serial_to-base, serials}
 use Rattle.argus_model.proofs.Standing.{alone, parents_are_older, stands_upward}
@@ -50,6 +50,11 @@ module _ {V C A : Type 0} (meaning : Meaning V C A) (opening : Opening C) where
       subst (λ es. AnswersAgain meaning opening.contents (reverse es)) (serial_is h l)
       (runs meaning opening.contents (serial_order_to h 0) (base_serial meaning opening.contents h (lawful_steps meaning opening h l)).replays)
 
+  pub serial_each : (h : History V) (later : List (Access V)) (e : Access V) (earlier : List (Access V)) → Lawful meaning opening h → serial_order h ≡ later ++ e ∷ earlier → Fits meaning e.what (content_before meaning opening.contents e earlier)
+  serial_each h later e earlier l q =
+      replays_at meaning opening.contents later e earlier
+      (subst (λ es. Replays meaning opening.contents es) (serial_is h l ∙ q) (base_serial meaning opening.contents h (lawful_steps meaning opening h l)).replays)
+
   pub serial_leaves : (h : History V) (o : ℕ) → Lawful meaning opening h → run meaning opening.contents (reverse (serial_order h)) o ≡ base meaning opening h o
   serial_leaves h o l = run_content meaning opening.contents (serial_order h) o ∙ serial_content h o l
 
@@ -58,6 +63,9 @@ module _ {V C A : Type 0} (meaning : Meaning V C A) (opening : Opening C) where
 
   pub live_answers : (h : History V) (a : ℕ) → Lawful meaning opening h → is_live h a ≡ true → AnswersAgain meaning opening.contents (reverse (serial_order_to h a))
   live_answers h a l k = runs meaning opening.contents (serial_order_to h a) (live_serial h a l k).replays
+
+  pub live_each : (h : History V) (a : ℕ) (later : List (Access V)) (e : Access V) (earlier : List (Access V)) → Lawful meaning opening h → is_live h a ≡ true → serial_order_to h a ≡ later ++ e ∷ earlier → Fits meaning e.what (content_before meaning opening.contents e earlier)
+  live_each h a later e earlier l k q = replays_at meaning opening.contents later e earlier (subst (λ es. Replays meaning opening.contents es) q (live_serial h a l k).replays)
 
   pub live_leaves : (h : History V) (a o : ℕ) → Lawful meaning opening h → is_live h a ≡ true → run meaning opening.contents (reverse (serial_order_to h a)) o ≡ sees meaning opening h a o
   live_leaves h a o l k =

@@ -44,3 +44,7 @@ module _ {V C A : Type 0} (meaning : Meaning V C A) where
   abbrev pub content_after : (ℕ → C) → ℕ → List (Access V) → C
   content_after contents o [] = contents o
   content_after contents o (e ∷ older) = if e.object == o then meaning.after e.what (content_after contents o older) else content_after contents o older
+
+  -- what the object of an access holds just before it, where these went before, newest first
+  abbrev pub content_before : (ℕ → C) → Access V → List (Access V) → C
+  content_before contents e earlier = content_after contents e.object earlier

@@ -9,7 +9,7 @@
 //! | seen by a live y | a sees as its parent | a sees what it left | as a saw it, where y is under p and a wrote | the same |
 //! | there for good | the same | the same | as a saw it, where p is the base and a wrote | the same |
 //! | serial order | the same | the same | with the work of a, where p is the base | the same |
-ghost use Rattle.std.specs.Prelude.{◌≡◌, ◌≢◌, ℕ, true, not, ◌&&◌, ◌||◌, ◌==◌, ◌∷◌, ◌++◌, List, filter, if◌then◌else◌};
+ghost use Rattle.std.specs.Prelude.{◌≡◌, ◌≢◌, ℕ, true, not, ◌&&◌, ◌||◌, ◌==◌, ◌∷◌, ◌++◌, List, [], filter, if◌then◌else◌};
 ghost use Rattle.argus_model.specs.Event.{Origin, Began, Committed, Aborted, Accessed, parent_of};
 ghost use Rattle.argus_model.specs.History.{Opening, History, ◌▹◌, next_action};
 ghost use Rattle.argus_model.specs.Numbers.{contains, insert};
@@ -22,8 +22,8 @@ ghost use Rattle.argus_model.specs.Contents.{sees, base};
 ghost use Rattle.argus_model.specs.Work.{work, serial_order};
 ghost use Rattle.argus_model.specs.Lawful.{Lawful};
 
-/// An action begins: it is live, answers for itself, sees what its parent sees and holds nothing;
-/// of the others all stays.
+/// An action begins: it is live, answers for itself, sees what its parent sees, and has done
+/// nothing; of the others all stays.
 pub fn begin<V, C, A>()
     ensures live { (meaning : Meaning V C A) (opening : Opening C) (h : History V) (from : Origin)
         (x : ℕ) → Lawful meaning opening (Began from ▹ h)
@@ -51,6 +51,9 @@ pub fn begin<V, C, A>()
     ensures others_see { (meaning : Meaning V C A) (opening : Opening C) (h : History V)
         (from : Origin) (x o : ℕ) → Lawful meaning opening (Began from ▹ h) → x ≢ next_action h
         → sees meaning opening (Began from ▹ h) x o ≡ sees meaning opening h x o }
+    ensures work { (meaning : Meaning V C A) (opening : Opening C) (h : History V) (from : Origin)
+        → Lawful meaning opening (Began from ▹ h)
+        → work (Began from ▹ h) (next_action h) ≡ [] }
     ensures base { (meaning : Meaning V C A) (opening : Opening C) (h : History V) (from : Origin)
         (o : ℕ) → Lawful meaning opening (Began from ▹ h)
         → base meaning opening (Began from ▹ h) o ≡ base meaning opening h o }
