@@ -1,12 +1,13 @@
 -- For whom an action's work counts, as time goes on.
 use Rattle.std.proofs.Common.{Bool, List, None, Option, Some, ap, arith, cond, false, inl, inr, refl, subst, sym, true, ℕ, ⊎_elim, ◌<◌, ◌∙◌, ◌∷◌, ◌≡◌, ◌≢◌}
+use Rattle.std.specs.List.{IsDistinct}
 use Rattle.std.specs.Prelude.{not, ◌&&◌, ◌==◌, ◌||◌}
 use Rattle.std.proofs.lemmas.Bool.{and_parts, both_ways, cases_Bool, cases_eq, eq-eqb, eqb-true, false_from_ne_true, false≢true, ne_eqb}
 use Rattle.std.proofs.lemmas.Bool.Decides.{nat_tests}
 use Rattle.argus_model.specs.Ancestors.{is_ancestor, is_under, parent}
 use Rattle.argus_model.specs.Event.{Aborted, Accessed, Began, Committed, Event}
 use Rattle.argus_model.specs.History.{History, Opened, next_action, ◌▹◌}
-use Rattle.argus_model.specs.Numbers.{IsDistinct, contains}
+use Rattle.argus_model.specs.Numbers.{contains}
 use Rattle.argus_model.specs.Owner.{Base, Gone, Held, Owner, is_base, owner}
 use Rattle.argus_model.specs.OwnerSteps.{as_owner, handed_up, owner_by_steps, stands, unless_lost}
 use Rattle.argus_model.specs.Status.{has_committed, is_begun, is_doomed, is_live}
@@ -14,6 +15,7 @@ use Rattle.argus_model.specs.Work.{committed_topactions}
 use Rattle.argus_model.proofs.Ancestors.{parent_cases, parent_older}
 use Rattle.argus_model.proofs.Bools.{and_none}
 use Rattle.argus_model.proofs.Live.{is_begun_from, is_begun_parts, live_stands, stands_is_live}
+use Rattle.argus_model.proofs.Numbers.{different}
 use Rattle.argus_model.proofs.Owner.{owner_is, parent_unfolded}
 use Rattle.argus_model.proofs.OwnerRules.{committed_begun, committed_unfolded, owner_ancestor, owner_gone, owner_passed}
 use Rattle.argus_model.proofs.Serial.{base_stands}
@@ -194,7 +196,8 @@ good_stays h e w u a k g =
     ∙ ap as_owner (base_stays h e u a (base_of (owner_by_steps h a) (sym (owner_is h w a k) ∙ g)))
 
 -- who commits stood until then, so it is not among those who committed before
-pub tops-IsDistinct : {V : Type 0} (h : History V) → Orderly h → IsDistinct (committed_topactions h)
+pub tops-IsDistinct : {V : Type 0} (h : History V) → Orderly h → IsDistinct ◌==◌ (committed_topactions h)
+unfolding IsDistinct
 tops-IsDistinct (Opened n) w = tt
 tops-IsDistinct (Began from ▹ h) w = tops-IsDistinct h w.1
 tops-IsDistinct (Aborted z ▹ h) w = tops-IsDistinct h w.1
@@ -203,6 +206,6 @@ tops-IsDistinct (Committed s ▹ h) w =
     let tops = committed_topactions h in
     let rest = tops-IsDistinct h w.3 in
     ⊎_elim
-    (λ e. subst (λ b. IsDistinct (cond b (s ∷ tops) tops)) (sym e) (false_from_ne_true (contains tops s) (λ m. both_ways (stands h s) (tops_over h w.3 s m) w.1), rest))
-    (λ e. subst (λ b. IsDistinct (cond b (s ∷ tops) tops)) (sym e) rest)
+    (λ e. subst (λ b. IsDistinct ◌==◌ (cond b (s ∷ tops) tops)) (sym e) (different s tops (false_from_ne_true (contains tops s) (λ m. both_ways (stands h s) (tops_over h w.3 s m) w.1)), rest))
+    (λ e. subst (λ b. IsDistinct ◌==◌ (cond b (s ∷ tops) tops)) (sym e) rest)
     (cases_Bool (parent h s == 0))

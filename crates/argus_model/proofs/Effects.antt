@@ -9,7 +9,7 @@ use Rattle.argus_model.specs.Event.{Aborted, Accessed, Began, Committed, Event}
 use Rattle.argus_model.specs.History.{History, Opened, Opening, ◌▹◌}
 use Rattle.argus_model.specs.HolderSteps.{has_used, holds}
 use Rattle.argus_model.specs.Meaning.{Meaning}
-use Rattle.argus_model.specs.Numbers.{IsRising, contains, insert}
+use Rattle.argus_model.specs.Numbers.{contains, insert}
 use Rattle.argus_model.specs.OwnerSteps.{is_exactly, owner_by_steps, stands}
 use Rattle.argus_model.specs.Work.{Access, all_of, committed_topactions, content_after, serial_order_to, work}
 use Rattle.argus_model.specs.WorkSteps.{LawfulSteps, visible_accesses}
@@ -18,7 +18,7 @@ use Rattle.argus_model.proofs.Bools.{eqb_sym, same_bool}
 use Rattle.argus_model.proofs.Contents.{content_past}
 use Rattle.argus_model.proofs.Exclusion.{has_used_begun, has_used_cases}
 use Rattle.argus_model.proofs.HolderSteps.{used_by_found, used_by_from}
-use Rattle.argus_model.proofs.Numbers.{contains_first, contains_insert, insert-IsRising}
+use Rattle.argus_model.proofs.Numbers.{IsRising, contains_first, contains_insert, insert-IsRising}
 use Rattle.argus_model.proofs.Serial.{base_serial, lineage-base, orderly, serial_to-base, serials}
 use Rattle.argus_model.proofs.Standing.{Orderly, at_some, handed_cases, kept_cases, owner_cases, parents_are_older, some_at, stands_begun}
 use Rattle.argus_model.proofs.Topactions.{serial_tops, tops_over}

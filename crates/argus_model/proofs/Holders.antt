@@ -1,5 +1,6 @@
 -- The lists of holders and the two lock rules are those of the owners by steps.
 use Rattle.std.proofs.Common.{Bool, ap, arith, false, refl, subst, sym, true, ℕ, ⊎_elim, ◌++◌, ◌<◌, ◌∙◌, ◌≡◌, ◌≢◌}
+use Rattle.std.specs.List.{list_all}
 use Rattle.std.specs.Prelude.{◌&&◌, ◌==◌, ◌||◌}
 use Rattle.std.proofs.lemmas.Bool.{and_from, and_parts, cases_eq, false≢true, or_cases, or_left, or_right}
 use Rattle.argus_model.specs.Ancestors.{is_ancestor}
@@ -8,7 +9,7 @@ use Rattle.argus_model.specs.History.{History, Opened, begun_actions, folded, ne
 use Rattle.argus_model.specs.HolderSteps.{has_used, holds, may_by_steps, used_by}
 use Rattle.argus_model.specs.Holders.{has_access, holders, is_holder, may_read, may_write, readers, writers}
 use Rattle.argus_model.specs.Meaning.{Meaning, reads}
-use Rattle.argus_model.specs.Numbers.{IsRising, contains, every}
+use Rattle.argus_model.specs.Numbers.{contains}
 use Rattle.argus_model.specs.Owner.{is_held_by, owner}
 use Rattle.argus_model.specs.OwnerSteps.{is_exactly, owner_by_steps}
 use Rattle.argus_model.specs.Status.{is_begun}
@@ -16,7 +17,7 @@ use Rattle.argus_model.proofs.Bools.{and_split, kinds_apart, same_bool}
 use Rattle.argus_model.proofs.Exclusion.{has_used_begun, has_used_cases}
 use Rattle.argus_model.proofs.HolderSteps.{may_asks, may_if, used_by_agree, used_by_found}
 use Rattle.argus_model.proofs.Live.{begun_contains, begun_rising, contains_unfolded, is_begun_from}
-use Rattle.argus_model.proofs.Numbers.{contains_filter, every_at, every_from, filter_contains, joined_cases, rising_filter}
+use Rattle.argus_model.proofs.Numbers.{IsRising, contains_filter, every_at, every_from, filter_contains, joined_cases, rising_filter}
 use Rattle.argus_model.proofs.Owner.{base_above, is_held_by_is, owner_is, owner_unfolded}
 use Rattle.argus_model.proofs.Standing.{Orderly, at_some, owner_begun, parents_are_older, stands_unfolded}
 
@@ -67,14 +68,14 @@ module _ {V C A : Type 0} (meaning : Meaning V C A) where
   used_by_kinds t o (Accessed a o' v ▹ k) =
       ap (λ r. ((o' == o && true) && t a) || r) (used_by_kinds t o k) ∙ kinds_apart (o' == o) (meaning.writes v) (t a) (used_by (reads meaning) t o false k) (used_by meaning.writes t o false k)
 
-  pub every_holder : (kind : V → Bool) (h : History V) → Orderly h → (a o : ℕ) → every (λ x. is_ancestor h x a) (holders kind h o) ≡ true → (x : ℕ) → holds kind h o false x ≡ true → is_ancestor h x a ≡ true
+  pub every_holder : (kind : V → Bool) (h : History V) → Orderly h → (a o : ℕ) → list_all (λ x. is_ancestor h x a) (holders kind h o) ≡ true → (x : ℕ) → holds kind h o false x ≡ true → is_ancestor h x a ≡ true
   every_holder kind h w a o e x m =
       ⊎_elim
       (λ k. subst (λ u. is_ancestor h u a ≡ true) (sym k) (base_above h a))
       (λ n. every_at (λ x. is_ancestor h x a) (holders kind h o) x e (contains_holders kind h w o x n ∙ m))
       (cases_eq x 0)
 
-  pub all_holders : (kind : V → Bool) (h : History V) → Orderly h → (a o : ℕ) → ((x : ℕ) → holds kind h o false x ≡ true → is_ancestor h x a ≡ true) → every (λ x. is_ancestor h x a) (holders kind h o) ≡ true
+  pub all_holders : (kind : V → Bool) (h : History V) → Orderly h → (a o : ℕ) → ((x : ℕ) → holds kind h o false x ≡ true → is_ancestor h x a ≡ true) → list_all (λ x. is_ancestor h x a) (holders kind h o) ≡ true
   all_holders kind h w a o each =
       every_from (λ x. is_ancestor h x a) (holders kind h o)
       (λ x m. let q = contains_filter (is_holder kind h o) (begun_actions h) x m in let l = contains_unfolded h x q.1 in
@@ -90,11 +91,11 @@ module _ {V C A : Type 0} (meaning : Meaning V C A) where
   may_write_is h w a o =
       let t = λ (x : ℕ) (d : ℕ). is_exactly (owner_by_steps h d) x in
       same_bool (may_write meaning h a o) (may_by_steps meaning.writes h a o true h)
-      (λ e. let q = and_parts (every (λ x. is_ancestor h x a) (readers meaning h o)) (every (λ x. is_ancestor h x a) (writers meaning h o)) e in
+      (λ e. let q = and_parts (list_all (λ x. is_ancestor h x a) (readers meaning h o)) (list_all (λ x. is_ancestor h x a) (writers meaning h o)) e in
       may_if meaning.writes h a o true
       (λ x m. ⊎_elim (λ k. every_holder (reads meaning) h w a o q.0 x k) (λ k. every_holder meaning.writes h w a o q.1 x k)
       (or_cases (holds (reads meaning) h o false x) (holds meaning.writes h o false x) (sym (used_by_kinds (t x) o h) ∙ m))))
-      (λ e. and_from (every (λ x. is_ancestor h x a) (readers meaning h o)) (every (λ x. is_ancestor h x a) (writers meaning h o))
+      (λ e. and_from (list_all (λ x. is_ancestor h x a) (readers meaning h o)) (list_all (λ x. is_ancestor h x a) (writers meaning h o))
       (all_holders (reads meaning) h w a o (λ x m. may_asks meaning.writes h a o true e x (used_by_kinds (t x) o h ∙ or_left (holds (reads meaning) h o false x) (holds meaning.writes h o false x) m)))
       (all_holders meaning.writes h w a o (λ x m. may_asks meaning.writes h a o true e x (used_by_kinds (t x) o h ∙ or_right (holds (reads meaning) h o false x) (holds meaning.writes h o false x) m))))
 

@@ -1,5 +1,6 @@
 -- A lawful history is lawful by the events' own forms.
 use Rattle.std.proofs.Common.{List, ap, cond, subst, sym, true, ℕ, ⊎_elim, ◌∙◌, ◌≡◌}
+use Rattle.std.specs.List.{list_all}
 use Rattle.std.specs.Prelude.{◌==◌, ◌||◌}
 use Rattle.std.proofs.lemmas.Bool.{cases_Bool, eqb-true, or_cases}
 use Rattle.argus_model.specs.Event.{Aborted, Accessed, Began, Committed, Event, Nested, Origin, Sub, Top, creator_of, parent_of}
@@ -8,7 +9,6 @@ use Rattle.argus_model.specs.HolderSteps.{may_by_steps}
 use Rattle.argus_model.specs.Holders.{may_read, may_write}
 use Rattle.argus_model.specs.Lawful.{Allowed, Lawful, may_access}
 use Rattle.argus_model.specs.Meaning.{Fits, Meaning}
-use Rattle.argus_model.specs.Numbers.{every}
 use Rattle.argus_model.specs.OwnerSteps.{AllStand, stands}
 use Rattle.argus_model.specs.Status.{is_live}
 use Rattle.argus_model.specs.WorkSteps.{LawfulSteps}
@@ -25,7 +25,7 @@ parent_stands h w Top e = base_stands h w
 parent_stands h w (Nested c) e = base_stands h w
 parent_stands h w (Sub p) e = ⊎_elim (λ k. subst (λ u. stands h u ≡ true) (sym (eqb-true p 0 k)) (base_stands h w)) (λ k. (live_stands h w p k).1) (or_cases (p == 0) (is_live h p) e)
 
-pub all_stand : {V : Type 0} (h : History V) → Orderly h → (actions : List ℕ) → every (is_live h) actions ≡ true → AllStand h actions
+pub all_stand : {V : Type 0} (h : History V) → Orderly h → (actions : List ℕ) → list_all (is_live h) actions ≡ true → AllStand h actions
 all_stand h w actions e = λ a i. live_stands h w a (every_at (is_live h) actions a e i)
 
 module _ {V C A : Type 0} (meaning : Meaning V C A) (opening : Opening C) where

@@ -1,17 +1,20 @@
 -- What stands is what is live, and the lists of live children and siblings.
 use Rattle.std.proofs.Common.{[], ap, arith, cond, false, refl, sym, true, ℕ, ⊎_elim, ◌<◌, ◌∙◌, ◌∷◌, ◌≡◌, ◌≢◌}
+use Rattle.std.specs.List.{list_all, list_any}
 use Rattle.std.specs.Prelude.{nat_lt, not, ◌&&◌, ◌==◌, ◌||◌}
+use Rattle.std.proofs.Math.Bool.{and_comm, or_comm}
 use Rattle.std.proofs.lemmas.Bool.{and_from, and_parts, both_ways, cases_eq, eq-eqb, false≢true, lt-ltb, ltb-true, ne_eqb, not-true, or_left}
 use Rattle.std.proofs.lemmas.Bool.Decides.{nat_tests}
+use Rattle.std.proofs.lemmas.List.Folds.{list_any-append}
 use Rattle.argus_model.specs.Ancestors.{creator, parent}
 use Rattle.argus_model.specs.Event.{Aborted, Accessed, Began, Committed, creator_of, parent_of}
 use Rattle.argus_model.specs.History.{History, Opened, begun_actions, folded, next_action, ◌▹◌}
-use Rattle.argus_model.specs.Numbers.{IsRising, any_of, contains, every}
+use Rattle.argus_model.specs.Numbers.{contains}
 use Rattle.argus_model.specs.OwnerSteps.{owner_by_steps, standing_child, stands}
 use Rattle.argus_model.specs.Status.{has_committed, has_live_child, is_begun, is_doomed, is_live, live_siblings}
 use Rattle.argus_model.proofs.Ancestors.{folded_next}
-use Rattle.argus_model.proofs.Bools.{and_turn, or_none, or_turn, same_bool}
-use Rattle.argus_model.proofs.Numbers.{any_agree, any_append, contains_filter, every_from, filter_contains, joined, joined_cases, joined_left, rising-more}
+use Rattle.argus_model.proofs.Bools.{or_none, same_bool}
+use Rattle.argus_model.proofs.Numbers.{IsRising, any_agree, contains_filter, every_from, filter_contains, joined, joined_cases, joined_left, rising-more}
 use Rattle.argus_model.proofs.OwnerRules.{owner_self, stands_plain}
 use Rattle.argus_model.proofs.Standing.{Orderly, some_at, stands_unfolded}
 
@@ -76,20 +79,20 @@ begun_rising (Committed a ▹ h) = begun_rising h
 begun_rising (Aborted a ▹ h) = begun_rising h
 begun_rising (Accessed a o v ▹ h) = begun_rising h
 
-children_in : {V : Type 0} (h k : History V) (y : ℕ) → standing_child h y k ≡ any_of (λ x. stands h x && (parent k x == y || creator k x == y)) (begun_actions k)
+children_in : {V : Type 0} (h k : History V) (y : ℕ) → standing_child h y k ≡ list_any (λ x. stands h x && (parent k x == y || creator k x == y)) (begun_actions k)
 children_in h (Opened n) y = refl
 children_in h (Began from ▹ k) y =
     let g = Began from ▹ k in
     let t = λ (x : ℕ). stands h x && (parent k x == y || creator k x == y) in
     let u = λ (x : ℕ). stands h x && (parent g x == y || creator g x == y) in
     let own : u (next_action k) ≡ (((parent_of from) == y || (creator_of from) == y) && stands h (next_action k)) =
-    ap (λ b. stands h (next_action k) && (cond b (parent_of from) (parent k (next_action k)) == y || cond b (creator_of from) (creator k (next_action k)) == y)) (eq-eqb (next_action k) (next_action k) refl) ∙ and_turn (stands h (next_action k)) ((parent_of from) == y || (creator_of from) == y) in
+    ap (λ b. stands h (next_action k) && (cond b (parent_of from) (parent k (next_action k)) == y || cond b (creator_of from) (creator k (next_action k)) == y)) (eq-eqb (next_action k) (next_action k) refl) ∙ and_comm (stands h (next_action k)) ((parent_of from) == y || (creator_of from) == y) in
     ap (λ b. (((parent_of from) == y || (creator_of from) == y) && stands h (next_action k)) || b) (children_in h k y)
-    ∙ or_turn (((parent_of from) == y || (creator_of from) == y) && stands h (next_action k)) (any_of t (begun_actions k))
-    ∙ ap (λ b. any_of t (begun_actions k) || b) (sym own ∙ or_none (u (next_action k)))
-    ∙ ap (λ b. b || any_of u (next_action k ∷ []))
+    ∙ or_comm (((parent_of from) == y || (creator_of from) == y) && stands h (next_action k)) (list_any t (begun_actions k))
+    ∙ ap (λ b. list_any t (begun_actions k) || b) (sym own ∙ or_none (u (next_action k)))
+    ∙ ap (λ b. b || list_any u (next_action k ∷ []))
     (any_agree t u (begun_actions k) (λ x m. let l = begun_below k x m in sym (ap (λ b. stands h x && (cond b (parent_of from) (parent k x) == y || cond b (creator_of from) (creator k x) == y)) (ne_eqb x (next_action k) (λ e. omega arith)))))
-    ∙ sym (any_append u (begun_actions k) (next_action k ∷ []))
+    ∙ sym (list_any-append u (begun_actions k) (next_action k ∷ []))
 children_in h (Committed a ▹ k) y = children_in h k y
 children_in h (Aborted a ▹ k) y = children_in h k y
 children_in h (Accessed a o v ▹ k) y = children_in h k y
@@ -110,7 +113,7 @@ contains_siblings h a x =
     let k = is_begun_parts h x (and_parts (is_begun h x) (not (has_committed h x) && not (is_doomed h x)) l).0 in
     filter_contains p (begun_actions h) x m (begun_contains h x k.0 k.1))
 
-pub siblings_live : {V : Type 0} (h : History V) (a : ℕ) → every (is_live h) (live_siblings h a) ≡ true
+pub siblings_live : {V : Type 0} (h : History V) (a : ℕ) → list_all (is_live h) (live_siblings h a) ≡ true
 siblings_live h a = every_from (is_live h) (live_siblings h a) (λ x m. (and_parts (is_live h x) (not (x == a) && (creator h x == creator h a)) (sym (contains_siblings h a x) ∙ m)).0)
 
 pub begun_listed : {V : Type 0} (h : History V) (a : ℕ) → contains (begun_actions h) a ≡ is_begun h a

@@ -1,11 +1,12 @@
 -- Who holds an object is live, and what the two lock rules ask.
 use Rattle.std.proofs.Common.{Bool, false, subst, sym, true, ℕ, ⊎_elim, ◌++◌, ◌↔◌, ◌∙◌, ◌≡◌, ◌≢◌}
+use Rattle.std.specs.List.{list_all}
 use Rattle.std.proofs.lemmas.Bool.{and_from, and_parts, both_ways}
 use Rattle.argus_model.specs.Ancestors.{is_ancestor}
 use Rattle.argus_model.specs.History.{History}
 use Rattle.argus_model.specs.Holders.{holders, may_read, may_write, readers, writers}
 use Rattle.argus_model.specs.Meaning.{Meaning, reads}
-use Rattle.argus_model.specs.Numbers.{contains, every}
+use Rattle.argus_model.specs.Numbers.{contains}
 use Rattle.argus_model.specs.OwnerSteps.{is_exactly, owner_by_steps}
 use Rattle.argus_model.specs.Status.{is_live}
 use Rattle.argus_model.proofs.Counting.{owner_stands}
@@ -33,6 +34,6 @@ module _ {V C A : Type 0} (meaning : Meaning V C A) where
   write_rule h a o =
       let t = λ (x : ℕ). is_ancestor h x a in
       let rs = readers meaning h o in let ws = writers meaning h o in (
-        λ m x k. let q = and_parts (every t rs) (every t ws) m in ⊎_elim (λ i. every_at t rs x q.0 i) (λ i. every_at t ws x q.1 i) (joined_cases rs ws x k),
-        λ each. and_from (every t rs) (every t ws) (every_from t rs (λ x k. each x (joined_left rs ws x k))) (every_from t ws (λ x k. each x (joined rs ws x k))),
+        λ m x k. let q = and_parts (list_all t rs) (list_all t ws) m in ⊎_elim (λ i. every_at t rs x q.0 i) (λ i. every_at t ws x q.1 i) (joined_cases rs ws x k),
+        λ each. and_from (list_all t rs) (list_all t ws) (every_from t rs (λ x k. each x (joined_left rs ws x k))) (every_from t ws (λ x k. each x (joined rs ws x k))),
       )

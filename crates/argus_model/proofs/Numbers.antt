@@ -1,10 +1,17 @@
 -- Members of lists of numbers, and rising lists.
-use Rattle.std.proofs.Common.{Bool, List, [], ap, arith, cond, false, inl, inr, refl, subst, sym, true, ℕ, ⊎_elim, ◌++◌, ◌<◌, ◌∙◌, ◌∷◌, ◌≡◌, ◌⊎◌}
-use Rattle.std.specs.Prelude.{filter, nat_lt, ◌==◌, ◌||◌}
-use Rattle.std.proofs.lemmas.Bool.{and_from, and_parts, cases_Bool, cases_eq, eq-eqb, eqb-true, false_from_ne_true, false≢true, ltb-false, ltb-true, ne_eqb, or_cases, or_left, or_right}
+use Rattle.std.proofs.Common.{Bool, List, [], ap, arith, cond, false, inl, inr, length, refl, subst, suc, sym, true, zero, ℕ, ⊎_elim, ◌++◌, ◌+◌, ◌<◌, ◌∙◌, ◌∷◌, ◌≡◌, ◌⊎◌}
+use Rattle.std.specs.List.{AllByRecursion, list_all, list_any}
+use Rattle.std.specs.List.Sorted.{IsStrictlyIncreasing}
+use Rattle.std.specs.Prelude.{filter, nat_lt, slice_index, ◌==◌, ◌||◌}
+use Rattle.std.proofs.lemmas.Bool.{and_from, and_parts, cases_Bool, cases_eq, eq-eqb, eqb-true, false_from_ne_true, false≢true, ltb-false, ltb-true, ne_eqb, or_cases, or_left, or_parts, or_right}
 use Rattle.std.proofs.lemmas.Bool.Decides.{nat_tests}
-use Rattle.argus_model.specs.Numbers.{IsRising, any_of, contains, every, insert}
-use Rattle.argus_model.proofs.Bools.{or_moved, or_swap, or_twice}
+use Rattle.argus_model.specs.Numbers.{contains, insert}
+use Rattle.argus_model.proofs.Bools.{or_swap, or_twice}
+
+-- each number is less than those after it
+abbrev pub IsRising : List ℕ → Type 0
+IsRising [] = Unit {0}
+IsRising (x ∷ xs) = ((y : ℕ) → contains xs y ≡ true → x < y) × IsRising xs
 
 pub contains_first : (x : ℕ) (ys : List ℕ) → contains (x ∷ ys) x ≡ true
 contains_first x ys = grind (arith, nat_tests)
@@ -17,25 +24,25 @@ pub joined_left : (xs ys : List ℕ) (x : ℕ) → contains xs x ≡ true → co
 joined_left [] ys x h = absurd (false≢true h)
 joined_left (y ∷ xs) ys x h = ⊎_elim (λ k. or_left (x == y) (contains (xs ++ ys) x) k) (λ k. or_right (x == y) (contains (xs ++ ys) x) (joined_left xs ys x k)) (or_cases (x == y) (contains xs x) h)
 
-pub any_found : (t : ℕ → Bool) (zs : List ℕ) → any_of t zs ≡ true → (z : ℕ) × (contains zs z ≡ true) × (t z ≡ true)
+pub any_found : (t : ℕ → Bool) (zs : List ℕ) → list_any t zs ≡ true → (z : ℕ) × (contains zs z ≡ true) × (t z ≡ true)
 any_found t [] m = absurd (false≢true m)
 any_found t (z ∷ zs) m =
     ⊎_elim
     (λ e. (z, contains_first z zs, e))
     (λ e. let w = any_found t zs e in (w.0, or_right (w.0 == z) (contains zs w.0) w.1, w.2))
-    (or_cases (t z) (any_of t zs) m)
+    (or_cases (t z) (list_any t zs) m)
 
-pub any_from : (t : ℕ → Bool) (zs : List ℕ) (z : ℕ) → contains zs z ≡ true → t z ≡ true → any_of t zs ≡ true
+pub any_from : (t : ℕ → Bool) (zs : List ℕ) (z : ℕ) → contains zs z ≡ true → t z ≡ true → list_any t zs ≡ true
 any_from t [] z m e = absurd (false≢true m)
 any_from t (y ∷ zs) z m e =
     ⊎_elim
-    (λ k. or_left (t y) (any_of t zs) (subst (λ u. t u ≡ true) (eqb-true z y k) e))
-    (λ k. or_right (t y) (any_of t zs) (any_from t zs z k e))
+    (λ k. or_left (t y) (list_any t zs) (subst (λ u. t u ≡ true) (eqb-true z y k) e))
+    (λ k. or_right (t y) (list_any t zs) (any_from t zs z k e))
     (or_cases (z == y) (contains zs z) m)
 
-pub any_agree : (t u : ℕ → Bool) (zs : List ℕ) → ((z : ℕ) → contains zs z ≡ true → t z ≡ u z) → any_of t zs ≡ any_of u zs
+pub any_agree : (t u : ℕ → Bool) (zs : List ℕ) → ((z : ℕ) → contains zs z ≡ true → t z ≡ u z) → list_any t zs ≡ list_any u zs
 any_agree t u [] same = refl
-any_agree t u (z ∷ zs) same = ap (λ b. b || any_of t zs) (same z (contains_first z zs)) ∙ ap (λ b. u z || b) (any_agree t u zs (λ y m. same y (or_right (y == z) (contains zs y) m)))
+any_agree t u (z ∷ zs) same = ap (λ b. b || list_any t zs) (same z (contains_first z zs)) ∙ ap (λ b. u z || b) (any_agree t u zs (λ y m. same y (or_right (y == z) (contains zs y) m)))
 
 pub contains_filter : (p : ℕ → Bool) (xs : List ℕ) (x : ℕ) → contains (filter p xs) x ≡ true → (p x ≡ true) × (contains xs x ≡ true)
 contains_filter p [] x m = absurd (false≢true m)
@@ -66,19 +73,15 @@ joined_cases [] ys x m = inr m
 joined_cases (y ∷ xs) ys x m =
     ⊎_elim (λ k. inl (or_left (x == y) (contains xs x) k)) (λ k. ⊎_elim (λ q. inl (or_right (x == y) (contains xs x) q)) (λ q. inr q) (joined_cases xs ys x k)) (or_cases (x == y) (contains (xs ++ ys) x) m)
 
-pub any_append : (t : ℕ → Bool) (xs ys : List ℕ) → any_of t (xs ++ ys) ≡ (any_of t xs || any_of t ys)
-any_append t [] ys = refl
-any_append t (x ∷ xs) ys = ap (λ b. t x || b) (any_append t xs ys) ∙ or_moved (t x) (any_of t xs) (any_of t ys)
-
-pub every_at : (t : ℕ → Bool) (xs : List ℕ) (x : ℕ) → every t xs ≡ true → contains xs x ≡ true → t x ≡ true
+pub every_at : (t : ℕ → Bool) (xs : List ℕ) (x : ℕ) → list_all t xs ≡ true → contains xs x ≡ true → t x ≡ true
 every_at t [] x e m = absurd (false≢true m)
 every_at t (y ∷ xs) x e m =
-    let q = and_parts (t y) (every t xs) e in
+    let q = and_parts (t y) (list_all t xs) e in
     ⊎_elim (λ k. subst (λ u. t u ≡ true) (sym (eqb-true x y k)) q.0) (λ k. every_at t xs x q.1 k) (or_cases (x == y) (contains xs x) m)
 
-pub every_from : (t : ℕ → Bool) (xs : List ℕ) → ((x : ℕ) → contains xs x ≡ true → t x ≡ true) → every t xs ≡ true
+pub every_from : (t : ℕ → Bool) (xs : List ℕ) → ((x : ℕ) → contains xs x ≡ true → t x ≡ true) → list_all t xs ≡ true
 every_from t [] each = refl
-every_from t (y ∷ xs) each = and_from (t y) (every t xs) (each y (or_left (y == y) (contains xs y) (eq-eqb y y refl))) (every_from t xs (λ x m. each x (or_right (x == y) (contains xs x) m)))
+every_from t (y ∷ xs) each = and_from (t y) (list_all t xs) (each y (or_left (y == y) (contains xs y) (eq-eqb y y refl))) (every_from t xs (λ x m. each x (or_right (x == y) (contains xs x) m)))
 
 pub contains_insert : (o : ℕ) (xs : List ℕ) (x : ℕ) → contains (insert o xs) x ≡ ((x == o) || contains xs x)
 contains_insert o [] x = refl
@@ -142,3 +145,24 @@ rising_filter p (x ∷ xs) r =
     (λ e. subst (λ b. IsRising (cond b (x ∷ filter p xs) (filter p xs))) (sym e) (λ y m. r.0 y (contains_filter p xs y m).1, rest))
     (λ e. subst (λ b. IsRising (cond b (x ∷ filter p xs) (filter p xs))) (sym e) rest)
     (cases_Bool (p x))
+
+-- so is each less than the next
+increasing_more : (x y : ℕ) (ys : List ℕ) → x < y → IsStrictlyIncreasing (y ∷ ys) → IsStrictlyIncreasing (x ∷ y ∷ ys)
+increasing_more x y ys l rest = from
+  where
+    from : (k : ℕ) → k + 1 < length (x ∷ y ∷ ys) → slice_index (x ∷ y ∷ ys) k < slice_index (x ∷ y ∷ ys) (k + 1)
+    from zero m = l
+    from (suc k) m =
+        let e : suc k + 1 ≡ suc (k + 1) = omega arith in
+        let n : k + 1 < length (y ∷ ys) = omega (arith, m) in
+        subst (λ n. slice_index (x ∷ y ∷ ys) (suc k) < slice_index (x ∷ y ∷ ys) n) (sym e) (rest k n)
+
+pub increasing : (xs : List ℕ) → IsRising xs → IsStrictlyIncreasing xs
+increasing [] r = λ k l. absurd (omega (arith, l))
+increasing (x ∷ []) r = λ k l. absurd (omega (arith, l))
+increasing (x ∷ y ∷ ys) r = increasing_more x y ys (r.0 y (contains_first y ys)) (increasing (y ∷ ys) r.1)
+
+-- no number stands twice where none is among those after it
+pub different : (x : ℕ) (xs : List ℕ) → contains xs x ≡ false → AllByRecursion (λ y. (x == y) ≡ false) xs
+different x [] n = tt
+different x (y ∷ ys) n = let q = or_parts (x == y) (contains ys x) n in (q.0, different x ys q.1)

@@ -1,12 +1,13 @@
 -- Doomed actions have no owner, live ones themselves, and committed ones their parent's.
 use Rattle.std.proofs.Common.{Bool, None, Option, Some, ap, arith, cond, false, refl, subst, sym, true, ℕ, ⊎_elim, ◌<◌, ◌∙◌, ◌∷◌, ◌≡◌, ◌≢◌}
+use Rattle.std.specs.List.{list_any}
 use Rattle.std.specs.Prelude.{◌==◌, ◌||◌}
 use Rattle.std.proofs.lemmas.Bool.{cases_Bool, cases_eq, eq-eqb, eqb-false, eqb-true, false_from_ne_true, false≢true, ne_eqb, or_cases, or_parts}
 use Rattle.std.proofs.lemmas.Bool.Decides.{nat_tests}
 use Rattle.argus_model.specs.Ancestors.{is_ancestor, is_under, lineage, parent}
 use Rattle.argus_model.specs.Event.{Aborted, Accessed, Began, Committed, parent_of}
 use Rattle.argus_model.specs.History.{History, Opened, folded, next_action, ◌▹◌}
-use Rattle.argus_model.specs.Numbers.{any_of, contains}
+use Rattle.argus_model.specs.Numbers.{contains}
 use Rattle.argus_model.specs.OwnerSteps.{handed_up, is_exactly, owner_by_steps, stands, unless_lost}
 use Rattle.argus_model.specs.Status.{has_committed, is_doomed, was_aborted}
 use Rattle.argus_model.proofs.Ancestors.{ancestor_le, ancestor_old, ancestor_old_is, ancestor_self, ancestor_trans, lineage_cases, parent_cases}
@@ -60,7 +61,7 @@ aborted_agree : {V : Type 0} (t u : ℕ → Bool) (h : History V) → Orderly h 
 aborted_agree t u (Opened n) w same = refl
 aborted_agree t u (Began from ▹ h) w same = aborted_agree t u h w.1 (λ z l. same z (omega arith))
 aborted_agree t u (Committed s ▹ h) w same = aborted_agree t u h w.3 same
-aborted_agree t u (Aborted zs ▹ h) w same = ap (λ b. b || was_aborted t h) (any_agree t u zs (λ z m. same z (stands_begun h z (w.0 z m).1))) ∙ ap (λ b. any_of u zs || b) (aborted_agree t u h w.1 same)
+aborted_agree t u (Aborted zs ▹ h) w same = ap (λ b. b || was_aborted t h) (any_agree t u zs (λ z m. same z (stands_begun h z (w.0 z m).1))) ∙ ap (λ b. list_any u zs || b) (aborted_agree t u h w.1 same)
 aborted_agree t u (Accessed a o v ▹ h) w same = aborted_agree t u h w.3 same
 
 gone-handed : (s p : ℕ) (o : Option ℕ) → gone (handed_up s p o) ≡ gone o

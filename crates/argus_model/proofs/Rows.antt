@@ -1,18 +1,21 @@
 -- The rows have the origin and the status of each action.
 use Rattle.std.proofs.Common.{Bool, List, None, Option, Some, [], ap, arith, cond, false, length, refl, subst, suc, sym, true, zero, ℕ, ⊎_elim, ◌++◌, ◌+◌, ◌<◌, ◌∙◌, ◌∷◌, ◌≡◌, ◌≢◌}
+use Rattle.std.specs.List.{list_any}
 use Rattle.std.specs.Prelude.{not, unwrap_or, ◌&&◌, ◌==◌, ◌||◌}
+use Rattle.std.proofs.Math.Bool.{or_comm}
 use Rattle.std.proofs.lemmas.Bool.{and_from, and_parts, both_ways, cases_Bool, cases_eq, eq-eqb, eqb-true, false_from_ne_true, ne_eqb, or_cases}
+use Rattle.std.proofs.lemmas.List.Folds.{list_any-append}
 use Rattle.argus_model.specs.Ancestors.{creator, is_ancestor, is_under, lineage, parent}
 use Rattle.argus_model.specs.Event.{Aborted, Accessed, Began, Committed, Origin, creator_of, parent_of}
 use Rattle.argus_model.specs.History.{History, Opened, begun_actions, folded, next_action, ◌▹◌}
-use Rattle.argus_model.specs.Numbers.{any_of, contains}
+use Rattle.argus_model.specs.Numbers.{contains}
 use Rattle.argus_model.specs.OwnerSteps.{stands}
 use Rattle.argus_model.specs.Rows.{Row, has_live_row, is_above, is_live_status, mark, origin, row_at, row_of, rows, with_status}
 use Rattle.argus_model.specs.Status.{IsAborted, IsCommitted, IsFolded, IsLive, Status, has_committed, has_live_child, is_begun, is_doomed, is_live, status, was_aborted}
 use Rattle.argus_model.proofs.Ancestors.{ancestor_le, folded_next, lineage_cases, parent_older}
-use Rattle.argus_model.proofs.Bools.{or_none, or_turn, same_bool}
+use Rattle.argus_model.proofs.Bools.{or_none, same_bool}
 use Rattle.argus_model.proofs.Live.{is_begun_from, is_begun_parts}
-use Rattle.argus_model.proofs.Numbers.{any_agree, any_append}
+use Rattle.argus_model.proofs.Numbers.{any_agree}
 use Rattle.argus_model.proofs.Owner.{parent_unfolded}
 use Rattle.argus_model.proofs.OwnerRules.{stands_plain}
 use Rattle.argus_model.proofs.Serial.{lineage-base}
@@ -68,7 +71,7 @@ pub rows_length : {V : Type 0} (h : History V) → folded h + length (rows h) + 
 rows_length (Opened n) = omega arith
 rows_length (Began from ▹ h) = let ih = rows_length h in omega arith
 rows_length (Committed s ▹ h) = ap (λ k. folded h + k + 1) (length-mark (folded h) (λ k. k == s) IsCommitted (rows h)) ∙ rows_length h
-rows_length (Aborted zs ▹ h) = ap (λ k. folded h + k + 1) (length-mark (folded h) (λ k. any_of (λ z. is_above (folded h) (rows h) z k) zs) IsAborted (rows h)) ∙ rows_length h
+rows_length (Aborted zs ▹ h) = ap (λ k. folded h + k + 1) (length-mark (folded h) (λ k. list_any (λ z. is_above (folded h) (rows h) z k) zs) IsAborted (rows h)) ∙ rows_length h
 rows_length (Accessed a o v ▹ h) = rows_length h
 
 abbrev marked : Bool → Status → Option Row → Option Row
@@ -112,7 +115,7 @@ is_above_low (Began from ▹ h) x y u =
     ap (λ b. cond b (x == y || is_above (folded h) (rows h) x (parent_of from)) (is_above (folded h) (rows h) x y)) (ne_eqb y (folded h + length (rows h) + 1) (λ e. u (omega arith)))
     ∙ is_above_low h x y u
 is_above_low (Committed s ▹ h) x y u = is_above-mark (folded h) (λ k. k == s) IsCommitted (rows h) x y ∙ is_above_low h x y u
-is_above_low (Aborted zs ▹ h) x y u = is_above-mark (folded h) (λ k. any_of (λ z. is_above (folded h) (rows h) z k) zs) IsAborted (rows h) x y ∙ is_above_low h x y u
+is_above_low (Aborted zs ▹ h) x y u = is_above-mark (folded h) (λ k. list_any (λ z. is_above (folded h) (rows h) z k) zs) IsAborted (rows h) x y ∙ is_above_low h x y u
 is_above_low (Accessed a o v ▹ h) x y u = is_above_low h x y u
 
 -- the rows' ancestors are those of the history
@@ -135,7 +138,7 @@ is_above_is (Began from ▹ h) w x y x0 k =
     ∙ sym (ap (λ l. contains l x) t.1))
     (lineage_cases h from y)
 is_above_is (Committed s ▹ h) w x y x0 k = is_above-mark (folded h) (λ k. k == s) IsCommitted (rows h) x y ∙ is_above_is h w.3 x y x0 k
-is_above_is (Aborted zs ▹ h) w x y x0 k = is_above-mark (folded h) (λ k. any_of (λ z. is_above (folded h) (rows h) z k) zs) IsAborted (rows h) x y ∙ is_above_is h w.1 x y x0 k
+is_above_is (Aborted zs ▹ h) w x y x0 k = is_above-mark (folded h) (λ k. list_any (λ z. is_above (folded h) (rows h) z k) zs) IsAborted (rows h) x y ∙ is_above_is h w.1 x y x0 k
 is_above_is (Accessed a o v ▹ h) w x y x0 k = is_above_is h w.3 x y x0 k
 
 -- and each row says what the history says
@@ -167,9 +170,9 @@ row_is (Committed s ▹ h) w a k =
     (cases_eq a s)
 row_is (Aborted zs ▹ h) w a k =
     let made : Status → Option Row = λ t. Some (record { origin = origin h a; status = t }) in
-    let t = any_of (λ z. is_above (folded h) (rows h) z a) zs in
+    let t = list_any (λ z. is_above (folded h) (rows h) z a) zs in
     let same : t ≡ is_under h zs a = any_agree (λ z. is_above (folded h) (rows h) z a) (λ z. is_ancestor h z a) zs (λ z m. is_above_is h w.1 z a (w.0 z m).0 k) in
-    row_at-mark (folded h) (λ k. any_of (λ z. is_above (folded h) (rows h) z k) zs) IsAborted (rows h) a
+    row_at-mark (folded h) (λ k. list_any (λ z. is_above (folded h) (rows h) z k) zs) IsAborted (rows h) a
     ∙ ap (marked t IsAborted) (row_is h w.1 a k)
     ∙ ap (λ b. Some (cond b (with_status IsAborted (row_of h a)) (row_of h a))) same
     ∙ pushed (is_under h zs a) made
@@ -212,11 +215,11 @@ begun_upto : {V : Type 0} (h : History V) → begun_actions h ≡ upto (folded h
 begun_upto (Opened n) = refl
 begun_upto (Began from ▹ h) = ap (λ u. u ++ next_action h ∷ []) (begun_upto h) ∙ ap (λ k. upto (folded h) (length (rows h)) ++ k ∷ []) (sym (rows_length h))
 begun_upto (Committed s ▹ h) = begun_upto h ∙ ap (upto (folded h)) (sym (length-mark (folded h) (λ k. k == s) IsCommitted (rows h)))
-begun_upto (Aborted zs ▹ h) = begun_upto h ∙ ap (upto (folded h)) (sym (length-mark (folded h) (λ k. any_of (λ z. is_above (folded h) (rows h) z k) zs) IsAborted (rows h)))
+begun_upto (Aborted zs ▹ h) = begun_upto h ∙ ap (upto (folded h)) (sym (length-mark (folded h) (λ k. list_any (λ z. is_above (folded h) (rows h) z k) zs) IsAborted (rows h)))
 begun_upto (Accessed a o v ▹ h) = begun_upto h
 
 under_listed : (n : ℕ) (rs : List Row) (f : ℕ → Row) (a : ℕ) → ((k : ℕ) → n < k → k < n + length rs + 1 → row_at n rs k ≡ Some (f k))
-    → has_live_row rs a ≡ any_of (λ k. is_live_status (f k).status && (parent_of (f k).origin == a || creator_of (f k).origin == a)) (upto n (length rs))
+    → has_live_row rs a ≡ list_any (λ k. is_live_status (f k).status && (parent_of (f k).origin == a || creator_of (f k).origin == a)) (upto n (length rs))
 under_listed n [] f a each = refl
 under_listed n (r ∷ rs) f a each =
     let t = λ (x : Row). is_live_status x.status && (parent_of x.origin == a || creator_of x.origin == a) in
@@ -224,9 +227,9 @@ under_listed n (r ∷ rs) f a each =
     let first : r ≡ f top = unsome r (f top) (sym (ap (λ b. cond b (Some r) (row_at n rs top)) (eq-eqb top top refl)) ∙ each top (omega arith) (omega arith)) in
     let later : (k : ℕ) → n < k → k < top → row_at n rs k ≡ Some (f k) = λ k l m. sym (ap (λ b. cond b (Some r) (row_at n rs k)) (ne_eqb k top (λ e. omega arith))) ∙ each k l (omega arith) in
     ap (λ b. t r || b) (under_listed n rs f a later)
-    ∙ or_turn (t r) (any_of (λ k. t (f k)) (upto n (length rs)))
-    ∙ ap (λ b. any_of (λ k. t (f k)) (upto n (length rs)) || b) (ap t first ∙ or_none (t (f top)))
-    ∙ sym (any_append (λ k. t (f k)) (upto n (length rs)) (top ∷ []))
+    ∙ or_comm (t r) (list_any (λ k. t (f k)) (upto n (length rs)))
+    ∙ ap (λ b. list_any (λ k. t (f k)) (upto n (length rs)) || b) (ap t first ∙ or_none (t (f top)))
+    ∙ sym (list_any-append (λ k. t (f k)) (upto n (length rs)) (top ∷ []))
   where
     unsome : (x y : Row) → Some x ≡ Some y → x ≡ y
     unsome x y e = ap (λ o. unwrap_or o x) e
@@ -248,7 +251,7 @@ live_status_is h k =
 pub has_live_row_is : {V : Type 0} (h : History V) → Orderly h → (a : ℕ) → has_live_row (rows h) a ≡ has_live_child h a
 has_live_row_is h w a =
     under_listed (folded h) (rows h) (row_of h) a (λ k l m. row_is h w k (is_begun_from h k l (subst (λ u. k < u) (rows_length h) m)))
-    ∙ ap (any_of (λ k. is_live_status (status h k) && (parent_of (origin h k) == a || creator_of (origin h k) == a))) (sym (begun_upto h))
+    ∙ ap (list_any (λ k. is_live_status (status h k) && (parent_of (origin h k) == a || creator_of (origin h k) == a))) (sym (begun_upto h))
     ∙ any_agree (λ k. is_live_status (status h k) && (parent_of (origin h k) == a || creator_of (origin h k) == a)) (λ k. is_live h k && (parent h k == a || creator h k == a)) (begun_actions h) (λ k m. ap (λ b. b && (parent_of (origin h k) == a || creator_of (origin h k) == a)) (live_status_is h k) ∙ ap (λ b. is_live h k && b) (ap (λ x. (x == a) || (creator_of (origin h k) == a)) (parent_of_origin h k) ∙ ap (λ x. (parent h k == a) || (x == a)) (creator_of_origin h k)))
 
 -- of a number with no row the rows say nothing
@@ -262,7 +265,7 @@ is_above_unbegun (Began from ▹ h) x y u =
     ap (λ b. cond b (x == y || is_above (folded h) (rows h) x (parent_of from)) (is_above (folded h) (rows h) x y)) (ne_eqb y (folded h + length (rows h) + 1) top)
     ∙ is_above_unbegun h x y old
 is_above_unbegun (Committed s ▹ h) x y u = is_above-mark (folded h) (λ k. k == s) IsCommitted (rows h) x y ∙ is_above_unbegun h x y u
-is_above_unbegun (Aborted zs ▹ h) x y u = is_above-mark (folded h) (λ k. any_of (λ z. is_above (folded h) (rows h) z k) zs) IsAborted (rows h) x y ∙ is_above_unbegun h x y u
+is_above_unbegun (Aborted zs ▹ h) x y u = is_above-mark (folded h) (λ k. list_any (λ z. is_above (folded h) (rows h) z k) zs) IsAborted (rows h) x y ∙ is_above_unbegun h x y u
 is_above_unbegun (Accessed a o v ▹ h) x y u = is_above_unbegun h x y u
 
 -- the base has no row

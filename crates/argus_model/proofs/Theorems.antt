@@ -1,6 +1,7 @@
 -- The laws of every lawful history: exclusion, the serial order, the table of effects.
 use Rattle.std.proofs.Common.{List, ap, arith, false, subst, sym, true, ℕ, ⊎_elim, ◌++◌, ◌<◌, ◌∙◌, ◌∷◌, ◌≡◌, ◌≢◌, ◌≤◌}
 use Rattle.std.specs.Prelude.{reverse, ◌||◌}
+use Rattle.std.proofs.Math.Bool.{or_comm}
 use Rattle.std.proofs.lemmas.Bool.{or_cases}
 use Rattle.argus_model.specs.Ancestors.{is_ancestor}
 use Rattle.argus_model.specs.Contents.{base, sees}
@@ -16,7 +17,6 @@ use Rattle.argus_model.specs.Status.{has_live_child, is_begun, is_live}
 use Rattle.argus_model.specs.Work.{Access, content_after, content_before, serial_order, serial_order_to}
 use Rattle.argus_model.specs.WorkSteps.{Replays, visible_accesses}
 use Rattle.argus_model.proofs.Ancestors.{ancestor_le, ancestor_trans}
-use Rattle.argus_model.proofs.Bools.{or_turn}
 use Rattle.argus_model.proofs.Effects.{effects_prefix, table_base, table_goes_on}
 use Rattle.argus_model.proofs.HolderSteps.{exclusive}
 use Rattle.argus_model.proofs.Holders.{listed, same_kinds}
@@ -33,7 +33,7 @@ module _ {V C A : Type 0} (meaning : Meaning V C A) (opening : Opening C) where
   pub one_above_the_other : (h : History V) (o x y : ℕ) → Lawful meaning opening h → contains (writers meaning h o) x ≡ true → contains (readers meaning h o ++ writers meaning h o) y ≡ true → (is_ancestor h x y || is_ancestor h y x) ≡ true
   one_above_the_other h o x y l hx hy =
       let w = lawful_orderly meaning opening h l in
-      or_turn (is_ancestor h x y) (is_ancestor h y x)
+      or_comm (is_ancestor h x y) (is_ancestor h y x)
       ∙ exclusive meaning.writes h w (guarded meaning opening.contents h (lawful_steps meaning opening h l)) o y x (same_kinds meaning h w o y hy) (listed meaning.writes h w o x hx)
 
   serial_is : (h : History V) → Lawful meaning opening h → serial_order_to h 0 ≡ serial_order h

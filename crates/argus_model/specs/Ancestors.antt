@@ -1,8 +1,9 @@
 -- Parents, creators and ancestors (Argus Reference Manual 1987, actions; Moss 1981).
+use Rattle.std.specs.List.{list_any}
 use Rattle.std.specs.Prelude.{Bool, List, [], if◌then◌else◌, ℕ, ◌==◌, ◌∷◌}
 use Rattle.argus_model.specs.Event.{Aborted, Accessed, Began, Committed, creator_of, parent_of}
 use Rattle.argus_model.specs.History.{History, Opened, next_action, ◌▹◌}
-use Rattle.argus_model.specs.Numbers.{any_of, contains}
+use Rattle.argus_model.specs.Numbers.{contains}
 
 -- the parent of an action; a topaction, nested or not, has the base
 abbrev pub parent : {V : Type 0} → History V → ℕ → ℕ
@@ -38,4 +39,4 @@ is_ancestor h x a = contains (lineage h a) x
 
 -- one of these is an ancestor of a
 abbrev pub is_under : {V : Type 0} → History V → List ℕ → ℕ → Bool
-is_under h xs a = any_of (λ x. is_ancestor h x a) xs
+is_under h xs a = list_any (λ x. is_ancestor h x a) xs

@@ -1,10 +1,11 @@
 -- Who holds an object for reading and for writing, and the two lock rules (Moss 1981, locking rules).
+use Rattle.std.specs.List.{list_all}
 use Rattle.std.specs.Prelude.{Bool, List, false, filter, if◌then◌else◌, ℕ, ◌&&◌, ◌==◌, ◌||◌}
 use Rattle.argus_model.specs.Ancestors.{is_ancestor}
 use Rattle.argus_model.specs.Event.{Aborted, Accessed, Began, Committed}
 use Rattle.argus_model.specs.History.{History, Opened, begun_actions, ◌▹◌}
 use Rattle.argus_model.specs.Meaning.{Meaning, reads}
-use Rattle.argus_model.specs.Numbers.{contains, every, insert, without}
+use Rattle.argus_model.specs.Numbers.{contains, insert, without}
 use Rattle.argus_model.specs.Owner.{is_held_by, owner}
 
 module _ {V : Type 0} (kind : V → Bool) where
@@ -39,8 +40,8 @@ module _ {V C A : Type 0} (meaning : Meaning V C A) where
 
   -- each who holds the object for writing is an ancestor of a
   abbrev pub may_read : History V → ℕ → ℕ → Bool
-  may_read h a o = every (λ x. is_ancestor h x a) (writers h o)
+  may_read h a o = list_all (λ x. is_ancestor h x a) (writers h o)
 
   -- each who holds the object, for reading or for writing, is an ancestor of a
   abbrev pub may_write : History V → ℕ → ℕ → Bool
-  may_write h a o = every (λ x. is_ancestor h x a) (readers h o) && every (λ x. is_ancestor h x a) (writers h o)
+  may_write h a o = list_all (λ x. is_ancestor h x a) (readers h o) && list_all (λ x. is_ancestor h x a) (writers h o)

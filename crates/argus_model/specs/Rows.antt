@@ -1,8 +1,8 @@
 -- The actions as a list of rows, the newest first: how a tree of actions keeps them.
+use Rattle.std.specs.List.{list_any}
 use Rattle.std.specs.Prelude.{Bool, List, None, Option, Some, [], false, if◌then◌else◌, length, true, ℕ, ◌&&◌, ◌+◌, ◌==◌, ◌||◌, ◌∷◌}
 use Rattle.argus_model.specs.Event.{Aborted, Accessed, Began, Committed, Origin, Top, creator_of, parent_of}
 use Rattle.argus_model.specs.History.{History, Opened, folded, next_action, ◌▹◌}
-use Rattle.argus_model.specs.Numbers.{any_of}
 use Rattle.argus_model.specs.Status.{IsAborted, IsCommitted, IsLive, Status, status}
 
 -- one action: its number is one more than how many are folded or have an older row
@@ -46,7 +46,7 @@ abbrev pub rows : {V : Type 0} → History V → List Row
 rows (Opened n) = []
 rows (Began from ▹ older) = record { origin = from; status = IsLive } ∷ rows older
 rows (Committed a ▹ older) = mark (folded older) (λ x. x == a) IsCommitted (rows older)
-rows (Aborted actions ▹ older) = mark (folded older) (λ x. any_of (λ a. is_above (folded older) (rows older) a x) actions) IsAborted (rows older)
+rows (Aborted actions ▹ older) = mark (folded older) (λ x. list_any (λ a. is_above (folded older) (rows older) a x) actions) IsAborted (rows older)
 rows (Accessed a o v ▹ older) = rows older
 
 -- the status of a live action

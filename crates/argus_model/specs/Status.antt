@@ -1,9 +1,9 @@
 -- What became of an action: live, committed or doomed (Argus Reference Manual 1987, actions).
+use Rattle.std.specs.List.{list_any}
 use Rattle.std.specs.Prelude.{Bool, List, false, filter, if◌then◌else◌, nat_lt, not, ℕ, ◌&&◌, ◌==◌, ◌||◌}
 use Rattle.argus_model.specs.Ancestors.{creator, is_ancestor, parent}
 use Rattle.argus_model.specs.Event.{Aborted, Accessed, Began, Committed}
 use Rattle.argus_model.specs.History.{History, Opened, begun_actions, folded, next_action, ◌▹◌}
-use Rattle.argus_model.specs.Numbers.{any_of}
 
 -- it began since the opening
 abbrev pub is_begun : {V : Type 0} → History V → ℕ → Bool
@@ -20,7 +20,7 @@ has_committed (Accessed b o v ▹ older) a = has_committed older a
 -- one that passes the test was aborted
 abbrev pub was_aborted : {V : Type 0} → (ℕ → Bool) → History V → Bool
 was_aborted test (Opened n) = false
-was_aborted test (Aborted bs ▹ older) = any_of test bs || was_aborted test older
+was_aborted test (Aborted bs ▹ older) = list_any test bs || was_aborted test older
 was_aborted test (Began from ▹ older) = was_aborted test older
 was_aborted test (Committed b ▹ older) = was_aborted test older
 was_aborted test (Accessed b o v ▹ older) = was_aborted test older
@@ -35,7 +35,7 @@ is_live h a = is_begun h a && (not (has_committed h a) && not (is_doomed h a))
 
 -- a live action has it as parent or as creator
 abbrev pub has_live_child : {V : Type 0} → History V → ℕ → Bool
-has_live_child h a = any_of (λ x. is_live h x && (parent h x == a || creator h x == a)) (begun_actions h)
+has_live_child h a = list_any (λ x. is_live h x && (parent h x == a || creator h x == a)) (begun_actions h)
 
 -- the other live actions of the same creator, in increasing number
 abbrev pub live_siblings : {V : Type 0} → History V → ℕ → List ℕ

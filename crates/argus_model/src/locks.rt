@@ -1,7 +1,8 @@
 //! Who may hold an object together.
 ghost use Rattle.std.specs.Prelude.{◌≡◌, ◌<◌, ℕ, true, ◌||◌, ◌++◌, ◌↔◌};
+ghost use Rattle.std.specs.List.Sorted.{IsStrictlyIncreasing};
 ghost use Rattle.argus_model.specs.History.{Opening, History};
-ghost use Rattle.argus_model.specs.Numbers.{contains, IsRising};
+ghost use Rattle.argus_model.specs.Numbers.{contains};
 ghost use Rattle.argus_model.specs.Ancestors.{is_ancestor};
 ghost use Rattle.argus_model.specs.Status.{is_live};
 ghost use Rattle.argus_model.specs.Meaning.{Meaning};
@@ -30,9 +31,9 @@ pub fn holders<V, C, A>()
         → contains (readers meaning h o ++ writers meaning h o) x ≡ true
         → is_live h x ≡ true }
     ensures readers_rise { (meaning : Meaning V C A) (h : History V) (o : ℕ)
-        → IsRising (readers meaning h o) }
+        → IsStrictlyIncreasing (readers meaning h o) }
     ensures writers_rise { (meaning : Meaning V C A) (h : History V) (o : ℕ)
-        → IsRising (writers meaning h o) }
+        → IsStrictlyIncreasing (writers meaning h o) }
 {}
 
 /// An action may read an object where each of its writers is an ancestor of the action, and only

@@ -1,8 +1,9 @@
 //! What each committed topaction left for good, the table of it, and checkpoints.
 ghost use Rattle.std.specs.Prelude.{◌≡◌, ◌≢◌, ℕ, true, false, List, [], ◌∷◌, ◌++◌, ◌-◌, map};
+ghost use Rattle.std.specs.List.Sorted.{IsStrictlyIncreasing};
 ghost use Rattle.argus_model.specs.Event.{Event, Committed};
 ghost use Rattle.argus_model.specs.History.{Opening, History, Opened, ◌▹◌, next_action};
-ghost use Rattle.argus_model.specs.Numbers.{contains, IsRising};
+ghost use Rattle.argus_model.specs.Numbers.{contains};
 ghost use Rattle.argus_model.specs.Ancestors.{parent};
 ghost use Rattle.argus_model.specs.Status.{is_live};
 ghost use Rattle.argus_model.specs.Meaning.{Meaning};
@@ -36,7 +37,7 @@ pub fn effect_of_commit<V, C, A>()
         → Lawful meaning opening h → is_live h a ≡ true
         → contains (written_objects meaning (work h a)) o ≡ contains (writers meaning h o) a }
     ensures in_order { (meaning : Meaning V C A) (done : List (Access V))
-        → IsRising (written_objects meaning done) }
+        → IsStrictlyIncreasing (written_objects meaning done) }
     ensures subaction { (meaning : Meaning V C A) (opening : Opening C) (h : History V) (a : ℕ)
         → Lawful meaning opening (Committed a ▹ h) → parent h a ≢ 0
         → effects meaning opening (Committed a ▹ h) ≡ effects meaning opening h }

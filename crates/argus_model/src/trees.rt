@@ -1,8 +1,9 @@
 //! Ancestors, the actions as rows of a tree, and the siblings of an action.
 ghost use Rattle.std.specs.Prelude.{◌≡◌, ◌≢◌, ◌≤◌, ℕ, ◌+◌, true, false, not, ◌&&◌, ◌==◌, length, Some};
+ghost use Rattle.std.specs.List.Sorted.{IsStrictlyIncreasing};
 ghost use Rattle.argus_model.specs.Event.{Aborted, parent_of, creator_of};
 ghost use Rattle.argus_model.specs.History.{Opening, History, begun_actions, folded, next_action};
-ghost use Rattle.argus_model.specs.Numbers.{contains, IsRising};
+ghost use Rattle.argus_model.specs.Numbers.{contains};
 ghost use Rattle.argus_model.specs.Ancestors.{parent, creator, is_ancestor};
 ghost use Rattle.argus_model.specs.Status.{is_begun, is_live, has_live_child, live_siblings};
 ghost use Rattle.argus_model.specs.Meaning.{Meaning};
@@ -33,7 +34,7 @@ pub fn ancestors<V, C, A>()
 /// The actions that began since the opening are listed in increasing number.
 pub fn begun<V>()
     ensures listed { (h : History V) (a : ℕ) → contains (begun_actions h) a ≡ is_begun h a }
-    ensures in_order { (h : History V) → IsRising (begun_actions h) }
+    ensures in_order { (h : History V) → IsStrictlyIncreasing (begun_actions h) }
 {}
 
 /// The rows, changed by each event in turn, say of each action what the history says: its origin

@@ -1,8 +1,9 @@
 //! For whom an action's work counts, as time goes on.
 ghost use Rattle.std.specs.Prelude.{◌≡◌, ◌≢◌, ℕ, true, false, ◌&&◌, ◌==◌};
+ghost use Rattle.std.specs.List.{IsDistinct};
 ghost use Rattle.argus_model.specs.Event.{Event};
 ghost use Rattle.argus_model.specs.History.{Opening, History, ◌▹◌};
-ghost use Rattle.argus_model.specs.Numbers.{contains, IsDistinct};
+ghost use Rattle.argus_model.specs.Numbers.{contains};
 ghost use Rattle.argus_model.specs.Ancestors.{parent, is_ancestor};
 ghost use Rattle.argus_model.specs.Status.{is_begun, has_committed, is_doomed, is_live};
 ghost use Rattle.argus_model.specs.Owner.{owner, Gone, Held, Base};
@@ -61,7 +62,7 @@ pub fn committed_topactions_stay<V, C, A>()
         → Lawful meaning opening h
         → contains (committed_topactions h) a ≡ (has_committed h a && parent h a == 0) }
     ensures once { (meaning : Meaning V C A) (opening : Opening C) (h : History V)
-        → Lawful meaning opening h → IsDistinct (committed_topactions h) }
+        → Lawful meaning opening h → IsDistinct ◌==◌ (committed_topactions h) }
     ensures for_good { (meaning : Meaning V C A) (opening : Opening C) (h : History V) (a : ℕ)
         → Lawful meaning opening h → contains (committed_topactions h) a ≡ true
         → owner h a ≡ Base }

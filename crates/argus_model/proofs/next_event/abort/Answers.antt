@@ -1,8 +1,6 @@
 -- The proof of the laws that stand on `abort`.
-use Rattle.argus_model.specs.Contents.{base, sees}
 use Rattle.argus_model.specs.Event.{Aborted}
 use Rattle.argus_model.specs.History.{◌▹◌}
-use Rattle.argus_model.specs.Holders.{readers, writers}
 use Rattle.argus_model.specs.Meaning.{reads}
 use Rattle.argus_model.proofs.Lawful.{lawful_orderly}
 use Rattle.argus_model.proofs.Live.{live_stands}

@@ -1,9 +1,7 @@
 -- The proof of the laws that stand on `access`.
 use Rattle.std.proofs.Common.{refl}
-use Rattle.argus_model.specs.Contents.{base, sees}
 use Rattle.argus_model.specs.Event.{Accessed}
 use Rattle.argus_model.specs.History.{◌▹◌}
-use Rattle.argus_model.specs.Holders.{readers, writers}
 use Rattle.argus_model.specs.Meaning.{reads}
 use Rattle.argus_model.proofs.Lawful.{lawful_orderly}
 use Rattle.argus_model.proofs.Live.{live_stands}

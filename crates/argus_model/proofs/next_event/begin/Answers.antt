@@ -1,13 +1,8 @@
 -- The proof of the laws that stand on `begin`.
 use Rattle.std.proofs.Common.{arith}
-use Rattle.argus_model.specs.Ancestors.{lineage}
-use Rattle.argus_model.specs.Contents.{base, sees}
 use Rattle.argus_model.specs.Event.{Began}
 use Rattle.argus_model.specs.History.{next_action, ◌▹◌}
-use Rattle.argus_model.specs.Holders.{readers, writers}
 use Rattle.argus_model.specs.Meaning.{reads}
-use Rattle.argus_model.specs.Owner.{owner}
-use Rattle.argus_model.specs.Work.{work}
 use Rattle.argus_model.proofs.Ancestors.{lineage_old}
 use Rattle.argus_model.proofs.Lawful.{lawful_orderly}
 use Rattle.argus_model.proofs.NextHolders.{holders_after_begin}

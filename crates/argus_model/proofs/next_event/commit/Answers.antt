@@ -1,8 +1,6 @@
 -- The proof of the laws that stand on `commit`.
-use Rattle.argus_model.specs.Contents.{base, sees}
 use Rattle.argus_model.specs.Event.{Committed}
 use Rattle.argus_model.specs.History.{◌▹◌}
-use Rattle.argus_model.specs.Holders.{readers, writers}
 use Rattle.argus_model.specs.Meaning.{reads}
 use Rattle.argus_model.proofs.Commits.{order_added}
 use Rattle.argus_model.proofs.Lawful.{lawful_orderly, lawful_steps}

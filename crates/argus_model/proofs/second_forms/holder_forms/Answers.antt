@@ -1,6 +1,4 @@
 -- The proof of the laws that stand on `holder_forms`.
-use Rattle.argus_model.specs.Contents.{base}
-use Rattle.argus_model.specs.Holders.{holders}
 use Rattle.argus_model.proofs.Holders.{contains_holders, may_read_is, may_write_is}
 use Rattle.argus_model.proofs.Lawful.{lawful_orderly}
 use Rattle.argus_model.proofs.NextHolders.{no_base_holder}

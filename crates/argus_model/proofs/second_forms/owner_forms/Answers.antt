@@ -1,6 +1,5 @@
 -- The proof of the laws that stand on `owner_forms`.
 use Rattle.std.proofs.Common.{sym}
-use Rattle.argus_model.specs.Owner.{owner}
 use Rattle.argus_model.proofs.Lawful.{lawful_orderly}
 use Rattle.argus_model.proofs.Live.{child_is, stands_is_live}
 use Rattle.argus_model.proofs.Owner.{owner_is}

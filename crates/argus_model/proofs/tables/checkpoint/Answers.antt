@@ -1,8 +1,5 @@
 -- The proof of the laws that stand on `checkpoint`.
 use Rattle.std.proofs.Common.{refl}
-use Rattle.argus_model.specs.Contents.{base}
-use Rattle.argus_model.specs.Effects.{table}
-use Rattle.argus_model.specs.Worked.{numbers}
 use Rattle.argus_model.proofs.Commits.{fold_numbers, fold_table}
 use Rattle.argus_model.proofs.tables.checkpoint.Goals as goal
 

@@ -1,5 +1,4 @@
 -- The proof of the laws that stand on `table_of_effects`.
-use Rattle.argus_model.specs.Contents.{base}
 use Rattle.argus_model.proofs.Theorems.{effects_only_grow, table_is_base}
 use Rattle.argus_model.proofs.tables.table_of_effects.Goals as goal
 

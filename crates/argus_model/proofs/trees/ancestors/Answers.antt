@@ -1,8 +1,6 @@
 -- The proof of the laws that stand on `ancestors`.
-use Rattle.argus_model.specs.Contents.{base}
 use Rattle.argus_model.proofs.Ancestors.{ancestor_self}
 use Rattle.argus_model.proofs.Owner.{base_above}
-use Rattle.argus_model.proofs.Standing.{alone}
 use Rattle.argus_model.proofs.Theorems.{ancestor_above, ancestor_live, ancestor_older, live_alone}
 use Rattle.argus_model.proofs.trees.ancestors.Goals as goal
 
