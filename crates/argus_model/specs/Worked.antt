@@ -59,14 +59,14 @@ pair_goes_on = followed_by pair_begins (Committed 2 ∷ Accessed 3 0 (Look 1) �
 abbrev pub pair_ends : History Deed
 pair_ends = followed_by pair_goes_on (Committed 3 ∷ Committed 1 ∷ [])
 
--- a topaction is aborted that has begun two nested topactions, one of them through a subaction, and has a subaction of that subaction under it
+-- a topaction is aborted that has begun two nested topactions, one of them through a subaction; another subaction of that one has committed
 abbrev pub creator_works : History Deed
 creator_works = followed_by (Opened 0) (Began Top ∷ Began (Nested 1) ∷ Accessed 2 0 (Put 7 0) ∷ [])
 
 abbrev pub creator_aborts : History Deed
 creator_aborts =
     followed_by creator_works
-    (Committed 2 ∷ Began (Sub 1) ∷ Accessed 3 1 (Put 1 0) ∷ Began (Nested 3) ∷ Began (Sub 3) ∷ Aborted (1 ∷ []) ∷ [])
+    (Committed 2 ∷ Began (Sub 1) ∷ Accessed 3 1 (Put 1 0) ∷ Began (Nested 3) ∷ Began (Sub 3) ∷ Committed 5 ∷ Aborted (1 ∷ []) ∷ [])
 
 abbrev pub creator_outlived : History Deed
 creator_outlived = followed_by creator_aborts (Accessed 4 1 (Look 0) ∷ Accessed 4 0 (Look 7) ∷ Committed 4 ∷ [])

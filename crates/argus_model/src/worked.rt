@@ -24,6 +24,7 @@ pub fn parallel_pair()
     // 2 has put 1 into object 0
     ensures holders { readers numbers pair_begins 0 ≡ [] × writers numbers pair_begins 0 ≡ 2 ∷ [] }
     ensures other_waits { may_read numbers pair_begins 3 0 ≡ false }
+    ensures no_put_either { may_write numbers pair_begins 3 0 ≡ false }
     ensures parent_waits { may_read numbers pair_begins 1 0 ≡ false }
     ensures parent_rests { has_live_child pair_begins 1 ≡ true }
     ensures first { map (λ a. sees numbers zeros pair_begins a 0) (1 ∷ 2 ∷ 3 ∷ [])
@@ -46,9 +47,9 @@ pub fn parallel_pair()
     ensures free { writers numbers pair_ends 0 ≡ [] }
 {}
 
-/// Topaction 1 is aborted, and with it its subaction 3 and the subaction 5 of that one. The nested
-/// topaction 2, which 1 began, has committed, and its effect stays; the nested topaction 4, which 3
-/// began, goes on.
+/// Topaction 1 is aborted, and with it its subaction 3 and the subaction 5 of that one, which has
+/// committed. The nested topaction 2, which 1 began, has committed, too, and its effect stays; the
+/// nested topaction 4, which 3 began, goes on.
 pub fn nested_under_aborted_creator()
     ensures lawful { Lawful numbers zeros creator_outlived }
 
@@ -57,12 +58,13 @@ pub fn nested_under_aborted_creator()
     ensures no_ancestor { is_ancestor creator_works 1 2 ≡ false }
     ensures creator_waits { may_read numbers creator_works 1 0 ≡ false }
 
-    // 2 has committed, 3 has put 1 into object 1 and begun 4 and 5, and 1 is aborted
+    // 2 has committed, 3 has put 1 into object 1 and begun 4 and 5, 5 has committed, 1 is aborted
     ensures statuses { map (status creator_aborts) (1 ∷ 2 ∷ 3 ∷ 4 ∷ 5 ∷ [])
         ≡ IsAborted ∷ IsCommitted ∷ IsAborted ∷ IsLive ∷ IsAborted ∷ [] }
     ensures owners { map (owner creator_aborts) (1 ∷ 2 ∷ 3 ∷ 4 ∷ 5 ∷ [])
         ≡ Gone ∷ Base ∷ Gone ∷ Held 4 ∷ Gone ∷ [] }
     ensures undone { writers numbers creator_aborts 1 ≡ [] }
+    ensures work_apart { map (work creator_aborts) (1 ∷ 2 ∷ []) ≡ [] ∷ (put 0 7 0 ∷ []) ∷ [] }
     ensures contents { map (base numbers zeros creator_aborts) (0 ∷ 1 ∷ []) ≡ 7 ∷ 0 ∷ [] }
 
     // 4 has looked at both objects, and committed
