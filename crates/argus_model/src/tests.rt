@@ -11,7 +11,8 @@ use crate::trees::{
 };
 use crate::what_counts::{committed_topactions_stay, nothing_comes_back, owners, owners_are_live};
 use crate::worked::{
-    nested_under_aborted_creator, parallel_pair, siblings_are_aborted, turns_are_taken,
+    nested_under_aborted_creator, parallel_pair, rules_refuse, siblings_are_aborted,
+    turns_are_taken,
 };
 
 #[test]
@@ -59,4 +60,5 @@ fn second_forms_and_worked_histories(_rt: HostRuntime) {
     nested_under_aborted_creator();
     siblings_are_aborted();
     turns_are_taken();
+    rules_refuse();
 }

@@ -1,5 +1,6 @@
 //! Histories worked out, on objects that hold a number. Each is drawn as a table in docs/MODEL.md.
 ghost use Rattle.std.specs.Prelude.{◌≡◌, ℕ, true, false, List, [], ◌∷◌, map};
+ghost use Rattle.argus_model.specs.Event.{Began, Committed, Aborted, Accessed, Sub, Nested};
 ghost use Rattle.argus_model.specs.Ancestors.{is_ancestor};
 ghost use Rattle.argus_model.specs.Status.{is_live, has_live_child, live_siblings, status};
 ghost use Rattle.argus_model.specs.Status.{IsLive, IsCommitted, IsAborted, IsFolded};
@@ -7,10 +8,10 @@ ghost use Rattle.argus_model.specs.Owner.{owner, Folded, Gone, Held, Base};
 ghost use Rattle.argus_model.specs.Holders.{readers, writers, may_read, may_write};
 ghost use Rattle.argus_model.specs.Contents.{sees, base};
 ghost use Rattle.argus_model.specs.Work.{work, committed_topactions, serial_order};
-ghost use Rattle.argus_model.specs.Effects.{effects};
-ghost use Rattle.argus_model.specs.Lawful.{Lawful};
+ghost use Rattle.argus_model.specs.Effects.{effects, table};
+ghost use Rattle.argus_model.specs.Lawful.{Allowed, Lawful};
 ghost use Rattle.argus_model.specs.Fold.{fold};
-ghost use Rattle.argus_model.specs.Worked.{numbers, looked, put, zeros, opened_late};
+ghost use Rattle.argus_model.specs.Worked.{Look, Put, numbers, looked, put, zeros, opened_late};
 ghost use Rattle.argus_model.specs.Worked.{pair_begins, pair_goes_on, pair_ends};
 ghost use Rattle.argus_model.specs.Worked.{creator_works, creator_aborts, creator_outlived};
 ghost use Rattle.argus_model.specs.Worked.{siblings_work, siblings_aborted, siblings_end};
@@ -120,9 +121,34 @@ pub fn turns_are_taken()
     ensures effects { effects numbers opened_late turns_end
         ≡ ((1, 2) ∷ []) ∷ ((0, 6) ∷ (1, 8) ∷ []) ∷ [] }
 
+    ensures table { map (table opened_late.contents (effects numbers opened_late turns_end))
+        (0 ∷ 1 ∷ 2 ∷ []) ≡ 6 ∷ 8 ∷ 0 ∷ [] }
+
     // the opening that goes on from there, after 21 entries
     ensures folded { map (fold numbers opened_late turns_end 21).contents (0 ∷ 1 ∷ 2 ∷ [])
         ≡ 6 ∷ 8 ∷ 0 ∷ [] }
     ensures numbers { (fold numbers opened_late turns_end 21).first_action ≡ 4
         × (fold numbers opened_late turns_end 21).first_entry ≡ 21 }
+{}
+
+/// What may not come next in these histories.
+pub fn rules_refuse()
+    // 2 and 3 are live under 1, and 2 has put 1 into object 0
+    ensures commit_over_children { ¬ Allowed numbers zeros pair_begins (Committed 1) }
+    ensures access_over_children { ¬ Allowed numbers zeros pair_begins (Accessed 1 1 (Look 0)) }
+    ensures read_without_lock { ¬ Allowed numbers zeros pair_begins (Accessed 3 0 (Look 0)) }
+    ensures write_without_lock { ¬ Allowed numbers zeros pair_begins (Accessed 3 0 (Put 5 0)) }
+    ensures wrong_answer { ¬ Allowed numbers zeros pair_begins (Accessed 2 0 (Look 0)) }
+
+    // 2 has committed
+    ensures second_commit { ¬ Allowed numbers zeros pair_goes_on (Committed 2) }
+    ensures abort_after_commit { ¬ Allowed numbers zeros pair_goes_on (Aborted (3 ∷ 2 ∷ [])) }
+    ensures access_after_commit { ¬ Allowed numbers zeros pair_goes_on (Accessed 2 1 (Look 0)) }
+    ensures begin_after_commit { ¬ Allowed numbers zeros pair_goes_on (Began (Sub 2)) }
+
+    // 3 went down with its parent
+    ensures begin_when_doomed { ¬ Allowed numbers zeros creator_aborts (Began (Nested 3)) }
+
+    // 7 has looked at object 1
+    ensures read_lock_for_a_write { ¬ Allowed numbers opened_late siblings_work (Accessed 9 1 (Put 1 0)) }
 {}
