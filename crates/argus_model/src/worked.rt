@@ -11,6 +11,7 @@ ghost use Rattle.argus_model.specs.Work.{work, committed_topactions, serial_orde
 ghost use Rattle.argus_model.specs.Effects.{effects, table};
 ghost use Rattle.argus_model.specs.Lawful.{Allowed, Lawful};
 ghost use Rattle.argus_model.specs.Fold.{fold};
+ghost use Rattle.argus_model.specs.Rows.{is_above, rows, has_live_row};
 ghost use Rattle.argus_model.specs.Worked.{Look, Put, numbers, looked, put, zeros, opened_late};
 ghost use Rattle.argus_model.specs.Worked.{pair_begins, pair_goes_on, pair_ends};
 ghost use Rattle.argus_model.specs.Worked.{creator_works, creator_aborts, creator_outlived};
@@ -64,6 +65,12 @@ pub fn nested_under_aborted_creator()
         ≡ IsAborted ∷ IsCommitted ∷ IsAborted ∷ IsLive ∷ IsAborted ∷ [] }
     ensures owners { map (owner creator_aborts) (1 ∷ 2 ∷ 3 ∷ 4 ∷ 5 ∷ [])
         ≡ Gone ∷ Base ∷ Gone ∷ Held 4 ∷ Gone ∷ [] }
+    ensures rows { map (λ row. row.status) (rows creator_aborts)
+        ≡ IsAborted ∷ IsLive ∷ IsAborted ∷ IsCommitted ∷ IsAborted ∷ [] }
+    ensures above { map (is_above 0 (rows creator_aborts) 1) (1 ∷ 2 ∷ 3 ∷ 4 ∷ 5 ∷ 6 ∷ [])
+        ≡ true ∷ false ∷ true ∷ false ∷ true ∷ false ∷ [] }
+    ensures live_row { has_live_row (rows creator_aborts) 3 ≡ true }
+    ensures no_live_row { has_live_row (rows creator_aborts) 1 ≡ false }
     ensures undone { writers numbers creator_aborts 1 ≡ [] }
     ensures work_apart { map (work creator_aborts) (1 ∷ 2 ∷ []) ≡ [] ∷ (put 0 7 0 ∷ []) ∷ [] }
     ensures contents { map (base numbers zeros creator_aborts) (0 ∷ 1 ∷ []) ≡ 7 ∷ 0 ∷ [] }
