@@ -1,0 +1,47 @@
+-- Laws of tests.
+use Rattle.std.proofs.Common.{Bool, arith, false, refl, sym, true, ℕ, ◌≡◌}
+use Rattle.std.specs.Prelude.{not, ◌&&◌, ◌==◌, ◌||◌}
+use Rattle.std.proofs.lemmas.Bool.{eq-eqb, eqb-true}
+
+pub same_bool : (a b : Bool) → (a ≡ true → b ≡ true) → (b ≡ true → a ≡ true) → a ≡ b
+same_bool true b f g = sym (f refl)
+same_bool false true f g = g refl
+same_bool false false f g = refl
+
+pub or_none : (a : Bool) → a ≡ (a || false)
+or_none true = refl
+or_none false = refl
+
+pub or_twice : (a r : Bool) → (a || r) ≡ (a || (a || r))
+or_twice true r = refl
+or_twice false r = refl
+
+pub or_swap : (a b r : Bool) → (a || (b || r)) ≡ (b || (a || r))
+or_swap true true r = refl
+or_swap true false r = refl
+or_swap false b r = refl
+
+pub eqb_sym : (a b : ℕ) → a == b ≡ b == a
+eqb_sym a b = same_bool (a == b) (b == a) (λ e. eq-eqb b a (sym (eqb-true a b e))) (λ e. eq-eqb a b (sym (eqb-true b a e)))
+
+pub and_off : (a b c : Bool) → (a && b) ≡ false → (a && (b && c)) ≡ false
+and_off false b c e = refl
+and_off true true c e = grind arith
+and_off true false c e = refl
+
+pub and_split : (a b c r : Bool) → ((a && (b && c)) || r) ≡ (((a && b) && c) || r)
+and_split false b c r = refl
+and_split true b c r = refl
+
+pub kinds_apart : (here w t r s : Bool) → ((here && true) && t || (r || s)) ≡ (((here && not w) && t || r) || ((here && w) && t || s))
+kinds_apart false w t r s = refl
+kinds_apart true true t r s = grind arith
+kinds_apart true false t r s = grind arith
+
+pub and_none : (b : Bool) → (b && false) ≡ false
+and_none true = refl
+and_none false = refl
+
+pub and_all : (b : Bool) → (b && true) ≡ b
+and_all true = refl
+and_all false = refl

@@ -1,0 +1,15 @@
+-- The proof of the laws that stand on `ancestors`.
+use Rattle.argus_model.proofs.Ancestors.{ancestor_self}
+use Rattle.argus_model.proofs.Owner.{base_above}
+use Rattle.argus_model.proofs.Theorems.{ancestor_above, ancestor_live, ancestor_older, live_alone}
+use Rattle.argus_model.proofs.trees.ancestors.Goals as goal
+
+pub returns : goal.returns
+returns g c = record {
+  own = ancestor_self;
+  base = base_above;
+  above = ancestor_above;
+  older = ancestor_older;
+  live = ancestor_live;
+  alone = live_alone;
+}

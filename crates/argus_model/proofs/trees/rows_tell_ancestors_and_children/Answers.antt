@@ -1,0 +1,10 @@
+-- The proof of the laws that stand on `rows_tell_ancestors_and_children`.
+use Rattle.argus_model.proofs.Lawful.{lawful_orderly}
+use Rattle.argus_model.proofs.Rows.{has_live_row_is, is_above_exactly}
+use Rattle.argus_model.proofs.trees.rows_tell_ancestors_and_children.Goals as goal
+
+pub returns : goal.returns
+returns g c = record {
+  ancestor = λ meaning opening h x a l. is_above_exactly h (lawful_orderly meaning opening h l) x a;
+  child = λ meaning opening h a l. has_live_row_is h (lawful_orderly meaning opening h l) a;
+}

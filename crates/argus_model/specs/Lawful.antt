@@ -1,0 +1,29 @@
+-- Which histories the rules of nested transactions allow.
+use Rattle.std.specs.List.{list_all}
+use Rattle.std.specs.Prelude.{Bool, false, if◌then◌else◌, true, ℕ, ◌==◌, ◌||◌, ◌≡◌}
+use Rattle.argus_model.specs.Contents.{sees}
+use Rattle.argus_model.specs.Event.{Aborted, Accessed, Began, Committed, Event, creator_of}
+use Rattle.argus_model.specs.History.{History, Opened, Opening, ◌▹◌}
+use Rattle.argus_model.specs.Holders.{may_read, may_write}
+use Rattle.argus_model.specs.Meaning.{Fits, Meaning}
+use Rattle.argus_model.specs.Status.{has_live_child, is_live}
+
+module _ {V C A : Type 0} (meaning : Meaning V C A) where
+  -- the lock that the access needs is free for a
+  abbrev pub may_access : History V → ℕ → ℕ → V → Bool
+  may_access h a o v = if meaning.writes v then may_write meaning h a o else may_read meaning h a o
+
+  -- The event may come next. Who begins, commits, is aborted or accesses is live; who commits or accesses has no live child;
+  -- an access gets its lock, and is answered by what the action sees.
+  abbrev pub Allowed : Opening C → History V → Event V → Type 0
+  Allowed opening h (Began from) = (creator_of from == 0 || is_live h (creator_of from)) ≡ true
+  Allowed opening h (Committed a) = (is_live h a ≡ true) × (has_live_child h a ≡ false)
+  Allowed opening h (Aborted actions) = list_all (is_live h) actions ≡ true
+  Allowed opening h (Accessed a o v) =
+      (is_live h a ≡ true) × (has_live_child h a ≡ false)
+      × (may_access h a o v ≡ true) × Fits meaning v (sees meaning opening h a o)
+
+  -- the history goes on from this opening, and each of its events was allowed
+  abbrev pub Lawful : Opening C → History V → Type 0
+  Lawful opening (Opened n) = n ≡ opening.first_action
+  Lawful opening (e ▹ older) = Allowed opening older e × Lawful opening older

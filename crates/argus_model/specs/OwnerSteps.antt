@@ -1,0 +1,51 @@
+-- A second form of owners and live actions, for proofs: what each event does to them.
+use Rattle.std.specs.Prelude.{Bool, List, None, Option, Some, false, if◌then◌else◌, true, ℕ, ◌&&◌, ◌==◌, ◌||◌, ◌≡◌, ◌≢◌}
+use Rattle.argus_model.specs.Ancestors.{is_under, parent}
+use Rattle.argus_model.specs.Event.{Aborted, Accessed, Began, Committed, creator_of, parent_of}
+use Rattle.argus_model.specs.History.{History, Opened, next_action, ◌▹◌}
+use Rattle.argus_model.specs.Numbers.{contains}
+use Rattle.argus_model.specs.Owner.{Base, Gone, Held, Owner}
+
+-- the owner, after a has handed what it answers for to p
+abbrev pub handed_up : ℕ → ℕ → Option ℕ → Option ℕ
+handed_up a p None = None
+handed_up a p (Some x) = if x == a then Some p else Some x
+
+-- the owner, unless it is lost
+abbrev pub unless_lost : (ℕ → Bool) → Option ℕ → Option ℕ
+unless_lost lost None = None
+unless_lost lost (Some x) = if lost x then None else Some x
+
+-- Who answers for what the action did: itself at first, its owner's parent once that commits, and nobody after an abort. The base answers for itself.
+abbrev pub owner_by_steps : {V : Type 0} → History V → ℕ → Option ℕ
+owner_by_steps (Opened n) a = if a == 0 then Some 0 else None
+owner_by_steps (Began from ▹ older) a = if a == next_action older then Some a else owner_by_steps older a
+owner_by_steps (Committed b ▹ older) a = handed_up b (parent older b) (owner_by_steps older a)
+owner_by_steps (Aborted bs ▹ older) a = unless_lost (is_under older bs) (owner_by_steps older a)
+owner_by_steps (Accessed b o v ▹ older) a = owner_by_steps older a
+
+-- the owner in the words of its definition
+abbrev pub as_owner : Option ℕ → Owner
+as_owner None = Gone
+as_owner (Some x) = if x == 0 then Base else Held x
+
+-- the owner is a
+abbrev pub is_exactly : Option ℕ → ℕ → Bool
+is_exactly None a = false
+is_exactly (Some x) a = x == a
+
+-- it answers for itself: a live action, or the base
+abbrev pub stands : {V : Type 0} → History V → ℕ → Bool
+stands h a = is_exactly (owner_by_steps h a) a
+
+-- each of these stands, and none is the base
+abbrev pub AllStand : {V : Type 0} → History V → List ℕ → Type 0
+AllStand h actions = (a : ℕ) → contains actions a ≡ true → (a ≢ 0) × (stands h a ≡ true)
+
+-- an action that began in k, of this parent or creator, stands in h
+abbrev pub standing_child : {V : Type 0} → History V → ℕ → History V → Bool
+standing_child h a (Opened n) = false
+standing_child h a (Began from ▹ k) = ((parent_of from == a || creator_of from == a) && stands h (next_action k)) || standing_child h a k
+standing_child h a (Committed b ▹ k) = standing_child h a k
+standing_child h a (Aborted bs ▹ k) = standing_child h a k
+standing_child h a (Accessed b o v ▹ k) = standing_child h a k

@@ -1,0 +1,60 @@
+-- The actions as a list of rows, the newest first: how a tree of actions keeps them.
+use Rattle.std.specs.List.{list_any}
+use Rattle.std.specs.Prelude.{Bool, List, None, Option, Some, [], false, if◌then◌else◌, length, true, ℕ, ◌&&◌, ◌+◌, ◌==◌, ◌||◌, ◌∷◌}
+use Rattle.argus_model.specs.Event.{Aborted, Accessed, Began, Committed, Origin, Top, creator_of, parent_of}
+use Rattle.argus_model.specs.History.{History, Opened, folded, next_action, ◌▹◌}
+use Rattle.argus_model.specs.Status.{IsAborted, IsCommitted, IsLive, Status, status}
+
+-- one action: its number is one more than how many are folded or have an older row
+pub record Row : Type 0 where
+  pub origin : Origin
+  pub status : Status
+
+-- how an action came to be
+abbrev pub origin : {V : Type 0} → History V → ℕ → Origin
+origin (Opened n) a = Top
+origin (Began from ▹ older) a = if a == next_action older then from else origin older a
+origin (Committed b ▹ older) a = origin older a
+origin (Aborted bs ▹ older) a = origin older a
+origin (Accessed b o v ▹ older) a = origin older a
+
+-- what the history says of an action
+abbrev pub row_of : {V : Type 0} → History V → ℕ → Row
+row_of h a = record { origin = origin h a; status = status h a }
+
+-- the row of a number, where n actions are folded
+abbrev pub row_at : ℕ → List Row → ℕ → Option Row
+row_at n [] a = None
+row_at n (row ∷ older) a = if a == n + length older + 1 then Some row else row_at n older a
+
+-- the row, with another status
+abbrev pub with_status : Status → Row → Row
+with_status s row = record { origin = row.origin; status = s }
+
+-- the rows, where those of the numbers that pass the test get this status
+abbrev pub mark : ℕ → (ℕ → Bool) → Status → List Row → List Row
+mark n test s [] = []
+mark n test s (row ∷ older) = (if test (n + length older + 1) then with_status s row else row) ∷ mark n test s older
+
+-- x is y, or above its parent; false where either has no row
+abbrev pub is_above : ℕ → List Row → ℕ → ℕ → Bool
+is_above n [] x y = false
+is_above n (row ∷ older) x y = if y == n + length older + 1 then (x == y || is_above n older x (parent_of row.origin)) else is_above n older x y
+
+-- the rows after each event: a commit marks one, an abort all that stand under those it names
+abbrev pub rows : {V : Type 0} → History V → List Row
+rows (Opened n) = []
+rows (Began from ▹ older) = record { origin = from; status = IsLive } ∷ rows older
+rows (Committed a ▹ older) = mark (folded older) (λ x. x == a) IsCommitted (rows older)
+rows (Aborted actions ▹ older) = mark (folded older) (λ x. list_any (λ a. is_above (folded older) (rows older) a x) actions) IsAborted (rows older)
+rows (Accessed a o v ▹ older) = rows older
+
+-- the status of a live action
+abbrev pub is_live_status : Status → Bool
+is_live_status IsLive = true
+is_live_status _ = false
+
+-- a row of this parent or creator is live
+abbrev pub has_live_row : List Row → ℕ → Bool
+has_live_row [] a = false
+has_live_row (row ∷ older) a = (is_live_status row.status && (parent_of row.origin == a || creator_of row.origin == a)) || has_live_row older a

@@ -1,0 +1,42 @@
+-- A second form of what an action sees and of what is lawful, for proofs: lists of accesses, and the events' own forms.
+use Rattle.std.specs.Prelude.{Bool, List, None, Option, Some, [], false, if◌then◌else◌, true, ℕ, ◌∷◌, ◌≡◌, ◌≢◌}
+use Rattle.argus_model.specs.Ancestors.{is_ancestor}
+use Rattle.argus_model.specs.Event.{Aborted, Accessed, Began, Committed, parent_of}
+use Rattle.argus_model.specs.History.{History, Opened, ◌▹◌}
+use Rattle.argus_model.specs.HolderSteps.{may_by_steps}
+use Rattle.argus_model.specs.Meaning.{Fits, Meaning}
+use Rattle.argus_model.specs.OwnerSteps.{AllStand, owner_by_steps, standing_child, stands}
+use Rattle.argus_model.specs.Work.{Access, content_after}
+
+-- the accesses by the actions that pass the test, newest first
+abbrev pub accesses_by : {V : Type 0} → (ℕ → Bool) → History V → List (Access V)
+accesses_by test (Opened n) = []
+accesses_by test (Accessed a o v ▹ older) = if test a then record { object = o; what = v } ∷ accesses_by test older else accesses_by test older
+accesses_by test (Began from ▹ older) = accesses_by test older
+accesses_by test (Committed a ▹ older) = accesses_by test older
+accesses_by test (Aborted actions ▹ older) = accesses_by test older
+
+-- there is an owner, and it passes the test
+abbrev pub owner_passes : (ℕ → Bool) → Option ℕ → Bool
+owner_passes test None = false
+owner_passes test (Some x) = test x
+
+-- the accesses that count for a: those of the base, of its ancestors and its own
+abbrev pub visible_accesses : {V : Type 0} → History V → ℕ → List (Access V)
+visible_accesses h a = accesses_by (λ b. owner_passes (λ x. is_ancestor h x a) (owner_by_steps h b)) h
+
+module _ {V C A : Type 0} (meaning : Meaning V C A) (contents : ℕ → C) where
+  -- each access, newest first, is answered by what those before it leave
+  abbrev pub Replays : List (Access V) → Type 0
+  Replays [] = Unit {0}
+  Replays (e ∷ older) = Fits meaning e.what (content_after meaning contents e.object older) × Replays older
+
+  -- each event was allowed by those before it
+  abbrev pub LawfulSteps : History V → Type 0
+  LawfulSteps (Opened n) = Unit {0}
+  LawfulSteps (Began from ▹ older) = (stands older (parent_of from) ≡ true) × LawfulSteps older
+  LawfulSteps (Committed a ▹ older) = (a ≢ 0) × (stands older a ≡ true) × (standing_child older a older ≡ false) × LawfulSteps older
+  LawfulSteps (Aborted actions ▹ older) = AllStand older actions × LawfulSteps older
+  LawfulSteps (Accessed a o v ▹ older) =
+      (stands older a ≡ true) × (standing_child older a older ≡ false) × (may_by_steps meaning.writes older a o (meaning.writes v) older ≡ true)
+      × Fits meaning v (content_after meaning contents o (visible_accesses older a)) × (a ≢ 0) × LawfulSteps older

@@ -1,0 +1,31 @@
+//! What a journal of nested transactions says happened, and the laws of every lawful history.
+//!
+//! The definitions are in specs/: events and histories, ancestors, who is live, who answers for
+//! what, who holds an object, what an action sees, and the serial order. They speak of contents and
+//! operations through one record, `Meaning`, so that a crate above says once what its own mean.
+//!
+//! No function here does anything when it is called. Each one carries laws: its clauses hold of
+//! every `Meaning`, every opening and every history that `Lawful` allows.
+//!
+//! | Module | Its laws |
+//! |---|---|
+//! | `locks` | who may hold an object together |
+//! | `one_after_another` | committed and live work gives the same answers in a serial run |
+//! | `what_counts` | for whom an action's work counts, and that nothing comes back |
+//! | `tables` | the effects of committed topactions, their table, and checkpoints |
+//! | `trees` | the actions as rows, and siblings |
+//! | `next_event` | what one more event changes |
+//! | `second_forms` | that the forms which proofs use are the plain ones |
+//! | `worked` | histories worked out |
+#![tactic(auto)]
+
+pub mod locks;
+pub mod next_event;
+pub mod one_after_another;
+pub mod second_forms;
+pub mod tables;
+#[cfg(test)]
+mod tests;
+pub mod trees;
+pub mod what_counts;
+pub mod worked;

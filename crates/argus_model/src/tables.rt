@@ -1,0 +1,63 @@
+//! What each committed topaction left for good, the table of it, and checkpoints.
+ghost use Rattle.std.specs.Prelude.{◌≡◌, ◌≢◌, ℕ, true, false, List, [], ◌∷◌, ◌++◌, ◌-◌, map};
+ghost use Rattle.std.specs.List.Sorted.{IsStrictlyIncreasing};
+ghost use Rattle.argus_model.specs.Event.{Event, Committed};
+ghost use Rattle.argus_model.specs.History.{Opening, History, Opened, ◌▹◌, next_action};
+ghost use Rattle.argus_model.specs.Numbers.{contains};
+ghost use Rattle.argus_model.specs.Ancestors.{parent};
+ghost use Rattle.argus_model.specs.Status.{is_live};
+ghost use Rattle.argus_model.specs.Meaning.{Meaning};
+ghost use Rattle.argus_model.specs.Holders.{writers};
+ghost use Rattle.argus_model.specs.Contents.{sees, base};
+ghost use Rattle.argus_model.specs.Work.{Access, work};
+ghost use Rattle.argus_model.specs.Effects.{table, written_objects, effects};
+ghost use Rattle.argus_model.specs.Lawful.{Lawful};
+ghost use Rattle.argus_model.specs.Fold.{fold};
+
+/// The table of all effects is what is there for good, and an event at most adds an effect at the
+/// end.
+pub fn table_of_effects<V, C, A>()
+    ensures base { (meaning : Meaning V C A) (opening : Opening C) (h : History V) (o : ℕ)
+        → Lawful meaning opening h
+        → table opening.contents (effects meaning opening h) o ≡ base meaning opening h o }
+    ensures grows { (meaning : Meaning V C A) (opening : Opening C) (h : History V) (e : Event V)
+        → Lawful meaning opening (e ▹ h)
+        → (more : List (List (ℕ × C)))
+        × (effects meaning opening (e ▹ h) ≡ effects meaning opening h ++ more) }
+{}
+
+/// The commit of a topaction adds one effect: what the topaction sees in each object that it holds
+/// for writing, in increasing number. The commit of a subaction adds none.
+pub fn effect_of_commit<V, C, A>()
+    ensures topaction { (meaning : Meaning V C A) (opening : Opening C) (h : History V) (a : ℕ)
+        → Lawful meaning opening (Committed a ▹ h) → parent h a ≡ 0
+        → effects meaning opening (Committed a ▹ h) ≡ effects meaning opening h
+        ++ map (λ o. (o, sees meaning opening h a o)) (written_objects meaning (work h a)) ∷ [] }
+    ensures written { (meaning : Meaning V C A) (opening : Opening C) (h : History V) (a o : ℕ)
+        → Lawful meaning opening h → is_live h a ≡ true
+        → contains (written_objects meaning (work h a)) o ≡ contains (writers meaning h o) a }
+    ensures in_order { (meaning : Meaning V C A) (done : List (Access V))
+        → IsStrictlyIncreasing (written_objects meaning done) }
+    ensures subaction { (meaning : Meaning V C A) (opening : Opening C) (h : History V) (a : ℕ)
+        → Lawful meaning opening (Committed a ▹ h) → parent h a ≢ 0
+        → effects meaning opening (Committed a ▹ h) ≡ effects meaning opening h }
+{}
+
+/// A history may go on from its own fold, with the contents that were there for good; the effects
+/// before the fold, followed by those after it, make the table of what is there for good.
+pub fn checkpoint<V, C, A>()
+    ensures lawful { (meaning : Meaning V C A) (opening : Opening C) (h : History V) (entries : ℕ)
+        → Lawful meaning (fold meaning opening h entries) (Opened (next_action h - 1)) }
+    ensures base { (meaning : Meaning V C A) (opening : Opening C) (h : History V) (entries o : ℕ)
+        → base meaning (fold meaning opening h entries) (Opened (next_action h - 1)) o
+        ≡ base meaning opening h o }
+    ensures numbers { (meaning : Meaning V C A) (opening : Opening C) (h : History V)
+        → Lawful meaning opening h
+        → next_action {V = V} (Opened (next_action h - 1)) ≡ next_action h }
+    ensures table { (meaning : Meaning V C A) (opening : Opening C) (h : History V) (entries : ℕ)
+        (later : History V) (o : ℕ)
+        → Lawful meaning opening h → Lawful meaning (fold meaning opening h entries) later
+        → table opening.contents (effects meaning opening h
+        ++ effects meaning (fold meaning opening h entries) later) o
+        ≡ base meaning (fold meaning opening h entries) later o }
+{}

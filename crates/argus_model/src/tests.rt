@@ -1,0 +1,64 @@
+//! Each law can be called, at types of its own.
+use crate::locks::{exclusion, holders, lock_rules};
+use crate::next_event::{abort, access, base_sees, begin, commit};
+use crate::one_after_another::{
+    base_is_serial, committed_work_runs_again, live_work_runs_again, work_is_final,
+};
+use crate::second_forms::{content_forms, holder_forms, owner_forms};
+use crate::tables::{checkpoint, effect_of_commit, table_of_effects};
+use crate::trees::{
+    ancestors, begun, rows_say_what_happened, rows_tell_ancestors_and_children, siblings,
+};
+use crate::what_counts::{committed_topactions_stay, nothing_comes_back, owners, owners_are_live};
+use crate::worked::{
+    nested_under_aborted_creator, parallel_pair, rules_refuse, siblings_are_aborted,
+    turns_are_taken,
+};
+
+#[test]
+fn laws_of_locks_and_of_what_counts(_rt: HostRuntime) {
+    exclusion::<u8, u32, bool>();
+    holders::<u8, u32, bool>();
+    lock_rules::<u8, u32, bool>();
+    owners::<u8, u32, bool>();
+    owners_are_live::<u8, u32, bool>();
+    nothing_comes_back::<u8, u32, bool>();
+    committed_topactions_stay::<u8, u32, bool>();
+}
+
+#[test]
+fn laws_of_the_serial_order_and_of_tables(_rt: HostRuntime) {
+    base_is_serial::<u8, u32, bool>();
+    committed_work_runs_again::<u8, u32, bool>();
+    live_work_runs_again::<u8, u32, bool>();
+    work_is_final::<u8, u32, bool>();
+    table_of_effects::<u8, u32, bool>();
+    effect_of_commit::<u8, u32, bool>();
+    checkpoint::<u8, u32, bool>();
+}
+
+#[test]
+fn laws_of_trees_and_of_the_next_event(_rt: HostRuntime) {
+    ancestors::<u8, u32, bool>();
+    begun::<u8>();
+    rows_say_what_happened::<u8, u32, bool>();
+    rows_tell_ancestors_and_children::<u8, u32, bool>();
+    siblings::<u8, u32, bool>();
+    begin::<u8, u32, bool>();
+    base_sees::<u8, u32, bool>();
+    access::<u8, u32, bool>();
+    commit::<u8, u32, bool>();
+    abort::<u8, u32, bool>();
+}
+
+#[test]
+fn second_forms_and_worked_histories(_rt: HostRuntime) {
+    owner_forms::<u8, u32, bool>();
+    holder_forms::<u8, u32, bool>();
+    content_forms::<u8, u32, bool>();
+    parallel_pair();
+    nested_under_aborted_creator();
+    siblings_are_aborted();
+    turns_are_taken();
+    rules_refuse();
+}

@@ -1,0 +1,71 @@
+//! Ancestors, the actions as rows of a tree, and the siblings of an action.
+ghost use Rattle.std.specs.Prelude.{◌≡◌, ◌≢◌, ◌≤◌, ℕ, ◌+◌, true, false, not, ◌&&◌, ◌==◌, length, Some};
+ghost use Rattle.std.specs.List.Sorted.{IsStrictlyIncreasing};
+ghost use Rattle.argus_model.specs.Event.{Aborted, parent_of, creator_of};
+ghost use Rattle.argus_model.specs.History.{Opening, History, begun_actions, folded, next_action};
+ghost use Rattle.argus_model.specs.Numbers.{contains};
+ghost use Rattle.argus_model.specs.Ancestors.{parent, creator, is_ancestor};
+ghost use Rattle.argus_model.specs.Status.{is_begun, is_live, has_live_child, live_siblings};
+ghost use Rattle.argus_model.specs.Meaning.{Meaning};
+ghost use Rattle.argus_model.specs.Lawful.{Allowed, Lawful};
+ghost use Rattle.argus_model.specs.Rows.{origin, row_of, row_at, is_above, rows, has_live_row};
+
+/// An action is its own ancestor, ancestors of ancestors are ancestors, and they are older; of a
+/// live action they are live. Nothing live stands under an action that has no live child.
+pub fn ancestors<V, C, A>()
+    ensures own { (h : History V) (a : ℕ) → is_ancestor h a a ≡ true }
+    ensures base { (h : History V) (a : ℕ) → is_ancestor h 0 a ≡ true }
+    ensures above { (meaning : Meaning V C A) (opening : Opening C) (h : History V) (x y a : ℕ)
+        → Lawful meaning opening h → is_begun h a ≡ true
+        → is_ancestor h x y ≡ true → is_ancestor h y a ≡ true
+        → is_ancestor h x a ≡ true }
+    ensures older { (meaning : Meaning V C A) (opening : Opening C) (h : History V) (x a : ℕ)
+        → Lawful meaning opening h → is_begun h a ≡ true → is_ancestor h x a ≡ true
+        → x ≤ a }
+    ensures live { (meaning : Meaning V C A) (opening : Opening C) (h : History V) (x a : ℕ)
+        → Lawful meaning opening h → is_live h a ≡ true → is_ancestor h x a ≡ true → x ≢ 0
+        → is_live h x ≡ true }
+    ensures alone { (meaning : Meaning V C A) (opening : Opening C) (h : History V) (x a : ℕ)
+        → Lawful meaning opening h → is_live h a ≡ true → is_ancestor h x a ≡ true
+        → has_live_child h x ≡ false
+        → x ≡ a }
+{}
+
+/// The actions that began since the opening are listed in increasing number.
+pub fn begun<V>()
+    ensures listed { (h : History V) (a : ℕ) → contains (begun_actions h) a ≡ is_begun h a }
+    ensures in_order { (h : History V) → IsStrictlyIncreasing (begun_actions h) }
+{}
+
+/// The rows, changed by each event in turn, say of each action what the history says: its origin
+/// and its status. There is one for each action that began since the opening.
+pub fn rows_say_what_happened<V, C, A>()
+    ensures row { (meaning : Meaning V C A) (opening : Opening C) (h : History V) (a : ℕ)
+        → Lawful meaning opening h → is_begun h a ≡ true
+        → row_at (folded h) (rows h) a ≡ Some (row_of h a) }
+    ensures count { (h : History V) → folded h + length (rows h) + 1 ≡ next_action h }
+    ensures parent { (h : History V) (a : ℕ) → parent_of (origin h a) ≡ parent h a }
+    ensures creator { (h : History V) (a : ℕ) → creator_of (origin h a) ≡ creator h a }
+{}
+
+/// The ancestors that are read off the rows are those of the history, for actions that have begun,
+/// and no others; so are the live children.
+pub fn rows_tell_ancestors_and_children<V, C, A>()
+    ensures ancestor { (meaning : Meaning V C A) (opening : Opening C) (h : History V) (x a : ℕ)
+        → Lawful meaning opening h
+        → is_above (folded h) (rows h) x a
+        ≡ ((is_begun h x && is_begun h a) && is_ancestor h x a) }
+    ensures child { (meaning : Meaning V C A) (opening : Opening C) (h : History V) (a : ℕ)
+        → Lawful meaning opening h
+        → has_live_row (rows h) a ≡ has_live_child h a }
+{}
+
+/// The siblings that are listed are the other live actions of the same creator, and they may be
+/// aborted in one step.
+pub fn siblings<V, C, A>()
+    ensures who { (meaning : Meaning V C A) (opening : Opening C) (h : History V) (a x : ℕ)
+        → contains (live_siblings h a) x
+        ≡ (is_live h x && (not (x == a) && creator h x == creator h a)) }
+    ensures may_be_aborted { (meaning : Meaning V C A) (opening : Opening C) (h : History V)
+        (a : ℕ) → Allowed meaning opening h (Aborted (live_siblings h a)) }
+{}
