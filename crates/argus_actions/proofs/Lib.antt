@@ -1,0 +1,5 @@
+pub mod RowsLemmas
+pub mod Marks
+pub mod NodesLemmas
+pub mod Climbs
+pub mod Finished
