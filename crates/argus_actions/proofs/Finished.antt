@@ -11,7 +11,7 @@ use Rattle.argus_actions.specs.Row.{Row, at_parent, under_of, comes_from, is_liv
 use Rattle.argus_actions.specs.Rows.{numbered, depth_at, mark}
 use Rattle.argus_actions.specs.Nodes.{shown, rows_of, AreLinked, AreNodes, IsNode, newest_below, link_to, live_count}
 use Rattle.argus_actions.proofs.Marks.{length-mark, AreLinked-mark, depth_at-mark, newest_below-mark, live_count-mark, one}
-use Rattle.argus_actions.proofs.NodesLemmas.{length-rows_of, row_at, rows_of-marked}
+use Rattle.argus_actions.proofs.NodesLemmas.{some_node, length-rows_of, row_at, rows_of-marked}
 
 -- the node of a number, once the action `ended`, whose node was `last`, has ended with a status
 abbrev pub finished : Status → ℕ → Node → ℕ → Node → Node
@@ -32,7 +32,7 @@ at_parent_same none (Sub p) f g same = same p
 at_parent_same none (Nested c) f g same = refl
 
 module _ (n : ℕ) (nodes new : List Node) (ended i : ℕ) (s : Status) (e : ended ≡ n + i) (begun : i < length nodes) (over : is_live s ≡ false) (long : length new ≡ length nodes)
-  (each : (a k : ℕ) (d : Node) → a ≡ n + k → k < length nodes → get_or new k d ≡ finished s ended (get_or nodes i d) a (get_or nodes k d)) where
+  (each : (a k : ℕ) (d : Node) → a ≡ n + k → k < length nodes → get_or new k d ≡ finished s ended (get_or nodes i some_node) a (get_or nodes k d)) where
 
   pub finished_rows : rows_of new ≡ mark n (λ a. eqb a ended) s (rows_of nodes)
   finished_rows = rows_of-marked n nodes new ended s long
@@ -45,10 +45,10 @@ module _ (n : ℕ) (nodes new : List Node) (ended i : ℕ) (s : Status) (e : end
     each = λ a k d at below.
       let in_old : k < length nodes = omega arith in
       let was : IsNode n (rows_of nodes) a (get_or nodes k d) = kept.each a k d at in_old in
-      let last : numbered n (rows_of nodes) ended ≡ Some (shown (get_or nodes i d)) = row_at n nodes ended i d e begun in
+      let last : numbered n (rows_of nodes) ended ≡ Some (shown (get_or nodes i some_node)) = row_at n nodes ended i some_node e begun in
       let same_long : length (mark n (λ a. eqb a ended) s (rows_of nodes)) ≡ length (rows_of nodes) = length-mark n (λ a. eqb a ended) s (rows_of nodes) in
-      let less : live_count (mark n (λ a. eqb a ended) s (rows_of nodes)) a + one (comes_from a (get_or nodes i d).origin && is_live (get_or nodes i d).status) ≡ live_count (rows_of nodes) a
-        = live_count-mark n s (rows_of nodes) a ended (shown (get_or nodes i d)) over last in
+      let less : live_count (mark n (λ a. eqb a ended) s (rows_of nodes)) a + one (comes_from a (get_or nodes i some_node).origin && is_live (get_or nodes i some_node).status) ≡ live_count (rows_of nodes) a
+        = live_count-mark n s (rows_of nodes) a ended (shown (get_or nodes i some_node)) over last in
       rw (each a k d at in_old, finished_rows) (record {
         newest = was.newest ∙ rw same_long (ap link_to (sym (newest_below-mark n (λ a. eqb a ended) s (rows_of nodes) a (n + length (rows_of nodes)))));
         older = was.older ∙ ap link_to (at_parent_same None (get_or nodes k d).origin _ _ (λ p. sym (newest_below-mark n (λ a. eqb a ended) s (rows_of nodes) p a)));
@@ -89,11 +89,11 @@ end_cases false false s node =
 
 -- the action was live, and was begun under another
 pub finished_under : (nodes : List Node) (ended under : ℕ) (s : Status) (e f : Node) → ended < length nodes → under < length nodes
-  → ((d : Node) → (under_of (get_or nodes ended d).origin ≡ Some under) × ((get_or nodes ended d).status ≡ Live))
+  → under_of (get_or nodes ended some_node).origin ≡ Some under → is_live (get_or nodes ended some_node).status ≡ true
   → let less = set nodes under (one_less (get_or nodes under e)) in
     (a k : ℕ) (d : Node) → a ≡ 0 + k → k < length nodes
-  → get_or (set less ended (with_end s (get_or less ended f))) k d ≡ finished s ended (get_or nodes ended d) a (get_or nodes k d)
-finished_under nodes ended under s e f in_ended in_under last a k d at in_k =
+  → get_or (set less ended (with_end s (get_or less ended f))) k d ≡ finished s ended (get_or nodes ended some_node) a (get_or nodes k d)
+finished_under nodes ended under s e f in_ended in_under came live a k d at in_k =
   let less : List Node = set nodes under (one_less (get_or nodes under e)) in
   let long : length less ≡ length nodes = length-set nodes under (one_less (get_or nodes under e)) in
   let same : a ≡ k = omega arith in
@@ -101,17 +101,17 @@ finished_under nodes ended under s e f in_ended in_under last a k d at in_k =
   ∙ ap (λ node. cond (eqb k ended) (with_end s node) node) (changed_at one_less nodes under k d e in_under in_k)
   ∙ ap (λ b. cond (eqb k ended) (with_end s (cond b (one_less (get_or nodes k d)) (get_or nodes k d))) (cond b (one_less (get_or nodes k d)) (get_or nodes k d))) (eqb_comm k under)
   ∙ end_cases (eqb k ended) (eqb under k) s (get_or nodes k d)
-  ∙ rw (same, (last d).0, (last d).1)
+  ∙ rw (same, came, live)
 
 -- it was not live, or was begun under no other
 pub finished_alone : (nodes : List Node) (ended : ℕ) (s : Status) (f : Node) → ended < length nodes
-  → ((d : Node) → (under_of (get_or nodes ended d).origin ≡ None) ⊎ (is_live (get_or nodes ended d).status ≡ false))
+  → (under_of (get_or nodes ended some_node).origin ≡ None) ⊎ (is_live (get_or nodes ended some_node).status ≡ false)
   → (a k : ℕ) (d : Node) → a ≡ 0 + k → k < length nodes
-  → get_or (set nodes ended (with_end s (get_or nodes ended f))) k d ≡ finished s ended (get_or nodes ended d) a (get_or nodes k d)
+  → get_or (set nodes ended (with_end s (get_or nodes ended f))) k d ≡ finished s ended (get_or nodes ended some_node) a (get_or nodes k d)
 finished_alone nodes ended s f in_ended last a k d at in_k =
   let same : a ≡ k = omega arith in
   changed_at (with_end s) nodes ended k d f in_ended in_k
   ∙ end_cases (eqb k ended) false s (get_or nodes k d)
-  ∙ (elim (last d) [
+  ∙ (elim last [
       inl top ↦ rw (same, top)
-    | inr over ↦ rw (same, over, and_right (comes_from k (get_or nodes ended d).origin) false refl) ])
+    | inr over ↦ rw (same, over, and_right (comes_from k (get_or nodes ended some_node).origin) false refl) ])

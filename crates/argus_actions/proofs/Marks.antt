@@ -7,7 +7,7 @@ use Rattle.argus_actions.specs.declared.status.Status.{Status}
 use Rattle.argus_actions.specs.Row.{Row, at_parent, comes_from, is_live, with_status}
 use Rattle.argus_actions.specs.Rows.{numbered, is_above, depth_at, mark}
 use Rattle.argus_actions.specs.Nodes.{ComesBetween, AreLinked, newest_below, live_count}
-use Rattle.argus_actions.proofs.RowsLemmas.{some_row, numbered_newest, numbered_older, begun_before}
+use Rattle.argus_actions.proofs.RowsLemmas.{some_row, none_some, numbered_newest, numbered_older, begun_before}
 
 pub length-mark : (n : ℕ) (which : ℕ → Bool) (s : Status) (rows : List Row) → length (mark n which s rows) ≡ length rows
 length-mark n which s [] = refl
@@ -22,9 +22,6 @@ origin_marked false s row = refl
 pub numbered-mark : (n : ℕ) (which : ℕ → Bool) (s : Status) (rows : List Row) (a : ℕ) (row : Row)
   → numbered n rows a ≡ Some row → numbered n (mark n which s rows) a ≡ Some (cond (which a) (with_status s row) row)
 numbered-mark n which s [] a row at = elim (none_some row at) [ ]
-  where
-    none_some : (r : Row) → None ≡ Some r → ⊥
-    none_some r e = cc
 numbered-mark n which s (r ∷ older) a row at =
   elim (cases_eq a (n + length older)) [ inl e ↦
       let same : r ≡ row = some_row r row (sym (numbered_newest n r older a e) ∙ at) in
@@ -104,9 +101,6 @@ and_false false = refl
 pub live_count-mark : (n : ℕ) (s : Status) (rows : List Row) (a ended : ℕ) (row : Row) → is_live s ≡ false → numbered n rows ended ≡ Some row
   → live_count (mark n (λ k. eqb k ended) s rows) a + one (comes_from a row.origin && is_live row.status) ≡ live_count rows a
 live_count-mark n s [] a ended row over at = elim (none_some row at) [ ]
-  where
-    none_some : (r : Row) → None ≡ Some r → ⊥
-    none_some r e = cc
 live_count-mark n s (r ∷ older) a ended row over at =
   elim (cases_eq ended (n + length older)) [ inl e ↦
       let same : r ≡ row = some_row r row (sym (numbered_newest n r older ended e) ∙ at) in

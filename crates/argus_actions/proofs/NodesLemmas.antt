@@ -1,5 +1,5 @@
 -- Nodes, oldest first, and the rows that they show.
-use Rattle.std.proofs.Common.{◌≡◌, ◌≢◌, ◌⊎◌, ℕ, suc, ◌+◌, ◌-◌, ◌<◌, ◌≤◌, Bool, true, false, cond, eqb, ltb, ◌||◌, ◌&&◌, List, [], ◌∷◌, ◌++◌, length, reverse, map, get_or, set, Option, Some, None, subst, refl, sym, ◌∙◌, ap, arith, inl, inr}
+use Rattle.std.proofs.Common.{◌≡◌, ◌≢◌, ◌⊎◌, ℕ, suc, ◌+◌, ◌-◌, ◌<◌, ◌≤◌, Bool, true, false, cond, eqb, ltb, ◌||◌, ◌&&◌, List, [], ◌∷◌, ◌++◌, length, reverse, map, get_or, set, Option, Some, None, IfSome, subst, refl, sym, ◌∙◌, ap, arith, inl, inr}
 use Rattle.std.proofs.lemmas.Bool.{eq-eqb, ne_eqb, cond-true, cond-false, cases_eq, cases_Bool}
 use Rattle.std.proofs.lemmas.List.{length-reverse, length-map, length-set, get_or-reverse, get_or-map, get_or-set_same, get_or-set_other, get_or_default, reverse-append}
 use Rattle.argus_actions.specs.declared.node.Node.{Node}
@@ -7,10 +7,10 @@ use Rattle.argus_actions.specs.declared.origin.Origin.{Origin}
 use Rattle.argus_actions.specs.declared.origin.Origin.TheVariants.{Top}
 use Rattle.argus_actions.specs.declared.status.Status.TheVariants.{Live}
 use Rattle.argus_actions.specs.declared.status.Status.{Status}
-use Rattle.argus_actions.specs.Row.{Row, with_status}
+use Rattle.argus_actions.specs.Row.{Row, under_of, comes_from, is_live, with_status}
 use Rattle.argus_actions.specs.Rows.{numbered, mark}
-use Rattle.argus_actions.specs.Nodes.{shown, rows_of, AreLinked, AreNodes, IsNode}
-use Rattle.argus_actions.proofs.RowsLemmas.{numbered_newest, numbered_older, numbered_past, same_numbered}
+use Rattle.argus_actions.specs.Nodes.{shown, rows_of, AreLinked, AreNodes, IsNode, live_count}
+use Rattle.argus_actions.proofs.RowsLemmas.{some_row, none_some, linked_at, numbered_newest, numbered_older, numbered_past, same_numbered}
 use Rattle.argus_actions.proofs.Marks.{length-mark, numbered-mark}
 
 pub length-rows_of : (nodes : List Node) → length (rows_of nodes) ≡ length nodes
@@ -45,7 +45,7 @@ pub rows_of-push : (nodes : List Node) (node : Node) → rows_of (nodes ++ node 
 rows_of-push nodes node = ap (map shown) (reverse-append nodes (node ∷ []))
 
 -- a node to read past the end with
-unfoldable pub some_node : Node
+abbrev pub some_node : Node
 some_node = record { origin = Top; newest_sub = 0; older_sub = 0; live_children = 0; status = Live; depth = 0 }
 
 -- the rows after one action's status has changed
@@ -77,3 +77,33 @@ rows_of-same n nodes new long each =
       row_at n new a (a - n) some_node e k_new
       ∙ ap Some (each (a - n) some_node k_old)
       ∙ sym (row_at n nodes a (a - n) some_node e k_old))
+
+-- the action under which a live one was begun has a live child
+pub under_is_there : (nodes : List Node) (a under : ℕ) (d : Node) → AreNodes 0 nodes → a < length nodes → under_of (get_or nodes a d).origin ≡ Some under
+  → under < length nodes
+under_is_there nodes a under d kept in_a is =
+  let row : numbered 0 (rows_of nodes) a ≡ Some (shown (get_or nodes a d)) = row_at 0 nodes a a d (omega arith) in_a in
+  let between = linked_at 0 (rows_of nodes) a (shown (get_or nodes a d)) kept.linked row in
+  let P : Option ℕ → Type 0 = λ o. IfSome o (λ u. (0 ≤ u) × (u < a)) in
+  let found : (0 ≤ under) × (under < a) = subst P is between in
+  omega (arith, found.1)
+
+-- a live child counts
+live_counts : (n : ℕ) (rows : List Row) (a under : ℕ) (row : Row) → numbered n rows a ≡ Some row → comes_from under row.origin ≡ true → is_live row.status ≡ true → 0 < live_count rows under
+live_counts n [] a under row at came live = elim (none_some row at) [ ]
+live_counts n (r ∷ older) a under row at came live =
+  elim (cases_eq a (n + length older)) [ inl e ↦
+      let same : r ≡ row = some_row r row (sym (numbered_newest n r older a e) ∙ at) in
+      rw (same, came, live) (omega arith)
+    | inr ne ↦
+      let rest : 0 < live_count older under = live_counts n older a under row (sym (numbered_older n r older a ne) ∙ at) came live in
+      omega arith ]
+
+pub under_has_live : (nodes : List Node) (a under : ℕ) (d e : Node) → AreNodes 0 nodes → a < length nodes → under_of (get_or nodes a d).origin ≡ Some under → is_live (get_or nodes a d).status ≡ true
+  → 1 ≤ (get_or nodes under e).live_children
+under_has_live nodes a under d e kept in_a is live =
+  let in_under : under < length nodes = under_is_there nodes a under d kept in_a is in
+  let came : comes_from under (get_or nodes a d).origin ≡ true = rw is (eq-eqb under under refl) in
+  let counted : 0 < live_count (rows_of nodes) under = live_counts 0 (rows_of nodes) a under (shown (get_or nodes a d)) (row_at 0 nodes a a d (omega arith) in_a) came live in
+  let count : (get_or nodes under e).live_children ≡ live_count (rows_of nodes) under = (kept.each under under e (omega arith) in_under).children in
+  omega arith

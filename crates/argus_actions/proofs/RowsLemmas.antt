@@ -21,7 +21,7 @@ pub numbered_past : (n : ℕ) (rows : List Row) (a : ℕ) → n + length rows �
 numbered_past n [] a past = refl
 numbered_past n (row ∷ older) a past = numbered_older n row older a (λ e. omega arith) ∙ numbered_past n older a (omega arith)
 
-none_some : (r : Row) → None ≡ Some r → ⊥
+pub none_some : (r : Row) → None ≡ Some r → ⊥
 none_some r e = cc
 
 -- a row that is there has a number before the next

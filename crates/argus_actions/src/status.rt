@@ -1,5 +1,8 @@
 //! `Status`: what has become of an action.
 
+ghost use Rattle.std.specs.Prelude.{◌≡◌};
+ghost use Rattle.argus_actions.specs.Row.{is_live};
+
 /// What has become of an action that was begun.
 ///
 /// | Status | Since |
@@ -18,4 +21,16 @@ pub enum Status {
     Live,
     Committed,
     Aborted,
+}
+
+impl Status {
+    /// Whether the action has neither committed nor aborted.
+    pub fn is_live(self) -> bool
+        ensures { result ≡ is_live self }
+    {
+        match self {
+            Status::Live => true,
+            Status::Committed | Status::Aborted => false,
+        }
+    }
 }

@@ -34,7 +34,7 @@ pub(crate) fn finish(nodes: &mut [Node], a: u32, status: Status)
     ensures rows { rows_of nodes.new ≡ mark 0 (λ k. k == a) status (rows_of nodes.old) }
 {
     let node = nodes[a as usize];
-    if node.status == Status::Live {
+    if node.status.is_live() {
         if let Some(under) = node.origin.under() {
             nodes[under as usize].live_children -= 1;
         }
