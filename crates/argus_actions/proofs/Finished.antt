@@ -26,7 +26,7 @@ shown_finished : (b : Bool) (s : Status) (node : Node)
 shown_finished true s node = refl
 shown_finished false s node = refl
 
-at_parent_same : {X : Type 0} (none : X) (o : Origin) (f g : ℕ → X) → ((p : ℕ) → f p ≡ g p) → at_parent none o f ≡ at_parent none o g
+pub at_parent_same : {X : Type 0} (none : X) (o : Origin) (f g : ℕ → X) → ((p : ℕ) → f p ≡ g p) → at_parent none o f ≡ at_parent none o g
 at_parent_same none Top f g same = refl
 at_parent_same none (Sub p) f g same = same p
 at_parent_same none (Nested c) f g same = refl

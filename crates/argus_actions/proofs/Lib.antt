@@ -3,3 +3,4 @@ pub mod Marks
 pub mod NodesLemmas
 pub mod Climbs
 pub mod Finished
+pub mod Begun

@@ -5,6 +5,7 @@ use Rattle.argus_actions.specs.declared.node.TheConstants.{NONE}
 use Rattle.argus_actions.specs.declared.node.Node.{Node}
 use Rattle.argus_actions.specs.declared.origin.Origin.{Origin}
 use Rattle.argus_actions.specs.declared.origin.Origin.TheVariants.{Top, Sub, Nested}
+use Rattle.argus_actions.specs.declared.status.Status.TheVariants.{Live}
 use Rattle.argus_actions.specs.Row.{Row, at_parent, under_of, comes_from, is_live}
 use Rattle.argus_actions.specs.Rows.{depth_at}
 use Rattle.argus_actions.specs.Tree.{Tree, row_of}
@@ -58,5 +59,15 @@ pub record AreNodes (folded : ℕ) (nodes : List Node) : Type 0 where
 
 -- what is found of the action of a number
 abbrev pub IsNodeOf : Tree → ℕ → Option Node → Type 0
-IsNodeOf tree a None = row_of tree a ≡ None
+IsNodeOf tree a None = (row_of tree a ≡ None) × (live_count tree.rows a ≡ 0)
 IsNodeOf tree a (Some node) = (row_of tree a ≡ Some (shown node)) × IsNode tree.folded tree.rows a node
+
+-- the node of this number, once an action was begun
+abbrev pub adopted : Origin → ℕ → ℕ → Node → Node
+adopted origin number a node = record node {
+  newest_sub = if at_parent false origin (λ p. p == a) then number else node.newest_sub;
+  live_children = node.live_children + (if comes_from a origin then 1 else 0) }
+
+-- the node of an action that was just begun
+abbrev pub fresh : Origin → ℕ → ℕ → Node
+fresh origin older depth = record { origin = origin; newest_sub = NONE; older_sub = older; live_children = 0; status = Live; depth = depth }

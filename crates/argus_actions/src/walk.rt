@@ -1,13 +1,18 @@
-//! Walks over the nodes of a tree, oldest first: up to an ancestor, and down over what an abort ends.
+//! What is done to the nodes of a tree, oldest first: the climb to an ancestor, one action's begin and end, and an abort.
 
-ghost use Rattle.std.specs.Prelude.{◌≡◌, ℕ, ◌<◌, ◌≢◌, ◌==◌, false, length};
-ghost use Rattle.argus_actions.specs.Row.{is_live};
-ghost use Rattle.argus_actions.specs.Rows.{is_above, mark};
-ghost use Rattle.argus_actions.specs.Nodes.{rows_of, AreLinked, AreNodes};
+ghost use Rattle.std.specs.Prelude.{◌≡◌, ℕ, ◌+◌, ◌<◌, ◌≤◌, ◌==◌, false, ◌∷◌, length, slice_index_or, vec_len};
+ghost use Rattle.std.specs.Vec.{vec_capacity};
+ghost use Rattle.argus_actions.specs.declared.node.Node.{Node};
+ghost use Rattle.argus_actions.specs.declared.status.Status.TheVariants.{Live};
+ghost use Rattle.argus_actions.specs.Row.{at_parent, is_live};
+ghost use Rattle.argus_actions.specs.Rows.{is_above, depth_at, mark};
+ghost use Rattle.argus_actions.specs.Nodes.{rows_of, AreLinked, AreNodes, ComesBetween, newest_below, link_to, adopted, fresh};
 
+use crate::limits::{MAX_ACTIONS, MAX_DEPTH};
 use crate::node::{NONE, Node};
 use crate::origin::Origin;
 use crate::status::Status;
+use argus_memory::Heap;
 
 /// Whether `x` is `y`, or above it. A parent is older than its subactions, so it ends below `x`.
 pub(crate) fn climbs(nodes: &[Node], x: u32, y: u32) -> bool
@@ -23,6 +28,67 @@ pub(crate) fn climbs(nodes: &[Node], x: u32, y: u32) -> bool
         }
     }
     x == at
+}
+
+/// The node of an action of this origin that is begun next.
+pub(crate) fn begun_node(nodes: &[Node], origin: Origin) -> Node
+    requires nodes { AreNodes 0 nodes.now }
+    requires between { ComesBetween 0 (length nodes.now) origin }
+    requires shallow { at_parent 0 origin (depth_at 0 (rows_of nodes.now)) < MAX_DEPTH }
+    ensures { result ≡ fresh origin (at_parent NONE origin (λ p. link_to (newest_below 0 (rows_of nodes.now) p (length nodes.now)))) (at_parent 0 origin (depth_at 0 (rows_of nodes.now)) + 1) }
+{
+    let (older_sub, depth) = match origin {
+        Origin::Sub(parent) => {
+            let above = nodes[parent as usize];
+            (above.newest_sub, above.depth + 1)
+        }
+        Origin::Top | Origin::Nested(_) => (NONE, 1),
+    };
+    Node {
+        origin,
+        newest_sub: NONE,
+        older_sub,
+        live_children: 0,
+        status: Status::Live,
+        depth,
+    }
+}
+
+/// Notes the action that is begun next with the one that it is begun under.
+pub(crate) fn adopt(nodes: &mut [Node], origin: Origin, number: u32)
+    requires nodes { AreNodes 0 nodes.old }
+    requires between { ComesBetween 0 (length nodes.old) origin }
+    ensures { (k : ℕ) (d : Node) → k < length nodes.old → slice_index_or nodes.new k d ≡ adopted origin number k (slice_index_or nodes.old k d) }
+{
+    match origin {
+        Origin::Top => {}
+        Origin::Sub(parent) => {
+            let above = &mut nodes[parent as usize];
+            above.newest_sub = number;
+            above.live_children += 1;
+        }
+        Origin::Nested(creator) => nodes[creator as usize].live_children += 1,
+    }
+}
+
+/// Begins an action of this origin in the room that is there, and gives its number.
+pub(crate) fn push_begun(nodes: &mut Vec<Node, Heap>, origin: Origin) -> u32
+    requires nodes { AreNodes 0 nodes.old.items }
+    requires few { vec_len nodes.old < MAX_ACTIONS }
+    requires room { vec_len nodes.old < vec_capacity nodes.old }
+    requires between { ComesBetween 0 (vec_len nodes.old) origin }
+    requires shallow { at_parent 0 origin (depth_at 0 (rows_of nodes.old.items)) < MAX_DEPTH }
+    ensures number { result ≡ vec_len nodes.old }
+    ensures nodes { AreNodes 0 nodes.new.items }
+    ensures rows { rows_of nodes.new.items ≡ record { origin = origin; status = Live } ∷ rows_of nodes.old.items }
+    ensures len { vec_len nodes.new ≡ vec_len nodes.old + 1 }
+    ensures capacity { vec_capacity nodes.new ≡ vec_capacity nodes.old }
+{
+    let number = nodes.len() as u32;
+    let node = begun_node(nodes.as_slice(), origin);
+    adopt(nodes.as_mut_slice(), origin, number);
+    nodes.push_reserved(node);
+    number
 }
 
 /// Ends one action: gives it the status, and one live child less to the action that it came from.
