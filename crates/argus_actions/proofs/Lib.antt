@@ -4,3 +4,5 @@ pub mod NodesLemmas
 pub mod Climbs
 pub mod Finished
 pub mod Begun
+pub mod Walks
+pub mod Accepted

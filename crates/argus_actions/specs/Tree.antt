@@ -1,5 +1,5 @@
 -- What contracts see of an `ActionTree`, and the words that they cite of it.
-use Rattle.std.specs.Prelude.{◌≡◌, ℕ, ◌+◌, Bool, ◌==◌, is_some, List, ◌∷◌, length, Option, Some, None}
+use Rattle.std.specs.Prelude.{◌≡◌, ℕ, ◌+◌, ◌-◌, Bool, ◌==◌, is_some, List, ◌∷◌, length, Option, Some, None}
 use Rattle.std.specs.Option.{option_map, option_and_then}
 use Rattle.argus_actions.specs.declared.action_id.ActionId.{ActionId}
 use Rattle.argus_actions.specs.declared.origin.Origin.{Origin}
@@ -60,9 +60,9 @@ pub record SameActions (old new : Tree) : Type 0 where
   pub folded : new.folded ≡ old.folded
   pub rows : new.rows ≡ old.rows
 
--- one live action more
-abbrev pub after_begin : Tree → Origin → List Row
-after_begin tree origin = record { origin = origin; status = Live } ∷ tree.rows
+-- one live action more, in the room that was there
+abbrev pub after_begin : Tree → Origin → Tree
+after_begin tree origin = record tree { rows = record { origin = origin; status = Live } ∷ tree.rows; room = tree.room - 1 }
 
 -- this row is Committed
 abbrev pub after_commit : Tree → ℕ → Tree

@@ -16,7 +16,7 @@ use crate::limits::{MAX_ACTIONS, MAX_DEPTH};
 use crate::node::{NONE, Node};
 use crate::origin::Origin;
 use crate::status::Status;
-use crate::walk::{climbs, finish, push_begun};
+use crate::walk::{abort_under, climbs, finish, push_begun};
 use argus_memory::{Heap, OutOfMemory};
 use std::marker::Model;
 
@@ -168,6 +168,157 @@ impl ActionTree {
         }
     }
 
+    /// Makes room for one more action, so that the next begin can't want memory.
+    ///
+    /// `OutOfMemory` comes where a growth is refused; the tree is then as before.
+    pub fn reserve(&mut self) -> Result<(), OutOfMemory>
+        ensures same { SameActions self.old self.new }
+        ensures ok { OnOk result (0 < self.new.room) }
+        ensures err { OnErr result (self.new ≡ self.old) }
+    {
+        match self.nodes.reserve(1) {
+            Ok(()) => Ok(()),
+            Err(refused) => Err(OutOfMemory::from(refused)),
+        }
+    }
+
+    /// Begins a topaction, and gives its number.
+    ///
+    /// Refusals: `TooMany`, then `OutOfMemory`.
+    pub fn begin_top(&mut self) -> Result<ActionId, ActionError>
+        ensures refused { IsRefusedBy (begin_top_refusal self.old) result }
+        ensures number { IfOk result (λ a. a.0 ≡ next self.old) }
+        ensures ok { OnOk result (SameActions (after_begin self.old Top) self.new) }
+        ensures err { OnErr result (self.new ≡ self.old) }
+    {
+        if let Some(refusal) = self.begin_top_refusal() {
+            return Err(refusal);
+        }
+        match self.reserve() {
+            Ok(()) => Ok(self.begin_top_reserved()),
+            Err(OutOfMemory) => Err(ActionError::OutOfMemory),
+        }
+    }
+
+    /// Begins a subaction of a live parent, and gives its number.
+    ///
+    /// Refusals: `NoAction`, `Over`, `TooDeep` where the parent has 64 ancestors, `TooMany`, then
+    /// `OutOfMemory`.
+    pub fn begin_sub(&mut self, parent: ActionId) -> Result<ActionId, ActionError>
+        ensures refused { IsRefusedBy (begin_sub_refusal self.old parent.0) result }
+        ensures number { IfOk result (λ a. a.0 ≡ next self.old) }
+        ensures ok { OnOk result (SameActions (after_begin self.old (Sub parent.0)) self.new) }
+        ensures err { OnErr result (self.new ≡ self.old) }
+    {
+        if let Some(refusal) = self.begin_sub_refusal(parent) {
+            return Err(refusal);
+        }
+        match self.reserve() {
+            Ok(()) => Ok(self.begin_sub_reserved(parent)),
+            Err(OutOfMemory) => Err(ActionError::OutOfMemory),
+        }
+    }
+
+    /// Begins a nested topaction of a live creator, and gives its number. It has no ancestor but
+    /// itself.
+    ///
+    /// Refusals: `NoAction`, `Over`, `TooMany`, then `OutOfMemory`.
+    pub fn begin_nested(&mut self, creator: ActionId) -> Result<ActionId, ActionError>
+        ensures refused { IsRefusedBy (begin_nested_refusal self.old creator.0) result }
+        ensures number { IfOk result (λ a. a.0 ≡ next self.old) }
+        ensures ok { OnOk result (SameActions (after_begin self.old (Nested creator.0)) self.new) }
+        ensures err { OnErr result (self.new ≡ self.old) }
+    {
+        if let Some(refusal) = self.begin_nested_refusal(creator) {
+            return Err(refusal);
+        }
+        match self.reserve() {
+            Ok(()) => Ok(self.begin_nested_reserved(creator)),
+            Err(OutOfMemory) => Err(ActionError::OutOfMemory),
+        }
+    }
+
+    /// Begins a topaction that nothing refuses, in the room that `reserve` has made.
+    pub fn begin_top_reserved(&mut self) -> ActionId
+        requires room { 0 < self.old.room }
+        requires accepted { begin_top_refusal self.old ≡ None }
+        ensures number { result.0 ≡ next self.old }
+        ensures tree { self.new ≡ after_begin self.old Top }
+    {
+        self.begin(Origin::Top)
+    }
+
+    /// Begins a subaction that nothing refuses, in the room that `reserve` has made.
+    pub fn begin_sub_reserved(&mut self, parent: ActionId) -> ActionId
+        requires room { 0 < self.old.room }
+        requires accepted { begin_sub_refusal self.old parent.0 ≡ None }
+        ensures number { result.0 ≡ next self.old }
+        ensures tree { self.new ≡ after_begin self.old (Sub parent.0) }
+    {
+        self.begin(Origin::Sub(parent.0))
+    }
+
+    /// Begins a nested topaction that nothing refuses, in the room that `reserve` has made.
+    pub fn begin_nested_reserved(&mut self, creator: ActionId) -> ActionId
+        requires room { 0 < self.old.room }
+        requires accepted { begin_nested_refusal self.old creator.0 ≡ None }
+        ensures number { result.0 ≡ next self.old }
+        ensures tree { self.new ≡ after_begin self.old (Nested creator.0) }
+    {
+        self.begin(Origin::Nested(creator.0))
+    }
+
+    /// Commits an action. A subaction's commit is relative to its parent.
+    ///
+    /// Refusals: `NoAction`, `Over`, then `ChildrenLive`.
+    pub fn commit(&mut self, a: ActionId) -> Result<(), ActionError>
+        ensures refused { result_err result ≡ commit_refusal self.old a.0 }
+        ensures ok { OnOk result (self.new ≡ after_commit self.old a.0) }
+        ensures err { OnErr result (self.new ≡ self.old) }
+    {
+        match self.commit_refusal(a) {
+            Some(refusal) => Err(refusal),
+            None => {
+                self.commit_ready(a);
+                Ok(())
+            }
+        }
+    }
+
+    /// Commits an action that is live and has no live child, with no further test.
+    pub fn commit_ready(&mut self, a: ActionId)
+        requires { commit_refusal self.old a.0 ≡ None }
+        ensures { self.new ≡ after_commit self.old a.0 }
+    {
+        finish(self.nodes.as_mut_slice(), a.0, Status::Committed);
+    }
+
+    /// Aborts an action with all its subactions, theirs, and so on, whether they have committed or
+    /// not. Nested topactions that were begun under any of them go on.
+    ///
+    /// Refusals: `NoAction`, then `Over`.
+    pub fn abort(&mut self, a: ActionId) -> Result<(), ActionError>
+        ensures refused { result_err result ≡ abort_refusal self.old a.0 }
+        ensures ok { OnOk result (self.new ≡ after_abort self.old a.0) }
+        ensures err { OnErr result (self.new ≡ self.old) }
+    {
+        match self.abort_refusal(a) {
+            Some(refusal) => Err(refusal),
+            None => {
+                self.abort_live(a);
+                Ok(())
+            }
+        }
+    }
+
+    /// Aborts an action that is live, as `abort` does, with no further test.
+    pub fn abort_live(&mut self, a: ActionId)
+        requires { abort_refusal self.old a.0 ≡ None }
+        ensures { self.new ≡ after_abort self.old a.0 }
+    {
+        abort_under(self.nodes.as_mut_slice(), a.0);
+    }
+
     // The node of an action; None where it was not begun.
     fn node(&self, a: ActionId) -> Option<Node>
         ensures { IsNodeOf self.now a.0 result }
@@ -187,7 +338,7 @@ impl ActionTree {
         requires between { ComesBetween self.old.folded (next self.old) origin }
         requires shallow { at_parent 0 origin (depth_at self.old.folded self.old.rows) < MAX_DEPTH }
         ensures number { result.0 ≡ next self.old }
-        ensures tree { self.new ≡ record { folded = self.old.folded; rows = after_begin self.old origin; room = self.old.room - 1 } }
+        ensures tree { self.new ≡ after_begin self.old origin }
     {
         ActionId(push_begun(&mut self.nodes, origin))
     }

@@ -3,7 +3,7 @@
 ghost use Rattle.std.specs.Prelude.{◌≡◌, ℕ, ◌+◌, ◌<◌, ◌≤◌, ◌==◌, false, ◌∷◌, length, slice_index_or, vec_len};
 ghost use Rattle.std.specs.Vec.{vec_capacity};
 ghost use Rattle.argus_actions.specs.declared.node.Node.{Node};
-ghost use Rattle.argus_actions.specs.declared.status.Status.TheVariants.{Live};
+ghost use Rattle.argus_actions.specs.declared.status.Status.TheVariants.{Live, Aborted};
 ghost use Rattle.argus_actions.specs.Row.{at_parent, is_live};
 ghost use Rattle.argus_actions.specs.Rows.{is_above, depth_at, mark};
 ghost use Rattle.argus_actions.specs.Nodes.{rows_of, AreLinked, AreNodes, ComesBetween, newest_below, link_to, adopted, fresh};
@@ -106,4 +106,19 @@ pub(crate) fn finish(nodes: &mut [Node], a: u32, status: Status)
         }
     }
     nodes[a as usize].status = status;
+}
+
+/// Aborts an action with all its subactions, theirs, and so on, and visits no other.
+pub(crate) fn abort_under(nodes: &mut [Node], a: u32)
+    requires nodes { AreNodes 0 nodes.old }
+    requires begun { a < length nodes.old }
+    ensures nodes { AreNodes 0 nodes.new }
+    ensures rows { rows_of nodes.new ≡ mark 0 (is_above 0 (rows_of nodes.old) a) Aborted (rows_of nodes.old) }
+{
+    finish(nodes, a, Status::Aborted);
+    let mut sub = nodes[a as usize].newest_sub;
+    while sub != NONE {
+        abort_under(nodes, sub);
+        sub = nodes[sub as usize].older_sub;
+    }
 }
