@@ -1,6 +1,6 @@
 -- The nodes after an action was begun.
-use Rattle.std.proofs.Common.{◌≡◌, ◌≢◌, ℕ, suc, ◌+◌, ◌-◌, ◌<◌, ◌≤◌, Bool, true, false, cond, eqb, ltb, ◌&&◌, List, [], ◌∷◌, ◌++◌, length, get_or, set, Option, Some, None, IfSome, subst, refl, sym, ◌∙◌, ap, arith, inl, inr}
-use Rattle.std.proofs.lemmas.Bool.{eq-eqb, ne_eqb, lt-ltb, le-ltb, cases_eq, cases_lt, cases_Bool}
+use Rattle.std.proofs.Common.{◌≡◌, ℕ, suc, ◌+◌, ◌<◌, ◌≤◌, Bool, true, false, cond, eqb, ltb, ◌&&◌, List, [], ◌∷◌, ◌++◌, length, get_or, Option, Some, None, IfSome, subst, refl, sym, ◌∙◌, ap, arith, inl, inr}
+use Rattle.std.proofs.lemmas.Bool.{eq-eqb, ne_eqb, lt-ltb, le-ltb, cases_eq, cases_Bool}
 use Rattle.std.proofs.lemmas.List.{length-append, get_or_append_left, get_or_push}
 use Rattle.argus_actions.specs.declared.limits.TheConstants.{MAX_ACTIONS, MAX_DEPTH}
 use Rattle.argus_actions.specs.declared.node.TheConstants.{NONE}
@@ -12,9 +12,8 @@ use Rattle.argus_actions.specs.Row.{Row, at_parent, under_of, comes_from, is_liv
 use Rattle.argus_actions.specs.Rows.{depth_at, is_live_under}
 use Rattle.argus_actions.specs.Nodes.{shown, rows_of, ComesBetween, AreLinked, AreNodes, IsNode, newest_below, link_to, live_count, adopted, fresh}
 use Rattle.argus_actions.proofs.RowsLemmas.{depth_at_older}
-use Rattle.argus_actions.proofs.Marks.{one}
 use Rattle.argus_actions.proofs.Finished.{at_parent_same}
-use Rattle.argus_actions.proofs.NodesLemmas.{length-rows_of, row_at, rows_of-push, rows_of-same}
+use Rattle.argus_actions.proofs.NodesLemmas.{length-rows_of, rows_of-push, rows_of-same}
 
 -- a bound past all actions is no bound
 pub newest_below_all : (n : ℕ) (rows : List Row) (p b c : ℕ) → n + length rows ≤ b → n + length rows ≤ c → newest_below n rows p b ≡ newest_below n rows p c

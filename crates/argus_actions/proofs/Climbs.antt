@@ -1,11 +1,11 @@
 -- The walk up to an ancestor.
-use Rattle.std.proofs.Common.{◌≡◌, ℕ, ◌+◌, ◌<◌, ◌≤◌, Bool, true, false, eqb, ◌||◌, List, length, get_or, subst, refl, sym, ◌∙◌, ap, arith}
+use Rattle.std.proofs.Common.{◌≡◌, ℕ, ◌+◌, ◌<◌, ◌≤◌, Bool, true, false, eqb, ◌||◌, List, length, get_or, subst, refl, ◌∙◌, ap, arith}
 use Rattle.std.proofs.lemmas.Bool.{eq-eqb, ne_eqb}
 use Rattle.argus_actions.specs.declared.node.Node.{Node}
 use Rattle.argus_actions.specs.declared.origin.Origin.{Origin}
 use Rattle.argus_actions.specs.declared.origin.Origin.TheVariants.{Top, Sub, Nested}
-use Rattle.argus_actions.specs.Row.{Row, at_parent}
-use Rattle.argus_actions.specs.Rows.{numbered, is_above, depth_at}
+use Rattle.argus_actions.specs.Row.{at_parent}
+use Rattle.argus_actions.specs.Rows.{is_above}
 use Rattle.argus_actions.specs.Nodes.{shown, rows_of, ComesBetween, AreLinked}
 use Rattle.argus_actions.proofs.RowsLemmas.{linked_at, is_above_step}
 use Rattle.argus_actions.proofs.NodesLemmas.{row_at}

@@ -1,17 +1,16 @@
 -- The nodes after one action has ended.
-use Rattle.std.proofs.Common.{◌≡◌, ◌≢◌, ℕ, ◌+◌, ◌-◌, ◌<◌, ◌≤◌, Bool, true, false, cond, eqb, ◌&&◌, ◌⊎◌, List, length, get_or, set, Option, Some, None, refl, sym, ◌∙◌, ap, arith, inl, inr}
-use Rattle.std.proofs.lemmas.Bool.{eq-eqb, ne_eqb, cases_eq, cases_Bool, and_right}
+use Rattle.std.proofs.Common.{◌≡◌, ℕ, ◌+◌, ◌-◌, ◌<◌, Bool, true, false, cond, eqb, ◌&&◌, ◌⊎◌, List, length, get_or, set, Some, None, refl, sym, ◌∙◌, ap, arith, inl, inr}
+use Rattle.std.proofs.lemmas.Bool.{eq-eqb, ne_eqb, cases_eq, and_right}
 use Rattle.std.proofs.lemmas.List.{get_or-set_same, get_or-set_other, get_or_default, length-set}
 use Rattle.argus_actions.specs.declared.node.Node.{Node}
 use Rattle.argus_actions.specs.declared.origin.Origin.{Origin}
 use Rattle.argus_actions.specs.declared.origin.Origin.TheVariants.{Top, Sub, Nested}
 use Rattle.argus_actions.specs.declared.status.Status.{Status}
-use Rattle.argus_actions.specs.declared.status.Status.TheVariants.{Live, Committed, Aborted}
 use Rattle.argus_actions.specs.Row.{Row, at_parent, under_of, comes_from, is_live, with_status}
-use Rattle.argus_actions.specs.Rows.{numbered, depth_at, mark}
-use Rattle.argus_actions.specs.Nodes.{shown, rows_of, AreLinked, AreNodes, IsNode, newest_below, link_to, live_count}
+use Rattle.argus_actions.specs.Rows.{numbered, mark}
+use Rattle.argus_actions.specs.Nodes.{shown, rows_of, AreNodes, IsNode, link_to, live_count}
 use Rattle.argus_actions.proofs.Marks.{length-mark, AreLinked-mark, depth_at-mark, newest_below-mark, live_count-mark, one}
-use Rattle.argus_actions.proofs.NodesLemmas.{some_node, length-rows_of, row_at, rows_of-marked}
+use Rattle.argus_actions.proofs.NodesLemmas.{some_node, row_at, rows_of-marked}
 
 -- the node of a number, once the action `ended`, whose node was `last`, has ended with a status
 abbrev pub finished : Status → ℕ → Node → ℕ → Node → Node

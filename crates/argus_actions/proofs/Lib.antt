@@ -5,4 +5,5 @@ pub mod Climbs
 pub mod Finished
 pub mod Begun
 pub mod Walks
+pub mod Walked
 pub mod Accepted

@@ -1,13 +1,13 @@
 -- Rows whose statuses have changed.
-use Rattle.std.proofs.Common.{◌≡◌, ◌≢◌, ◌⊎◌, ℕ, suc, ◌+◌, ◌-◌, ◌<◌, ◌≤◌, Bool, true, false, cond, eqb, ltb, ◌||◌, ◌&&◌, List, [], ◌∷◌, length, Option, Some, None, option_map, subst, refl, sym, ◌∙◌, ap, arith, inl, inr}
-use Rattle.std.proofs.lemmas.Bool.{eq-eqb, ne_eqb, cond-true, cond-false, cases_eq, cases_Bool}
+use Rattle.std.proofs.Common.{◌≡◌, ℕ, suc, ◌+◌, ◌<◌, ◌≤◌, Bool, true, false, cond, eqb, ltb, ◌||◌, ◌&&◌, List, [], ◌∷◌, length, Some, refl, sym, ◌∙◌, ap, arith, inl, inr}
+use Rattle.std.proofs.lemmas.Bool.{eq-eqb, ne_eqb, cases_eq, cases_Bool}
 use Rattle.argus_actions.specs.declared.origin.Origin.{Origin}
 use Rattle.argus_actions.specs.declared.origin.Origin.TheVariants.{Top, Sub, Nested}
 use Rattle.argus_actions.specs.declared.status.Status.{Status}
 use Rattle.argus_actions.specs.Row.{Row, at_parent, comes_from, is_live, with_status}
 use Rattle.argus_actions.specs.Rows.{numbered, is_above, depth_at, mark}
-use Rattle.argus_actions.specs.Nodes.{ComesBetween, AreLinked, newest_below, live_count}
-use Rattle.argus_actions.proofs.RowsLemmas.{some_row, none_some, numbered_newest, numbered_older, begun_before}
+use Rattle.argus_actions.specs.Nodes.{AreLinked, newest_below, live_count}
+use Rattle.argus_actions.proofs.RowsLemmas.{some_row, none_some, numbered_newest, numbered_older}
 
 pub length-mark : (n : ℕ) (which : ℕ → Bool) (s : Status) (rows : List Row) → length (mark n which s rows) ≡ length rows
 length-mark n which s [] = refl

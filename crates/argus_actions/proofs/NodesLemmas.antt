@@ -1,15 +1,14 @@
 -- Nodes, oldest first, and the rows that they show.
-use Rattle.std.proofs.Common.{◌≡◌, ◌≢◌, ◌⊎◌, ℕ, suc, ◌+◌, ◌-◌, ◌<◌, ◌≤◌, Bool, true, false, cond, eqb, ltb, ◌||◌, ◌&&◌, List, [], ◌∷◌, ◌++◌, length, reverse, map, get_or, set, Option, Some, None, IfSome, subst, refl, sym, ◌∙◌, ap, arith, inl, inr}
-use Rattle.std.proofs.lemmas.Bool.{eq-eqb, ne_eqb, cond-true, cond-false, cases_eq, cases_Bool}
-use Rattle.std.proofs.lemmas.List.{length-reverse, length-map, length-set, get_or-reverse, get_or-map, get_or-set_same, get_or-set_other, get_or_default, reverse-append}
+use Rattle.std.proofs.Common.{◌≡◌, ℕ, suc, ◌+◌, ◌-◌, ◌<◌, ◌≤◌, true, cond, eqb, List, [], ◌∷◌, ◌++◌, length, reverse, map, get_or, Option, Some, None, IfSome, subst, refl, sym, ◌∙◌, ap, arith, inl, inr}
+use Rattle.std.proofs.lemmas.Bool.{eq-eqb, cases_eq}
+use Rattle.std.proofs.lemmas.List.{length-reverse, length-map, get_or-reverse, get_or-map, reverse-append}
 use Rattle.argus_actions.specs.declared.node.Node.{Node}
-use Rattle.argus_actions.specs.declared.origin.Origin.{Origin}
 use Rattle.argus_actions.specs.declared.origin.Origin.TheVariants.{Top}
 use Rattle.argus_actions.specs.declared.status.Status.TheVariants.{Live}
 use Rattle.argus_actions.specs.declared.status.Status.{Status}
 use Rattle.argus_actions.specs.Row.{Row, under_of, comes_from, is_live, with_status}
 use Rattle.argus_actions.specs.Rows.{numbered, mark}
-use Rattle.argus_actions.specs.Nodes.{shown, rows_of, AreLinked, AreNodes, IsNode, live_count}
+use Rattle.argus_actions.specs.Nodes.{shown, rows_of, AreNodes, live_count}
 use Rattle.argus_actions.proofs.RowsLemmas.{some_row, none_some, linked_at, numbered_newest, numbered_older, numbered_past, same_numbered}
 use Rattle.argus_actions.proofs.Marks.{length-mark, numbered-mark}
 

@@ -1,10 +1,9 @@
 -- What a tree keeps of its actions, oldest first, and what its nodes say beside their rows.
-use Rattle.std.specs.Prelude.{◌≡◌, ℕ, ◌+◌, ◌<◌, ◌≤◌, Bool, true, false, ◌&&◌, ◌==◌, nat_lt, if◌then◌else◌, List, [], ◌∷◌, length, reverse, map, get_or, Option, Some, None, IfSome}
+use Rattle.std.specs.Prelude.{◌≡◌, ℕ, ◌+◌, ◌<◌, ◌≤◌, false, ◌&&◌, ◌==◌, nat_lt, if◌then◌else◌, List, [], ◌∷◌, length, reverse, map, get_or, Option, Some, None, IfSome}
 use Rattle.argus_actions.specs.declared.limits.TheConstants.{MAX_ACTIONS, MAX_DEPTH}
 use Rattle.argus_actions.specs.declared.node.TheConstants.{NONE}
 use Rattle.argus_actions.specs.declared.node.Node.{Node}
 use Rattle.argus_actions.specs.declared.origin.Origin.{Origin}
-use Rattle.argus_actions.specs.declared.origin.Origin.TheVariants.{Top, Sub, Nested}
 use Rattle.argus_actions.specs.declared.status.Status.TheVariants.{Live}
 use Rattle.argus_actions.specs.Row.{Row, at_parent, under_of, comes_from, is_live}
 use Rattle.argus_actions.specs.Rows.{depth_at}

@@ -1,5 +1,5 @@
 -- The first refusal that applies to each call, if any.
-use Rattle.std.specs.Prelude.{◌≡◌, ℕ, Bool, ◌==◌, nat_le, if◌then◌else◌, Option, Some, None, Result, Ok, Err, IfErr}
+use Rattle.std.specs.Prelude.{◌≡◌, ℕ, Bool, nat_le, if◌then◌else◌, Option, Some, None, Result, Err, IfErr}
 use Rattle.std.specs.Option.{option_or}
 use Rattle.argus_actions.specs.declared.limits.TheConstants.{MAX_ACTIONS, MAX_DEPTH}
 use Rattle.argus_actions.specs.declared.action_error.ActionError.{ActionError}

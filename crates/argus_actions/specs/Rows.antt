@@ -1,5 +1,5 @@
 -- The actions as a list of rows, newest first. The number of a row is how many actions are folded or older.
-use Rattle.std.specs.Prelude.{ℕ, ◌+◌, Bool, true, false, ◌&&◌, ◌||◌, ◌==◌, if◌then◌else◌, List, [], ◌∷◌, length, Option, Some, None}
+use Rattle.std.specs.Prelude.{ℕ, ◌+◌, Bool, false, ◌&&◌, ◌||◌, ◌==◌, if◌then◌else◌, List, [], ◌∷◌, length, Option, Some, None}
 use Rattle.std.specs.List.{list_any}
 use Rattle.argus_actions.specs.declared.status.Status.{Status}
 use Rattle.argus_actions.specs.Row.{Row, at_parent, comes_from, is_live, with_status}

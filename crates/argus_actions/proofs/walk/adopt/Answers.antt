@@ -1,4 +1,4 @@
-use Rattle.std.proofs.Common.{◌≡◌, ◌<◌, ◌≤◌, ◌+◌, Some, length, get_or, subst, refl, ap, arith}
+use Rattle.std.proofs.Common.{length, ap, arith}
 use Rattle.argus_actions.specs.Row.{under_of}
 use Rattle.argus_actions.proofs.NodesLemmas.{some_node}
 use Rattle.argus_actions.proofs.Begun.{child_fits, under_below}

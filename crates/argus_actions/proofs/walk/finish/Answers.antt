@@ -1,7 +1,6 @@
-use Rattle.std.proofs.Common.{◌≡◌, ◌<◌, ◌+◌, ℕ, Option, Some, None, List, length, get_or, set, subst, refl, sym, ◌∙◌, ap, arith, inl, inr}
+use Rattle.std.proofs.Common.{◌≡◌, ◌<◌, ◌+◌, ℕ, Option, Some, None, length, get_or, set, refl, sym, ◌∙◌, arith, inl, inr}
 use Rattle.std.proofs.lemmas.List.{length-set}
 use Rattle.argus_actions.specs.declared.node.Node.{Node}
-use Rattle.argus_actions.specs.Row.{under_of, is_live}
 use Rattle.argus_actions.proofs.NodesLemmas.{some_node, under_is_there, under_has_live}
 use Rattle.argus_actions.proofs.Finished.{finished, finished_under, finished_alone, finished_rows, finished_nodes, with_end}
 use Rattle.argus_actions.proofs.walk.finish.Goals as goal

@@ -1,12 +1,11 @@
-use Rattle.std.proofs.Common.{◌≡◌, ◌<◌, ◌≤◌, ◌+◌, ◌-◌, ℕ, List, [], ◌∷◌, ◌++◌, length, get_or, drop, take, subst, refl, sym, ◌∙◌, ap, arith}
-use Rattle.std.specs.Vec.{vec_capacity}
+use Rattle.std.proofs.Common.{◌≡◌, ◌<◌, ◌≤◌, ◌+◌, ℕ, List, [], ◌∷◌, ◌++◌, length, get_or, subst, refl, sym, ◌∙◌, ap, arith}
 use Rattle.std.proofs.lemmas.List.{with_items_is}
 use Rattle.argus_actions.specs.declared.limits.TheConstants.{MAX_ACTIONS, MAX_DEPTH}
 use Rattle.argus_actions.specs.declared.node.TheConstants.{NONE}
 use Rattle.argus_actions.specs.declared.node.Node.{Node}
-use Rattle.argus_actions.specs.Row.{Row, at_parent}
+use Rattle.argus_actions.specs.Row.{at_parent}
 use Rattle.argus_actions.specs.Rows.{depth_at}
-use Rattle.argus_actions.specs.Nodes.{rows_of, AreNodes, ComesBetween, newest_below, link_to, adopted, fresh}
+use Rattle.argus_actions.specs.Nodes.{rows_of, ComesBetween, newest_below, link_to, adopted, fresh}
 use Rattle.argus_actions.proofs.Begun.{begun_rows, begun_nodes}
 use Rattle.argus_actions.proofs.walk.push_begun.Goals as goal
 

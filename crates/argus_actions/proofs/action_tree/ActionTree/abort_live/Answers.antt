@@ -1,8 +1,6 @@
-use Rattle.std.proofs.Common.{◌≡◌, ◌<◌, List, length, Option, None, ap, arith}
+use Rattle.std.proofs.Common.{List, length, ap, arith}
 use Rattle.argus_actions.specs.declared.node.Node.{Node}
-use Rattle.argus_actions.specs.declared.action_error.ActionError.{ActionError}
 use Rattle.argus_actions.specs.Nodes.{rows_of}
-use Rattle.argus_actions.specs.Refusals.{abort_refusal}
 use Rattle.argus_actions.proofs.NodesLemmas.{length-rows_of}
 use Rattle.argus_actions.proofs.Accepted.{live_is_begun}
 use Rattle.argus_actions.proofs.action_tree.ActionTree.abort_live.Goals as goal

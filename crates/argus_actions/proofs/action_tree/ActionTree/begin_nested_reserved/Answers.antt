@@ -1,4 +1,3 @@
-use Rattle.std.proofs.Common.{◌≡◌}
 use Rattle.argus_actions.proofs.Accepted.{none_first, live_is_begun}
 use Rattle.argus_actions.proofs.action_tree.ActionTree.begin_nested_reserved.Goals as goal
 

@@ -1,4 +1,4 @@
-use Rattle.std.proofs.Common.{◌≡◌, ℕ, ltb, sym, ◌∙◌, ap}
+use Rattle.std.proofs.Common.{ltb, sym, ◌∙◌, ap}
 use Rattle.argus_actions.proofs.Begun.{is_live_under_is}
 use Rattle.argus_actions.proofs.action_tree.ActionTree.has_live_child.Goals as goal
 

@@ -1,4 +1,4 @@
-use Rattle.std.proofs.Common.{◌≡◌, ◌<◌, ◌≤◌, Some, length, subst, sym, ap, ◌∙◌, arith}
+use Rattle.std.proofs.Common.{Some, subst, sym, ap, ◌∙◌, arith}
 use Rattle.argus_actions.specs.declared.node.Node.{Node}
 use Rattle.argus_actions.specs.Nodes.{shown, rows_of, IsNode}
 use Rattle.argus_actions.proofs.NodesLemmas.{length-rows_of, row_at, no_row_at}
