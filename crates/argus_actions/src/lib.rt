@@ -13,6 +13,8 @@ mod limits;
 mod node;
 mod origin;
 mod status;
+#[cfg(test)]
+mod tests;
 mod walk;
 
 pub use action_error::ActionError;
