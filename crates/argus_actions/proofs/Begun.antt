@@ -1,5 +1,6 @@
 -- The nodes after an action was begun.
-use Rattle.std.proofs.Common.{◌≡◌, ℕ, suc, ◌+◌, ◌<◌, ◌≤◌, Bool, true, false, cond, eqb, ltb, ◌&&◌, List, [], ◌∷◌, ◌++◌, length, get_or, Option, Some, None, IfSome, subst, refl, sym, ◌∙◌, ap, arith, inl, inr}
+use Rattle.std.proofs.Common.{◌≡◌, ℕ, suc, ◌+◌, ◌<◌, ◌≤◌, false, cond, eqb, ltb, ◌&&◌, List, [], ◌∷◌, ◌++◌, length, get_or, Option, Some, None, IfSome, subst, refl, sym, ◌∙◌, ap, arith, inl, inr}
+use Rattle.std.proofs.Math.Bool.{and-false, and-true}
 use Rattle.std.proofs.lemmas.Bool.{eq-eqb, ne_eqb, lt-ltb, le-ltb, cases_eq, cases_Bool}
 use Rattle.std.proofs.lemmas.List.{length-append, get_or_append_left, get_or_push}
 use Rattle.argus_actions.specs.declared.limits.TheConstants.{MAX_ACTIONS, MAX_DEPTH}
@@ -9,10 +10,10 @@ use Rattle.argus_actions.specs.declared.origin.Origin.{Origin}
 use Rattle.argus_actions.specs.declared.origin.Origin.TheVariants.{Top, Sub, Nested}
 use Rattle.argus_actions.specs.declared.status.Status.TheVariants.{Live}
 use Rattle.argus_actions.specs.Row.{Row, at_parent, under_of, comes_from, is_live}
-use Rattle.argus_actions.specs.Rows.{depth_at, is_live_under}
-use Rattle.argus_actions.specs.Nodes.{shown, rows_of, ComesBetween, AreLinked, AreNodes, IsNode, newest_below, link_to, live_count, adopted, fresh}
+use Rattle.argus_actions.specs.Rows.{depth_at, is_live_under, newest_below}
+use Rattle.argus_actions.specs.Nodes.{shown, rows_of, ComesBetween, AreLinked, AreNodes, IsNode, link_to, live_count, adopted, fresh}
 use Rattle.argus_actions.proofs.RowsLemmas.{depth_at_older}
-use Rattle.argus_actions.proofs.Finished.{at_parent_same}
+use Rattle.argus_actions.proofs.Marks.{at_parent_same}
 use Rattle.argus_actions.proofs.NodesLemmas.{length-rows_of, rows_of-push, rows_of-same}
 
 -- a bound past all actions is no bound
@@ -36,19 +37,11 @@ not_own_sub n high a Top between past = refl
 not_own_sub n high a (Sub p) between past = ne_eqb p a (λ e. omega (arith, between.1))
 not_own_sub n high a (Nested c) between past = refl
 
-and_false : (b : Bool) → (b && false) ≡ false
-and_false true = refl
-and_false false = refl
-
-and_true : (b : Bool) → (b && true) ≡ b
-and_true true = refl
-and_true false = refl
-
 -- nothing was begun under an action that was not begun
 pub newest_below_none : (n : ℕ) (rows : List Row) (a b : ℕ) → AreLinked n rows → n + length rows ≤ a → newest_below n rows a b ≡ None
 newest_below_none n [] a b linked past = refl
 newest_below_none n (row ∷ older) a b linked past =
-  rw (not_own_sub n (n + length older) a row.origin linked.0 (omega arith), and_false (ltb (n + length older) b)) (newest_below_none n older a b linked.1 (omega arith))
+  rw (not_own_sub n (n + length older) a row.origin linked.0 (omega arith), and-false (ltb (n + length older) b)) (newest_below_none n older a b linked.1 (omega arith))
 
 pub live_count_none : (n : ℕ) (rows : List Row) (a : ℕ) → AreLinked n rows → n + length rows ≤ a → live_count rows a ≡ 0
 live_count_none n [] a linked past = refl
@@ -115,7 +108,7 @@ module _ (n : ℕ) (nodes new : List Node) (origin : Origin) (number older depth
             inl e ↦ rw e last
           | inr e ↦ rw e (was.newest ∙ ap link_to (newest_below_all n (rows_of nodes) a (n + length (rows_of nodes)) (n + suc (length (rows_of nodes))) (omega arith) (omega arith))) ]);
       older = was.older ∙ ap link_to (at_parent_same None (get_or nodes k d).origin _ _ (λ p. sym (newest_below_own n (let r : Row = record { origin = origin; status = Live } in r) (rows_of nodes) p a low)));
-      children = rw (and_true (comes_from a origin)) (let count : (get_or nodes k d).live_children ≡ live_count (rows_of nodes) a = was.children in omega arith);
+      children = rw (and-true (comes_from a origin)) (let count : (get_or nodes k d).live_children ≡ live_count (rows_of nodes) a = was.children in omega arith);
       depth = was.depth ∙ sym (depth_at_older n (let r : Row = record { origin = origin; status = Live } in r) (rows_of nodes) a (λ e. omega arith));
       shallow = was.shallow }
 
@@ -124,7 +117,7 @@ module _ (n : ℕ) (nodes new : List Node) (origin : Origin) (number older depth
     let last : number ≡ n + length (rows_of nodes) = omega (arith, length-rows_of nodes) in
     let past : n + length (rows_of nodes) ≤ number = omega arith in
     record {
-      newest = rw (not_own_sub n number number origin between (omega arith), and_false (ltb (n + length (rows_of nodes)) (n + suc (length (rows_of nodes)))), newest_below_none n (rows_of nodes) number (n + suc (length (rows_of nodes))) kept.linked past);
+      newest = rw (not_own_sub n number number origin between (omega arith), and-false (ltb (n + length (rows_of nodes)) (n + suc (length (rows_of nodes)))), newest_below_none n (rows_of nodes) number (n + suc (length (rows_of nodes))) kept.linked past);
       older = older_is ∙ link_of_parent origin (λ p. newest_below n (rows_of nodes) p number)
         ∙ ap link_to (at_parent_same None origin _ _ (λ p. sym (newest_below_own n (let r : Row = record { origin = origin; status = Live } in r) (rows_of nodes) p number (omega arith))));
       children = rw (not_own n number number origin between (omega arith), live_count_none n (rows_of nodes) number kept.linked past);

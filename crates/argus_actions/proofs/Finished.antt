@@ -3,13 +3,12 @@ use Rattle.std.proofs.Common.{◌≡◌, ℕ, ◌+◌, ◌-◌, ◌<◌, Bool, t
 use Rattle.std.proofs.lemmas.Bool.{eq-eqb, ne_eqb, cases_eq, and_right}
 use Rattle.std.proofs.lemmas.List.{get_or-set_same, get_or-set_other, get_or_default, length-set}
 use Rattle.argus_actions.specs.declared.node.Node.{Node}
-use Rattle.argus_actions.specs.declared.origin.Origin.{Origin}
-use Rattle.argus_actions.specs.declared.origin.Origin.TheVariants.{Top, Sub, Nested}
 use Rattle.argus_actions.specs.declared.status.Status.{Status}
-use Rattle.argus_actions.specs.Row.{Row, at_parent, under_of, comes_from, is_live, with_status}
+use Rattle.argus_actions.specs.Row.{Row, under_of, comes_from, is_live, with_status}
 use Rattle.argus_actions.specs.Rows.{numbered, mark}
 use Rattle.argus_actions.specs.Nodes.{shown, rows_of, AreNodes, IsNode, link_to, live_count}
-use Rattle.argus_actions.proofs.Marks.{length-mark, AreLinked-mark, depth_at-mark, newest_below-mark, live_count-mark, one}
+use Rattle.argus_actions.proofs.RowsLemmas.{eqb_comm}
+use Rattle.argus_actions.proofs.Marks.{at_parent_same, length-mark, AreLinked-mark, depth_at-mark, newest_below-mark, live_count-mark, one}
 use Rattle.argus_actions.proofs.NodesLemmas.{some_node, row_at, rows_of-marked}
 
 -- the node of a number, once the action `ended`, whose node was `last`, has ended with a status
@@ -24,11 +23,6 @@ shown_finished : (b : Bool) (s : Status) (node : Node)
   → (let r : Row = record { origin = node.origin; status = cond b s node.status } in r) ≡ cond b (with_status s (shown node)) (shown node)
 shown_finished true s node = refl
 shown_finished false s node = refl
-
-pub at_parent_same : {X : Type 0} (none : X) (o : Origin) (f g : ℕ → X) → ((p : ℕ) → f p ≡ g p) → at_parent none o f ≡ at_parent none o g
-at_parent_same none Top f g same = refl
-at_parent_same none (Sub p) f g same = same p
-at_parent_same none (Nested c) f g same = refl
 
 module _ (n : ℕ) (nodes new : List Node) (ended i : ℕ) (s : Status) (e : ended ≡ n + i) (begun : i < length nodes) (over : is_live s ≡ false) (long : length new ≡ length nodes)
   (each : (a k : ℕ) (d : Node) → a ≡ n + k → k < length nodes → get_or new k d ≡ finished s ended (get_or nodes i some_node) a (get_or nodes k d)) where
@@ -70,9 +64,6 @@ one_less node = record node { live_children = node.live_children - 1 }
 
 abbrev pub with_end : Status → Node → Node
 with_end s node = record node { status = s }
-
-eqb_comm : (a b : ℕ) → eqb a b ≡ eqb b a
-eqb_comm a b = elim (cases_eq a b) [ inl e ↦ eq-eqb a b e ∙ sym (eq-eqb b a (sym e)) | inr ne ↦ ne_eqb a b ne ∙ sym (ne_eqb b a (λ e. ne (sym e))) ]
 
 end_cases : (ends less : Bool) (s : Status) (node : Node)
   → cond ends (with_end s (cond less (one_less node) node)) (cond less (one_less node) node)

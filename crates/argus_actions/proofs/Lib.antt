@@ -5,5 +5,6 @@ pub mod Climbs
 pub mod Finished
 pub mod Begun
 pub mod Walks
+pub mod Links
 pub mod Walked
 pub mod Accepted

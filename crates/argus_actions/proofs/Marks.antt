@@ -1,12 +1,13 @@
 -- Rows whose statuses have changed.
 use Rattle.std.proofs.Common.{◌≡◌, ℕ, suc, ◌+◌, ◌<◌, ◌≤◌, Bool, true, false, cond, eqb, ltb, ◌||◌, ◌&&◌, List, [], ◌∷◌, length, Some, refl, sym, ◌∙◌, ap, arith, inl, inr}
+use Rattle.std.proofs.Math.Bool.{and-false}
 use Rattle.std.proofs.lemmas.Bool.{eq-eqb, ne_eqb, cases_eq, cases_Bool}
 use Rattle.argus_actions.specs.declared.origin.Origin.{Origin}
 use Rattle.argus_actions.specs.declared.origin.Origin.TheVariants.{Top, Sub, Nested}
 use Rattle.argus_actions.specs.declared.status.Status.{Status}
 use Rattle.argus_actions.specs.Row.{Row, at_parent, comes_from, is_live, with_status}
-use Rattle.argus_actions.specs.Rows.{numbered, is_above, depth_at, mark}
-use Rattle.argus_actions.specs.Nodes.{AreLinked, newest_below, live_count}
+use Rattle.argus_actions.specs.Rows.{numbered, is_above, depth_at, mark, newest_below}
+use Rattle.argus_actions.specs.Nodes.{AreLinked, live_count}
 use Rattle.argus_actions.proofs.RowsLemmas.{some_row, none_some, numbered_newest, numbered_older}
 
 pub length-mark : (n : ℕ) (which : ℕ → Bool) (s : Status) (rows : List Row) → length (mark n which s rows) ≡ length rows
@@ -32,7 +33,8 @@ numbered-mark n which s (r ∷ older) a row at =
       numbered_older n (cond (which (n + length older)) (with_status s r) r) (mark n which s older) a (λ e. ne (e ∙ ap (λ k. n + k) (length-mark n which s older)))
       ∙ numbered-mark n which s older a row (sym (numbered_older n r older a ne) ∙ at) ]
 
-at_parent_same : {X : Type 0} (none : X) (o : Origin) (f g : ℕ → X) → ((p : ℕ) → f p ≡ g p) → at_parent none o f ≡ at_parent none o g
+-- what is so of the parent
+pub at_parent_same : {X : Type 0} (none : X) (o : Origin) (f g : ℕ → X) → ((p : ℕ) → f p ≡ g p) → at_parent none o f ≡ at_parent none o g
 at_parent_same none Top f g same = refl
 at_parent_same none (Sub p) f g same = same p
 at_parent_same none (Nested c) f g same = refl
@@ -93,10 +95,6 @@ mark_none n w s (r ∷ older) none =
 abbrev pub one : Bool → ℕ
 one b = cond b 1 0
 
-and_false : (b : Bool) → (b && false) ≡ false
-and_false true = refl
-and_false false = refl
-
 -- one live action less was begun under the action that the ended one was begun under
 pub live_count-mark : (n : ℕ) (s : Status) (rows : List Row) (a ended : ℕ) (row : Row) → is_live s ≡ false → numbered n rows ended ≡ Some row
   → live_count (mark n (λ k. eqb k ended) s rows) a + one (comes_from a row.origin && is_live row.status) ≡ live_count rows a
@@ -106,7 +104,7 @@ live_count-mark n s (r ∷ older) a ended row over at =
       let same : r ≡ row = some_row r row (sym (numbered_newest n r older ended e) ∙ at) in
       let others : mark n (λ k. eqb k ended) s older ≡ older = mark_none n (λ k. eqb k ended) s older (λ k low below. ne_eqb k ended (λ is. omega arith)) in
       let here : eqb (n + length older) ended ≡ true = eq-eqb (n + length older) ended (sym e) in
-      rw (others, here, over, and_false (comes_from a r.origin), ← same) (omega arith)
+      rw (others, here, over, and-false (comes_from a r.origin), ← same) (omega arith)
     | inr ne ↦
       let here : eqb (n + length older) ended ≡ false = ne_eqb (n + length older) ended (λ e. ne (sym e)) in
       let others : live_count (mark n (λ k. eqb k ended) s older) a + one (comes_from a row.origin && is_live row.status) ≡ live_count older a

@@ -7,6 +7,9 @@ use Rattle.argus_actions.specs.Row.{Row, at_parent}
 use Rattle.argus_actions.specs.Rows.{numbered, is_above, depth_at}
 use Rattle.argus_actions.specs.Nodes.{ComesBetween, AreLinked}
 
+pub eqb_comm : (a b : ℕ) → eqb a b ≡ eqb b a
+eqb_comm a b = elim (cases_eq a b) [ inl e ↦ eq-eqb a b e ∙ sym (eq-eqb b a (sym e)) | inr ne ↦ ne_eqb a b ne ∙ sym (ne_eqb b a (λ e. ne (sym e))) ]
+
 pub some_row : (x y : Row) → Some x ≡ Some y → x ≡ y
 some_row x y e = cc
 

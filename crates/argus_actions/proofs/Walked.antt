@@ -1,12 +1,13 @@
 -- The nodes in the midst of an abort: which rows are Aborted so far, and which subaction comes next.
-use Rattle.std.proofs.Common.{◌≡◌, ◌≢◌, ℕ, ◌+◌, ◌<◌, Bool, true, false, eqb, ◌||◌, List, length, get_or, Some, None, refl, sym, ◌∙◌, ap, arith}
+use Rattle.std.proofs.Common.{◌≡◌, ◌≢◌, ℕ, ◌+◌, ◌<◌, eqb, ◌||◌, List, length, get_or, Some, None, sym, ◌∙◌, ap, arith}
+use Rattle.std.proofs.Math.Bool.{or-false, or_assoc}
 use Rattle.argus_actions.specs.declared.node.TheConstants.{NONE}
 use Rattle.argus_actions.specs.declared.node.Node.{Node}
 use Rattle.argus_actions.specs.declared.origin.Origin.{Origin}
 use Rattle.argus_actions.specs.declared.status.Status.TheVariants.{Aborted}
 use Rattle.argus_actions.specs.Row.{Row, at_parent}
-use Rattle.argus_actions.specs.Rows.{is_above, mark}
-use Rattle.argus_actions.specs.Nodes.{shown, rows_of, AreNodes, newest_below, link_to}
+use Rattle.argus_actions.specs.Rows.{is_above, mark, newest_below}
+use Rattle.argus_actions.specs.Nodes.{shown, rows_of, AreNodes, link_to}
 use Rattle.argus_actions.proofs.Marks.{newest_below-mark, is_above-mark, mark-mark, mark-same}
 use Rattle.argus_actions.proofs.NodesLemmas.{some_node, length-rows_of, row_at}
 use Rattle.argus_actions.proofs.Walks.{is_via, is_handled, IsNewestSub, newest_sub_is, via_past, via_more, via_all, above_via, link_some, link_none, steps_left, fewer_steps}
@@ -16,14 +17,6 @@ pub record IsWalked (old nodes : List Node) (a link : ℕ) : Type 0 where
   pub bound : ℕ
   pub next : link ≡ link_to (newest_below 0 (rows_of old) a bound)
   pub rows : rows_of nodes ≡ mark 0 (is_handled 0 (rows_of old) a bound) Aborted (rows_of old)
-
-or_assoc : (x y z : Bool) → ((x || y) || z) ≡ (x || (y || z))
-or_assoc true y z = refl
-or_assoc false y z = refl
-
-or_false : (b : Bool) → b ≡ (b || false)
-or_false true = refl
-or_false false = refl
 
 module _ (old : List Node) (a : ℕ) (kept : AreNodes 0 old) where
   pub walk_start : (nodes : List Node) → a < length old → AreNodes 0 nodes → length nodes ≡ length old
@@ -37,7 +30,7 @@ module _ (old : List Node) (a : ℕ) (kept : AreNodes 0 old) where
         ∙ ap (λ (rows : List Row). link_to (newest_below 0 rows a (0 + length (rows_of old)))) rows_is
         ∙ ap link_to (newest_below-mark 0 (λ k. eqb k a) Aborted (rows_of old) a (0 + length (rows_of old)));
       rows = rows_is ∙ mark-same 0 (λ k. eqb k a) (is_handled 0 (rows_of old) a (0 + length (rows_of old))) Aborted (rows_of old)
-        (λ x low high. or_false (eqb x a) ∙ ap (λ b. eqb x a || b) (sym (via_past 0 (rows_of old) a (0 + length (rows_of old)) x (omega arith) (omega arith)))) }
+        (λ x low high. sym (or-false (eqb x a)) ∙ ap (λ b. eqb x a || b) (sym (via_past 0 (rows_of old) a (0 + length (rows_of old)) x (omega arith) (omega arith)))) }
 
   module _ (nodes : List Node) (link : ℕ) (walked : IsWalked old nodes a link) where
     pub walk_next : link ≢ NONE → IsNewestSub 0 (rows_of old) a walked.bound link

@@ -1,13 +1,14 @@
 -- The walk down over the subactions of an action, the newest first.
 use Rattle.std.proofs.Common.{◌≡◌, ◌≢◌, ℕ, ◌+◌, ◌<◌, ◌≤◌, Bool, true, false, cond, eqb, ltb, leb, ◌||◌, ◌&&◌, List, [], ◌∷◌, length, Option, Some, None, subst, refl, sym, ◌∙◌, ap, arith, inl, inr}
+use Rattle.std.proofs.Math.Bool.{or-true}
 use Rattle.std.proofs.lemmas.Bool.{eq-eqb, ne_eqb, eqb-true, lt-ltb, ltb-true, le-leb, lt-leb, cases_eq, cases_lt, cases_Bool, and_parts, and_from, both_ways}
 use Rattle.argus_actions.specs.declared.node.TheConstants.{NONE}
 use Rattle.argus_actions.specs.declared.origin.Origin.{Origin}
 use Rattle.argus_actions.specs.declared.origin.Origin.TheVariants.{Top, Sub, Nested}
 use Rattle.argus_actions.specs.Row.{Row, at_parent}
-use Rattle.argus_actions.specs.Rows.{numbered, is_above}
-use Rattle.argus_actions.specs.Nodes.{ComesBetween, AreLinked, newest_below, link_to}
-use Rattle.argus_actions.proofs.RowsLemmas.{at_parent_between, some_row, numbered_newest, numbered_older, is_above_newest, is_above_older, is_above_newer}
+use Rattle.argus_actions.specs.Rows.{numbered, is_above, newest_below}
+use Rattle.argus_actions.specs.Nodes.{ComesBetween, AreLinked, link_to}
+use Rattle.argus_actions.proofs.RowsLemmas.{eqb_comm, at_parent_between, some_row, numbered_newest, numbered_older, is_above_newest, is_above_older, is_above_newer}
 
 -- x is below a, by a subaction of a whose number is at least the bound
 abbrev pub is_via : ℕ → List Row → ℕ → ℕ → ℕ → Bool
@@ -51,20 +52,13 @@ via_past n (row ∷ older) a bound x past below =
     via_unbegun n [] a bound x past = refl
     via_unbegun n (row ∷ older) a bound x past = via_older n row older a bound x (λ e. omega arith) ∙ via_unbegun n older a bound x (omega arith)
 
-eqb_comm : (a b : ℕ) → eqb a b ≡ eqb b a
-eqb_comm a b = elim (cases_eq a b) [ inl e ↦ eq-eqb a b e ∙ sym (eq-eqb b a (sym e)) | inr ne ↦ ne_eqb a b ne ∙ sym (ne_eqb b a (λ e. ne (sym e))) ]
-
--- what is so of the parent, by what is so of each action before this one
-of_parent : (low high : ℕ) (o : Origin) (f g : ℕ → Bool) → ComesBetween low high o → ((p : ℕ) → low ≤ p → p < high → f p ≡ g p) → at_parent false o f ≡ at_parent false o g
-of_parent low high o f g = at_parent_between false low high o f g
-
 -- what is below a is below it by some subaction
 pub above_via : (n : ℕ) (rows : List Row) (a x : ℕ) → AreLinked n rows → n ≤ x → x < n + length rows → is_handled n rows a 0 x ≡ is_above n rows a x
 above_via n [] a x linked low high = absurd (omega arith)
 above_via n (row ∷ older) a x linked low high =
   elim (cases_eq x (n + length older)) [
     inl e ↦ ap (λ b. eqb x a || b) (via_newest n row older a 0 x e
-        ∙ of_parent n (n + length older) row.origin _ (is_above n older a) linked.0 (λ p from to.
+        ∙ at_parent_between false n (n + length older) row.origin _ (is_above n older a) linked.0 (λ p from to.
             let up : is_handled n older a 0 p ≡ is_above n older a p = above_via n older a p linked.1 from to in
             elim (cases_Bool (eqb p a)) [
               inl is ↦ rw (is, le-leb 0 x (omega arith)) (sym (sym up ∙ rw is))
@@ -117,10 +111,6 @@ newest_sub_is n (row ∷ older) a bound c linked e =
         newer = before.newer;
         under = λ r at. before.under r (sym (numbered_older n row older c (λ is. omega (arith, before.begun))) ∙ at) } ]
 
-or_true : (b : Bool) → (b || true) ≡ true
-or_true true = refl
-or_true false = refl
-
 more_by_origin : (n : ℕ) (older : List Row) (a bound c x : ℕ) (o : Origin) → ComesBetween n (n + length older) o → (ltb x bound && at_parent false o (λ p. eqb p a)) ≡ false → c ≤ x
   → ((p : ℕ) → n ≤ p → p < n + length older → (is_via n older a bound p || is_above n older c p) ≡ is_via n older a c p)
   → (at_parent false o (λ p. cond (eqb p a) (leb bound x) (is_via n older a bound p)) || at_parent false o (is_above n older c)) ≡ at_parent false o (λ p. cond (eqb p a) (leb c x) (is_via n older a c p))
@@ -147,7 +137,7 @@ via_more n (row ∷ older) a bound c x linked e low high =
       elim (cases_eq x (n + length older)) [
         inl is ↦
           ap (λ b. is_via n (row ∷ older) a bound x || b) (is_above_newest n row older c x is ∙ ap (λ b. b || at_parent false row.origin (is_above n older c)) (eq-eqb c x (omega arith)))
-          ∙ or_true (is_via n (row ∷ older) a bound x)
+          ∙ or-true (is_via n (row ∷ older) a bound x)
           ∙ sym (via_newest n row older a c x is
               ∙ ap (λ (o : Origin). at_parent false o (λ p. cond (eqb p a) (leb c x) (is_via n older a c p))) (sub_of row.origin a parts.1)
               ∙ ap (λ b. cond b (leb c x) (is_via n older a c a)) (eq-eqb a a refl)

@@ -1,12 +1,13 @@
 -- What a tree keeps of its actions, oldest first, and what its nodes say beside their rows.
-use Rattle.std.specs.Prelude.{◌≡◌, ℕ, ◌+◌, ◌<◌, ◌≤◌, false, ◌&&◌, ◌==◌, nat_lt, if◌then◌else◌, List, [], ◌∷◌, length, reverse, map, get_or, Option, Some, None, IfSome}
+use Rattle.std.specs.Prelude.{◌≡◌, ℕ, ◌+◌, ◌<◌, ◌≤◌, false, ◌&&◌, ◌==◌, if◌then◌else◌, List, [], ◌∷◌, length, reverse, map, get_or, Option, Some, None, IfSome}
 use Rattle.argus_actions.specs.declared.limits.TheConstants.{MAX_ACTIONS, MAX_DEPTH}
 use Rattle.argus_actions.specs.declared.node.TheConstants.{NONE}
+use Rattle.argus_actions.specs.declared.action_id.ActionId.{ActionId}
 use Rattle.argus_actions.specs.declared.node.Node.{Node}
 use Rattle.argus_actions.specs.declared.origin.Origin.{Origin}
 use Rattle.argus_actions.specs.declared.status.Status.TheVariants.{Live}
 use Rattle.argus_actions.specs.Row.{Row, at_parent, under_of, comes_from, is_live}
-use Rattle.argus_actions.specs.Rows.{depth_at}
+use Rattle.argus_actions.specs.Rows.{depth_at, newest_below}
 use Rattle.argus_actions.specs.Tree.{Tree, row_of}
 
 abbrev pub shown : Node → Row
@@ -25,17 +26,14 @@ abbrev pub AreLinked : ℕ → List Row → Type 0
 AreLinked folded [] = Unit {0}
 AreLinked folded (row ∷ older) = ComesBetween folded (folded + length older) row.origin × AreLinked folded older
 
--- the newest subaction of the parent whose number is below the bound
-abbrev pub newest_below : ℕ → List Row → ℕ → ℕ → Option ℕ
-newest_below folded [] parent bound = None
-newest_below folded (row ∷ older) parent bound =
-  if nat_lt (folded + length older) bound && at_parent false row.origin (λ p. p == parent)
-  then Some (folded + length older) else newest_below folded older parent bound
-
 -- a link to an action, or to none
 abbrev pub link_to : Option ℕ → ℕ
 link_to None = NONE
 link_to (Some a) = a
+
+-- the action that a link leads to
+abbrev pub link_end : ℕ → Option ActionId
+link_end link = if link == NONE then None else Some (record { 0 = link })
 
 -- how many live actions were begun under this one
 abbrev pub live_count : List Row → ℕ → ℕ

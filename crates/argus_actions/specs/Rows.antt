@@ -1,5 +1,5 @@
 -- The actions as a list of rows, newest first. The number of a row is how many actions are folded or older.
-use Rattle.std.specs.Prelude.{ℕ, ◌+◌, Bool, false, ◌&&◌, ◌||◌, ◌==◌, if◌then◌else◌, List, [], ◌∷◌, length, Option, Some, None}
+use Rattle.std.specs.Prelude.{ℕ, ◌+◌, Bool, false, ◌&&◌, ◌||◌, ◌==◌, nat_lt, if◌then◌else◌, List, [], ◌∷◌, length, Option, Some, None}
 use Rattle.std.specs.List.{list_any}
 use Rattle.argus_actions.specs.declared.status.Status.{Status}
 use Rattle.argus_actions.specs.Row.{Row, at_parent, comes_from, is_live, with_status}
@@ -30,3 +30,10 @@ abbrev pub mark : ℕ → (ℕ → Bool) → Status → List Row → List Row
 mark folded which status [] = []
 mark folded which status (row ∷ older) =
   (if which (folded + length older) then with_status status row else row) ∷ mark folded which status older
+
+-- the newest subaction of the parent whose number is below the bound
+abbrev pub newest_below : ℕ → List Row → ℕ → ℕ → Option ℕ
+newest_below folded [] parent bound = None
+newest_below folded (row ∷ older) parent bound =
+  if nat_lt (folded + length older) bound && at_parent false row.origin (λ p. p == parent)
+  then Some (folded + length older) else newest_below folded older parent bound

@@ -6,8 +6,8 @@ use Rattle.argus_actions.specs.declared.origin.Origin.{Origin}
 use Rattle.argus_actions.specs.declared.origin.Origin.TheVariants.{Top, Sub, Nested}
 use Rattle.argus_actions.specs.declared.status.Status.{Status}
 use Rattle.argus_actions.specs.declared.status.Status.TheVariants.{Live, Committed, Aborted}
-use Rattle.argus_actions.specs.Row.{Row}
-use Rattle.argus_actions.specs.Rows.{numbered, is_above, depth_at, is_live_under, mark}
+use Rattle.argus_actions.specs.Row.{Row, at_parent}
+use Rattle.argus_actions.specs.Rows.{numbered, is_above, depth_at, is_live_under, mark, newest_below}
 
 -- the rows, newest first; how many actions came before the first of them; and for how many more there is room
 pub record Tree : Type 0 where
@@ -54,6 +54,18 @@ has_live_child tree a = is_live_under tree.rows a
 -- the number of its ancestors
 abbrev pub depth_of : Tree → ℕ → Option ℕ
 depth_of tree a = option_map (λ row. depth_at tree.folded tree.rows a) (row_of tree a)
+
+-- a number as an action
+abbrev pub named : Option ℕ → Option ActionId
+named number = option_map (λ a. let id : ActionId = record { 0 = a } in id) number
+
+-- the subaction that was begun last under this one
+abbrev pub newest_sub_of : Tree → ℕ → Option ActionId
+newest_sub_of tree a = named (newest_below tree.folded tree.rows a (next tree))
+
+-- the subaction of the same parent that was begun next before this one
+abbrev pub older_sub_of : Tree → ℕ → Option ActionId
+older_sub_of tree a = option_and_then (λ row. named (at_parent None row.origin (λ parent. newest_below tree.folded tree.rows parent a))) (row_of tree a)
 
 -- the same actions, whatever the room
 pub record SameActions (old new : Tree) : Type 0 where

@@ -6,8 +6,8 @@ ghost use Rattle.argus_actions.specs.declared.origin.Origin.TheVariants.{Top, Su
 ghost use Rattle.argus_actions.specs.declared.status.Status.TheVariants.{Live};
 ghost use Rattle.argus_actions.specs.Row.{at_parent};
 ghost use Rattle.argus_actions.specs.Rows.{depth_at};
-ghost use Rattle.argus_actions.specs.Tree.{Tree, next, status_of, parent_of, creator_of, is_ancestor, has_live_child, depth_of, SameActions, after_begin, after_commit, after_abort};
-ghost use Rattle.argus_actions.specs.Nodes.{IsNodeOf, ComesBetween};
+ghost use Rattle.argus_actions.specs.Tree.{Tree, next, status_of, parent_of, creator_of, newest_sub_of, older_sub_of, is_ancestor, has_live_child, depth_of, SameActions, after_begin, after_commit, after_abort};
+ghost use Rattle.argus_actions.specs.Nodes.{IsNodeOf, ComesBetween, link_end};
 ghost use Rattle.argus_actions.specs.Refusals.{begin_top_refusal, begin_sub_refusal, begin_nested_refusal, commit_refusal, abort_refusal, IsRefusedBy};
 
 use crate::action_error::ActionError;
@@ -41,6 +41,13 @@ impl Model for ActionTree {
     ghost view = { λ t. record { folded = 0; rows = rows_of t.nodes.items; room = vec_capacity t.nodes - vec_len t.nodes } };
 
     ghost invariant = { λ t. AreNodes 0 t.nodes.items };
+}
+
+// The action that a link leads to.
+fn linked(link: u32) -> Option<ActionId>
+    ensures { result ≡ link_end link }
+{
+    if link == NONE { None } else { Some(ActionId(link)) }
 }
 
 impl ActionTree {
@@ -85,6 +92,32 @@ impl ActionTree {
         match self.node(a)?.origin {
             Origin::Nested(creator) => Some(ActionId(creator)),
             _ => None,
+        }
+    }
+
+    /// The subaction that was begun last under the action, whatever has become of it; None where it has none.
+    ///
+    /// With `older_sub` it leads to every action that an abort of this one ends, and to no other.
+    pub fn newest_sub(&self, a: ActionId) -> Option<ActionId>
+        ensures { result ≡ newest_sub_of self.now a.0 }
+    {
+        let at = a.0 as usize;
+        if at < self.nodes.len() {
+            linked(self.nodes[at].newest_sub)
+        } else {
+            None
+        }
+    }
+
+    /// The subaction of the same parent that was begun next before this one; None where it is the first, and for topactions.
+    pub fn older_sub(&self, a: ActionId) -> Option<ActionId>
+        ensures { result ≡ older_sub_of self.now a.0 }
+    {
+        let at = a.0 as usize;
+        if at < self.nodes.len() {
+            linked(self.nodes[at].older_sub)
+        } else {
+            None
         }
     }
 

@@ -87,6 +87,9 @@ fn each_question_on_its_happy_path(rt: HostRuntime) -> Result<(), Fail> {
     assert_eq!(rt; tree.parent(nested), None);
     assert_eq!(rt; tree.creator(nested), Some(sub));
     assert_eq!(rt; tree.creator(sub), None);
+    assert_eq!(rt; tree.newest_sub(top), Some(sub));
+    assert_eq!(rt; tree.newest_sub(sub), None);
+    assert_eq!(rt; tree.older_sub(below), None);
     assert_eq!(rt; tree.depth(sub), Some(2));
     assert_eq!(rt; tree.depth(below), Some(2));
     assert_eq!(rt; tree.depth(ActionId(4)), None);

@@ -5,8 +5,8 @@ ghost use Rattle.std.specs.Vec.{vec_capacity};
 ghost use Rattle.argus_actions.specs.declared.node.Node.{Node};
 ghost use Rattle.argus_actions.specs.declared.status.Status.TheVariants.{Live, Aborted};
 ghost use Rattle.argus_actions.specs.Row.{at_parent, is_live};
-ghost use Rattle.argus_actions.specs.Rows.{is_above, depth_at, mark};
-ghost use Rattle.argus_actions.specs.Nodes.{rows_of, AreLinked, AreNodes, ComesBetween, newest_below, link_to, adopted, fresh};
+ghost use Rattle.argus_actions.specs.Rows.{is_above, depth_at, mark, newest_below};
+ghost use Rattle.argus_actions.specs.Nodes.{rows_of, AreLinked, AreNodes, ComesBetween, link_to, adopted, fresh};
 
 use crate::limits::{MAX_ACTIONS, MAX_DEPTH};
 use crate::node::{NONE, Node};

@@ -3,8 +3,8 @@ use Rattle.argus_actions.specs.declared.limits.TheConstants.{MAX_DEPTH}
 use Rattle.argus_actions.specs.declared.origin.Origin.{Origin}
 use Rattle.argus_actions.specs.declared.origin.Origin.TheVariants.{Sub}
 use Rattle.argus_actions.specs.Row.{under_of, at_parent}
-use Rattle.argus_actions.specs.Rows.{depth_at}
-use Rattle.argus_actions.specs.Nodes.{rows_of, fresh, newest_below, link_to}
+use Rattle.argus_actions.specs.Rows.{depth_at, newest_below}
+use Rattle.argus_actions.specs.Nodes.{rows_of, fresh, link_to}
 use Rattle.argus_actions.proofs.NodesLemmas.{some_node, length-rows_of}
 use Rattle.argus_actions.proofs.Begun.{under_below}
 use Rattle.argus_actions.proofs.walk.begun_node.Goals as goal

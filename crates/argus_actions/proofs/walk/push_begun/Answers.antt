@@ -4,8 +4,8 @@ use Rattle.argus_actions.specs.declared.limits.TheConstants.{MAX_ACTIONS, MAX_DE
 use Rattle.argus_actions.specs.declared.node.TheConstants.{NONE}
 use Rattle.argus_actions.specs.declared.node.Node.{Node}
 use Rattle.argus_actions.specs.Row.{at_parent}
-use Rattle.argus_actions.specs.Rows.{depth_at}
-use Rattle.argus_actions.specs.Nodes.{rows_of, ComesBetween, newest_below, link_to, adopted, fresh}
+use Rattle.argus_actions.specs.Rows.{depth_at, newest_below}
+use Rattle.argus_actions.specs.Nodes.{rows_of, ComesBetween, link_to, adopted, fresh}
 use Rattle.argus_actions.proofs.Begun.{begun_rows, begun_nodes}
 use Rattle.argus_actions.proofs.walk.push_begun.Goals as goal
 
