@@ -23,8 +23,9 @@ live_is_begun n [] a e = absurd (some_none e)
     some_none : {x : ActionError} → Some x ≡ None → ⊥
     some_none e = cc
 live_is_begun n (row ∷ older) a e =
-  elim (cases_eq a (n + length older)) [
-    inl is ↦ (omega arith, omega arith)
-  | inr ne ↦
-      let before = live_is_begun n older a (ap (λ o. unless_live (option_map (λ (row : Row). row.status) o)) (sym (numbered_older n row older a ne)) ∙ e) in
-      (before.0, omega (arith, before.1)) ]
+    elim (cases_eq a (n + length older)) [
+      | inl is ↦ (omega arith, omega arith)
+      | inr ne ↦
+          let before = live_is_begun n older a (ap (λ o. unless_live (option_map (λ (row : Row). row.status) o)) (sym (numbered_older n row older a ne)) ∙ e) in
+          (before.0, omega (arith, before.1))
+    ]

@@ -28,13 +28,13 @@ module _ (n : ℕ) (nodes : List Node) (x y k : ℕ) (d : Node) (linked : AreLin
 
   pub climbed_up : x < y → (p : ℕ) → (get_or nodes k d).origin ≡ Sub p → is_above n (rows_of nodes) x y ≡ is_above n (rows_of nodes) x p
   climbed_up less p is = step
-    ∙ ap (λ b. b || at_parent false (get_or nodes k d).origin (is_above n (rows_of nodes) x)) (ne_eqb x y (λ same. omega arith))
-    ∙ ap (λ (o : Origin). at_parent false o (is_above n (rows_of nodes) x)) is
+      ∙ ap (λ b. b || at_parent false (get_or nodes k d).origin (is_above n (rows_of nodes) x)) (ne_eqb x y (λ same. omega arith))
+      ∙ ap (λ (o : Origin). at_parent false o (is_above n (rows_of nodes) x)) is
 
   pub climbed_out : x < y → ((p : ℕ) → (get_or nodes k d).origin ≡ Sub p → ⊥) → is_above n (rows_of nodes) x y ≡ false
   climbed_out less other = step
-    ∙ ap (λ b. b || at_parent false (get_or nodes k d).origin (is_above n (rows_of nodes) x)) (ne_eqb x y (λ same. omega arith))
-    ∙ not_sub (get_or nodes k d).origin (is_above n (rows_of nodes) x) other
+      ∙ ap (λ b. b || at_parent false (get_or nodes k d).origin (is_above n (rows_of nodes) x)) (ne_eqb x y (λ same. omega arith))
+      ∙ not_sub (get_or nodes k d).origin (is_above n (rows_of nodes) x) other
 
   pub parent_before : (p : ℕ) → (get_or nodes k d).origin ≡ Sub p → (n ≤ p) × (p < y)
   parent_before p is = let P : Origin → Type 0 = ComesBetween n y in subst P is (came_between n nodes y k d linked e below)

@@ -16,13 +16,13 @@ use Rattle.argus_actions.proofs.Walks.{IsNewestSub, newest_sub_is}
 link_end-link_to : (o : Option ℕ) → ((a : ℕ) → o ≡ Some a → a < NONE) → link_end (link_to o) ≡ named o
 link_end-link_to None small = refl
 link_end-link_to (Some a) small =
-  let less : a < NONE = small a refl in
-  rw (ne_eqb a NONE (λ e. omega arith))
+    let less : a < NONE = small a refl in
+    rw (ne_eqb a NONE (λ e. omega arith))
 
 module _ (nodes : List Node) (kept : AreNodes 0 nodes) where
   sub_end : (p bound : ℕ) → link_end (link_to (newest_below 0 (rows_of nodes) p bound)) ≡ named (newest_below 0 (rows_of nodes) p bound)
   sub_end p bound = link_end-link_to (newest_below 0 (rows_of nodes) p bound)
-    (λ c e.
+      (λ c e.
       let sub : IsNewestSub 0 (rows_of nodes) p bound c = newest_sub_is 0 (rows_of nodes) p bound c kept.linked e in
       omega (arith, sub.begun, length-rows_of nodes, kept.few))
 
@@ -32,16 +32,16 @@ module _ (nodes : List Node) (kept : AreNodes 0 nodes) where
   parent_end (Nested c) bound = refl
 
   pub newest_end : (a : ℕ) (node : Node) → a < length nodes → node ≡ get_or nodes a node
-    → link_end node.newest_sub ≡ named (newest_below 0 (rows_of nodes) a (0 + length (rows_of nodes)))
+      → link_end node.newest_sub ≡ named (newest_below 0 (rows_of nodes) a (0 + length (rows_of nodes)))
   newest_end a node begun is =
-    ap (λ (w : Node). link_end w.newest_sub) is
-    ∙ ap link_end (kept.each a a node (omega arith) begun).newest
-    ∙ sub_end a (0 + length (rows_of nodes))
+      ap (λ (w : Node). link_end w.newest_sub) is
+      ∙ ap link_end (kept.each a a node (omega arith) begun).newest
+      ∙ sub_end a (0 + length (rows_of nodes))
 
   pub older_end : (a : ℕ) (node : Node) → a < length nodes → node ≡ get_or nodes a node
-    → link_end node.older_sub ≡ named (at_parent None node.origin (λ p. newest_below 0 (rows_of nodes) p a))
+      → link_end node.older_sub ≡ named (at_parent None node.origin (λ p. newest_below 0 (rows_of nodes) p a))
   older_end a node begun is =
-    ap (λ (w : Node). link_end w.older_sub) is
-    ∙ ap link_end (kept.each a a node (omega arith) begun).older
-    ∙ parent_end (get_or nodes a node).origin a
-    ∙ ap (λ (w : Node). named (at_parent None w.origin (λ p. newest_below 0 (rows_of nodes) p a))) (sym is)
+      ap (λ (w : Node). link_end w.older_sub) is
+      ∙ ap link_end (kept.each a a node (omega arith) begun).older
+      ∙ parent_end (get_or nodes a node).origin a
+      ∙ ap (λ (w : Node). named (at_parent None w.origin (λ p. newest_below 0 (rows_of nodes) p a))) (sym is)

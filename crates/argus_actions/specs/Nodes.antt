@@ -63,7 +63,8 @@ IsNodeOf tree a (Some node) = (row_of tree a ≡ Some (shown node)) × IsNode tr
 abbrev pub adopted : Origin → ℕ → ℕ → Node → Node
 adopted origin number a node = record node {
   newest_sub = if at_parent false origin (λ p. p == a) then number else node.newest_sub;
-  live_children = node.live_children + (if comes_from a origin then 1 else 0) }
+  live_children = node.live_children + (if comes_from a origin then 1 else 0);
+}
 
 -- the node of an action that was just begun
 abbrev pub fresh : Origin → ℕ → ℕ → Node

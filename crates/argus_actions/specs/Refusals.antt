@@ -24,7 +24,7 @@ begin_top_refusal tree = refused_if (nat_le MAX_ACTIONS (next tree)) TooMany
 
 abbrev pub begin_sub_refusal : Tree → ℕ → Option ActionError
 begin_sub_refusal tree parent =
-  option_or (unless_live (status_of tree parent))
+    option_or (unless_live (status_of tree parent))
     (option_or (refused_if (nat_le MAX_DEPTH (depth_at tree.folded tree.rows parent)) TooDeep) (begin_top_refusal tree))
 
 abbrev pub begin_nested_refusal : Tree → ℕ → Option ActionError

@@ -47,7 +47,11 @@ impl Model for ActionTree {
 fn linked(link: u32) -> Option<ActionId>
     ensures { result ≡ link_end link }
 {
-    if link == NONE { None } else { Some(ActionId(link)) }
+    if link == NONE {
+        None
+    } else {
+        Some(ActionId(link))
+    }
 }
 
 impl ActionTree {

@@ -55,10 +55,16 @@ fn a_million_actions_are_the_most(rt: HostRuntime) -> Result<(), Fail> {
     }
     assert_eq!(rt; tree.len(), 1_000_000);
     assert_eq!(rt; tree.begin_top(), Err(ActionError::TooMany));
-    assert_eq!(rt; tree.begin_sub(ActionId(999_999)), Err(ActionError::TooMany));
+    assert_eq!(rt;
+        tree.begin_sub(ActionId(999_999)),
+        Err(ActionError::TooMany)
+    );
     assert_eq!(rt; tree.begin_nested(ActionId(0)), Err(ActionError::TooMany));
     // what comes before it in the order of refusals
-    assert_eq!(rt; tree.begin_sub(ActionId(1_000_000)), Err(ActionError::NoAction));
+    assert_eq!(rt;
+        tree.begin_sub(ActionId(1_000_000)),
+        Err(ActionError::NoAction)
+    );
     assert_eq!(rt; tree.begin_sub(ActionId(63)), Err(ActionError::TooDeep));
     tree.commit(ActionId(64))?;
     assert_eq!(rt; tree.begin_nested(ActionId(64)), Err(ActionError::Over));
@@ -77,28 +83,39 @@ fn family(heap: Heap) -> Result<ActionTree, Fail> {
 }
 
 #[test]
-fn each_question_on_its_happy_path(rt: HostRuntime) -> Result<(), Fail> {
+fn what_each_action_is(rt: HostRuntime) -> Result<(), Fail> {
     let tree = family(Heap::new(rt.alloc())?)?;
-    let (top, sub, nested, below) = (ActionId(0), ActionId(1), ActionId(2), ActionId(3));
     assert_eq!(rt; tree.len(), 4);
-    assert_eq!(rt; tree.status(top), Some(Status::Live));
+    assert_eq!(rt; tree.status(ActionId(0)), Some(Status::Live));
     assert_eq!(rt; tree.status(ActionId(4)), None);
-    assert_eq!(rt; tree.parent(sub), Some(top));
-    assert_eq!(rt; tree.parent(nested), None);
-    assert_eq!(rt; tree.creator(nested), Some(sub));
-    assert_eq!(rt; tree.creator(sub), None);
-    assert_eq!(rt; tree.newest_sub(top), Some(sub));
-    assert_eq!(rt; tree.newest_sub(sub), None);
-    assert_eq!(rt; tree.older_sub(below), None);
-    assert_eq!(rt; tree.depth(sub), Some(2));
-    assert_eq!(rt; tree.depth(below), Some(2));
+    assert_eq!(rt; tree.depth(ActionId(1)), Some(2));
+    assert_eq!(rt; tree.depth(ActionId(3)), Some(2));
     assert_eq!(rt; tree.depth(ActionId(4)), None);
-    assert!(rt; tree.has_live_child(sub));
-    assert!(rt; !tree.has_live_child(below));
-    assert!(rt; tree.is_ancestor(top, sub));
-    assert!(rt; tree.is_ancestor(below, below));
-    assert!(rt; !tree.is_ancestor(sub, nested));
-    assert!(rt; !tree.is_ancestor(sub, top));
+    assert!(rt; tree.has_live_child(ActionId(1)));
+    assert!(rt; !tree.has_live_child(ActionId(3)));
+    Ok(())
+}
+
+#[test]
+fn who_was_begun_under_whom(rt: HostRuntime) -> Result<(), Fail> {
+    let tree = family(Heap::new(rt.alloc())?)?;
+    assert_eq!(rt; tree.parent(ActionId(1)), Some(ActionId(0)));
+    assert_eq!(rt; tree.parent(ActionId(2)), None);
+    assert_eq!(rt; tree.creator(ActionId(2)), Some(ActionId(1)));
+    assert_eq!(rt; tree.creator(ActionId(1)), None);
+    assert_eq!(rt; tree.newest_sub(ActionId(0)), Some(ActionId(1)));
+    assert_eq!(rt; tree.newest_sub(ActionId(1)), None);
+    assert_eq!(rt; tree.older_sub(ActionId(3)), None);
+    Ok(())
+}
+
+#[test]
+fn who_is_whose_ancestor(rt: HostRuntime) -> Result<(), Fail> {
+    let tree = family(Heap::new(rt.alloc())?)?;
+    assert!(rt; tree.is_ancestor(ActionId(0), ActionId(1)));
+    assert!(rt; tree.is_ancestor(ActionId(3), ActionId(3)));
+    assert!(rt; !tree.is_ancestor(ActionId(1), ActionId(2)));
+    assert!(rt; !tree.is_ancestor(ActionId(1), ActionId(0)));
     assert!(rt; !tree.is_ancestor(ActionId(4), ActionId(4)));
     Ok(())
 }
@@ -151,7 +168,10 @@ fn refusals(rt: &impl Abort, inner: Global, origin: Origin) -> Result<u32, Fail>
         if answer.is_err() {
             assert_eq!(rt; answer, Err(ActionError::OutOfMemory));
             assert_eq!(rt; tree.len(), number);
-            assert_eq!(rt; tree.has_live_child(ActionId(0)), number > 1 && origin != Origin::Top);
+            assert_eq!(rt;
+                tree.has_live_child(ActionId(0)),
+                number > 1 && origin != Origin::Top
+            );
             assert_eq!(rt; begin(&mut tree, origin)?, ActionId(number));
             refused = refused.saturating_add(1);
         }

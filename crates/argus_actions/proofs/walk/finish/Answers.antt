@@ -21,21 +21,22 @@ none_of (Some p) other = absurd (other p refl)
 
 pub returns : goal.returns
 returns c =
-  let nodes = c.args.nodes.now in
-  let each : (a k : ℕ) (d : Node) → a ≡ 0 + k → k < length c.args.nodes.now
+    let nodes = c.args.nodes.now in
+    let each : (a k : ℕ) (d : Node) → a ≡ 0 + k → k < length c.args.nodes.now
     → get_or (set c.if-is_live.nodes c.args.a (with_end c.args.status (get_or c.if-is_live.nodes c.args.a some_node))) k d ≡ finished c.args.status c.args.a (get_or c.args.nodes.now c.args.a some_node) a (get_or c.args.nodes.now k d)
     = elim c.if-is_live.branch [
-        then-is_live+in-Some w ↦ rw w.nodes-is
+      | then-is_live+in-Some w ↦ rw w.nodes-is
           (finished_under c.args.nodes.now c.args.a w.in-Some.under c.args.status some_node some_node c.requires.begun
-            (under_is_there c.args.nodes.now c.args.a w.in-Some.under some_node c.requires.nodes c.requires.begun (sym w.in-Some.ensures))
-            (sym w.in-Some.ensures) (sym w.if-is_live.ensures))
+          (under_is_there c.args.nodes.now c.args.a w.in-Some.under some_node c.requires.nodes c.requires.begun (sym w.in-Some.ensures))
+          (sym w.in-Some.ensures) (sym w.if-is_live.ensures))
       | then-is_live+in_default w ↦ rw w.nodes-is
           (finished_alone c.args.nodes.now c.args.a c.args.status some_node c.requires.begun (inl (sym w.under.ensures ∙ none_of w.under.result w.in_default.not-Some)))
       | else-is_live w ↦ rw w.nodes-is
-          (finished_alone c.args.nodes.now c.args.a c.args.status some_node c.requires.begun (inr (sym w.if-is_live.ensures))) ] in
-  let long : length (set c.if-is_live.nodes c.args.a (with_end c.args.status (get_or c.if-is_live.nodes c.args.a some_node))) ≡ length c.args.nodes.now
+          (finished_alone c.args.nodes.now c.args.a c.args.status some_node c.requires.begun (inr (sym w.if-is_live.ensures)))
+    ] in
+    let long : length (set c.if-is_live.nodes c.args.a (with_end c.args.status (get_or c.if-is_live.nodes c.args.a some_node))) ≡ length c.args.nodes.now
     = length-set c.if-is_live.nodes c.args.a (with_end c.args.status (get_or c.if-is_live.nodes c.args.a some_node)) ∙ omega arith in
-  record {
-    nodes = finished_nodes 0 c.args.nodes.now _ c.args.a c.args.a c.args.status (omega arith) c.requires.begun c.requires.over long each c.requires.nodes;
-    rows = finished_rows 0 c.args.nodes.now _ c.args.a c.args.a c.args.status (omega arith) c.requires.begun c.requires.over long each;
-  }
+    record {
+      nodes = finished_nodes 0 c.args.nodes.now _ c.args.a c.args.a c.args.status (omega arith) c.requires.begun c.requires.over long each c.requires.nodes;
+      rows = finished_rows 0 c.args.nodes.now _ c.args.a c.args.a c.args.status (omega arith) c.requires.begun c.requires.over long each;
+    }

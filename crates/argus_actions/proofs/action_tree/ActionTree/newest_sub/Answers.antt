@@ -8,11 +8,11 @@ use Rattle.argus_actions.proofs.action_tree.ActionTree.newest_sub.Goals as goal
 
 pub returns-then-at-len : goal.returns-then-at-len
 returns-then-at-len c =
-  rw (← c.self.view_is)
+    rw (← c.self.view_is)
     (c.linked.ensures ∙ newest_end c.self.inside.nodes.items c.self.invariant c.args.a.0 c.index.result.now (omega arith) c.index.ensures)
 
 pub returns-else-at-len : goal.returns-else-at-len
 returns-else-at-len c =
-  let rows = rows_of c.self.inside.nodes.items in
-  rw (← c.self.view_is)
+    let rows = rows_of c.self.inside.nodes.items in
+    rw (← c.self.view_is)
     (ap named (sym (newest_below_none 0 rows c.args.a.0 (0 + length rows) c.self.invariant.linked (rw length-rows_of (omega arith)))))
