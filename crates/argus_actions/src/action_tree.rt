@@ -24,6 +24,15 @@ use std::marker::Model;
 ///
 /// Contracts see it as the list of its rows: how each action was begun, and what has become of it.
 /// Only the `begin_` calls and `reserve` take memory.
+///
+/// ```text
+/// let mut tree = ActionTree::new(heap);
+/// let top = tree.begin_top()?;
+/// let sub = tree.begin_sub(top)?;
+/// tree.commit(sub)?;                       // relative to the parent
+/// tree.abort(top)?;                        // which takes it back
+/// assert_eq!(rt; tree.status(sub), Some(Status::Aborted));
+/// ```
 #[derive(Drop)]
 pub struct ActionTree {
     nodes: Vec<Node, Heap>,

@@ -1,0 +1,7 @@
+-- A field that is written.
+use Rattle.std.proofs.Common.{arith}
+use Rattle.argus_contents.proofs.Arrays.{field_written}
+use Rattle.argus_contents.proofs.record.set_field.Goals as goal
+
+pub returns : goal.returns
+returns c = field_written c.args.fields.now.items c.args.field c.args.value (omega arith)

@@ -1,0 +1,15 @@
+-- A struct or a oneof is within a depth where its types are within one level less.
+use Rattle.std.proofs.Common.{◌∙◌}
+use Rattle.argus_contents.proofs.Levels.{plain_ty-Fields, plain_ty-Choice}
+use Rattle.argus_contents.proofs.Types.{deeper}
+use Rattle.argus_contents.proofs.shaping.+within.Goals as goal
+
+pub is_within-returns-in-Fields : goal.is_within-returns-in-Fields
+is_within-returns-in-Fields t c =
+    rw (c.in-Fields.is, plain_ty-Fields c.in-Fields.fields, ← c.deref-in-Fields.ensures.value)
+    (c.are_within.ensures ∙ deeper _ c.args.levels c.if-levels-eq0.false)
+
+pub is_within-returns-in-Choice : goal.is_within-returns-in-Choice
+is_within-returns-in-Choice t c =
+    rw (c.in-Choice.is, plain_ty-Choice c.in-Choice.tags, ← c.deref-in-Choice.ensures.value)
+    (c.are_within-in-Choice.ensures ∙ deeper _ c.args.levels c.if-levels-eq0.false)

@@ -1,0 +1,130 @@
+-- What a change says, and what it does, by cases of the operation and the content.
+use Rattle.std.specs.Prelude.{ℕ, ℤ, Bool, pos, ◌+ℤ◌, ◌-ℤ◌, ◌-◌, int_lt, unsigned_abs, nat_lt, nat_le, ◌||◌, if◌then◌else◌, List, [], ◌∷◌, ◌++◌, length, take, drop, slice_get, slice_set, Option, Some, None}
+use Rattle.std.specs.Ordering.{int_eq}
+use Rattle.argus_contents.specs.Value.{PlainValue, plain_value}
+use Rattle.argus_contents.specs.Content.{PlainContent, rec, arr, var, plain_content, KeepsLimits}
+use Rattle.argus_contents.specs.Answer.{PlainAnswer, done, val, signal, value_or}
+use Rattle.argus_contents.specs.Place.{place_of, high_of}
+use Rattle.argus_contents.specs.declared.limits.TheConstants.{MIN_BOUND, MAX_BOUND, MAX_ITEMS}
+use Rattle.argus_contents.specs.declared.signal.Signal.{Signal}
+use Rattle.argus_contents.specs.declared.signal.Signal.TheVariants.{Absent, Exists, Bounds, NegativeSize, Limits}
+use Rattle.argus_contents.specs.declared.change.Change.{Change}
+use Rattle.argus_contents.specs.declared.change.Change.TheVariants as change
+
+-- a plain change
+pub data PlainChange : Type 0 where
+  create : PlainContent → PlainChange
+  set_field : ℕ → PlainValue → PlainChange
+  store : ℤ → PlainValue → PlainChange
+  addh : PlainValue → PlainChange
+  addl : PlainValue → PlainChange
+  remh : PlainChange
+  reml : PlainChange
+  set_low : ℤ → PlainChange
+  trim : ℤ → ℤ → PlainChange
+  change_tag : ℕ → PlainValue → PlainChange
+  touch : PlainChange
+
+-- what a change says
+abbrev pub plain_change : Change → PlainChange
+plain_change (change.Create c) = create (plain_content c)
+plain_change (change.SetField i v) = set_field i (plain_value v)
+plain_change (change.Store i v) = store i (plain_value v)
+plain_change (change.Addh v) = addh (plain_value v)
+plain_change (change.Addl v) = addl (plain_value v)
+plain_change change.Remh = remh
+plain_change change.Reml = reml
+plain_change (change.SetLow i) = set_low i
+plain_change (change.Trim from count) = trim from count
+plain_change (change.ChangeTag t v) = change_tag t (plain_value v)
+plain_change change.Touch = touch
+
+-- the content after a change, and its answer
+abbrev pub Outcome : Type 0
+Outcome = Option PlainContent × PlainAnswer
+
+-- a signal leaves the content unchanged
+abbrev pub signals : Signal → PlainContent → Outcome
+signals s c = (Some c, signal s)
+
+-- what a change of the field at i does
+abbrev pub set_in : ℕ → PlainValue → List PlainValue → Outcome
+set_in i v vs = if nat_lt i (length vs) then (Some (rec (slice_set vs i v)), done) else signals Absent (rec vs)
+
+-- what a store at a place does; None is out of bounds
+abbrev pub stored_at : Option ℕ → PlainValue → ℤ → List PlainValue → Outcome
+stored_at None v low vs = signals Bounds (arr low vs)
+stored_at (Some place) v low vs = (Some (arr low (slice_set vs place v)), done)
+
+-- no value can be added at the high end
+abbrev pub is_full_high : ℤ → ℕ → Bool
+is_full_high low size = nat_le MAX_ITEMS size || int_lt MAX_BOUND (low +ℤ pos size)
+
+-- no value can be added at the low end
+abbrev pub is_full_low : ℤ → ℕ → Bool
+is_full_low low size = nat_le MAX_ITEMS size || int_eq low MIN_BOUND
+
+-- the first item leaves
+abbrev pub removed_low : ℤ → List PlainValue → Outcome
+removed_low low [] = signals Bounds (arr low [])
+removed_low low (v ∷ vs) =
+    if int_eq low MAX_BOUND then signals Limits (arr low (v ∷ vs)) else (Some (arr (low +ℤ pos 1) vs), val v)
+
+-- no array of so many items may begin at i
+abbrev pub is_out_of_limits : ℤ → ℕ → Bool
+is_out_of_limits i size = int_lt i MIN_BOUND || int_lt MAX_BOUND i || int_lt MAX_BOUND (high_of i size)
+
+-- the items from an index on are kept, at most so many of them
+abbrev pub trimmed : ℤ → ℤ → ℤ → List PlainValue → Outcome
+trimmed from count low vs =
+    if int_lt count (pos 0) then signals NegativeSize (arr low vs) else
+    (if int_lt from low || int_lt (low +ℤ pos (length vs)) from then signals Bounds (arr low vs) else
+    (if int_lt MAX_BOUND from then signals Limits (arr low vs) else
+    (Some (arr from (take (unsigned_abs count) (drop (unsigned_abs (from -ℤ low)) vs))), done)))
+
+-- what a change does to an array
+abbrev pub array_result : PlainChange → ℤ → List PlainValue → Outcome
+array_result (create c) low vs = signals Exists (arr low vs)
+array_result touch low vs = (Some (arr low vs), done)
+array_result (store i v) low vs = stored_at (place_of low (length vs) i) v low vs
+array_result (addh v) low vs =
+    if is_full_high low (length vs) then signals Limits (arr low vs) else (Some (arr low (vs ++ v ∷ [])), done)
+array_result (addl v) low vs =
+    if is_full_low low (length vs) then signals Limits (arr low vs) else (Some (arr (low -ℤ pos 1) (v ∷ vs)), done)
+array_result remh low vs = (Some (arr low (take (length vs - 1) vs)), value_or Bounds (slice_get vs (length vs - 1)))
+array_result reml low vs = removed_low low vs
+array_result (set_low i) low vs = if is_out_of_limits i (length vs) then signals Limits (arr low vs) else (Some (arr i vs), done)
+array_result (trim from count) low vs = trimmed from count low vs
+array_result _ low vs = signals Absent (arr low vs)
+
+-- what a change does to a record
+abbrev pub record_result : PlainChange → List PlainValue → Outcome
+record_result (create c) vs = signals Exists (rec vs)
+record_result touch vs = (Some (rec vs), done)
+record_result (set_field i v) vs = set_in i v vs
+record_result _ vs = signals Absent (rec vs)
+
+-- what a change does to a variant
+abbrev pub variant_result : PlainChange → ℕ → PlainValue → Outcome
+variant_result (create c) t v = signals Exists (var t v)
+variant_result touch t v = (Some (var t v), done)
+variant_result (change_tag u w) t v = (Some (var u w), done)
+variant_result _ t v = signals Absent (var t v)
+
+-- what a change does where there is no content
+abbrev pub absent_result : PlainChange → Outcome
+absent_result (create c) = (Some c, done)
+absent_result touch = (None, done)
+absent_result _ = (None, signal Absent)
+
+-- what a change does; an operation of another kind than the content signals absent
+abbrev pub result : PlainChange → Option PlainContent → Outcome
+result c None = absent_result c
+result c (Some (rec vs)) = record_result c vs
+result c (Some (arr low vs)) = array_result c low vs
+result c (Some (var t v)) = variant_result c t v
+
+-- a content that the change makes keeps the limits, if it makes one
+abbrev pub CreatesWithin : PlainChange → Type 0
+CreatesWithin (create c) = KeepsLimits (Some c)
+CreatesWithin _ = Unit {0}

@@ -1,0 +1,14 @@
+pub mod Answer
+pub mod Change
+pub mod Content
+pub mod Fitting
+pub mod Name
+pub mod Place
+pub mod Query
+pub mod Shape
+pub mod ShapeCode
+pub mod ShapeKind
+pub mod ShapeView
+pub mod Ty
+pub mod Typing
+pub mod Value

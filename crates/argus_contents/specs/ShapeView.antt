@@ -1,0 +1,11 @@
+-- What the parts of a shape say, where they are looked at.
+use Rattle.argus_contents.specs.Shape.{PlainShape, rec, arr, var}
+use Rattle.argus_contents.specs.Ty.{plain_ty, plain_fields}
+use Rattle.argus_contents.specs.declared.shape_view.ShapeView.{ShapeView}
+use Rattle.argus_contents.specs.declared.shape_view.ShapeView.TheVariants as view
+
+-- what the parts say
+abbrev pub plain_view : ShapeView → PlainShape
+plain_view (view.Rec fs) = rec (plain_fields fs.now)
+plain_view (view.Arr t) = arr (plain_ty t.now)
+plain_view (view.Var fs) = var (plain_fields fs.now)

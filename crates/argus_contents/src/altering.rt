@@ -1,0 +1,110 @@
+//! `alter` and `alter_in_place`: what a change does.
+
+ghost use Rattle.std.specs.Prelude.{◌≡◌, Some, None, length, IfOk, OnErr};
+ghost use Rattle.argus_contents.specs.Answer.{plain_answer};
+ghost use Rattle.argus_contents.specs.Change.{absent_result, array_result, CreatesWithin, plain_change, result as outcome_of, variant_result};
+ghost use Rattle.argus_contents.specs.Content.{arr, KeepsBounds, KeepsLimits, plain_content, plain_option, var};
+ghost use Rattle.argus_contents.specs.Value.{plain_list, plain_value};
+
+use crate::answer::Answer;
+use crate::array::alter_array;
+use crate::change::Change;
+use crate::content::{Content, duplicate_option};
+use crate::record::alter_record;
+use crate::signal::Signal;
+use crate::value::Value;
+use argus_memory::{Heap, OutOfMemory};
+use std::collections::VecDeque;
+
+/// The content that the change leaves, and its answer; [`Change`] has the table.
+///
+/// A present array has to keep the limits, as `fits` tests; what comes back keeps them where the
+/// change's own content does. Nothing is changed; the copies may want memory.
+pub fn alter(
+    heap: Heap,
+    content: &Option<Content>,
+    change: &Change,
+) -> Result<(Option<Content>, Answer), OutOfMemory>
+    requires { KeepsLimits (plain_option content.now) }
+    ensures ok { IfOk result (λ left. (plain_option left.0, plain_answer left.1) ≡ outcome_of (plain_change change.now) (plain_option content.now)) }
+    ensures kept { CreatesWithin (plain_change change.now) → IfOk result (λ left. KeepsLimits (plain_option left.0)) }
+{
+    let mut altered = duplicate_option(heap, content)?;
+    let answer = alter_in_place(&mut altered, change.duplicate(heap)?)?;
+    Ok((altered, answer))
+}
+
+/// Makes the change where the content lies, with the meaning of [`alter`]. The change's value moves
+/// in, and nothing is copied. After `OutOfMemory` the content is as before.
+///
+/// No change costs more for a longer array, but for `Trim`, which drops what it doesn't keep, and
+/// for an `Addh` or `Addl` that finds no room left and grows the queue to twice its size.
+pub fn alter_in_place(content: &mut Option<Content>, change: Change) -> Result<Answer, OutOfMemory>
+    requires { KeepsLimits (plain_option content.old) }
+    ensures ok { IfOk result (λ answer. (plain_option content.new, plain_answer answer) ≡ outcome_of (plain_change change) (plain_option content.old)) }
+    ensures err { OnErr result (plain_option content.new ≡ plain_option content.old) }
+    ensures kept { CreatesWithin (plain_change change) → KeepsLimits (plain_option content.new) }
+{
+    match content.take() {
+        None => Ok(alter_absent(content, change)),
+        Some(Content::Rec(mut fields)) => {
+            let answer = alter_record(&mut fields, change);
+            *content = Some(Content::Rec(fields));
+            Ok(answer)
+        }
+        Some(Content::Arr { low, items }) => {
+            let (left, answer) = alter_parts(low, items, change);
+            *content = Some(left);
+            answer
+        }
+        Some(Content::Var { mut tag, mut value }) => {
+            let answer = alter_variant(&mut tag, &mut value, change);
+            *content = Some(Content::Var { tag, value });
+            Ok(answer)
+        }
+    }
+}
+
+// An array that was taken apart is changed and put together again.
+fn alter_parts(
+    mut low: i64,
+    mut items: VecDeque<Value, Heap>,
+    change: Change,
+) -> (Content, Result<Answer, OutOfMemory>)
+    requires { KeepsBounds low (length items.items) }
+    ensures ok { IfOk result.1 (λ answer. (Some (plain_content result.0), plain_answer answer) ≡ array_result (plain_change change) low (plain_list items.items)) }
+    ensures err { OnErr result.1 (plain_content result.0 ≡ arr low (plain_list items.items)) }
+    ensures kept { KeepsLimits (Some (plain_content result.0)) }
+{
+    let answer = alter_array(&mut low, &mut items, change);
+    (Content::Arr { low, items }, answer)
+}
+
+fn alter_absent(content: &mut Option<Content>, change: Change) -> Answer
+    requires { plain_option content.old ≡ None }
+    ensures { (plain_option content.new, plain_answer result) ≡ absent_result (plain_change change) }
+{
+    match change {
+        Change::Create(made) => {
+            *content = Some(made);
+            Answer::Done
+        }
+        Change::Touch => Answer::Done,
+        _ => Answer::Signal(Signal::Absent),
+    }
+}
+
+fn alter_variant(tag: &mut u8, value: &mut Value, change: Change) -> Answer
+    ensures { (Some (var tag.new (plain_value value.new)), plain_answer result) ≡ variant_result (plain_change change) tag.old (plain_value value.old) }
+{
+    match change {
+        Change::Create(_) => Answer::Signal(Signal::Exists),
+        Change::Touch => Answer::Done,
+        Change::ChangeTag(new_tag, new_value) => {
+            *tag = new_tag;
+            *value = new_value;
+            Answer::Done
+        }
+        _ => Answer::Signal(Signal::Absent),
+    }
+}

@@ -1,0 +1,155 @@
+//! What a change does to an array.
+
+ghost use Rattle.std.specs.Prelude.{◌≡◌, ◌≤◌, ◌-◌, Some, length, take, drop, slice_get, IfOk, OnErr};
+ghost use Rattle.argus_contents.specs.Answer.{plain_answer, value_or};
+ghost use Rattle.argus_contents.specs.Change.{addh, addl, array_result, plain_change, reml, set_low, store, trim};
+ghost use Rattle.argus_contents.specs.Content.{arr, KeepsBounds};
+ghost use Rattle.argus_contents.specs.Value.{plain_value, plain_list};
+
+use crate::answer::Answer;
+use crate::asking::place_in;
+use crate::change::Change;
+use crate::limits::{MAX_BOUND, MAX_ITEMS, MIN_BOUND};
+use crate::signal::Signal;
+use crate::value::Value;
+use argus_memory::{Heap, OutOfMemory};
+use std::collections::VecDeque;
+
+pub(crate) fn alter_array(
+    low: &mut i64,
+    items: &mut VecDeque<Value, Heap>,
+    change: Change,
+) -> Result<Answer, OutOfMemory>
+    requires { KeepsBounds low.old (length items.old.items) }
+    ensures ok { IfOk result (λ answer. (Some (arr low.new (plain_list items.new.items)), plain_answer answer) ≡ array_result (plain_change change) low.old (plain_list items.old.items)) }
+    ensures err_low { OnErr result (low.new ≡ low.old) }
+    ensures err_items { OnErr result (items.new.items ≡ items.old.items) }
+{
+    match change {
+        Change::Create(_) => Ok(Answer::Signal(Signal::Exists)),
+        Change::Touch => Ok(Answer::Done),
+        Change::Store(index, value) => Ok(store_item(*low, items, index, value)),
+        Change::Addh(value) => add_high(*low, items, value),
+        Change::Addl(value) => add_low(low, items, value),
+        Change::Remh => Ok(remove_high(items)),
+        Change::Reml => Ok(remove_low(low, items)),
+        Change::SetLow(bound) => Ok(move_low(low, items, bound)),
+        Change::Trim(from, count) => Ok(trim_items(low, items, from, count)),
+        _ => Ok(Answer::Signal(Signal::Absent)),
+    }
+}
+
+fn store_item(low: i64, items: &mut VecDeque<Value, Heap>, index: i64, value: Value) -> Answer
+    requires { KeepsBounds low (length items.old.items) }
+    ensures { (Some (arr low (plain_list items.new.items)), plain_answer result) ≡ array_result (store index (plain_value value)) low (plain_list items.old.items) }
+{
+    match place_in(low, items.len(), index) {
+        None => Answer::Signal(Signal::Bounds),
+        Some(place) => {
+            items[place] = value;
+            Answer::Done
+        }
+    }
+}
+
+fn add_high(
+    low: i64,
+    items: &mut VecDeque<Value, Heap>,
+    value: Value,
+) -> Result<Answer, OutOfMemory>
+    requires { KeepsBounds low (length items.old.items) }
+    ensures ok { IfOk result (λ answer. (Some (arr low (plain_list items.new.items)), plain_answer answer) ≡ array_result (addh (plain_value value)) low (plain_list items.old.items)) }
+    ensures err { OnErr result (items.new.items ≡ items.old.items) }
+{
+    if items.len() >= MAX_ITEMS || low + items.len() as i64 > MAX_BOUND {
+        return Ok(Answer::Signal(Signal::Limits));
+    }
+    items.push_back(value)?;
+    Ok(Answer::Done)
+}
+
+fn add_low(
+    low: &mut i64,
+    items: &mut VecDeque<Value, Heap>,
+    value: Value,
+) -> Result<Answer, OutOfMemory>
+    requires { KeepsBounds low.old (length items.old.items) }
+    ensures ok { IfOk result (λ answer. (Some (arr low.new (plain_list items.new.items)), plain_answer answer) ≡ array_result (addl (plain_value value)) low.old (plain_list items.old.items)) }
+    ensures err_low { OnErr result (low.new ≡ low.old) }
+    ensures err_items { OnErr result (items.new.items ≡ items.old.items) }
+{
+    if items.len() >= MAX_ITEMS || *low == MIN_BOUND {
+        return Ok(Answer::Signal(Signal::Limits));
+    }
+    items.push_front(value)?;
+    *low -= 1;
+    Ok(Answer::Done)
+}
+
+fn remove_high(items: &mut VecDeque<Value, Heap>) -> Answer
+    ensures items { plain_list items.new.items ≡ take (length (plain_list items.old.items) - 1) (plain_list items.old.items) }
+    ensures answer { plain_answer result ≡ value_or Signal.Bounds (slice_get (plain_list items.old.items) (length (plain_list items.old.items) - 1)) }
+{
+    match items.pop_back() {
+        None => Answer::Signal(Signal::Bounds),
+        Some(last) => Answer::Val(last),
+    }
+}
+
+fn remove_low(low: &mut i64, items: &mut VecDeque<Value, Heap>) -> Answer
+    requires { KeepsBounds low.old (length items.old.items) }
+    ensures { (Some (arr low.new (plain_list items.new.items)), plain_answer result) ≡ array_result reml low.old (plain_list items.old.items) }
+{
+    if items.is_empty() {
+        return Answer::Signal(Signal::Bounds);
+    }
+    if *low == MAX_BOUND {
+        return Answer::Signal(Signal::Limits);
+    }
+    match items.pop_front() {
+        None => Answer::Signal(Signal::Bounds),
+        Some(first) => {
+            *low += 1;
+            Answer::Val(first)
+        }
+    }
+}
+
+fn move_low(low: &mut i64, items: &VecDeque<Value, Heap>, bound: i64) -> Answer
+    requires { KeepsBounds low.old (length items.now.items) }
+    ensures { (Some (arr low.new (plain_list items.now.items)), plain_answer result) ≡ array_result (set_low bound) low.old (plain_list items.now.items) }
+{
+    let size = items.len() as i64;
+    if bound < MIN_BOUND || bound > MAX_BOUND || bound + size - 1 > MAX_BOUND {
+        return Answer::Signal(Signal::Limits);
+    }
+    *low = bound;
+    Answer::Done
+}
+
+fn trim_items(low: &mut i64, items: &mut VecDeque<Value, Heap>, from: i64, count: i64) -> Answer
+    requires { KeepsBounds low.old (length items.old.items) }
+    ensures { (Some (arr low.new (plain_list items.new.items)), plain_answer result) ≡ array_result (trim from count) low.old (plain_list items.old.items) }
+{
+    if count < 0 {
+        return Answer::Signal(Signal::NegativeSize);
+    }
+    if from < *low || from > *low + items.len() as i64 {
+        return Answer::Signal(Signal::Bounds);
+    }
+    if from > MAX_BOUND {
+        return Answer::Signal(Signal::Limits);
+    }
+    drop_first(items, from.abs_diff(*low) as usize);
+    items.truncate(count.unsigned_abs() as usize);
+    *low = from;
+    Answer::Done
+}
+
+// What comes before the place leaves.
+fn drop_first(items: &mut VecDeque<Value, Heap>, place: usize)
+    requires { place ≤ length items.old.items }
+    ensures { items.new.items ≡ drop place items.old.items }
+{
+    let _ = items.drain(..place);
+}

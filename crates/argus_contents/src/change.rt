@@ -1,0 +1,71 @@
+//! `Change`: an operation that changes a content.
+
+ghost use Rattle.std.specs.Prelude.{◌≡◌, IfOk};
+ghost use Rattle.argus_contents.specs.Change.{plain_change};
+
+use crate::content::Content;
+use crate::value::Value;
+use argus_memory::{Heap, OutOfMemory};
+
+/// An operation that changes a content. It needs a write lock.
+///
+/// Fields and tags are numbers from 0, in the order of the shape's names. Below, `high` is
+/// `low + size - 1`. A signal leaves the content unchanged; where several are named, the first that
+/// applies is answered. Every change but `Create` and `Touch` signals `Absent` on an absent content
+/// and on a content of another kind than its own.
+///
+/// | Change | Of | Effect and answer |
+/// |---|---|---|
+/// | `Create(c)` | any | `Exists` if there is a content; the content becomes `c`, `Done` |
+/// | `SetField(i, v)` | a record | `Absent` if there is no such field; the field becomes `v`, `Done` |
+/// | `Store(i, v)` | an array | `Bounds` if `i < low` or `i > high`; the item becomes `v`, `Done` |
+/// | `Addh(v)` | an array | `Limits` if there are 65,535 items or `low + size` is past the greatest bound; `v` becomes the last, `Done` |
+/// | `Addl(v)` | an array | `Limits` if there are 65,535 items or `low` is the least bound; `v` becomes the first and `low` falls by 1, `Done` |
+/// | `Remh` | an array | `Bounds` if it is empty; the last leaves, `Val` of it |
+/// | `Reml` | an array | `Bounds` if it is empty; `Limits` if `low` is the greatest bound; the first leaves and `low` rises by 1, `Val` of it |
+/// | `SetLow(i)` | an array | `Limits` if `i` or `i + size - 1` is no bound; `low` becomes `i`, `Done` |
+/// | `Trim(i, n)` | an array | `NegativeSize` if `n < 0`; `Bounds` if `i < low` or `i > high + 1`; `Limits` if `i` is past the greatest bound; the items from `i` on are kept, at most `n`, and `low` becomes `i`, `Done` |
+/// | `ChangeTag(t, v)` | a variant | tag and value become these, `Done` |
+/// | `Touch` | any, also absent | unchanged, `Done` |
+///
+/// Source: in the manner of the built-in atomic types of the Argus Reference Manual (MIT/LCS/TR-400,
+/// 1987); the signals and their order are this project's own.
+///
+/// ```text
+/// let answer = alter_in_place(&mut content, Change::Addh(Value::Int(5)))?;
+/// ```
+#[derive(Debug, Drop, PartialEq)]
+pub enum Change {
+    Create(Content),
+    SetField(u8, Value),
+    Store(i64, Value),
+    Addh(Value),
+    Addl(Value),
+    Remh,
+    Reml,
+    SetLow(i64),
+    Trim(i64, i64),
+    ChangeTag(u8, Value),
+    Touch,
+}
+
+impl Change {
+    /// A change equal to this one.
+    pub fn duplicate(&self, heap: Heap) -> Result<Change, OutOfMemory>
+        ensures { IfOk result (λ copy. plain_change copy ≡ plain_change self.now) }
+    {
+        match self {
+            Change::Create(content) => Ok(Change::Create(content.duplicate(heap)?)),
+            Change::SetField(field, value) => Ok(Change::SetField(*field, value.duplicate(heap)?)),
+            Change::Store(index, value) => Ok(Change::Store(*index, value.duplicate(heap)?)),
+            Change::Addh(value) => Ok(Change::Addh(value.duplicate(heap)?)),
+            Change::Addl(value) => Ok(Change::Addl(value.duplicate(heap)?)),
+            Change::Remh => Ok(Change::Remh),
+            Change::Reml => Ok(Change::Reml),
+            Change::SetLow(bound) => Ok(Change::SetLow(*bound)),
+            Change::Trim(from, count) => Ok(Change::Trim(*from, *count)),
+            Change::ChangeTag(tag, value) => Ok(Change::ChangeTag(*tag, value.duplicate(heap)?)),
+            Change::Touch => Ok(Change::Touch),
+        }
+    }
+}

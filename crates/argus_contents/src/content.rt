@@ -1,0 +1,82 @@
+//! `Content`: what an atomic object holds.
+
+ghost use Rattle.std.specs.Prelude.{◌≡◌, IfOk};
+ghost use Rattle.argus_contents.specs.Content.{plain_content, plain_option};
+ghost use Rattle.argus_contents.specs.Value.{plain_list};
+
+use crate::value::{Value, append_copies, duplicate_all};
+use argus_memory::{Heap, OutOfMemory};
+use std::collections::VecDeque;
+
+/// What an atomic object holds: the fields of a record, an array or a variant.
+///
+/// The items of an array lie in a queue with two ends, so that adding and removing at either end
+/// costs the same however long it is. A queue is made from a `Vec`, and gives one back, without
+/// taking memory.
+///
+/// Source: the built-in atomic types of the Argus Reference Manual (MIT/LCS/TR-400, 1987).
+///
+/// ```text
+/// let empty = Content::Arr { low: 1, items: VecDeque::new(heap) };
+/// let two = Content::Arr { low: 1, items: VecDeque::from_vec(items) };
+/// ```
+#[derive(Debug, Drop, PartialEq)]
+pub enum Content {
+    /// A value for each name of the record's shape, in order.
+    Rec(Vec<Value, Heap>),
+    /// The index of the first item, and the items.
+    Arr {
+        low: i64,
+        items: VecDeque<Value, Heap>,
+    },
+    /// The number of a tag, and a value of the tag's type.
+    Var {
+        tag: u8,
+        value: Value,
+    },
+}
+
+impl Content {
+    /// A content equal to this one.
+    pub fn duplicate(&self, heap: Heap) -> Result<Content, OutOfMemory>
+        ensures { IfOk result (λ copy. plain_content copy ≡ plain_content self.now) }
+    {
+        match self {
+            Content::Rec(fields) => Ok(Content::Rec(duplicate_all(heap, fields)?)),
+            Content::Arr { low, items } => Ok(Content::Arr {
+                low: *low,
+                items: duplicate_items(heap, items)?,
+            }),
+            Content::Var { tag, value } => Ok(Content::Var {
+                tag: *tag,
+                value: value.duplicate(heap)?,
+            }),
+        }
+    }
+}
+
+fn duplicate_items(
+    heap: Heap,
+    items: &VecDeque<Value, Heap>,
+) -> Result<VecDeque<Value, Heap>, OutOfMemory>
+    ensures { IfOk result (λ copies. plain_list copies.items ≡ plain_list items.now.items) }
+{
+    let (front, back) = items.as_slices();
+    let mut copies = Vec::with_capacity(heap, items.len())?;
+    append_copies(heap, front, &mut copies)?;
+    append_copies(heap, back, &mut copies)?;
+    Ok(VecDeque::from_vec(copies))
+}
+
+/// A content equal to this one, or none where there is none.
+pub(crate) fn duplicate_option(
+    heap: Heap,
+    content: &Option<Content>,
+) -> Result<Option<Content>, OutOfMemory>
+    ensures { IfOk result (λ copy. plain_option copy ≡ plain_option content.now) }
+{
+    match content {
+        None => Ok(None),
+        Some(content) => Ok(Some(content.duplicate(heap)?)),
+    }
+}

@@ -1,0 +1,41 @@
+//! Types, values and contents of atomic objects, and what the operations on them do.
+#![tactic(auto)]
+
+mod altering;
+mod answer;
+mod array;
+mod asking;
+mod change;
+mod content;
+pub mod limits;
+mod name;
+mod name_error;
+mod obj_id;
+mod query;
+mod record;
+mod shape;
+mod shape_fault;
+mod shape_view;
+mod shaping;
+mod signal;
+mod ty;
+mod typing;
+mod value;
+
+pub use altering::{alter, alter_in_place};
+pub use answer::Answer;
+pub use argus_memory::{Heap, OutOfMemory};
+pub use asking::ask;
+pub use change::Change;
+pub use content::Content;
+pub use name::Name;
+pub use name_error::NameError;
+pub use obj_id::ObjId;
+pub use query::Query;
+pub use shape::Shape;
+pub use shape_fault::ShapeFault;
+pub use shape_view::ShapeView;
+pub use signal::Signal;
+pub use ty::Ty;
+pub use typing::{change_fits, fits, query_fits, typed};
+pub use value::Value;

@@ -1,0 +1,86 @@
+//! `Name`: a name of a field or a tag.
+
+ghost use Rattle.std.specs.Prelude.{◌≡◌, ◌↔◌, false, IfOk, IsErrOf};
+ghost use Rattle.std.specs.List.{list_all};
+ghost use Rattle.argus_contents.specs.Name.{is_name, is_name_byte};
+
+use crate::limits::MAX_NAME_BYTES;
+use crate::name_error::NameError;
+use argus_memory::{Heap, OutOfMemory};
+use std::marker::Model;
+
+/// A name of a field of a record or of a tag of a variant: 1 to 32 bytes of `[a-z0-9_]`.
+///
+/// Names stand in types alone. Values go by position.
+///
+/// ```text
+/// let balance = Name::new(heap, "balance")?;
+/// assert_eq!(rt; balance.as_str(), "balance");
+/// ```
+#[derive(Debug, Drop)]
+pub struct Name {
+    text: String<Heap>,
+}
+
+impl Model for Name {
+    ghost use Rattle.std.specs.Prelude.{◌≡◌, List, ℕ, true, string_bytes};
+    ghost use Rattle.argus_contents.specs.Name.{is_name};
+
+    ghost Value = { List ℕ };
+
+    ghost view = { λ name. string_bytes name.text };
+
+    ghost invariant = { λ name. is_name (string_bytes name.text) ≡ true };
+}
+
+impl Name {
+    /// The name with this text. `BadName` comes exactly where the text has no name's form.
+    pub fn new(heap: Heap, text: &str) -> Result<Name, NameError>
+        ensures ok { IfOk result (λ name. name ≡ text.now) }
+        ensures bad { IsErrOf result NameError.BadName ↔ (is_name text.now ≡ false) }
+    {
+        if !has_name_form(text.as_bytes()) {
+            return Err(NameError::BadName);
+        }
+        Ok(Name {
+            text: String::from_str(heap, text)?,
+        })
+    }
+
+    /// The text of the name.
+    pub fn as_str(&self) -> &str
+        ensures { result.now ≡ self.now }
+    {
+        self.text.as_str()
+    }
+
+    /// A name equal to this one.
+    pub fn duplicate(&self, heap: Heap) -> Result<Name, OutOfMemory>
+        ensures { IfOk result (λ name. name ≡ self.now) }
+    {
+        Ok(Name {
+            text: String::from_str(heap, self.text.as_str())?,
+        })
+    }
+}
+
+fn has_name_form(text: &[u8]) -> bool
+    ensures { result ≡ is_name text.now }
+{
+    if text.is_empty() || text.len() > MAX_NAME_BYTES {
+        return false;
+    }
+    has_only_name_bytes(text)
+}
+
+fn has_only_name_bytes(text: &[u8]) -> bool
+    ensures { result ≡ list_all is_name_byte text.now }
+{
+    text.iter().all(|b| may_stand_in_name(*b))
+}
+
+fn may_stand_in_name(byte: u8) -> bool
+    ensures { result ≡ is_name_byte byte }
+{
+    matches!(byte, b'a'..=b'z' | b'0'..=b'9' | b'_')
+}

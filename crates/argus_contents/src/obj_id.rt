@@ -1,0 +1,12 @@
+//! `ObjId`: the number of an object.
+
+/// The number of an object, by which calls, references and journals name it.
+///
+/// Objects are numbered from 0 in the order of their declarations. A number may stand for an object
+/// that isn't declared; what takes it says what follows.
+///
+/// ```text
+/// let first = ObjId(0);
+/// ```
+#[derive(Clone, Copy, Debug, PartialEq, Eq, PartialOrd, Ord, Hash)]
+pub struct ObjId(pub u32);

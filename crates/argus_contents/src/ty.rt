@@ -1,0 +1,76 @@
+//! `Ty`: the type of a value.
+
+ghost use Rattle.std.specs.Prelude.{◌≡◌, IfOk};
+ghost use Rattle.argus_contents.specs.Ty.{plain_ty, plain_fields};
+
+use crate::name::Name;
+use argus_memory::{Heap, OutOfMemory};
+
+/// The type of a value.
+///
+/// A struct or a oneof has 1 to 64 distinct names, and a type has depth at most 16, wherever it
+/// stands in a [`Shape`](crate::Shape); the makers of shapes test it.
+///
+/// Source: the built-in immutable types of the Argus Reference Manual (MIT/LCS/TR-400, 1987).
+///
+/// ```text
+/// let numbers = Ty::Sequence(Box::new(heap, Ty::Int)?);      // sequence[int]
+/// ```
+#[derive(Debug, Drop)]
+pub enum Ty {
+    Null,
+    Bool,
+    Int,
+    Text,
+    /// A reference to an object, of whatever shape.
+    Atomic,
+    Sequence(Box<Ty, Heap>),
+    /// `struct[..]`: a name and a type for each part.
+    Fields(Vec<(Name, Ty), Heap>),
+    /// `oneof[..]`: a name and a type for each tag.
+    Choice(Vec<(Name, Ty), Heap>),
+}
+
+impl Ty {
+    /// A type equal to this one.
+    pub fn duplicate(&self, heap: Heap) -> Result<Ty, OutOfMemory>
+        ensures { IfOk result (λ copy. plain_ty copy ≡ plain_ty self.now) }
+    {
+        duplicate_ty(heap, self)
+    }
+}
+
+#[cycle(duplicate)]
+fn duplicate_ty(heap: Heap, ty: &Ty) -> Result<Ty, OutOfMemory>
+    ensures { IfOk result (λ copy. plain_ty copy ≡ plain_ty ty.now) }
+{
+    match ty {
+        Ty::Null => Ok(Ty::Null),
+        Ty::Bool => Ok(Ty::Bool),
+        Ty::Int => Ok(Ty::Int),
+        Ty::Text => Ok(Ty::Text),
+        Ty::Atomic => Ok(Ty::Atomic),
+        Ty::Sequence(item) => {
+            let copy = duplicate_ty(heap, item)?;
+            Ok(Ty::Sequence(Box::new(heap, copy)?))
+        }
+        Ty::Fields(fields) => Ok(Ty::Fields(duplicate_fields(heap, fields)?)),
+        Ty::Choice(tags) => Ok(Ty::Choice(duplicate_fields(heap, tags)?)),
+    }
+}
+
+/// Names and types equal to these, in the same order.
+#[cycle(duplicate)]
+pub(crate) fn duplicate_fields(
+    heap: Heap,
+    fields: &[(Name, Ty)],
+) -> Result<Vec<(Name, Ty), Heap>, OutOfMemory>
+    ensures { IfOk result (λ copies. plain_fields copies.items ≡ plain_fields fields.now) }
+{
+    let mut copies = Vec::with_capacity(heap, fields.len())?;
+    for (name, ty) in fields {
+        let name = name.duplicate(heap)?;
+        copies.push((name, duplicate_ty(heap, ty)?))?;
+    }
+    Ok(copies)
+}

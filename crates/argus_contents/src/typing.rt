@@ -1,0 +1,165 @@
+//! `typed`, `fits`, `query_fits` and `change_fits`: what suits a type or a shape.
+
+ghost use Rattle.std.specs.Prelude.{◌≡◌, drop, length};
+ghost use Rattle.argus_contents.specs.Change.{plain_change};
+ghost use Rattle.argus_contents.specs.Content.{plain_content};
+ghost use Rattle.argus_contents.specs.Fitting.{change_suits, has_number, is_fitting, is_within, query_suits};
+ghost use Rattle.argus_contents.specs.Ty.{plain_fields, plain_ty};
+ghost use Rattle.argus_contents.specs.Typing.{all_typed, each_typed, is_typed, is_typed_at};
+ghost use Rattle.argus_contents.specs.Value.{listed, plain_list, plain_value};
+
+use crate::change::Change;
+use crate::content::Content;
+use crate::limits::{MAX_BOUND, MAX_ITEMS, MIN_BOUND};
+use crate::name::Name;
+use crate::query::Query;
+use crate::shape::Shape;
+use crate::shape_view::ShapeView;
+use crate::ty::Ty;
+use crate::value::Value;
+use argus_memory::Heap;
+use std::collections::VecDeque;
+
+/// Whether the value is of the type, where so many objects are declared: the constructors agree,
+/// each part is of the part's type, and each reference names a declared object.
+pub fn typed(ty: &Ty, declared: u32, value: &Value) -> bool
+    ensures { result ≡ is_typed (plain_ty ty.now) declared (plain_value value.now) }
+{
+    has_type(value, ty, declared)
+}
+
+#[cycle(typed)]
+fn has_type(value: &Value, ty: &Ty, declared: u32) -> bool
+    ensures { result ≡ is_typed (plain_ty ty.now) declared (plain_value value.now) }
+{
+    match (ty, value) {
+        (Ty::Null, Value::Null) => true,
+        (Ty::Bool, Value::Bool(_)) => true,
+        (Ty::Int, Value::Int(_)) => true,
+        (Ty::Text, Value::Text(_)) => true,
+        (Ty::Atomic, Value::Atomic(object)) => object.0 < declared,
+        (Ty::Sequence(item), Value::Sequence(items)) => all_have_type(items, item, declared),
+        (Ty::Fields(names), Value::Fields(fields)) => each_has_type(fields, names, declared),
+        (Ty::Choice(names), Value::Choice(tag, part)) => match names.get(*tag as usize) {
+            Some((_, ty)) => has_type(part, ty, declared),
+            None => false,
+        },
+        _ => false,
+    }
+}
+
+#[cycle(typed)]
+fn all_have_type(values: &[Value], ty: &Ty, declared: u32) -> bool
+    ensures { result ≡ all_typed (plain_ty ty.now) declared (listed (plain_list values.now)) }
+{
+    for value in values {
+        if !has_type(value, ty, declared) {
+            return false;
+        }
+    }
+    true
+}
+
+#[cycle(typed)]
+fn each_has_type(values: &[Value], names: &[(Name, Ty)], declared: u32) -> bool
+    ensures { result ≡ each_typed (plain_fields names.now) declared (listed (plain_list values.now)) }
+{
+    if values.len() != names.len() {
+        return false;
+    }
+    for i in 0..values.len() {
+        let (_, ty) = &names[i];
+        if !has_type(&values[i], ty, declared) {
+            return false;
+        }
+    }
+    true
+}
+
+fn has_type_at(value: &Value, number: u8, names: &[(Name, Ty)], declared: u32) -> bool
+    ensures { result ≡ is_typed_at (plain_fields names.now) number declared (plain_value value.now) }
+{
+    match names.get(number as usize) {
+        Some((_, ty)) => typed(ty, declared, value),
+        None => false,
+    }
+}
+
+/// Whether the content fits the shape, where so many objects are declared: the kinds agree, each
+/// part is of its type, and an array keeps the limits.
+pub fn fits(shape: &Shape, declared: u32, content: &Content) -> bool
+    ensures { result ≡ is_fitting shape.now declared (plain_content content.now) }
+{
+    match (shape.view(), content) {
+        (ShapeView::Rec(names), Content::Rec(fields)) => each_has_type(fields, names, declared),
+        (ShapeView::Arr(item), Content::Arr { low, items }) => {
+            keeps_limits(*low, items.len()) && items_have_type(items, item, declared)
+        }
+        (ShapeView::Var(names), Content::Var { tag, value }) => {
+            has_type_at(value, *tag, names, declared)
+        }
+        _ => false,
+    }
+}
+
+fn keeps_limits(low: i64, size: usize) -> bool
+    ensures { result ≡ is_within low size }
+{
+    if size > MAX_ITEMS || low < MIN_BOUND || low > MAX_BOUND {
+        return false;
+    }
+    low + size as i64 - 1 <= MAX_BOUND
+}
+
+fn items_have_type(items: &VecDeque<Value, Heap>, ty: &Ty, declared: u32) -> bool
+    ensures { result ≡ all_typed (plain_ty ty.now) declared (listed (plain_list items.now.items)) }
+{
+    let (front, back) = items.as_slices();
+    all_have_type(front, ty, declared) && all_have_type(back, ty, declared)
+}
+
+/// Whether the query suits the shape: it is one of the shape's kind, and there is a field or a tag
+/// with its number. `Whole` suits every shape.
+pub fn query_fits(shape: &Shape, query: &Query) -> bool
+    ensures { result ≡ query_suits shape.now query.now }
+{
+    match (query, shape.view()) {
+        (Query::Whole, _) => true,
+        (Query::Field(field), ShapeView::Rec(names)) => have_number(names, *field),
+        (Query::Low | Query::High | Query::Size, ShapeView::Arr(_)) => true,
+        (Query::Fetch(_) | Query::Bottom | Query::Top, ShapeView::Arr(_)) => true,
+        (Query::IsTag(tag), ShapeView::Var(names)) => have_number(names, *tag),
+        (Query::TagValue(tag), ShapeView::Var(names)) => have_number(names, *tag),
+        _ => false,
+    }
+}
+
+fn have_number(names: &[(Name, Ty)], number: u8) -> bool
+    ensures { result ≡ has_number (plain_fields names.now) number }
+{
+    (number as usize) < names.len()
+}
+
+/// Whether the change suits the shape, where so many objects are declared: it is one of the shape's
+/// kind, there is a field or a tag with its number, and its value is of the type or its content
+/// fits. `Touch` suits every shape.
+pub fn change_fits(shape: &Shape, declared: u32, change: &Change) -> bool
+    ensures { result ≡ change_suits shape.now declared (plain_change change.now) }
+{
+    match (change, shape.view()) {
+        (Change::Touch, _) => true,
+        (Change::Create(content), _) => fits(shape, declared, content),
+        (Change::SetField(field, value), ShapeView::Rec(names)) => {
+            has_type_at(value, *field, names, declared)
+        }
+        (Change::Store(_, value), ShapeView::Arr(item)) => typed(item, declared, value),
+        (Change::Addh(value), ShapeView::Arr(item)) => typed(item, declared, value),
+        (Change::Addl(value), ShapeView::Arr(item)) => typed(item, declared, value),
+        (Change::Remh | Change::Reml, ShapeView::Arr(_)) => true,
+        (Change::SetLow(_) | Change::Trim(_, _), ShapeView::Arr(_)) => true,
+        (Change::ChangeTag(tag, value), ShapeView::Var(names)) => {
+            has_type_at(value, *tag, names, declared)
+        }
+        _ => false,
+    }
+}

@@ -1,0 +1,101 @@
+//! `Value`: an immutable value, as it stands in a record, an array or a variant.
+
+ghost use Rattle.std.specs.Prelude.{◌≡◌, ◌++◌, IfOk, OnOk};
+ghost use Rattle.argus_contents.specs.Value.{plain_value, plain_list};
+
+use crate::obj_id::ObjId;
+use argus_memory::{Heap, OutOfMemory};
+
+/// An immutable value.
+///
+/// | Variant | Type | Meaning |
+/// |---|---|---|
+/// | `Null` | `null` | the one value of its type |
+/// | `Bool` | `bool` | a truth value |
+/// | `Int` | `int` | an integer of 64 bits |
+/// | `Text` | `text` | Unicode text |
+/// | `Atomic` | `atomic` | a reference to an object, by its number |
+/// | `Sequence` | `sequence[..]` | values of one type, in order |
+/// | `Fields` | `struct[..]` | a value for each name of the type, in order |
+/// | `Choice` | `oneof[..]` | the number of a tag from 0, and a value of the tag's type |
+///
+/// Source: the built-in immutable types of the Argus Reference Manual (MIT/LCS/TR-400, 1987).
+///
+/// ```text
+/// let mut fields = Vec::new(heap);
+/// fields.push(Value::Int(5))?;
+/// fields.push(Value::Text(String::from_str(heap, "five")?))?;
+/// let pair = Value::Fields(fields);
+/// ```
+#[derive(Debug, Drop, PartialEq)]
+pub enum Value {
+    Null,
+    Bool(bool),
+    Int(i64),
+    Text(String<Heap>),
+    Atomic(ObjId),
+    Sequence(Vec<Value, Heap>),
+    Fields(Vec<Value, Heap>),
+    Choice(u8, Box<Value, Heap>),
+}
+
+impl Value {
+    /// A value equal to this one.
+    pub fn duplicate(&self, heap: Heap) -> Result<Value, OutOfMemory>
+        ensures { IfOk result (λ copy. plain_value copy ≡ plain_value self.now) }
+    {
+        duplicate_value(heap, self)
+    }
+}
+
+#[cycle(duplicate)]
+fn duplicate_value(heap: Heap, value: &Value) -> Result<Value, OutOfMemory>
+    ensures { IfOk result (λ copy. plain_value copy ≡ plain_value value.now) }
+{
+    match value {
+        Value::Null => Ok(Value::Null),
+        Value::Bool(truth) => Ok(Value::Bool(*truth)),
+        Value::Int(number) => Ok(Value::Int(*number)),
+        Value::Text(text) => Ok(Value::Text(String::from_str(heap, text.as_str())?)),
+        Value::Atomic(object) => Ok(Value::Atomic(*object)),
+        Value::Sequence(items) => Ok(Value::Sequence(duplicate_all(heap, items)?)),
+        Value::Fields(fields) => Ok(Value::Fields(duplicate_all(heap, fields)?)),
+        Value::Choice(tag, part) => {
+            let copy = duplicate_value(heap, part)?;
+            Ok(Value::Choice(*tag, Box::new(heap, copy)?))
+        }
+    }
+}
+
+/// Values equal to these, in the same order.
+#[cycle(duplicate)]
+pub(crate) fn duplicate_all(heap: Heap, values: &[Value]) -> Result<Vec<Value, Heap>, OutOfMemory>
+    ensures { IfOk result (λ copies. plain_list copies.items ≡ plain_list values.now) }
+{
+    let mut copies = Vec::with_capacity(heap, values.len())?;
+    append_copies(heap, values, &mut copies)?;
+    Ok(copies)
+}
+
+/// Appends values equal to these, in the same order.
+//
+// Scalars are copied in the loop itself: a call for each would take most of the time.
+#[cycle(duplicate)]
+pub(crate) fn append_copies(
+    heap: Heap,
+    values: &[Value],
+    copies: &mut Vec<Value, Heap>,
+) -> Result<(), OutOfMemory>
+    ensures { OnOk result (plain_list copies.new.items ≡ plain_list copies.old.items ++ plain_list values.now) }
+{
+    for value in values {
+        match value {
+            Value::Null => copies.push(Value::Null)?,
+            Value::Bool(truth) => copies.push(Value::Bool(*truth))?,
+            Value::Int(number) => copies.push(Value::Int(*number))?,
+            Value::Atomic(object) => copies.push(Value::Atomic(*object))?,
+            _ => copies.push(duplicate_value(heap, value)?)?,
+        }
+    }
+    Ok(())
+}
