@@ -3,7 +3,7 @@ use Rattle.std.proofs.Common.{◌≡◌, ℕ, suc, ◌+◌, ◌<◌, ◌≤◌, 
 use Rattle.std.proofs.Math.Bool.{and-false, and-true}
 use Rattle.std.proofs.lemmas.Bool.{eq-eqb, ne_eqb, lt-ltb, le-ltb, cases_eq, cases_Bool}
 use Rattle.std.proofs.lemmas.List.{length-append, get_or_append_left, get_or_push}
-use Rattle.argus_actions.specs.declared.limits.TheConstants.{MAX_ACTIONS, MAX_DEPTH}
+use Rattle.argus_actions.specs.declared.limits.TheConstants.{MAX_ACTIONS, MAX_ACTION_DEPTH}
 use Rattle.argus_actions.specs.declared.node.TheConstants.{NONE}
 use Rattle.argus_actions.specs.declared.node.Node.{Node}
 use Rattle.argus_actions.specs.declared.origin.Origin.{Origin}
@@ -85,7 +85,7 @@ module _ (n : ℕ) (nodes new : List Node) (origin : Origin) (number older depth
     (long : length new ≡ length nodes)
     (each : (a k : ℕ) (d : Node) → a ≡ n + k → k < length nodes → get_or new k d ≡ adopted origin number a (get_or nodes k d))
     (older_is : older ≡ at_parent NONE origin (λ p. link_to (newest_below n (rows_of nodes) p number)))
-    (depth_is : depth ≡ at_parent 0 origin (depth_at n (rows_of nodes)) + 1) (shallow : depth ≤ MAX_DEPTH) where
+    (depth_is : depth ≡ at_parent 0 origin (depth_at n (rows_of nodes)) + 1) (shallow : depth ≤ MAX_ACTION_DEPTH) where
   pub begun_rows : rows_of (new ++ fresh origin older depth ∷ []) ≡ (let r : Row = record { origin = origin; status = Live } in r ∷ rows_of nodes)
   begun_rows = rows_of-push new (fresh origin older depth)
       ∙ ap (λ (rows : List Row). let r : Row = record { origin = origin; status = Live } in r ∷ rows)

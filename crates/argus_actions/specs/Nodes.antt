@@ -1,6 +1,6 @@
 -- What a tree keeps of its actions, oldest first, and what its nodes say beside their rows.
 use Rattle.std.specs.Prelude.{◌≡◌, ℕ, ◌+◌, ◌<◌, ◌≤◌, false, ◌&&◌, ◌==◌, if◌then◌else◌, List, [], ◌∷◌, length, reverse, map, get_or, Option, Some, None, IfSome}
-use Rattle.argus_actions.specs.declared.limits.TheConstants.{MAX_ACTIONS, MAX_DEPTH}
+use Rattle.argus_actions.specs.declared.limits.TheConstants.{MAX_ACTIONS, MAX_ACTION_DEPTH}
 use Rattle.argus_actions.specs.declared.node.TheConstants.{NONE}
 use Rattle.argus_actions.specs.declared.action_id.ActionId.{ActionId}
 use Rattle.argus_actions.specs.declared.node.Node.{Node}
@@ -46,7 +46,7 @@ pub record IsNode (folded : ℕ) (rows : List Row) (a : ℕ) (node : Node) : Typ
   pub older : node.older_sub ≡ link_to (at_parent None node.origin (λ p. newest_below folded rows p a))
   pub children : node.live_children ≡ live_count rows a
   pub depth : node.depth ≡ depth_at folded rows a
-  pub shallow : node.depth ≤ MAX_DEPTH
+  pub shallow : node.depth ≤ MAX_ACTION_DEPTH
 
 -- what is so of the nodes of every tree
 pub record AreNodes (folded : ℕ) (nodes : List Node) : Type 0 where

@@ -1,7 +1,7 @@
 -- The first refusal that applies to each call, if any.
 use Rattle.std.specs.Prelude.{◌≡◌, ℕ, Bool, nat_le, if◌then◌else◌, Option, Some, None, Result, Err, IfErr}
 use Rattle.std.specs.Option.{option_or}
-use Rattle.argus_actions.specs.declared.limits.TheConstants.{MAX_ACTIONS, MAX_DEPTH}
+use Rattle.argus_actions.specs.declared.limits.TheConstants.{MAX_ACTIONS, MAX_ACTION_DEPTH}
 use Rattle.argus_actions.specs.declared.action_error.ActionError.{ActionError}
 use Rattle.argus_actions.specs.declared.action_error.ActionError.TheVariants.{NoAction, Over, ChildrenLive, TooDeep, TooMany, OutOfMemory}
 use Rattle.argus_actions.specs.declared.status.Status.{Status}
@@ -25,7 +25,7 @@ begin_top_refusal tree = refused_if (nat_le MAX_ACTIONS (next tree)) TooMany
 abbrev pub begin_sub_refusal : Tree → ℕ → Option ActionError
 begin_sub_refusal tree parent =
     option_or (unless_live (status_of tree parent))
-    (option_or (refused_if (nat_le MAX_DEPTH (depth_at tree.folded tree.rows parent)) TooDeep) (begin_top_refusal tree))
+    (option_or (refused_if (nat_le MAX_ACTION_DEPTH (depth_at tree.folded tree.rows parent)) TooDeep) (begin_top_refusal tree))
 
 abbrev pub begin_nested_refusal : Tree → ℕ → Option ActionError
 begin_nested_refusal tree creator = option_or (unless_live (status_of tree creator)) (begin_top_refusal tree)

@@ -12,7 +12,7 @@ ghost use Rattle.argus_actions.specs.Refusals.{begin_top_refusal, begin_sub_refu
 
 use crate::action_error::ActionError;
 use crate::action_id::ActionId;
-use crate::limits::{MAX_ACTIONS, MAX_DEPTH};
+use crate::limits::{MAX_ACTION_DEPTH, MAX_ACTIONS};
 use crate::node::{NONE, Node};
 use crate::origin::Origin;
 use crate::status::Status;
@@ -178,7 +178,7 @@ impl ActionTree {
         match self.node(parent) {
             None => Some(ActionError::NoAction),
             Some(node) if !node.status.is_live() => Some(ActionError::Over),
-            Some(node) if u32::from(node.depth) >= MAX_DEPTH => Some(ActionError::TooDeep),
+            Some(node) if u32::from(node.depth) >= MAX_ACTION_DEPTH => Some(ActionError::TooDeep),
             Some(_) => self.begin_top_refusal(),
         }
     }
@@ -382,7 +382,7 @@ impl ActionTree {
         requires room { 0 < self.old.room }
         requires few { next self.old < MAX_ACTIONS }
         requires between { ComesBetween self.old.folded (next self.old) origin }
-        requires shallow { at_parent 0 origin (depth_at self.old.folded self.old.rows) < MAX_DEPTH }
+        requires shallow { at_parent 0 origin (depth_at self.old.folded self.old.rows) < MAX_ACTION_DEPTH }
         ensures number { result.0 ≡ next self.old }
         ensures tree { self.new ≡ after_begin self.old origin }
     {

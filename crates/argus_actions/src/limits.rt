@@ -4,4 +4,4 @@
 pub(crate) const MAX_ACTIONS: u32 = 1_000_000;
 
 /// At most so many ancestors has an action, itself among them.
-pub(crate) const MAX_DEPTH: u32 = 64;
+pub(crate) const MAX_ACTION_DEPTH: u32 = 64;

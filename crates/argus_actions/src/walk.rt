@@ -8,7 +8,7 @@ ghost use Rattle.argus_actions.specs.Row.{at_parent, is_live};
 ghost use Rattle.argus_actions.specs.Rows.{is_above, depth_at, mark, newest_below};
 ghost use Rattle.argus_actions.specs.Nodes.{rows_of, AreLinked, AreNodes, ComesBetween, link_to, adopted, fresh};
 
-use crate::limits::{MAX_ACTIONS, MAX_DEPTH};
+use crate::limits::{MAX_ACTION_DEPTH, MAX_ACTIONS};
 use crate::node::{NONE, Node};
 use crate::origin::Origin;
 use crate::status::Status;
@@ -34,7 +34,7 @@ pub(crate) fn climbs(nodes: &[Node], x: u32, y: u32) -> bool
 pub(crate) fn begun_node(nodes: &[Node], origin: Origin) -> Node
     requires nodes { AreNodes 0 nodes.now }
     requires between { ComesBetween 0 (length nodes.now) origin }
-    requires shallow { at_parent 0 origin (depth_at 0 (rows_of nodes.now)) < MAX_DEPTH }
+    requires shallow { at_parent 0 origin (depth_at 0 (rows_of nodes.now)) < MAX_ACTION_DEPTH }
     ensures { result ≡ fresh origin (at_parent NONE origin (λ p. link_to (newest_below 0 (rows_of nodes.now) p (length nodes.now)))) (at_parent 0 origin (depth_at 0 (rows_of nodes.now)) + 1) }
 {
     let (older_sub, depth) = match origin {
@@ -77,7 +77,7 @@ pub(crate) fn push_begun(nodes: &mut Vec<Node, Heap>, origin: Origin) -> u32
     requires few { vec_len nodes.old < MAX_ACTIONS }
     requires room { vec_len nodes.old < vec_capacity nodes.old }
     requires between { ComesBetween 0 (vec_len nodes.old) origin }
-    requires shallow { at_parent 0 origin (depth_at 0 (rows_of nodes.old.items)) < MAX_DEPTH }
+    requires shallow { at_parent 0 origin (depth_at 0 (rows_of nodes.old.items)) < MAX_ACTION_DEPTH }
     ensures number { result ≡ vec_len nodes.old }
     ensures nodes { AreNodes 0 nodes.new.items }
     ensures rows { rows_of nodes.new.items ≡ record { origin = origin; status = Live } ∷ rows_of nodes.old.items }

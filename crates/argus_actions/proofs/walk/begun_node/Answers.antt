@@ -1,5 +1,5 @@
 use Rattle.std.proofs.Common.{◌≡◌, ◌<◌, ◌≤◌, ◌+◌, length, get_or, sym, ◌∙◌, ap, arith}
-use Rattle.argus_actions.specs.declared.limits.TheConstants.{MAX_DEPTH}
+use Rattle.argus_actions.specs.declared.limits.TheConstants.{MAX_ACTION_DEPTH}
 use Rattle.argus_actions.specs.declared.origin.Origin.{Origin}
 use Rattle.argus_actions.specs.declared.origin.Origin.TheVariants.{Sub}
 use Rattle.argus_actions.specs.Row.{under_of, at_parent}
@@ -12,7 +12,7 @@ use Rattle.argus_actions.proofs.walk.begun_node.Goals as goal
 pub overflow_add-older_sub : goal.overflow_add-older_sub
 overflow_add-older_sub c =
     let below : c.in-Sub.parent < length c.args.nodes.now = under_below (length c.args.nodes.now) c.in-Sub.parent c.args.origin c.requires.between (ap under_of c.in-Sub.is) in
-    let deep : (get_or c.args.nodes.now c.in-Sub.parent some_node).depth ≤ MAX_DEPTH = (c.requires.nodes.each c.in-Sub.parent c.in-Sub.parent some_node (omega arith) below).shallow in
+    let deep : (get_or c.args.nodes.now c.in-Sub.parent some_node).depth ≤ MAX_ACTION_DEPTH = (c.requires.nodes.each c.in-Sub.parent c.in-Sub.parent some_node (omega arith) below).shallow in
     omega arith
 
 pub returns-in-Sub : goal.returns-in-Sub

@@ -1,6 +1,6 @@
 use Rattle.std.proofs.Common.{◌≡◌, ◌<◌, ◌≤◌, ◌+◌, ℕ, List, [], ◌∷◌, ◌++◌, length, get_or, subst, refl, sym, ◌∙◌, ap, arith}
 use Rattle.std.proofs.lemmas.List.{with_items_is}
-use Rattle.argus_actions.specs.declared.limits.TheConstants.{MAX_ACTIONS, MAX_DEPTH}
+use Rattle.argus_actions.specs.declared.limits.TheConstants.{MAX_ACTIONS, MAX_ACTION_DEPTH}
 use Rattle.argus_actions.specs.declared.node.TheConstants.{NONE}
 use Rattle.argus_actions.specs.declared.node.Node.{Node}
 use Rattle.argus_actions.specs.Row.{at_parent}
@@ -31,7 +31,7 @@ returns c =
     let older_is : older ≡ at_parent NONE c.args.origin (λ p. link_to (newest_below 0 (rows_of c.args.nodes.now.items) p c.len-number.result))
     = ap (λ bound. at_parent NONE c.args.origin (λ p. link_to (newest_below 0 (rows_of c.args.nodes.now.items) p bound))) (sym last) in
     let between : ComesBetween 0 c.len-number.result c.args.origin = let P : ℕ → Type 0 = λ high. ComesBetween 0 high c.args.origin in subst P (sym c.len-number.ensures) c.requires.between in
-    let shallow : depth ≤ MAX_DEPTH = omega (arith, c.requires.shallow) in
+    let shallow : depth ≤ MAX_ACTION_DEPTH = omega (arith, c.requires.shallow) in
     record {
       number = c.len-number.ensures;
       nodes = rw items_is (begun_nodes 0 c.args.nodes.now.items c.adopt.new.nodes c.args.origin c.len-number.result older depth c.requires.nodes next low between long each older_is refl shallow);
