@@ -3,7 +3,7 @@ use Rattle.std.proofs.Common.{◌≡◌, ℕ, suc, ◌+◌, ◌<◌, ◌≤◌, 
 use Rattle.std.proofs.Math.Bool.{and-false, and-true}
 use Rattle.std.proofs.lemmas.Bool.{eq-eqb, ne_eqb, lt-ltb, le-ltb, cases_eq, cases_Bool}
 use Rattle.std.proofs.lemmas.List.{length-append, get_or_append_left, get_or_push}
-use Rattle.argus_actions.specs.declared.limits.TheConstants.{MAX_ACTIONS, MAX_ACTION_DEPTH}
+use Rattle.argus_contents.specs.declared.limits.TheConstants.{MAX_ACTIONS, MAX_ACTION_DEPTH}
 use Rattle.argus_actions.specs.declared.node.TheConstants.{NONE}
 use Rattle.argus_actions.specs.declared.node.Node.{Node}
 use Rattle.argus_actions.specs.declared.origin.Origin.{Origin}

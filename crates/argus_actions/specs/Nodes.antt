@@ -1,6 +1,6 @@
 -- What a tree keeps of its actions, oldest first, and what its nodes say beside their rows.
 use Rattle.std.specs.Prelude.{◌≡◌, ℕ, ◌+◌, ◌<◌, ◌≤◌, false, ◌&&◌, ◌==◌, if◌then◌else◌, List, [], ◌∷◌, length, reverse, map, get_or, Option, Some, None, IfSome}
-use Rattle.argus_actions.specs.declared.limits.TheConstants.{MAX_ACTIONS, MAX_ACTION_DEPTH}
+use Rattle.argus_contents.specs.declared.limits.TheConstants.{MAX_ACTIONS, MAX_ACTION_DEPTH}
 use Rattle.argus_actions.specs.declared.node.TheConstants.{NONE}
 use Rattle.argus_actions.specs.declared.action_id.ActionId.{ActionId}
 use Rattle.argus_actions.specs.declared.node.Node.{Node}

@@ -1,7 +1,7 @@
 -- The first refusal that applies to each call, if any.
 use Rattle.std.specs.Prelude.{◌≡◌, ℕ, Bool, nat_le, if◌then◌else◌, Option, Some, None, Result, Err, IfErr}
 use Rattle.std.specs.Option.{option_or}
-use Rattle.argus_actions.specs.declared.limits.TheConstants.{MAX_ACTIONS, MAX_ACTION_DEPTH}
+use Rattle.argus_contents.specs.declared.limits.TheConstants.{MAX_ACTIONS, MAX_ACTION_DEPTH}
 use Rattle.argus_actions.specs.declared.action_error.ActionError.{ActionError}
 use Rattle.argus_actions.specs.declared.action_error.ActionError.TheVariants.{NoAction, Over, ChildrenLive, TooDeep, TooMany, OutOfMemory}
 use Rattle.argus_actions.specs.declared.status.Status.{Status}

@@ -12,11 +12,11 @@ ghost use Rattle.argus_actions.specs.Refusals.{begin_top_refusal, begin_sub_refu
 
 use crate::action_error::ActionError;
 use crate::action_id::ActionId;
-use crate::limits::{MAX_ACTION_DEPTH, MAX_ACTIONS};
 use crate::node::{NONE, Node};
 use crate::origin::Origin;
 use crate::status::Status;
 use crate::walk::{abort_under, climbs, finish, push_begun};
+use argus_contents::limits::{MAX_ACTION_DEPTH, MAX_ACTIONS};
 use argus_memory::{Heap, OutOfMemory};
 use std::marker::Model;
 

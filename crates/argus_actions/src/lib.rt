@@ -9,7 +9,6 @@
 mod action_error;
 mod action_id;
 mod action_tree;
-mod limits;
 mod node;
 mod origin;
 mod status;

@@ -8,10 +8,10 @@ ghost use Rattle.argus_actions.specs.Row.{at_parent, is_live};
 ghost use Rattle.argus_actions.specs.Rows.{is_above, depth_at, mark, newest_below};
 ghost use Rattle.argus_actions.specs.Nodes.{rows_of, AreLinked, AreNodes, ComesBetween, link_to, adopted, fresh};
 
-use crate::limits::{MAX_ACTION_DEPTH, MAX_ACTIONS};
 use crate::node::{NONE, Node};
 use crate::origin::Origin;
 use crate::status::Status;
+use argus_contents::limits::{MAX_ACTION_DEPTH, MAX_ACTIONS};
 use argus_memory::Heap;
 
 /// Whether `x` is `y`, or above it. A parent is older than its subactions, so it ends below `x`.

@@ -1,6 +1,6 @@
 //! Contents for tests, made of numbers.
 
-ghost use Rattle.std.specs.Prelude.{IfOk};
+ghost use Rattle.std.specs.Prelude.{◌≡◌, length, IfOk};
 ghost use Rattle.argus_contents.specs.Content.{KeepsLimits, plain_option};
 
 use argus_contents::limits::{MAX_BOUND, MAX_ITEMS, MIN_BOUND};
@@ -18,13 +18,19 @@ pub(crate) fn array(
 ) -> Result<Option<Content>, OutOfMemory>
     ensures { IfOk result (λ content. KeepsLimits (plain_option content)) }
 {
-    assert!(rt; low >= MIN_BOUND && low <= MAX_BOUND && numbers.len() <= MAX_ITEMS);
+    assert!(rt; low >= MIN_BOUND);
+    assert!(rt; low <= MAX_BOUND);
+    assert!(rt; numbers.len() <= MAX_ITEMS);
     assert!(rt; low + numbers.len() as i64 - 1 <= MAX_BOUND);
+    let items = queue_of(heap, numbers)?;
+    Ok(Some(Content::Arr { low, items }))
+}
+
+fn queue_of(heap: Heap, numbers: &[i64]) -> Result<VecDeque<Value, Heap>, OutOfMemory>
+    ensures { IfOk result (λ queue. length queue.items ≡ length numbers.now) }
+{
     let values: Vec<Value, Heap> = numbers.iter().map(|n| Value::Int(*n)).collect(heap)?;
-    Ok(Some(Content::Arr {
-        low,
-        items: VecDeque::from_vec(values),
-    }))
+    Ok(VecDeque::from_vec(values))
 }
 
 /// A record of ints.

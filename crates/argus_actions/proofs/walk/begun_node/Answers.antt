@@ -1,5 +1,5 @@
 use Rattle.std.proofs.Common.{◌≡◌, ◌<◌, ◌≤◌, ◌+◌, length, get_or, sym, ◌∙◌, ap, arith}
-use Rattle.argus_actions.specs.declared.limits.TheConstants.{MAX_ACTION_DEPTH}
+use Rattle.argus_contents.specs.declared.limits.TheConstants.{MAX_ACTION_DEPTH}
 use Rattle.argus_actions.specs.declared.origin.Origin.{Origin}
 use Rattle.argus_actions.specs.declared.origin.Origin.TheVariants.{Sub}
 use Rattle.argus_actions.specs.Row.{under_of, at_parent}

@@ -1,0 +1,12 @@
+pub use Rattle.argus_contents.specs.Answer
+pub use Rattle.argus_contents.specs.Change
+pub use Rattle.argus_contents.specs.Content
+pub use Rattle.argus_contents.specs.Fitting
+pub use Rattle.argus_contents.specs.Name
+pub use Rattle.argus_contents.specs.Place
+pub use Rattle.argus_contents.specs.Query
+pub use Rattle.argus_contents.specs.Shape
+pub use Rattle.argus_contents.specs.ShapeView
+pub use Rattle.argus_contents.specs.Ty
+pub use Rattle.argus_contents.specs.Typing
+pub use Rattle.argus_contents.specs.Value
