@@ -36,6 +36,9 @@ pub enum Content {
     },
 }
 
+// A tag, the low bound and the queue.
+const _: () = prove!(size_of::<Content>() == 64);
+
 impl Content {
     /// A content equal to this one.
     pub fn duplicate(&self, heap: Heap) -> Result<Content, OutOfMemory>

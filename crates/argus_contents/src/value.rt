@@ -39,6 +39,9 @@ pub enum Value {
     Choice(u8, Box<Value, Heap>),
 }
 
+// A tag, with what is small behind it, and the widest owner: a text or a list.
+const _: () = prove!(size_of::<Value>() == 40);
+
 impl Value {
     /// A value equal to this one.
     pub fn duplicate(&self, heap: Heap) -> Result<Value, OutOfMemory>

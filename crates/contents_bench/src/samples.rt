@@ -1,0 +1,45 @@
+//! Contents for the work to be done on.
+
+ghost use Rattle.std.specs.Prelude.{IfOk};
+ghost use Rattle.argus_contents.specs.Content.{KeepsLimits, plain_option};
+
+use crate::kind::Kind;
+use crate::work::Work;
+use argus_contents::{Change, Content, Heap, OutOfMemory, Value, alter_in_place};
+use std::collections::VecDeque;
+
+/// The content that the work is done on.
+pub(crate) fn sample(heap: Heap, kind: Kind) -> Result<Option<Content>, OutOfMemory>
+    ensures { IfOk result (λ content. KeepsLimits (plain_option content)) }
+{
+    match kind.work {
+        Work::SetField => record(heap, kind.size),
+        _ => array(heap, kind.size),
+    }
+}
+
+fn record(heap: Heap, size: u16) -> Result<Option<Content>, OutOfMemory>
+    ensures { IfOk result (λ content. KeepsLimits (plain_option content)) }
+{
+    let fields: Vec<Value, Heap> = (0..size).map(|n| Value::Int(n as i64)).collect(heap)?;
+    Ok(Some(Content::Rec(fields)))
+}
+
+fn array(heap: Heap, size: u16) -> Result<Option<Content>, OutOfMemory>
+    ensures { IfOk result (λ content. KeepsLimits (plain_option content)) }
+{
+    let mut content = empty(heap);
+    for n in 0..size {
+        let _ = alter_in_place(&mut content, Change::Addh(Value::Int(n as i64)))?;
+    }
+    Ok(content)
+}
+
+fn empty(heap: Heap) -> Option<Content>
+    ensures { KeepsLimits (plain_option result) }
+{
+    Some(Content::Arr {
+        low: 1,
+        items: VecDeque::new(heap),
+    })
+}
