@@ -59,120 +59,103 @@ fn leaves(
     Ok(())
 }
 
-#[test]
-fn arrays_signal(rt: HostRuntime) -> Result<(), Fail> {
-    let heap = Heap::new(rt.alloc())?;
-    let (least, greatest) = (-2147483648, 2147483647);
-    let (none, one): ([i64; 0], [i64; 1]) = ([], [9]);
-    let (two, three) = ([10, 20], [10, 20, 30]);
-    for (low, numbers, step, signal) in [
-        (1, two.as_slice(), Step::SetLow(greatest), Signal::Limits),
-        (1, two.as_slice(), Step::SetLow(least - 1), Signal::Limits),
-        (
-            1,
-            none.as_slice(),
-            Step::SetLow(greatest + 1),
-            Signal::Limits,
-        ),
-        (greatest, one.as_slice(), Step::Addh(1), Signal::Limits),
-        (greatest, one.as_slice(), Step::Reml, Signal::Limits),
-        (
-            greatest,
-            one.as_slice(),
-            Step::Trim(greatest + 1, 0),
-            Signal::Limits,
-        ),
-        (least, none.as_slice(), Step::Addl(1), Signal::Limits),
-        (1, two.as_slice(), Step::Store(3, 5), Signal::Bounds),
-        (1, two.as_slice(), Step::Store(0, 5), Signal::Bounds),
-        (1, three.as_slice(), Step::Trim(5, 1), Signal::Bounds),
-        (1, three.as_slice(), Step::Trim(0, 1), Signal::Bounds),
-        (1, three.as_slice(), Step::Trim(0, -1), Signal::NegativeSize),
-        (1, none.as_slice(), Step::Remh, Signal::Bounds),
-        (1, none.as_slice(), Step::Reml, Signal::Bounds),
-        (1, one.as_slice(), Step::SetField(0, 5), Signal::Absent),
-        (1, one.as_slice(), Step::ChangeTag(0, 5), Signal::Absent),
-    ] {
-        let before = array(&rt, heap, low, numbers)?;
-        let after = array(&rt, heap, low, numbers)?;
-        leaves(
-            &rt,
-            heap,
-            before,
-            change_of(step),
-            &Answer::Signal(signal),
-            &after,
-        )?;
+// Each change signals, and leaves its array as it was.
+fn each_signals(
+    rt: &impl Abort,
+    heap: Heap,
+    rows: &[(i64, &[i64], Step, Signal)],
+) -> Result<(), OutOfMemory> {
+    for (low, numbers, step, signal) in rows {
+        let before = array(rt, heap, *low, numbers)?;
+        let after = array(rt, heap, *low, numbers)?;
+        let answer = Answer::Signal(*signal);
+        leaves(rt, heap, before, change_of(*step), &answer, &after)?;
     }
+    Ok(())
+}
+
+// Each change is done, and leaves the second array of the first.
+fn each_makes(
+    rt: &impl Abort,
+    heap: Heap,
+    rows: &[(i64, &[i64], Step, i64, &[i64])],
+) -> Result<(), OutOfMemory> {
+    for (low, numbers, step, left_low, left) in rows {
+        let before = array(rt, heap, *low, numbers)?;
+        let after = array(rt, heap, *left_low, left)?;
+        leaves(rt, heap, before, change_of(*step), &Answer::Done, &after)?;
+    }
+    Ok(())
+}
+
+const LEAST: i64 = -2147483648;
+
+const GREATEST: i64 = 2147483647;
+
+#[test]
+fn arrays_signal_limits(rt: HostRuntime) -> Result<(), Fail> {
+    let heap = Heap::new(rt.alloc())?;
+    let none: &[i64] = &[];
+    let one: &[i64] = &[9];
+    let two: &[i64] = &[10, 20];
+    let rows = [
+        (1, two, Step::SetLow(GREATEST), Signal::Limits),
+        (1, two, Step::SetLow(LEAST - 1), Signal::Limits),
+        (1, none, Step::SetLow(GREATEST + 1), Signal::Limits),
+        (GREATEST, one, Step::Addh(1), Signal::Limits),
+        (GREATEST, one, Step::Reml, Signal::Limits),
+        (GREATEST, one, Step::Trim(GREATEST + 1, 0), Signal::Limits),
+        (LEAST, none, Step::Addl(1), Signal::Limits),
+    ];
+    each_signals(&rt, heap, &rows)?;
+    Ok(())
+}
+
+#[test]
+fn arrays_signal_bounds(rt: HostRuntime) -> Result<(), Fail> {
+    let heap = Heap::new(rt.alloc())?;
+    let none: &[i64] = &[];
+    let two: &[i64] = &[10, 20];
+    let three: &[i64] = &[10, 20, 30];
+    let rows = [
+        (1, two, Step::Store(3, 5), Signal::Bounds),
+        (1, two, Step::Store(0, 5), Signal::Bounds),
+        (1, three, Step::Trim(5, 1), Signal::Bounds),
+        (1, three, Step::Trim(0, 1), Signal::Bounds),
+        (1, three, Step::Trim(0, -1), Signal::NegativeSize),
+        (1, none, Step::Remh, Signal::Bounds),
+        (1, none, Step::Reml, Signal::Bounds),
+        (1, two, Step::SetField(0, 5), Signal::Absent),
+        (1, two, Step::ChangeTag(0, 5), Signal::Absent),
+    ];
+    each_signals(&rt, heap, &rows)?;
     Ok(())
 }
 
 #[test]
 fn arrays_change(rt: HostRuntime) -> Result<(), Fail> {
     let heap = Heap::new(rt.alloc())?;
-    let (least, greatest) = (-2147483648, 2147483647);
-    let (none, one): ([i64; 0], [i64; 1]) = ([], [9]);
-    let three = [10, 20, 30];
-    for (low, numbers, step, left_low, left) in [
-        (1, three.as_slice(), Step::Trim(2, 0), 2, none.as_slice()),
-        (
-            1,
-            three.as_slice(),
-            Step::Trim(2, 5),
-            2,
-            [20, 30].as_slice(),
-        ),
-        (1, three.as_slice(), Step::Trim(2, 1), 2, [20].as_slice()),
-        (1, three.as_slice(), Step::Trim(4, 1), 4, none.as_slice()),
-        (1, three.as_slice(), Step::Trim(1, 3), 1, three.as_slice()),
-        (
-            1,
-            three.as_slice(),
-            Step::Store(1, 7),
-            1,
-            [7, 20, 30].as_slice(),
-        ),
-        (
-            1,
-            three.as_slice(),
-            Step::Store(3, 7),
-            1,
-            [10, 20, 7].as_slice(),
-        ),
-        (1, three.as_slice(), Step::Touch, 1, three.as_slice()),
-        (
-            1,
-            one.as_slice(),
-            Step::SetLow(greatest),
-            greatest,
-            one.as_slice(),
-        ),
-        (
-            1,
-            none.as_slice(),
-            Step::SetLow(least),
-            least,
-            none.as_slice(),
-        ),
-        (
-            greatest,
-            one.as_slice(),
-            Step::Addl(1),
-            greatest - 1,
-            [1, 9].as_slice(),
-        ),
-        (
-            greatest - 1,
-            one.as_slice(),
-            Step::Addh(1),
-            greatest - 1,
-            [9, 1].as_slice(),
-        ),
-    ] {
-        let before = array(&rt, heap, low, numbers)?;
-        let after = array(&rt, heap, left_low, left)?;
-        leaves(&rt, heap, before, change_of(step), &Answer::Done, &after)?;
-    }
+    let none: &[i64] = &[];
+    let one: &[i64] = &[9];
+    let three: &[i64] = &[10, 20, 30];
+    let (stored_first, stored_last): (&[i64], &[i64]) = (&[7, 20, 30], &[10, 20, 7]);
+    let (kept, middle): (&[i64], &[i64]) = (&[20, 30], &[20]);
+    let (low_end, high_end): (&[i64], &[i64]) = (&[1, 9], &[9, 1]);
+    let rows = [
+        (1, three, Step::Trim(2, 0), 2, none),
+        (1, three, Step::Trim(2, 5), 2, kept),
+        (1, three, Step::Trim(2, 1), 2, middle),
+        (1, three, Step::Trim(4, 1), 4, none),
+        (1, three, Step::Trim(1, 3), 1, three),
+        (1, three, Step::Store(1, 7), 1, stored_first),
+        (1, three, Step::Store(3, 7), 1, stored_last),
+        (1, three, Step::Touch, 1, three),
+        (1, one, Step::SetLow(GREATEST), GREATEST, one),
+        (1, none, Step::SetLow(LEAST), LEAST, none),
+        (GREATEST, one, Step::Addl(1), GREATEST - 1, low_end),
+        (GREATEST - 1, one, Step::Addh(1), GREATEST - 1, high_end),
+    ];
+    each_makes(&rt, heap, &rows)?;
     Ok(())
 }
 
