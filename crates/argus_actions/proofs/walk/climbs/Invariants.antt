@@ -1,0 +1,13 @@
+use Rattle.std.proofs.Common.{◌≡◌, ◌<◌, length}
+use Rattle.argus_actions.specs.Rows.{is_above}
+use Rattle.argus_actions.specs.Nodes.{rows_of}
+use Rattle.argus_actions.proofs.walk.climbs.Given as goal
+
+abbrev pub invariant-loop-at : goal.invariant-loop-at
+invariant-loop-at l = record {
+  begun : l.at < length l.nodes;
+  same : is_above 0 (rows_of l.nodes) l.x l.at ≡ is_above 0 (rows_of l.nodes) l.x l.y;
+}
+
+abbrev pub decreases-loop-at : goal.decreases-loop-at
+decreases-loop-at l = l.at

@@ -1,0 +1,5 @@
+pub mod Row
+pub mod Rows
+pub mod Tree
+pub mod Refusals
+pub mod Nodes

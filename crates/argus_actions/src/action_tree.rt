@@ -1,0 +1,345 @@
+//! `ActionTree`: the actions that were begun.
+
+ghost use Rattle.std.specs.Prelude.{◌≡◌, ℕ, ◌<◌, ◌+◌, ◌-◌, [], ◌∷◌, None, Some, OnOk, OnErr, IfOk, MatchOption};
+ghost use Rattle.std.specs.Result.{result_err};
+ghost use Rattle.argus_actions.specs.declared.origin.Origin.TheVariants.{Top, Sub, Nested};
+ghost use Rattle.argus_actions.specs.declared.status.Status.TheVariants.{Live};
+ghost use Rattle.argus_actions.specs.Row.{at_parent};
+ghost use Rattle.argus_actions.specs.Rows.{depth_at};
+ghost use Rattle.argus_actions.specs.Tree.{Tree, next, status_of, parent_of, creator_of, is_ancestor, has_live_child, depth_of, SameActions, after_begin, after_commit, after_abort};
+ghost use Rattle.argus_actions.specs.Nodes.{IsNodeOf, ComesBetween};
+ghost use Rattle.argus_actions.specs.Refusals.{begin_top_refusal, begin_sub_refusal, begin_nested_refusal, commit_refusal, abort_refusal, IsRefusedBy};
+
+use crate::action_error::ActionError;
+use crate::action_id::ActionId;
+use crate::limits::{MAX_ACTIONS, MAX_DEPTH};
+use crate::node::{NONE, Node};
+use crate::origin::Origin;
+use crate::status::Status;
+use crate::walk::{abort_under, climbs, finish, push_begun};
+use argus_memory::{Heap, OutOfMemory};
+use std::marker::Model;
+
+/// The actions that were begun, numbered from 0.
+///
+/// Contracts see it as the list of its rows: how each action was begun, and what has become of it.
+/// Only the `begin_` calls and `reserve` take memory.
+#[derive(Drop)]
+pub struct ActionTree {
+    nodes: Vec<Node, Heap>,
+}
+
+impl Model for ActionTree {
+    ghost use Rattle.std.specs.Prelude.{◌-◌, vec_len};
+    ghost use Rattle.std.specs.Vec.{vec_capacity};
+    ghost use Rattle.argus_actions.specs.Tree.{Tree};
+
+    ghost Value = { Tree };
+
+    ghost use Rattle.argus_actions.specs.Nodes.{rows_of, AreNodes};
+
+    ghost view = { λ t. record { folded = 0; rows = rows_of t.nodes.items; room = vec_capacity t.nodes - vec_len t.nodes } };
+
+    ghost invariant = { λ t. AreNodes 0 t.nodes.items };
+}
+
+impl ActionTree {
+    /// A tree in which no action was begun. It takes no memory.
+    pub fn new(alloc: Heap) -> Self
+        ensures rows { result.rows ≡ [] }
+        ensures folded { result.folded ≡ 0 }
+    {
+        ActionTree {
+            nodes: Vec::new(alloc),
+        }
+    }
+
+    /// How many actions were begun, which is the number of the next one.
+    pub fn len(&self) -> u32
+        ensures { result ≡ next self.now }
+    {
+        self.nodes.len() as u32
+    }
+
+    /// What has become of an action; None where it was not begun.
+    pub fn status(&self, a: ActionId) -> Option<Status>
+        ensures { result ≡ status_of self.now a.0 }
+    {
+        self.node(a).map(|node| node.status)
+    }
+
+    /// The parent of a subaction; None for all others.
+    pub fn parent(&self, a: ActionId) -> Option<ActionId>
+        ensures { result ≡ parent_of self.now a.0 }
+    {
+        match self.node(a)?.origin {
+            Origin::Sub(parent) => Some(ActionId(parent)),
+            _ => None,
+        }
+    }
+
+    /// The creator of a nested topaction; None for all others.
+    pub fn creator(&self, a: ActionId) -> Option<ActionId>
+        ensures { result ≡ creator_of self.now a.0 }
+    {
+        match self.node(a)?.origin {
+            Origin::Nested(creator) => Some(ActionId(creator)),
+            _ => None,
+        }
+    }
+
+    /// The number of the action's ancestors, itself among them: 1 to 64. None where it was not begun.
+    pub fn depth(&self, a: ActionId) -> Option<u32>
+        ensures { result ≡ depth_of self.now a.0 }
+    {
+        self.node(a).map(|node| u32::from(node.depth))
+    }
+
+    /// Whether a live subaction has the action as its parent, or a live nested topaction as its creator.
+    pub fn has_live_child(&self, a: ActionId) -> bool
+        ensures { result ≡ has_live_child self.now a.0 }
+    {
+        match self.node(a) {
+            Some(node) => node.live_children > 0,
+            None => false,
+        }
+    }
+
+    /// Whether `x` is an ancestor of `y`; false where either was not begun.
+    ///
+    /// An action is its own ancestor; the other ancestors of a subaction are those of its parent.
+    pub fn is_ancestor(&self, x: ActionId, y: ActionId) -> bool
+        ensures { result ≡ is_ancestor self.now x.0 y.0 }
+    {
+        (y.0 as usize) < self.nodes.len() && climbs(self.nodes.as_slice(), x.0, y.0)
+    }
+
+    /// Why a topaction can't be begun now: `TooMany`. Want of memory is not foreseen.
+    pub fn begin_top_refusal(&self) -> Option<ActionError>
+        ensures { result ≡ begin_top_refusal self.now }
+    {
+        if self.len() < MAX_ACTIONS {
+            None
+        } else {
+            Some(ActionError::TooMany)
+        }
+    }
+
+    /// Why a subaction of this parent can't be begun now: `NoAction`, `Over`, `TooDeep` or `TooMany`.
+    pub fn begin_sub_refusal(&self, parent: ActionId) -> Option<ActionError>
+        ensures { result ≡ begin_sub_refusal self.now parent.0 }
+    {
+        match self.node(parent) {
+            None => Some(ActionError::NoAction),
+            Some(node) if !node.status.is_live() => Some(ActionError::Over),
+            Some(node) if u32::from(node.depth) >= MAX_DEPTH => Some(ActionError::TooDeep),
+            Some(_) => self.begin_top_refusal(),
+        }
+    }
+
+    /// Why a nested topaction of this creator can't be begun now: `NoAction`, `Over` or `TooMany`.
+    pub fn begin_nested_refusal(&self, creator: ActionId) -> Option<ActionError>
+        ensures { result ≡ begin_nested_refusal self.now creator.0 }
+    {
+        match self.abort_refusal(creator) {
+            None => self.begin_top_refusal(),
+            refusal => refusal,
+        }
+    }
+
+    /// Why the action can't commit now: `NoAction`, `Over` or `ChildrenLive`.
+    pub fn commit_refusal(&self, a: ActionId) -> Option<ActionError>
+        ensures { result ≡ commit_refusal self.now a.0 }
+    {
+        match self.abort_refusal(a) {
+            None if self.has_live_child(a) => Some(ActionError::ChildrenLive),
+            refusal => refusal,
+        }
+    }
+
+    /// Why the action can't be aborted now: `NoAction` or `Over`.
+    pub fn abort_refusal(&self, a: ActionId) -> Option<ActionError>
+        ensures { result ≡ abort_refusal self.now a.0 }
+    {
+        match self.status(a) {
+            None => Some(ActionError::NoAction),
+            Some(Status::Live) => None,
+            Some(Status::Committed | Status::Aborted) => Some(ActionError::Over),
+        }
+    }
+
+    /// Makes room for one more action, so that the next begin can't want memory.
+    ///
+    /// `OutOfMemory` comes where a growth is refused; the tree is then as before.
+    pub fn reserve(&mut self) -> Result<(), OutOfMemory>
+        ensures same { SameActions self.old self.new }
+        ensures ok { OnOk result (0 < self.new.room) }
+        ensures err { OnErr result (self.new ≡ self.old) }
+    {
+        match self.nodes.reserve(1) {
+            Ok(()) => Ok(()),
+            Err(refused) => Err(OutOfMemory::from(refused)),
+        }
+    }
+
+    /// Begins a topaction, and gives its number.
+    ///
+    /// Refusals: `TooMany`, then `OutOfMemory`.
+    pub fn begin_top(&mut self) -> Result<ActionId, ActionError>
+        ensures refused { IsRefusedBy (begin_top_refusal self.old) result }
+        ensures number { IfOk result (λ a. a.0 ≡ next self.old) }
+        ensures ok { OnOk result (SameActions (after_begin self.old Top) self.new) }
+        ensures err { OnErr result (self.new ≡ self.old) }
+    {
+        if let Some(refusal) = self.begin_top_refusal() {
+            return Err(refusal);
+        }
+        match self.reserve() {
+            Ok(()) => Ok(self.begin_top_reserved()),
+            Err(OutOfMemory) => Err(ActionError::OutOfMemory),
+        }
+    }
+
+    /// Begins a subaction of a live parent, and gives its number.
+    ///
+    /// Refusals: `NoAction`, `Over`, `TooDeep` where the parent has 64 ancestors, `TooMany`, then
+    /// `OutOfMemory`.
+    pub fn begin_sub(&mut self, parent: ActionId) -> Result<ActionId, ActionError>
+        ensures refused { IsRefusedBy (begin_sub_refusal self.old parent.0) result }
+        ensures number { IfOk result (λ a. a.0 ≡ next self.old) }
+        ensures ok { OnOk result (SameActions (after_begin self.old (Sub parent.0)) self.new) }
+        ensures err { OnErr result (self.new ≡ self.old) }
+    {
+        if let Some(refusal) = self.begin_sub_refusal(parent) {
+            return Err(refusal);
+        }
+        match self.reserve() {
+            Ok(()) => Ok(self.begin_sub_reserved(parent)),
+            Err(OutOfMemory) => Err(ActionError::OutOfMemory),
+        }
+    }
+
+    /// Begins a nested topaction of a live creator, and gives its number. It has no ancestor but
+    /// itself.
+    ///
+    /// Refusals: `NoAction`, `Over`, `TooMany`, then `OutOfMemory`.
+    pub fn begin_nested(&mut self, creator: ActionId) -> Result<ActionId, ActionError>
+        ensures refused { IsRefusedBy (begin_nested_refusal self.old creator.0) result }
+        ensures number { IfOk result (λ a. a.0 ≡ next self.old) }
+        ensures ok { OnOk result (SameActions (after_begin self.old (Nested creator.0)) self.new) }
+        ensures err { OnErr result (self.new ≡ self.old) }
+    {
+        if let Some(refusal) = self.begin_nested_refusal(creator) {
+            return Err(refusal);
+        }
+        match self.reserve() {
+            Ok(()) => Ok(self.begin_nested_reserved(creator)),
+            Err(OutOfMemory) => Err(ActionError::OutOfMemory),
+        }
+    }
+
+    /// Begins a topaction that nothing refuses, in the room that `reserve` has made.
+    pub fn begin_top_reserved(&mut self) -> ActionId
+        requires room { 0 < self.old.room }
+        requires accepted { begin_top_refusal self.old ≡ None }
+        ensures number { result.0 ≡ next self.old }
+        ensures tree { self.new ≡ after_begin self.old Top }
+    {
+        self.begin(Origin::Top)
+    }
+
+    /// Begins a subaction that nothing refuses, in the room that `reserve` has made.
+    pub fn begin_sub_reserved(&mut self, parent: ActionId) -> ActionId
+        requires room { 0 < self.old.room }
+        requires accepted { begin_sub_refusal self.old parent.0 ≡ None }
+        ensures number { result.0 ≡ next self.old }
+        ensures tree { self.new ≡ after_begin self.old (Sub parent.0) }
+    {
+        self.begin(Origin::Sub(parent.0))
+    }
+
+    /// Begins a nested topaction that nothing refuses, in the room that `reserve` has made.
+    pub fn begin_nested_reserved(&mut self, creator: ActionId) -> ActionId
+        requires room { 0 < self.old.room }
+        requires accepted { begin_nested_refusal self.old creator.0 ≡ None }
+        ensures number { result.0 ≡ next self.old }
+        ensures tree { self.new ≡ after_begin self.old (Nested creator.0) }
+    {
+        self.begin(Origin::Nested(creator.0))
+    }
+
+    /// Commits an action. A subaction's commit is relative to its parent.
+    ///
+    /// Refusals: `NoAction`, `Over`, then `ChildrenLive`.
+    pub fn commit(&mut self, a: ActionId) -> Result<(), ActionError>
+        ensures refused { result_err result ≡ commit_refusal self.old a.0 }
+        ensures ok { OnOk result (self.new ≡ after_commit self.old a.0) }
+        ensures err { OnErr result (self.new ≡ self.old) }
+    {
+        match self.commit_refusal(a) {
+            Some(refusal) => Err(refusal),
+            None => {
+                self.commit_ready(a);
+                Ok(())
+            }
+        }
+    }
+
+    /// Commits an action that is live and has no live child, with no further test.
+    pub fn commit_ready(&mut self, a: ActionId)
+        requires { commit_refusal self.old a.0 ≡ None }
+        ensures { self.new ≡ after_commit self.old a.0 }
+    {
+        finish(self.nodes.as_mut_slice(), a.0, Status::Committed);
+    }
+
+    /// Aborts an action with all its subactions, theirs, and so on, whether they have committed or
+    /// not. Nested topactions that were begun under any of them go on.
+    ///
+    /// Refusals: `NoAction`, then `Over`.
+    pub fn abort(&mut self, a: ActionId) -> Result<(), ActionError>
+        ensures refused { result_err result ≡ abort_refusal self.old a.0 }
+        ensures ok { OnOk result (self.new ≡ after_abort self.old a.0) }
+        ensures err { OnErr result (self.new ≡ self.old) }
+    {
+        match self.abort_refusal(a) {
+            Some(refusal) => Err(refusal),
+            None => {
+                self.abort_live(a);
+                Ok(())
+            }
+        }
+    }
+
+    /// Aborts an action that is live, as `abort` does, with no further test.
+    pub fn abort_live(&mut self, a: ActionId)
+        requires { abort_refusal self.old a.0 ≡ None }
+        ensures { self.new ≡ after_abort self.old a.0 }
+    {
+        abort_under(self.nodes.as_mut_slice(), a.0);
+    }
+
+    // The node of an action; None where it was not begun.
+    fn node(&self, a: ActionId) -> Option<Node>
+        ensures { IsNodeOf self.now a.0 result }
+    {
+        let at = a.0 as usize;
+        if at < self.nodes.len() {
+            Some(self.nodes[at])
+        } else {
+            None
+        }
+    }
+
+    // Begins an action of this origin in the room that is there.
+    fn begin(&mut self, origin: Origin) -> ActionId
+        requires room { 0 < self.old.room }
+        requires few { next self.old < MAX_ACTIONS }
+        requires between { ComesBetween self.old.folded (next self.old) origin }
+        requires shallow { at_parent 0 origin (depth_at self.old.folded self.old.rows) < MAX_DEPTH }
+        ensures number { result.0 ≡ next self.old }
+        ensures tree { self.new ≡ after_begin self.old origin }
+    {
+        ActionId(push_begun(&mut self.nodes, origin))
+    }
+}

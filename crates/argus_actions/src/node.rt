@@ -1,0 +1,25 @@
+//! `Node`: one action, as the tree keeps it.
+
+use crate::origin::Origin;
+use crate::status::Status;
+
+/// Stands for no action in a link.
+pub(crate) const NONE: u32 = u32::MAX;
+
+/// One action: its row, and what spares a walk over all actions.
+#[derive(Clone, Copy)]
+pub(crate) struct Node {
+    pub(crate) origin: Origin,
+    /// Its newest subaction; from there `older_sub` leads to all others.
+    pub(crate) newest_sub: u32,
+    /// The subaction of the same parent that was begun before it.
+    pub(crate) older_sub: u32,
+    /// How many of its subactions and nested topactions are live.
+    pub(crate) live_children: u32,
+    pub(crate) status: Status,
+    /// The number of its ancestors.
+    pub(crate) depth: u8,
+}
+
+// A million nodes are 24 megabytes, and each fits in half a cache line.
+const _: () = prove!(size_of::<Node>() <= 32);

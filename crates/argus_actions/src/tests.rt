@@ -1,0 +1,184 @@
+//! What no clause says: that calls with ample memory succeed, that each refusal comes in its place, and that a refused
+//! allocation changes nothing.
+
+use crate::origin::Origin;
+use crate::{ActionError, ActionId, ActionTree, Status};
+use argus_memory::{Budget, Heap, Limited};
+use std::alloc::Global;
+use std::process::Abort;
+use std::test::Fail;
+
+// A topaction with 63 actions below it, each the subaction of the one before.
+fn chain(heap: Heap, rt: &impl Abort) -> Result<ActionTree, Fail> {
+    let mut tree = ActionTree::new(heap);
+    assert_eq!(rt; tree.begin_top()?, ActionId(0));
+    for parent in 0..63u32 {
+        assert_eq!(rt; tree.begin_sub(ActionId(parent))?, ActionId(parent + 1));
+    }
+    assert_eq!(rt; tree.begin_sub(ActionId(63)), Err(ActionError::TooDeep));
+    Ok(tree)
+}
+
+#[test]
+fn a_chain_of_subactions(rt: HostRuntime) -> Result<(), Fail> {
+    let mut tree = chain(Heap::new(rt.alloc())?, &rt)?;
+    assert_eq!(rt; tree.commit(ActionId(62)), Err(ActionError::ChildrenLive));
+    assert_eq!(rt; tree.commit(ActionId(70)), Err(ActionError::NoAction));
+    assert_eq!(rt; tree.commit(ActionId(63)), Ok(()));
+    assert_eq!(rt; tree.status(ActionId(63)), Some(Status::Committed));
+    assert_eq!(rt; tree.abort(ActionId(0)), Ok(()));
+    assert_eq!(rt; tree.status(ActionId(63)), Some(Status::Aborted));
+    assert_eq!(rt; tree.commit(ActionId(63)), Err(ActionError::Over));
+    Ok(())
+}
+
+#[test]
+fn a_nested_topaction_below_a_chain(rt: HostRuntime) -> Result<(), Fail> {
+    let mut tree = chain(Heap::new(rt.alloc())?, &rt)?;
+    assert_eq!(rt; tree.begin_nested(ActionId(63))?, ActionId(64));
+    assert_eq!(rt; tree.depth(ActionId(64)), Some(1));
+    assert_eq!(rt; tree.commit(ActionId(63)), Err(ActionError::ChildrenLive));
+    assert_eq!(rt; tree.commit(ActionId(70)), Err(ActionError::NoAction));
+    assert_eq!(rt; tree.abort(ActionId(0)), Ok(()));
+    assert_eq!(rt; tree.status(ActionId(64)), Some(Status::Live));
+    assert_eq!(rt; tree.status(ActionId(63)), Some(Status::Aborted));
+    assert_eq!(rt; tree.commit(ActionId(63)), Err(ActionError::Over));
+    Ok(())
+}
+
+#[test]
+fn a_million_actions_are_the_most(rt: HostRuntime) -> Result<(), Fail> {
+    let mut tree = chain(Heap::new(rt.alloc())?, &rt)?;
+    assert_eq!(rt; tree.begin_nested(ActionId(63))?, ActionId(64));
+    for number in 65..1_000_000u32 {
+        assert_eq!(rt; tree.begin_top()?, ActionId(number));
+    }
+    assert_eq!(rt; tree.len(), 1_000_000);
+    assert_eq!(rt; tree.begin_top(), Err(ActionError::TooMany));
+    assert_eq!(rt; tree.begin_sub(ActionId(999_999)), Err(ActionError::TooMany));
+    assert_eq!(rt; tree.begin_nested(ActionId(0)), Err(ActionError::TooMany));
+    // what comes before it in the order of refusals
+    assert_eq!(rt; tree.begin_sub(ActionId(1_000_000)), Err(ActionError::NoAction));
+    assert_eq!(rt; tree.begin_sub(ActionId(63)), Err(ActionError::TooDeep));
+    tree.commit(ActionId(64))?;
+    assert_eq!(rt; tree.begin_nested(ActionId(64)), Err(ActionError::Over));
+    assert_eq!(rt; tree.len(), 1_000_000);
+    Ok(())
+}
+
+// A topaction a0 with a subaction a1, and under this a nested topaction a2, which has a subaction a3.
+fn family(heap: Heap) -> Result<ActionTree, Fail> {
+    let mut tree = ActionTree::new(heap);
+    let top = tree.begin_top()?;
+    let sub = tree.begin_sub(top)?;
+    let nested = tree.begin_nested(sub)?;
+    tree.begin_sub(nested)?;
+    Ok(tree)
+}
+
+#[test]
+fn each_question_on_its_happy_path(rt: HostRuntime) -> Result<(), Fail> {
+    let tree = family(Heap::new(rt.alloc())?)?;
+    let (top, sub, nested, below) = (ActionId(0), ActionId(1), ActionId(2), ActionId(3));
+    assert_eq!(rt; tree.len(), 4);
+    assert_eq!(rt; tree.status(top), Some(Status::Live));
+    assert_eq!(rt; tree.status(ActionId(4)), None);
+    assert_eq!(rt; tree.parent(sub), Some(top));
+    assert_eq!(rt; tree.parent(nested), None);
+    assert_eq!(rt; tree.creator(nested), Some(sub));
+    assert_eq!(rt; tree.creator(sub), None);
+    assert_eq!(rt; tree.depth(sub), Some(2));
+    assert_eq!(rt; tree.depth(below), Some(2));
+    assert_eq!(rt; tree.depth(ActionId(4)), None);
+    assert!(rt; tree.has_live_child(sub));
+    assert!(rt; !tree.has_live_child(below));
+    assert!(rt; tree.is_ancestor(top, sub));
+    assert!(rt; tree.is_ancestor(below, below));
+    assert!(rt; !tree.is_ancestor(sub, nested));
+    assert!(rt; !tree.is_ancestor(sub, top));
+    assert!(rt; !tree.is_ancestor(ActionId(4), ActionId(4)));
+    Ok(())
+}
+
+#[test]
+fn a_call_that_nothing_refuses_needs_no_second_test(rt: HostRuntime) -> Result<(), Fail> {
+    let mut tree = ActionTree::new(Heap::new(rt.alloc())?);
+    tree.reserve()?;
+    assert_eq!(rt; tree.begin_top_refusal(), None);
+    let top = tree.begin_top_reserved();
+    tree.reserve()?;
+    let refusal = tree.begin_sub_refusal(top);
+    assert_eq!(rt; refusal, None);
+    let sub = tree.begin_sub_reserved(top);
+    tree.reserve()?;
+    let refusal = tree.begin_nested_refusal(sub);
+    assert_eq!(rt; refusal, None);
+    let nested = tree.begin_nested_reserved(sub);
+    let refusal = tree.commit_refusal(nested);
+    assert_eq!(rt; refusal, None);
+    tree.commit_ready(nested);
+    let refusal = tree.abort_refusal(top);
+    assert_eq!(rt; refusal, None);
+    tree.abort_live(top);
+    assert_eq!(rt; tree.status(nested), Some(Status::Committed));
+    assert_eq!(rt; tree.status(sub), Some(Status::Aborted));
+    assert!(rt; Status::Live.is_live() && !Status::Committed.is_live());
+    Ok(())
+}
+
+fn begin(tree: &mut ActionTree, origin: Origin) -> Result<ActionId, ActionError> {
+    match origin {
+        Origin::Top => tree.begin_top(),
+        Origin::Sub(parent) => tree.begin_sub(ActionId(parent)),
+        Origin::Nested(creator) => tree.begin_nested(ActionId(creator)),
+    }
+}
+
+// Begins 1,000 actions under a topaction, each first with no memory and, where that was refused, again with memory.
+// Answers how often it was refused.
+fn refusals(rt: &impl Abort, inner: Global, origin: Origin) -> Result<u32, Fail> {
+    let budget = Budget::new(inner)?;
+    let mut tree = ActionTree::new(Limited::with_budget(inner, budget));
+    tree.begin_top()?;
+    let mut refused = 0u32;
+    for number in 1..=1_000u32 {
+        budget.allow(0);
+        let answer = begin(&mut tree, origin);
+        budget.lift();
+        if answer.is_err() {
+            assert_eq!(rt; answer, Err(ActionError::OutOfMemory));
+            assert_eq!(rt; tree.len(), number);
+            assert_eq!(rt; tree.has_live_child(ActionId(0)), number > 1 && origin != Origin::Top);
+            assert_eq!(rt; begin(&mut tree, origin)?, ActionId(number));
+            refused = refused.saturating_add(1);
+        }
+    }
+    assert_eq!(rt; tree.len(), 1_001);
+    Ok(refused)
+}
+
+#[test]
+fn each_allocation_is_refused_in_turn(rt: HostRuntime) -> Result<(), Fail> {
+    for origin in [Origin::Top, Origin::Sub(0), Origin::Nested(0)] {
+        // a list that doubles has grown some eight times by then
+        let refused = refusals(&rt, rt.alloc(), origin)?;
+        assert!(rt; refused >= 7 && refused <= 11, "{refused}");
+    }
+    Ok(())
+}
+
+#[test]
+fn room_that_is_refused_changes_nothing(rt: HostRuntime) -> Result<(), Fail> {
+    let budget = Budget::new(rt.alloc())?;
+    let heap: Heap = Limited::with_budget(rt.alloc(), budget);
+    let mut tree = ActionTree::new(heap);
+    budget.allow(0);
+    assert!(rt; tree.reserve().is_err());
+    assert_eq!(rt; tree.len(), 0);
+    budget.lift();
+    tree.reserve()?;
+    budget.allow(0);
+    // the room is there, so this takes no memory
+    assert_eq!(rt; tree.begin_top()?, ActionId(0));
+    Ok(())
+}
