@@ -1,0 +1,4 @@
+pub mod ContentCode
+pub mod Object
+pub mod Rules
+pub mod Moves

@@ -1,0 +1,139 @@
+//! Work on the versions of a cell, which stand from ancestor to descendant.
+
+ghost use Rattle.std.specs.Prelude.{◌≡◌, ◌<◌, ◌≤◌, true, map, vec_len};
+ghost use Rattle.std.specs.List.{list_all};
+ghost use Rattle.std.specs.Option.{option_map};
+ghost use Rattle.std.specs.Vec.{vec_capacity};
+ghost use Rattle.argus_contents.specs.Content.{plain_option};
+ghost use Rattle.argus_objects.specs.Object.{holders, newest_first, plain_version, writers};
+ghost use Rattle.argus_objects.specs.Rules.{all_above, are_related, are_up_to, is_ascending, is_chain, is_related, is_strictly_above};
+ghost use Rattle.argus_objects.specs.Moves.{has_version, handed, version_of, with_version, without_version, versions_inherited, versions_discarded};
+
+use crate::version::Version;
+use argus_actions::{ActionId, ActionTree};
+use argus_contents::Content;
+use argus_memory::Heap;
+
+pub(crate) fn has_version(versions: &[Version], a: ActionId) -> bool
+    ensures { result ≡ has_version a (newest_first versions.now) }
+{
+    versions.iter().any(|version| version.holder.0 == a.0)
+}
+
+/// Whether all holders are ancestors of `a`. The climb goes on where the last one ended, so it costs no more than the depth
+/// of `a`.
+pub(crate) fn all_writers_above(versions: &[Version], tree: &ActionTree, a: ActionId) -> bool
+    requires { is_ascending (writers versions.now) ≡ true }
+    ensures { result ≡ all_above tree.now a (holders (newest_first versions.now)) }
+{
+    let mut at = a;
+    let mut left = versions.len();
+    while left > 0 {
+        left -= 1;
+        let holder = versions[left].holder;
+        if !tree.is_ancestor(holder, at) {
+            return false;
+        }
+        at = holder;
+    }
+    true
+}
+
+// Whether `a` is below all holders, and none of them.
+fn is_below_all(versions: &[Version], tree: &ActionTree, a: ActionId) -> bool
+    ensures { result ≡ list_all (λ x. is_strictly_above tree.now x a) (holders (newest_first versions.now)) }
+{
+    versions
+        .iter()
+        .all(|version| tree.is_ancestor(version.holder, a) && version.holder.0 != a.0)
+}
+
+/// Whether each holder is another action than those before it, and below them all.
+pub(crate) fn are_chained(versions: &[Version], tree: &ActionTree) -> bool
+    ensures { result ≡ is_chain tree.now (holders (newest_first versions.now)) }
+{
+    match versions.split_last() {
+        None => true,
+        Some((newest, older)) => {
+            is_below_all(older, tree, newest.holder) && are_chained(older, tree)
+        }
+    }
+}
+
+/// Whether the action is an ancestor or a descendant of each holder.
+pub(crate) fn is_related_to_all(versions: &[Version], tree: &ActionTree, x: ActionId) -> bool
+    ensures { result ≡ is_related tree.now (holders (newest_first versions.now)) x }
+{
+    versions
+        .iter()
+        .all(|version| tree.is_ancestor(x, version.holder) || tree.is_ancestor(version.holder, x))
+}
+
+/// Makes this the content of `a`'s version, which is pushed in the room that is there if `a` had none.
+pub(crate) fn put_version(
+    versions: &mut Vec<Version, Heap>,
+    a: ActionId,
+    content: Option<Content>,
+)
+    requires room { vec_len versions.old < vec_capacity versions.old }
+    requires ascending { is_ascending (writers versions.old.items) ≡ true }
+    requires newest { are_up_to a (writers versions.old.items) ≡ true }
+    ensures { newest_first versions.new.items ≡ with_version a (plain_option content) (newest_first versions.old.items) }
+{
+    if let Some(top) = versions.last() && top.holder.0 == a.0 {
+        let _ = versions.pop();
+    }
+    versions.push_reserved(Version { holder: a, content });
+}
+
+/// Takes the version of `t` out, and gives its content.
+pub(crate) fn take_version(
+    versions: &mut Vec<Version, Heap>,
+    t: ActionId,
+) -> Option<Option<Content>>
+    requires { is_ascending (writers versions.old.items) ≡ true }
+    ensures content { option_map plain_option result ≡ version_of t (newest_first versions.old.items) }
+    ensures versions { newest_first versions.new.items ≡ without_version t (newest_first versions.old.items) }
+{
+    let mut at = versions.len();
+    while at > 0 {
+        at -= 1;
+        if versions[at].holder.0 == t.0 {
+            return Some(versions.remove(at).content);
+        }
+    }
+    None
+}
+
+fn drop_version(versions: &mut Vec<Version, Heap>, a: ActionId)
+    ensures { newest_first versions.new.items ≡ without_version a (newest_first versions.old.items) }
+{
+    versions.retain(|version| version.holder.0 != a.0);
+}
+
+// Makes versions of `s` those of the parent.
+fn hand_over(versions: &mut [Version], s: ActionId, parent: ActionId)
+    ensures { map plain_version versions.new ≡ map (handed s parent) (map plain_version versions.old) }
+{
+    for version in versions.iter_mut() {
+        if version.holder.0 == s.0 {
+            version.holder = parent;
+        }
+    }
+}
+
+/// Makes the version of `s`, if it has one, the parent's only one.
+pub(crate) fn inherit_version(versions: &mut Vec<Version, Heap>, s: ActionId, parent: ActionId)
+    ensures { newest_first versions.new.items ≡ versions_inherited s parent (newest_first versions.old.items) }
+{
+    if has_version(versions.as_slice(), s) {
+        drop_version(versions, parent);
+        hand_over(versions.as_mut_slice(), s, parent);
+    }
+}
+
+pub(crate) fn discard_versions(versions: &mut Vec<Version, Heap>, tree: &ActionTree, a: ActionId)
+    ensures { newest_first versions.new.items ≡ versions_discarded tree.now a (newest_first versions.old.items) }
+{
+    versions.retain(|version| !tree.is_ancestor(a, version.holder));
+}
