@@ -1,0 +1,6 @@
+pub mod Above
+pub mod Chains
+pub mod Lawful
+pub mod Ascending
+pub mod InOrder
+pub mod Stacks

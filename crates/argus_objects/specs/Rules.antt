@@ -47,7 +47,7 @@ seen_by tree a base (v ∷ older) = if is_ancestor tree v.holder.0 a.0 then v.co
 
 -- this is the parent of s, which makes it an ancestor of s
 pub record IsParent (tree : Tree) (parent s : ActionId) : Type 0 where
-  pub parent : parent_of tree s.0 ≡ Some parent
+  pub linked : parent_of tree s.0 ≡ Some parent
   pub above : is_ancestor tree parent.0 s.0 ≡ true
 
 -- each number is below all that follow

@@ -10,7 +10,7 @@ ghost use Rattle.argus_objects.specs.Moves.{readers_discarded, readers_inherited
 
 use crate::readers::{add_reader, all_readers_above, discard_readers, drop_reader, inherit_reader};
 use crate::version::Version;
-use crate::versions::{all_writers_above, are_chained, discard_versions, inherit_version, is_related_to_all, put_version, take_version};
+use crate::versions::{all_writers_above, are_all_related, are_chained, discard_versions, inherit_version, put_version, take_version};
 use argus_actions::{ActionId, ActionTree};
 use argus_contents::Content;
 use argus_memory::{Heap, OutOfMemory};
@@ -85,11 +85,8 @@ impl Cell {
     pub fn lawful(&self, tree: &ActionTree) -> bool
         ensures { result ≡ is_lawful tree.now self.now }
     {
-        are_chained(self.versions.as_slice(), tree)
-            && self
-                .readers
-                .iter()
-                .all(|reader| is_related_to_all(self.versions.as_slice(), tree, *reader))
+        let versions = self.versions.as_slice();
+        are_chained(versions, tree) && are_all_related(self.readers.as_slice(), versions, tree)
     }
 
     /// Whether `a` may have a read lock: all holders of versions are ancestors of `a`.

@@ -1,13 +1,13 @@
 //! Work on the versions of a cell, which stand from ancestor to descendant.
 
-ghost use Rattle.std.specs.Prelude.{◌≡◌, ◌<◌, ◌≤◌, true, map, vec_len};
-ghost use Rattle.std.specs.List.{list_all};
+ghost use Rattle.std.specs.Prelude.{◌≡◌, ◌<◌, ◌≤◌, ◌==◌, true, map, vec_len};
+ghost use Rattle.std.specs.List.{list_all, list_any};
 ghost use Rattle.std.specs.Option.{option_map};
 ghost use Rattle.std.specs.Vec.{vec_capacity};
 ghost use Rattle.argus_contents.specs.Content.{plain_option};
 ghost use Rattle.argus_objects.specs.Object.{holders, newest_first, plain_version, writers};
-ghost use Rattle.argus_objects.specs.Rules.{all_above, are_related, are_up_to, is_ascending, is_chain, is_related, is_strictly_above};
-ghost use Rattle.argus_objects.specs.Moves.{has_version, handed, version_of, with_version, without_version, versions_inherited, versions_discarded};
+ghost use Rattle.argus_objects.specs.Rules.{all_above, are_related, are_up_to, is_ascending, is_chain, is_strictly_above};
+ghost use Rattle.argus_objects.specs.Moves.{handed, version_of, with_version, without_version, versions_inherited, versions_discarded};
 
 use crate::version::Version;
 use argus_actions::{ActionId, ActionTree};
@@ -15,7 +15,7 @@ use argus_contents::Content;
 use argus_memory::Heap;
 
 pub(crate) fn has_version(versions: &[Version], a: ActionId) -> bool
-    ensures { result ≡ has_version a (newest_first versions.now) }
+    ensures { result ≡ list_any (λ v. v.holder.0 == a.0) versions.now }
 {
     versions.iter().any(|version| version.holder.0 == a.0)
 }
@@ -41,7 +41,7 @@ pub(crate) fn all_writers_above(versions: &[Version], tree: &ActionTree, a: Acti
 
 // Whether `a` is below all holders, and none of them.
 fn is_below_all(versions: &[Version], tree: &ActionTree, a: ActionId) -> bool
-    ensures { result ≡ list_all (λ x. is_strictly_above tree.now x a) (holders (newest_first versions.now)) }
+    ensures { result ≡ list_all (λ v. is_strictly_above tree.now v.holder a) versions.now }
 {
     versions
         .iter()
@@ -61,12 +61,21 @@ pub(crate) fn are_chained(versions: &[Version], tree: &ActionTree) -> bool
 }
 
 /// Whether the action is an ancestor or a descendant of each holder.
-pub(crate) fn is_related_to_all(versions: &[Version], tree: &ActionTree, x: ActionId) -> bool
-    ensures { result ≡ is_related tree.now (holders (newest_first versions.now)) x }
+fn is_related_to_all(versions: &[Version], tree: &ActionTree, x: ActionId) -> bool
+    ensures { result ≡ list_all (λ v. are_related tree.now x v.holder) versions.now }
 {
     versions
         .iter()
         .all(|version| tree.is_ancestor(x, version.holder) || tree.is_ancestor(version.holder, x))
+}
+
+/// Whether each of these actions is an ancestor or a descendant of each holder.
+pub(crate) fn are_all_related(readers: &[ActionId], versions: &[Version], tree: &ActionTree) -> bool
+    ensures { result ≡ list_all (λ x. list_all (λ v. are_related tree.now x v.holder) versions.now) readers.now }
+{
+    readers
+        .iter()
+        .all(|reader| is_related_to_all(versions, tree, *reader))
 }
 
 /// Makes this the content of `a`'s version, which is pushed in the room that is there if `a` had none.
@@ -80,10 +89,12 @@ pub(crate) fn put_version(
     requires newest { are_up_to a (writers versions.old.items) ≡ true }
     ensures { newest_first versions.new.items ≡ with_version a (plain_option content) (newest_first versions.old.items) }
 {
-    if let Some(top) = versions.last() && top.holder.0 == a.0 {
-        let _ = versions.pop();
+    let held = versions.len();
+    if held > 0 && versions[held - 1].holder.0 == a.0 {
+        versions[held - 1].content = content;
+    } else {
+        versions.push_reserved(Version { holder: a, content });
     }
-    versions.push_reserved(Version { holder: a, content });
 }
 
 /// Takes the version of `t` out, and gives its content.
