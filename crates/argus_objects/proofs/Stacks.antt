@@ -19,7 +19,7 @@ use Rattle.argus_objects.proofs.Ascending.{list_all_reverse, lower_before}
 pub newest_push : (vs : List Version) (v : Version) → newest_first (vs ++ v ∷ []) ≡ plain_version v ∷ newest_first vs
 newest_push vs v = ap reverse (map-append plain_version vs (v ∷ [])) ∙ reverse-append (map plain_version vs) (plain_version v ∷ [])
 
-map_reverse : {X Y : Type 0} (f : X → Y) (xs : List X) → map f (reverse xs) ≡ reverse (map f xs)
+pub map_reverse : {X Y : Type 0} (f : X → Y) (xs : List X) → map f (reverse xs) ≡ reverse (map f xs)
 map_reverse f [] = refl
 map_reverse f (x ∷ xs) = ap (map f) (reverse_onto xs x []) ∙ (map-append f (reverse xs) (x ∷ []) ∙ (ap (λ ys. ys ++ f x ∷ []) (map_reverse f xs) ∙ sym (reverse_onto (map f xs) (f x) [])))
 
@@ -189,7 +189,7 @@ version_set a content vs k d v last asc here holder_is content_is =
       (sym (ap (λ ws. newest_first (take k vs ++ ws)) (drop_all (k + 1) vs (omega arith)) ∙ ap newest_first (append-nil (take k vs))) ∙ removed_here a vs k d below asc none_above here))
   where
     version_is : (w : Version) → w.holder ≡ a → (plain_version w).content ≡ content → plain_version w ≡ (let u : PlainVersion = record { holder = a; content = content } in u)
-    version_is w e f = cc
+    version_is w e f = ap (λ (x : ActionId). (let u : PlainVersion = record { holder = x; content = (plain_version w).content } in u)) e ∙ ap (λ k. (let u : PlainVersion = record { holder = a; content = k } in u)) f
 
 pub version_pushed : (a : ActionId) (vs : List Version) (v : Version) → v.holder ≡ a → list_all (λ x. ltb x.0 a.0) (holders (newest_first vs)) ≡ true
   → newest_first (vs ++ v ∷ []) ≡ with_version a (plain_version v).content (newest_first vs)
@@ -236,3 +236,7 @@ handed_more s p xs now i d v below same so_far is =
   ∙ (ap (λ w. front ++ w ∷ drop (i + 1) xs) (is ∙ ap (handed s p) here)
   ∙ (sym (append_assoc front (handed s p (get_or xs i (plain_version d)) ∷ []) (drop (i + 1) xs))
   ∙ ap (λ ys. ys ++ drop (i + 1) xs) (sym (map-append (handed s p) (take i xs) (get_or xs i (plain_version d) ∷ [])) ∙ ap (map (handed s p)) (sym (take_more xs i (plain_version d) below)))))))
+
+pub none_lower : (a : ActionId) (vs : List Version) → length vs ≤ 0 → list_all (λ x. ltb x.0 a.0) (holders (newest_first vs)) ≡ true
+none_lower a [] le = refl
+none_lower a (v ∷ vs) le = absurd (omega arith)

@@ -5,8 +5,9 @@ use Rattle.argus_objects.proofs.versions.take_version.Given as goal
 
 abbrev pub invariant-loop-at : goal.invariant-loop-at
 invariant-loop-at l = record {
-  bound : l.at ≤ length l.versions.items;
-  none : has_version l.t (newest_first (drop l.at l.versions.items)) ≡ false;
+  same : l.versions.items ≡ l.initial.versions.items;
+  bound : l.at ≤ length l.initial.versions.items;
+  none : has_version l.t (newest_first (drop l.at l.initial.versions.items)) ≡ false;
 }
 
 abbrev pub decreases-loop-at : goal.decreases-loop-at
