@@ -11,8 +11,8 @@ use Rattle.argus_objects.specs.Object.{PlainVersion, newest_first, holders, writ
 use Rattle.argus_objects.specs.Rules.{all_above, are_related, is_ascending, is_chain, is_related, is_strictly_above, IsParent, AreInOrder}
 use Rattle.argus_objects.specs.Moves.{is_reader, has_version, handed, with_reader, without_reader, readers_inherited, with_version, without_version, versions_inherited, readers_discarded, versions_discarded}
 use Rattle.argus_objects.proofs.Chains.{all_imp, all_moved, all_filter, all_filtered, chain_moved, chain_filter, strictly_from, renamed, renamed_same, renamed_other, renamed_strictly, renamed_related}
-use Rattle.argus_objects.proofs.Ascending.{chain_ascends}
-use Rattle.argus_objects.proofs.InOrder.{all_with}
+use Rattle.argus_objects.proofs.Ascending.{chain_ascends, ascending_filter}
+use Rattle.argus_objects.proofs.InOrder.{all_with, ascending_with, ascending_inherited}
 use Rattle.argus_objects.proofs.Stacks.{holders_newest, holders_filter, holders_handed}
 
 -- what is so of the readers and of the holders, from descendant to ancestor
@@ -141,3 +141,41 @@ holders_inherited s p vs = cases (has_version s vs) ∙ ap (λ b. cond b (map (r
 -- what a lawful cell's lists say of their order
 pub in_order : (t : Tree) (readers : List ActionId) (vs : List Version) → is_ascending readers ≡ true → is_chain t (holders (newest_first vs)) ≡ true → AreInOrder readers vs
 in_order t readers vs asc chain = record { readers_ascend = asc; writers_ascend = writers_ascend t vs chain }
+
+-- the lists are in order and lawful
+pub record Kept (t : Tree) (readers : List ActionId) (vs : List Version) : Type 0 where
+  pub order : AreInOrder readers vs
+  pub lawful : (is_chain t (holders (newest_first vs)) && list_all (is_related t (holders (newest_first vs))) readers) ≡ true
+
+kept_from : (t : Tree) (rs : List ActionId) (vs : List Version) → is_ascending rs ≡ true → Lawful t rs (holders (newest_first vs)) → Kept t rs vs
+kept_from t rs vs asc law = record { order = in_order t rs vs asc law.chain; lawful = lawful_from t rs (holders (newest_first vs)) law }
+
+module _ (t : Tree) (rs rs' : List ActionId) (vs vs' : List Version) (asc : is_ascending rs ≡ true)
+  (law : (is_chain t (holders (newest_first vs)) && list_all (is_related t (holders (newest_first vs))) rs) ≡ true) where
+  before : Lawful t rs (holders (newest_first vs))
+  before = lawful_parts t rs (holders (newest_first vs)) law
+
+  kept_by : (new : List ActionId) (ids : List ActionId) → rs' ≡ new → holders (newest_first vs') ≡ ids → is_ascending new ≡ true → Lawful t new ids → Kept t rs' vs'
+  kept_by new ids e f asc' law' =
+    kept_from t rs' vs' (ap is_ascending e ∙ asc')
+      (subst (λ (xs : List ActionId). Lawful t xs (holders (newest_first vs'))) (sym e) (subst (λ (xs : List ActionId). Lawful t new xs) (sym f) law'))
+
+  pub kept_read : (a : ActionId) → all_above t a (holders (newest_first vs)) ≡ true → rs' ≡ with_reader a rs → vs' ≡ vs → Kept t rs' vs'
+  kept_read a up e f = kept_by (with_reader a rs) (holders (newest_first vs)) e (ap (λ ws. holders (newest_first ws)) f) (ascending_with a rs asc) (lawful_read t a rs (holders (newest_first vs)) before up)
+
+  pub kept_write : (a : ActionId) (content : Option PlainContent) → (all_above t a (holders (newest_first vs)) && all_above t a rs) ≡ true → rs' ≡ rs → newest_first vs' ≡ with_version a content (newest_first vs) → Kept t rs' vs'
+  kept_write a content up e f =
+    let ups : (all_above t a (holders (newest_first vs)) ≡ true) × (all_above t a rs ≡ true) = and_parts (all_above t a (holders (newest_first vs))) (all_above t a rs) up in
+    kept_by rs (a ∷ filter (λ x. not (eqb x.0 a.0)) (holders (newest_first vs))) e
+      (ap holders f ∙ ap (λ ids. a ∷ ids) (holders_filter (λ x. not (eqb x.0 a.0)) (newest_first vs))) asc
+      (lawful_write t a rs (holders (newest_first vs)) before ups.0 ups.1)
+
+  pub kept_inherit : (s p : ActionId) → IsParent t p s → rs' ≡ readers_inherited s p rs → newest_first vs' ≡ versions_inherited s p (newest_first vs) → Kept t rs' vs'
+  kept_inherit s p is e f =
+    kept_by (readers_inherited s p rs) (ids_inherited s p (holders (newest_first vs))) e (ap holders f ∙ holders_inherited s p (newest_first vs))
+      (ascending_inherited s p rs asc) (lawful_inherited t s p is (holders (newest_first vs)) rs before)
+
+  pub kept_less : (keep keep' : ActionId → Bool) → rs' ≡ filter keep rs → newest_first vs' ≡ filter (λ v. keep' v.holder) (newest_first vs) → Kept t rs' vs'
+  kept_less keep keep' e f =
+    kept_by (filter keep rs) (filter keep' (holders (newest_first vs))) e (ap holders f ∙ holders_filter keep' (newest_first vs))
+      (ascending_filter keep rs asc) (lawful_less t keep keep' rs (holders (newest_first vs)) before)

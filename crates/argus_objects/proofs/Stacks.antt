@@ -11,7 +11,7 @@ use Rattle.argus_actions.specs.Tree.{Tree, is_ancestor}
 use Rattle.argus_contents.specs.Content.{PlainContent}
 use Rattle.argus_objects.specs.declared.version.Version.{Version}
 use Rattle.argus_objects.specs.Object.{PlainVersion, plain_version, newest_first, holders, writers}
-use Rattle.argus_objects.specs.Rules.{all_above, are_related, are_up_to, is_ascending, is_chain, is_related, is_strictly_above}
+use Rattle.argus_objects.specs.Rules.{all_above, are_related, are_up_to, is_ascending, is_chain, is_related, is_strictly_above, seen_by}
 use Rattle.argus_objects.specs.Moves.{has_version, handed, version_of, with_version, without_version, versions_inherited, versions_discarded}
 use Rattle.argus_objects.proofs.Chains.{renamed, all_imp}
 use Rattle.argus_objects.proofs.Ascending.{list_all_reverse, lower_before}
@@ -240,3 +240,29 @@ handed_more s p xs now i d v below same so_far is =
 pub none_lower : (a : ActionId) (vs : List Version) → length vs ≤ 0 → list_all (λ x. ltb x.0 a.0) (holders (newest_first vs)) ≡ true
 none_lower a [] le = refl
 none_lower a (v ∷ vs) le = absurd (omega arith)
+
+-- a chain with one more on top
+pub chain_push : (t : Tree) (vs older : List Version) (v : Version) → vs ≡ older ++ v ∷ []
+  → is_chain t (holders (newest_first vs)) ≡ (list_all (λ (w : Version). is_strictly_above t w.holder v.holder) older && is_chain t (holders (newest_first older)))
+chain_push t vs older v e =
+  ap (λ ws. is_chain t (holders (newest_first ws))) e
+  ∙ (ap (λ ws. is_chain t (holders ws)) (newest_push older v)
+  ∙ ap (λ b. b && is_chain t (holders (newest_first older))) (all_versions (λ x. is_strictly_above t x v.holder) older))
+
+-- who is related to all holders, whatever their order
+pub related_versions : (t : Tree) (vs : List Version) (rs : List ActionId)
+  → list_all (is_related t (holders (newest_first vs))) rs ≡ list_all (λ (x : ActionId). list_all (λ (v : Version). are_related t x v.holder) vs) rs
+related_versions t vs [] = refl
+related_versions t vs (r ∷ rs) =
+  ap (λ b. b && list_all (is_related t (holders (newest_first vs))) rs) (all_versions (λ y. are_related t r y) vs)
+  ∙ ap (λ b. list_all (λ (v : Version). are_related t r v.holder) vs && b) (related_versions t vs rs)
+
+-- the content for an action that may read is that of the newest version
+pub seen_newest : (t : Tree) (a : ActionId) (base : Option PlainContent) (vs : List Version) (v : Version) (k : ℕ) → k + 1 ≡ length vs → v ≡ get_or vs k v
+  → all_above t a (holders (newest_first vs)) ≡ true → (plain_version v).content ≡ seen_by t a base (newest_first vs)
+seen_newest t a base vs v k last e up =
+  let below : k < length vs = omega arith in
+  let split : newest_first vs ≡ plain_version (get_or vs k v) ∷ newest_first (take k vs) =
+    ap newest_first (sym (take_all (k + 1) vs (omega arith)) ∙ take_more vs k v below) ∙ newest_push (take k vs) (get_or vs k v) in
+  let here : is_ancestor t (get_or vs k v).holder.0 a.0 ≡ true = (and_parts _ _ (ap (λ ws. all_above t a (holders ws)) (sym split) ∙ up)).0 in
+  ap (λ (w : Version). (plain_version w).content) e ∙ (sym (cond-true _ _ _ here) ∙ ap (seen_by t a base) (sym split))

@@ -10,7 +10,7 @@ ghost use Rattle.argus_objects.specs.Moves.{readers_discarded, readers_inherited
 
 use crate::readers::{add_reader, all_readers_above, discard_readers, drop_reader, inherit_reader};
 use crate::version::Version;
-use crate::versions::{all_writers_above, are_all_related, are_chained, discard_versions, inherit_version, put_version, take_version};
+use crate::versions::{all_writers_above, are_all_related, are_chained, discard_versions, inherit_version, put_version, settle_version};
 use argus_actions::{ActionId, ActionTree};
 use argus_contents::Content;
 use argus_memory::{Heap, OutOfMemory};
@@ -180,9 +180,7 @@ impl Cell {
         ensures lawful { is_lawful tree.now self.new ≡ true }
     {
         drop_reader(&mut self.readers, t);
-        if let Some(content) = take_version(&mut self.versions, t) {
-            self.base = content;
-        }
+        settle_version(&mut self.base, &mut self.versions, t);
     }
 
     /// Discards the locks and versions of `a`, and of all actions that have `a` as an ancestor.

@@ -2,7 +2,7 @@
 
 ghost use Rattle.std.specs.Prelude.{◌≡◌, ◌<◌, ◌≤◌, ◌==◌, true, map, vec_len};
 ghost use Rattle.std.specs.List.{list_all, list_any};
-ghost use Rattle.std.specs.Option.{option_map};
+ghost use Rattle.std.specs.Option.{option_map, unwrap_or};
 ghost use Rattle.std.specs.Vec.{vec_capacity};
 ghost use Rattle.argus_contents.specs.Content.{plain_option};
 ghost use Rattle.argus_objects.specs.Object.{holders, newest_first, plain_version, writers};
@@ -97,8 +97,8 @@ pub(crate) fn put_version(
     }
 }
 
-/// Takes the version of `t` out, and gives its content.
-pub(crate) fn take_version(
+// Takes the version of `t` out, and gives its content.
+fn take_version(
     versions: &mut Vec<Version, Heap>,
     t: ActionId,
 ) -> Option<Option<Content>>
@@ -114,6 +114,21 @@ pub(crate) fn take_version(
         }
     }
     None
+}
+
+/// Makes the version of `t`, if it has one, the base.
+pub(crate) fn settle_version(
+    base: &mut Option<Content>,
+    versions: &mut Vec<Version, Heap>,
+    t: ActionId,
+)
+    requires { is_ascending (writers versions.old.items) ≡ true }
+    ensures base { plain_option base.new ≡ unwrap_or (version_of t (newest_first versions.old.items)) (plain_option base.old) }
+    ensures versions { newest_first versions.new.items ≡ without_version t (newest_first versions.old.items) }
+{
+    if let Some(content) = take_version(versions, t) {
+        *base = content;
+    }
 }
 
 fn drop_version(versions: &mut Vec<Version, Heap>, a: ActionId)
