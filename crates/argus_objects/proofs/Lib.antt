@@ -4,3 +4,4 @@ pub mod Lawful
 pub mod Ascending
 pub mod InOrder
 pub mod Stacks
+pub mod Changes

@@ -4,7 +4,9 @@ use Rattle.std.specs.List.{list_any, filter}
 use Rattle.argus_actions.specs.declared.action_id.ActionId.{ActionId}
 use Rattle.argus_actions.specs.Tree.{Tree, is_ancestor}
 use Rattle.argus_contents.specs.Content.{PlainContent}
-use Rattle.argus_objects.specs.Object.{PlainVersion}
+use Rattle.argus_contents.specs.Change.{PlainChange, Outcome, result}
+use Rattle.argus_objects.specs.Object.{Object, PlainVersion}
+use Rattle.argus_objects.specs.Rules.{seen_by}
 
 abbrev pub is_reader : ActionId → List ActionId → Bool
 is_reader a readers = list_any (λ x. x.0 == a.0) readers
@@ -52,3 +54,12 @@ readers_discarded tree a readers = filter (λ x. not (is_ancestor tree a.0 x.0))
 -- the versions whose holders don't have the action as an ancestor
 abbrev pub versions_discarded : Tree → ActionId → List PlainVersion → List PlainVersion
 versions_discarded tree a versions = filter (λ v. not (is_ancestor tree a.0 v.holder.0)) versions
+
+-- the content of the newest version, or the base
+abbrev pub newest_content : Option PlainContent → List PlainVersion → Option PlainContent
+newest_content base [] = base
+newest_content base (v ∷ older) = v.content
+
+-- what a change does to the content that the action sees
+abbrev pub changed : Tree → ActionId → PlainChange → Object → Outcome
+changed tree a change object = result change (seen_by tree a object.base object.versions)

@@ -46,11 +46,11 @@ action_coded = code_by ℕ coded_ℕ (λ a. a.0) (λ n. record { 0 = n }) (λ _.
 abbrev pub version_coded : Coded PlainVersion
 version_coded =
     code_by (ActionId × Option PlainContent) (coded× action_coded (coded_option content_coded))
-      (λ v. (v.holder, v.content)) (λ p. record { holder = p.0; content = p.1 }) (λ _. refl)
+    (λ v. (v.holder, v.content)) (λ p. record { holder = p.0; content = p.1 }) (λ _. refl)
 
 abbrev pub object_coded : Coded Object
 object_coded =
     code_by (Option PlainContent × (List ActionId × (List PlainVersion × ℕ)))
-      (coded× (coded_option content_coded) (coded× (coded_list action_coded) (coded× (coded_list version_coded) coded_ℕ)))
-      (λ o. (o.base, (o.readers, (o.versions, o.room))))
-      (λ p. record { base = p.0; readers = p.1.0; versions = p.1.1.0; room = p.1.1.1 }) (λ _. refl)
+    (coded× (coded_option content_coded) (coded× (coded_list action_coded) (coded× (coded_list version_coded) coded_ℕ)))
+    (λ o. (o.base, (o.readers, (o.versions, o.room))))
+    (λ p. record { base = p.0; readers = p.1.0; versions = p.1.1.0; room = p.1.1.1 }) (λ _. refl)

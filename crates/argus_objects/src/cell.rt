@@ -1,18 +1,24 @@
 //! `Cell`: one object, with its base, its readers and its versions.
 
-ghost use Rattle.std.specs.Prelude.{◌≡◌, ◌<◌, true, [], None, map, reverse, OnOk};
-ghost use Rattle.std.specs.Option.{option_or, unwrap_or};
+ghost use Rattle.std.specs.Prelude.{◌≡◌, ◌<◌, true, [], None, IfOk, OnErr, OnOk};
+ghost use Rattle.std.specs.Option.{unwrap_or};
 ghost use Rattle.argus_actions.specs.Refusals.{commit_refusal};
-ghost use Rattle.argus_contents.specs.Content.{plain_option};
+ghost use Rattle.argus_contents.specs.Answer.{plain_answer};
+ghost use Rattle.argus_contents.specs.Change.{plain_change};
+ghost use Rattle.argus_contents.specs.Content.{KeepsLimits, plain_option};
 ghost use Rattle.argus_objects.specs.Object.{newest_first, SameLocks};
 ghost use Rattle.argus_objects.specs.Rules.{is_lawful, IsParent, may_read, may_write, seen_by};
-ghost use Rattle.argus_objects.specs.Moves.{readers_discarded, readers_inherited, version_of, versions_discarded, versions_inherited, with_reader, with_version, without_reader, without_version};
+ghost use Rattle.argus_objects.specs.Moves.{changed, readers_discarded, readers_inherited, version_of, versions_discarded, versions_inherited, with_reader, with_version, without_reader, without_version};
 
+use crate::changing::{change_version, content_on_top};
 use crate::readers::{add_reader, all_readers_above, discard_readers, drop_reader, inherit_reader};
 use crate::version::Version;
-use crate::versions::{all_writers_above, are_all_related, are_chained, discard_versions, inherit_version, put_version, settle_version};
+use crate::versions::{
+    all_writers_above, are_all_related, are_chained, discard_versions, inherit_version,
+    put_version, settle_version,
+};
 use argus_actions::{ActionId, ActionTree};
-use argus_contents::Content;
+use argus_contents::{Answer, Change, Content};
 use argus_memory::{Heap, OutOfMemory};
 use std::marker::Model;
 
@@ -20,7 +26,8 @@ use std::marker::Model;
 /// of those that hold write locks.
 ///
 /// Contracts see these three, and for how many more grants there is room. Readers stand in
-/// increasing number, versions from ancestor to descendant. Only `reserve_grant` takes memory.
+/// increasing number, versions from ancestor to descendant. Only `reserve_grant` and
+/// `grant_change` take memory.
 #[derive(Drop)]
 pub struct Cell {
     base: Option<Content>,
@@ -141,15 +148,37 @@ impl Cell {
         put_version(&mut self.versions, a, new_content);
     }
 
+    /// Makes a change in `a`'s version, which is pushed if `a` had none, and gives the change's answer.
+    ///
+    /// It means what `grant_write` does with the content that the change leaves of what `a` sees. A
+    /// version that is there is changed in place, so only the first write of an action copies. After
+    /// `OutOfMemory` the cell is as before.
+    pub fn grant_change(
+        &mut self,
+        tree: &ActionTree,
+        a: ActionId,
+        change: Change,
+    ) -> Result<Answer, OutOfMemory>
+        requires lawful { is_lawful tree.now self.old ≡ true }
+        requires free { commit_refusal tree.now a.0 ≡ None }
+        requires granted { may_write tree.now self.old a ≡ true }
+        requires limits { KeepsLimits (seen_by tree.now a self.old.base self.old.versions) }
+        ensures base { self.new.base ≡ self.old.base }
+        ensures readers { self.new.readers ≡ self.old.readers }
+        ensures versions { OnOk result (self.new.versions ≡ with_version a (changed tree.now a (plain_change change) self.old).0 self.old.versions) }
+        ensures answer { IfOk result (λ answer. plain_answer answer ≡ (changed tree.now a (plain_change change) self.old).1) }
+        ensures err { OnErr result (self.new.versions ≡ self.old.versions) }
+        ensures lawful { is_lawful tree.now self.new ≡ true }
+    {
+        change_version(&self.base, &mut self.versions, a, change)
+    }
+
     /// The content that `a` sees: the version of its nearest ancestor that has one, else the base.
     pub fn visible(&self, tree: &ActionTree, a: ActionId) -> &Option<Content>
         requires { may_read tree.now self.now a ≡ true }
         ensures { plain_option result.now ≡ seen_by tree.now a self.now.base self.now.versions }
     {
-        match self.versions.last() {
-            Some(newest) => &newest.content,
-            None => &self.base,
-        }
+        content_on_top(&self.base, self.versions.as_slice())
     }
 
     /// Hands what the subaction `s` holds to its parent, which then has it in place of its own.

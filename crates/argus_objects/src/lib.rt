@@ -7,6 +7,7 @@
 #![tactic(auto)]
 
 mod cell;
+mod changing;
 mod readers;
 mod version;
 mod versions;

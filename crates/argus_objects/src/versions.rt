@@ -43,9 +43,7 @@ pub(crate) fn all_writers_above(versions: &[Version], tree: &ActionTree, a: Acti
 fn is_below_all(versions: &[Version], tree: &ActionTree, a: ActionId) -> bool
     ensures { result ≡ list_all (λ v. is_strictly_above tree.now v.holder a) versions.now }
 {
-    versions
-        .iter()
-        .all(|version| tree.is_ancestor(version.holder, a) && version.holder.0 != a.0)
+    versions.iter().all(|version| tree.is_ancestor(version.holder, a) && version.holder.0 != a.0)
 }
 
 /// Whether each holder is another action than those before it, and below them all.
@@ -64,9 +62,8 @@ pub(crate) fn are_chained(versions: &[Version], tree: &ActionTree) -> bool
 fn is_related_to_all(versions: &[Version], tree: &ActionTree, x: ActionId) -> bool
     ensures { result ≡ list_all (λ v. are_related tree.now x v.holder) versions.now }
 {
-    versions
-        .iter()
-        .all(|version| tree.is_ancestor(x, version.holder) || tree.is_ancestor(version.holder, x))
+    versions.iter().all(|version| tree.is_ancestor(x, version.holder)
+        || tree.is_ancestor(version.holder, x))
 }
 
 /// Whether each of these actions is an ancestor or a descendant of each holder.
@@ -79,11 +76,7 @@ pub(crate) fn are_all_related(readers: &[ActionId], versions: &[Version], tree: 
 }
 
 /// Makes this the content of `a`'s version, which is pushed in the room that is there if `a` had none.
-pub(crate) fn put_version(
-    versions: &mut Vec<Version, Heap>,
-    a: ActionId,
-    content: Option<Content>,
-)
+pub(crate) fn put_version(versions: &mut Vec<Version, Heap>, a: ActionId, content: Option<Content>)
     requires room { vec_len versions.old < vec_capacity versions.old }
     requires ascending { is_ascending (writers versions.old.items) ≡ true }
     requires newest { are_up_to a (writers versions.old.items) ≡ true }
@@ -98,10 +91,7 @@ pub(crate) fn put_version(
 }
 
 // Takes the version of `t` out, and gives its content.
-fn take_version(
-    versions: &mut Vec<Version, Heap>,
-    t: ActionId,
-) -> Option<Option<Content>>
+fn take_version(versions: &mut Vec<Version, Heap>, t: ActionId) -> Option<Option<Content>>
     requires { is_ascending (writers versions.old.items) ≡ true }
     ensures content { option_map plain_option result ≡ version_of t (newest_first versions.old.items) }
     ensures versions { newest_first versions.new.items ≡ without_version t (newest_first versions.old.items) }

@@ -12,10 +12,10 @@ use Rattle.argus_objects.proofs.Stacks.{all_holders}
 
 pub put_version-requires-clause-newest : goal.put_version-requires-clause-newest
 put_version-requires-clause-newest c =
-  let t = c.args.tree.now in
-  let vs = c.self.inside.versions.items in
-  let up = subst (λ (o : Object). may_write t o c.args.a ≡ true) (sym c.self.view_is) c.requires.granted in
-  above_up_to t c.args.a (writers vs)
+    let t = c.args.tree.now in
+    let vs = c.self.inside.versions.items in
+    let up = subst (λ (o : Object). may_write t o c.args.a ≡ true) (sym c.self.view_is) c.requires.granted in
+    above_up_to t c.args.a (writers vs)
     (sym (all_holders (λ (x : ActionId). is_ancestor t x.0 c.args.a.0) vs) ∙ (and_parts (all_above t c.args.a (holders (newest_first vs))) _ up).0)
 
 pub invariant_of-self : goal.invariant_of-self
