@@ -2,3 +2,4 @@ pub mod ContentCode
 pub mod Object
 pub mod Rules
 pub mod Moves
+pub mod Holdings

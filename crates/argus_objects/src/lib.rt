@@ -8,9 +8,11 @@
 
 mod cell;
 mod changing;
+mod holdings;
 mod readers;
 mod version;
 mod versions;
 
 pub use cell::Cell;
+pub use holdings::Holdings;
 pub use version::Version;
