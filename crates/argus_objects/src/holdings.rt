@@ -13,6 +13,7 @@ use std::collections::HashMap;
 use std::hash::{BuildHasherDefault, FoldHasher};
 
 type Hasher = BuildHasherDefault<FoldHasher>;
+
 type Objects = IndexSet<ObjId, Hasher, Heap>;
 
 // Notes these objects in their order, in the room that is there.
@@ -101,7 +102,9 @@ impl Holdings {
         requires other { s.0 ≢ parent.0 }
         ensures { (x : ActionId) → listed self.new x ≡ (if x.0 == s.0 then [] else (if x.0 == parent.0 then passed (listed self.old s) (listed self.old parent) else listed self.old x)) }
     {
-        if let Some(objects) = self.lists.remove(&s.0) && let Some(into) = self.lists.get_mut(&parent.0) {
+        if let Some(objects) = self.lists.remove(&s.0)
+            && let Some(into) = self.lists.get_mut(&parent.0)
+        {
             note_all(into, objects.as_slice());
         }
     }

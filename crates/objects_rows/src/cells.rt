@@ -28,7 +28,6 @@ fn has_versions(heap: Heap, cell: &Cell, wanted: &[(u32, i64)]) -> Result<bool, 
     Ok(true)
 }
 
-
 #[test]
 fn a_version_goes_up_to_the_base(rt: HostRuntime) -> Result<(), Fail> {
     let heap = Heap::new(rt.alloc())?;

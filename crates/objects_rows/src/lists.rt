@@ -10,7 +10,12 @@ use std::test::Fail;
 fn a_list_is_passed_to_the_parent(rt: HostRuntime) -> Result<(), Fail> {
     let mut holdings = Holdings::new(Heap::new(rt.alloc())?);
     let (parent, sub) = (ActionId(0), ActionId(1));
-    for (a, o) in [(parent, ObjId(0)), (sub, ObjId(1)), (sub, ObjId(0)), (sub, ObjId(0))] {
+    for (a, o) in [
+        (parent, ObjId(0)),
+        (sub, ObjId(1)),
+        (sub, ObjId(0)),
+        (sub, ObjId(0)),
+    ] {
         holdings.reserve(a)?;
         holdings.note(a, o);
     }
