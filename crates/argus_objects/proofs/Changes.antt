@@ -1,0 +1,60 @@
+-- What a change leaves of the versions, where it succeeds and where it finds no memory.
+use Rattle.std.proofs.Common.{◌≡◌, ◌≢◌, ℕ, ◌+◌, ◌<◌, Bool, true, false, cond, eqb, ltb, List, [], ◌∷◌, ◌++◌, length, take, get_or, set, Option, Some, None, refl, sym, ◌∙◌, ap, subst, arith}
+use Rattle.std.specs.Prelude.{is_ok, IfOk, OnOk, OnErr, Result, Ok, Err}
+use Rattle.std.specs.List.{list_all}
+use Rattle.std.proofs.lemmas.Bool.{cond-true, cond-false, and_parts, false≢true}
+use Rattle.std.proofs.lemmas.List.{take_all, take_more}
+use Rattle.argus_actions.specs.declared.action_id.ActionId.{ActionId}
+use Rattle.argus_actions.specs.Tree.{Tree, is_ancestor}
+use Rattle.argus_memory.specs.declared.out_of_memory.OutOfMemory.{OutOfMemory}
+use Rattle.argus_contents.specs.declared.answer.Answer.{Answer}
+use Rattle.argus_contents.specs.Answer.{plain_answer}
+use Rattle.argus_contents.specs.Change.{Outcome}
+use Rattle.argus_contents.specs.Content.{PlainContent, plain_option}
+use Rattle.argus_objects.specs.declared.version.Version.{Version}
+use Rattle.argus_objects.specs.Object.{PlainVersion, plain_version, newest_first, holders, writers}
+use Rattle.argus_objects.specs.Rules.{all_above, is_ascending, seen_by}
+use Rattle.argus_objects.specs.Moves.{newest_content, with_version}
+use Rattle.argus_objects.proofs.Stacks.{newest_push, newest_set, version_set}
+
+pub ok_content : (r : Result Answer OutOfMemory) (x : Option PlainContent) (o : Outcome) → IfOk r (λ answer. (x, plain_answer answer) ≡ o) → is_ok r ≡ true → x ≡ o.0
+ok_content (Ok answer) x o h is = ap (λ (p : Outcome). p.0) h
+ok_content (Err e) x o h is = absurd (false≢true is)
+
+pub err_content : (r : Result Answer OutOfMemory) (x y : Option PlainContent) → OnErr r (x ≡ y) → is_ok r ≡ false → x ≡ y
+err_content (Ok answer) x y h is = absurd (false≢true (sym is))
+err_content (Err e) x y h is = h
+
+-- the newest version and those below it
+pub newest_top : (vs : List Version) (k : ℕ) (d : Version) → k + 1 ≡ length vs → newest_first vs ≡ plain_version (get_or vs k d) ∷ newest_first (take k vs)
+newest_top vs k d last =
+    let below : k < length vs = omega arith in
+    ap newest_first (sym (take_all (k + 1) vs (omega arith)) ∙ take_more vs k d below) ∙ newest_push (take k vs) (get_or vs k d)
+
+pub content_on_top : (base : Option PlainContent) (vs : List Version) (k : ℕ) (d : Version) → k + 1 ≡ length vs → newest_content base (newest_first vs) ≡ plain_option (get_or vs k d).content
+content_on_top base vs k d last = ap (newest_content base) (newest_top vs k d last)
+
+-- the newest version, changed in place, or as it was
+pub changed_in_place : (b : Bool) (a : ActionId) (content : Option PlainContent) (vs : List Version) (k : ℕ) (d v : Version) → k + 1 ≡ length vs → is_ascending (writers vs) ≡ true
+    → (get_or vs k d).holder.0 ≡ a.0 → v.holder ≡ a → v.holder ≡ (get_or vs k d).holder → (b ≡ true → plain_option v.content ≡ content) → (b ≡ false → plain_option v.content ≡ plain_option (get_or vs k d).content)
+    → newest_first (set vs k v) ≡ cond b (with_version a content (newest_first vs)) (newest_first vs)
+changed_in_place true a content vs k d v last asc here mine same ok err = version_set a content vs k d v last asc here mine (ok refl)
+changed_in_place false a content vs k d v last asc here mine same ok err =
+    newest_set vs k v last
+    ∙ (ap (λ (w : PlainVersion). w ∷ newest_first (take k vs))
+    (ap (λ (x : ActionId). let u : PlainVersion = record { holder = x; content = plain_option v.content } in u) same
+    ∙ ap (λ c. let u : PlainVersion = record { holder = (get_or vs k d).holder; content = c } in u) (err refl))
+    ∙ sym (newest_top vs k d last))
+
+-- an action that may read sees what is on top
+pub seen_on_top : (t : Tree) (a : ActionId) (base : Option PlainContent) (vs : List PlainVersion) → all_above t a (holders vs) ≡ true → newest_content base vs ≡ seen_by t a base vs
+seen_on_top t a base [] up = refl
+seen_on_top t a base (v ∷ older) up = sym (cond-true _ _ _ (and_parts (is_ancestor t v.holder.0 a.0) (all_above t a (holders older)) up).0)
+
+pub on_ok : {X : Type 0} (r : Result Answer OutOfMemory) (x y z : X) → x ≡ cond (is_ok r) y z → OnOk r (x ≡ y)
+on_ok (Ok answer) x y z e = e
+on_ok (Err e) x y z h = tt
+
+pub on_err : {X : Type 0} (r : Result Answer OutOfMemory) (x y z : X) → x ≡ cond (is_ok r) y z → OnErr r (x ≡ z)
+on_err (Ok answer) x y z e = tt
+on_err (Err e) x y z h = h

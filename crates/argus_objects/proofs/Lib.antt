@@ -1,0 +1,7 @@
+pub mod Above
+pub mod Chains
+pub mod Lawful
+pub mod Ascending
+pub mod InOrder
+pub mod Stacks
+pub mod Changes

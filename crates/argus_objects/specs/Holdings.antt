@@ -1,0 +1,43 @@
+-- The list of each action's objects.
+use Rattle.std.specs.Prelude.{◌≡◌, ℕ, ◌==◌, nat_eq, if◌then◌else◌, List, [], ◌∷◌, ◌++◌, Option, Some, None}
+use Rattle.std.specs.List.{list_any}
+use Rattle.std.specs.HashMap.{get}
+use Rattle.indexmap.specs.IndexSet.{IndexSet, spare}
+use Rattle.argus_actions.specs.declared.action_id.ActionId.{ActionId}
+use Rattle.argus_contents.specs.declared.obj_id.ObjId.{ObjId}
+use Rattle.argus_objects.specs.declared.holdings.Holdings.{Holdings}
+
+-- the objects of a list that may not be there
+abbrev pub keys_of : {S : Type 0} → Option (IndexSet ObjId S) → List ObjId
+keys_of None = []
+keys_of (Some set) = set.keys
+
+-- how many more objects fit
+abbrev pub room_in : {S : Type 0} → Option (IndexSet ObjId S) → ℕ
+room_in None = 0
+room_in (Some set) = spare set
+
+-- the list of an action, empty where nothing was noted
+abbrev pub listed : Holdings → ActionId → List ObjId
+listed holdings a = keys_of (get nat_eq holdings.lists a.0)
+
+-- for how many more objects there is room in the action's list
+abbrev pub room_of : Holdings → ActionId → ℕ
+room_of holdings a = room_in (get nat_eq holdings.lists a.0)
+
+-- an object noted at the end of a list, unless it is there
+abbrev pub noted : ObjId → List ObjId → List ObjId
+noted o list = if list_any (λ x. x.0 == o.0) list then list else list ++ o ∷ []
+
+-- these objects noted, in their order
+abbrev pub passed : List ObjId → List ObjId → List ObjId
+passed [] list = list
+passed (o ∷ os) list = passed os (noted o list)
+
+-- the list of this action is another one, and all other lists stay
+abbrev pub Lists : Holdings → ActionId → List ObjId → Holdings → Type 0
+Lists old a list new = (x : ActionId) → listed new x ≡ (if x.0 == a.0 then list else listed old x)
+
+-- all lists stay
+abbrev pub SameLists : Holdings → Holdings → Type 0
+SameLists old new = (x : ActionId) → listed new x ≡ listed old x

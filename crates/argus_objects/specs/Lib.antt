@@ -1,0 +1,5 @@
+pub mod ContentCode
+pub mod Object
+pub mod Rules
+pub mod Moves
+pub mod Holdings

@@ -1,0 +1,56 @@
+-- What contracts see of a `Cell` and of a `Version`.
+use Rattle.std.specs.Prelude.{◌≡◌, ℕ, List, map, reverse, refl, Option}
+use Rattle.std.specs.Coded.{Coded, code_by, coded×, coded_ℕ, coded_list, coded_option}
+use Rattle.argus_actions.specs.declared.action_id.ActionId.{ActionId}
+use Rattle.argus_contents.specs.Content.{PlainContent, plain_option}
+use Rattle.argus_objects.specs.ContentCode.{content_coded}
+use Rattle.argus_objects.specs.declared.version.Version.{Version}
+
+-- a version: whose it is, and the content that the object has for its holder
+pub record PlainVersion : Type 0 where
+  pub holder : ActionId
+  pub content : Option PlainContent
+
+-- what a version says
+abbrev pub plain_version : Version → PlainVersion
+plain_version v = record { holder = v.holder; content = plain_option v.content }
+
+-- the versions of a stack, from descendant to ancestor; the program keeps the newest last
+abbrev pub newest_first : List Version → List PlainVersion
+newest_first versions = reverse (map plain_version versions)
+
+-- the holders of a stack's versions, from ancestor to descendant
+abbrev pub writers : List Version → List ActionId
+writers versions = map (λ v. v.holder) versions
+
+-- the base, the readers in increasing number, the versions from descendant to ancestor, and for how many more grants there is room
+pub record Object : Type 0 where
+  pub base : Option PlainContent
+  pub readers : List ActionId
+  pub versions : List PlainVersion
+  pub room : ℕ
+
+-- the holders of versions, from descendant to ancestor
+abbrev pub holders : List PlainVersion → List ActionId
+holders versions = map (λ v. v.holder) versions
+
+-- the same base, readers and versions, whatever the room
+pub record SameLocks (old new : Object) : Type 0 where
+  pub base : new.base ≡ old.base
+  pub readers : new.readers ≡ old.readers
+  pub versions : new.versions ≡ old.versions
+
+abbrev pub action_coded : Coded ActionId
+action_coded = code_by ℕ coded_ℕ (λ a. a.0) (λ n. record { 0 = n }) (λ _. refl)
+
+abbrev pub version_coded : Coded PlainVersion
+version_coded =
+    code_by (ActionId × Option PlainContent) (coded× action_coded (coded_option content_coded))
+    (λ v. (v.holder, v.content)) (λ p. record { holder = p.0; content = p.1 }) (λ _. refl)
+
+abbrev pub object_coded : Coded Object
+object_coded =
+    code_by (Option PlainContent × (List ActionId × (List PlainVersion × ℕ)))
+    (coded× (coded_option content_coded) (coded× (coded_list action_coded) (coded× (coded_list version_coded) coded_ℕ)))
+    (λ o. (o.base, (o.readers, (o.versions, o.room))))
+    (λ p. record { base = p.0; readers = p.1.0; versions = p.1.1.0; room = p.1.1.1 }) (λ _. refl)

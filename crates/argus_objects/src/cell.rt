@@ -1,0 +1,226 @@
+//! `Cell`: one object, with its base, its readers and its versions.
+
+ghost use Rattle.std.specs.Prelude.{◌≡◌, ◌<◌, true, [], None, IfOk, OnErr, OnOk};
+ghost use Rattle.std.specs.Option.{unwrap_or};
+ghost use Rattle.argus_actions.specs.Refusals.{commit_refusal};
+ghost use Rattle.argus_contents.specs.Answer.{plain_answer};
+ghost use Rattle.argus_contents.specs.Change.{plain_change};
+ghost use Rattle.argus_contents.specs.Content.{KeepsLimits, plain_option};
+ghost use Rattle.argus_objects.specs.Object.{newest_first, SameLocks};
+ghost use Rattle.argus_objects.specs.Rules.{is_lawful, IsParent, may_read, may_write, seen_by};
+ghost use Rattle.argus_objects.specs.Moves.{changed, readers_discarded, readers_inherited, version_of, versions_discarded, versions_inherited, with_reader, with_version, without_reader, without_version};
+
+use crate::changing::{change_version, content_on_top};
+use crate::readers::{add_reader, all_readers_above, discard_readers, drop_reader, inherit_reader};
+use crate::version::Version;
+use crate::versions::{
+    all_writers_above, are_all_related, are_chained, discard_versions, inherit_version,
+    put_version, settle_version,
+};
+use argus_actions::{ActionId, ActionTree};
+use argus_contents::{Answer, Change, Content};
+use argus_memory::{Heap, OutOfMemory};
+use std::marker::Model;
+
+/// One object: its base, which no action holds, the actions that hold read locks, and the versions
+/// of those that hold write locks.
+///
+/// Contracts see these three, and for how many more grants there is room. Readers stand in
+/// increasing number, versions from ancestor to descendant. Only `reserve_grant` and
+/// `grant_change` take memory.
+#[derive(Drop)]
+pub struct Cell {
+    base: Option<Content>,
+    readers: Vec<ActionId, Heap>,
+    versions: Vec<Version, Heap>,
+}
+
+impl Model for Cell {
+    ghost use Rattle.std.specs.Prelude.{◌-◌, min, vec_len};
+    ghost use Rattle.std.specs.Vec.{vec_capacity};
+    ghost use Rattle.argus_contents.specs.Content.{plain_option};
+    ghost use Rattle.argus_objects.specs.Object.{Object, object_coded, newest_first};
+
+    ghost Value = { Object };
+
+    ghost coded = { object_coded };
+
+    ghost use Rattle.argus_objects.specs.Rules.{AreInOrder};
+
+    ghost view = { λ c. record { base = plain_option c.base; readers = c.readers.items; versions = newest_first c.versions.items; room = min (vec_capacity c.readers - vec_len c.readers) (vec_capacity c.versions - vec_len c.versions) } };
+
+    ghost invariant = { λ c. AreInOrder c.readers.items c.versions.items };
+}
+
+impl Cell {
+    /// An object with this base, which no action holds. It takes no memory.
+    pub fn new(heap: Heap, base: Option<Content>) -> Cell
+        ensures base { result.base ≡ plain_option base }
+        ensures readers { result.readers ≡ [] }
+        ensures versions { result.versions ≡ [] }
+    {
+        Cell {
+            base,
+            readers: Vec::new(heap),
+            versions: Vec::new(heap),
+        }
+    }
+
+    /// The content that the topactions so far have left.
+    pub fn base(&self) -> &Option<Content>
+        ensures { plain_option result.now ≡ self.now.base }
+    {
+        &self.base
+    }
+
+    /// The actions that hold a read lock, in increasing number.
+    pub fn readers(&self) -> &[ActionId]
+        ensures { result.now ≡ self.now.readers }
+    {
+        self.readers.as_slice()
+    }
+
+    /// The versions, from ancestor to descendant. Their holders are the actions that hold a write lock.
+    pub fn versions(&self) -> &[Version]
+        ensures { newest_first result.now ≡ self.now.versions }
+    {
+        self.versions.as_slice()
+    }
+
+    /// Whether the holders of versions are distinct and each is an ancestor of the next, and of a
+    /// reader and a version's holder one is an ancestor of the other.
+    pub fn lawful(&self, tree: &ActionTree) -> bool
+        ensures { result ≡ is_lawful tree.now self.now }
+    {
+        let versions = self.versions.as_slice();
+        are_chained(versions, tree) && are_all_related(self.readers.as_slice(), versions, tree)
+    }
+
+    /// Whether `a` may have a read lock: all holders of versions are ancestors of `a`.
+    pub fn may_read(&self, tree: &ActionTree, a: ActionId) -> bool
+        ensures { result ≡ may_read tree.now self.now a }
+    {
+        all_writers_above(self.versions.as_slice(), tree, a)
+    }
+
+    /// Whether `a` may have a write lock: all readers and all holders of versions are ancestors of `a`.
+    pub fn may_write(&self, tree: &ActionTree, a: ActionId) -> bool
+        ensures { result ≡ may_write tree.now self.now a }
+    {
+        self.may_read(tree, a) && all_readers_above(self.readers.as_slice(), tree, a)
+    }
+
+    /// Makes room for one more reader and one more version.
+    pub fn reserve_grant(&mut self) -> Result<(), OutOfMemory>
+        ensures same { SameLocks self.old self.new }
+        ensures ok { OnOk result (0 < self.new.room) }
+    {
+        self.readers.reserve(1)?;
+        self.versions.reserve(1)?;
+        Ok(())
+    }
+
+    /// Makes `a` a reader, if it isn't one.
+    pub fn grant_read(&mut self, tree: &ActionTree, a: ActionId)
+        requires lawful { is_lawful tree.now self.old ≡ true }
+        requires free { commit_refusal tree.now a.0 ≡ None }
+        requires granted { may_read tree.now self.old a ≡ true }
+        requires room { 0 < self.old.room }
+        ensures base { self.new.base ≡ self.old.base }
+        ensures readers { self.new.readers ≡ with_reader a self.old.readers }
+        ensures versions { self.new.versions ≡ self.old.versions }
+        ensures lawful { is_lawful tree.now self.new ≡ true }
+    {
+        add_reader(&mut self.readers, a);
+    }
+
+    /// Makes this the content of `a`'s version, which is pushed if `a` had none.
+    pub fn grant_write(&mut self, tree: &ActionTree, a: ActionId, new_content: Option<Content>)
+        requires lawful { is_lawful tree.now self.old ≡ true }
+        requires free { commit_refusal tree.now a.0 ≡ None }
+        requires granted { may_write tree.now self.old a ≡ true }
+        requires room { 0 < self.old.room }
+        ensures base { self.new.base ≡ self.old.base }
+        ensures readers { self.new.readers ≡ self.old.readers }
+        ensures versions { self.new.versions ≡ with_version a (plain_option new_content) self.old.versions }
+        ensures lawful { is_lawful tree.now self.new ≡ true }
+    {
+        put_version(&mut self.versions, a, new_content);
+    }
+
+    /// Makes a change in `a`'s version, which is pushed if `a` had none, and gives the change's answer.
+    ///
+    /// It means what `grant_write` does with the content that the change leaves of what `a` sees. A
+    /// version that is there is changed in place, so only the first write of an action copies. After
+    /// `OutOfMemory` the cell is as before.
+    pub fn grant_change(
+        &mut self,
+        tree: &ActionTree,
+        a: ActionId,
+        change: Change,
+    ) -> Result<Answer, OutOfMemory>
+        requires lawful { is_lawful tree.now self.old ≡ true }
+        requires free { commit_refusal tree.now a.0 ≡ None }
+        requires granted { may_write tree.now self.old a ≡ true }
+        requires limits { KeepsLimits (seen_by tree.now a self.old.base self.old.versions) }
+        ensures base { self.new.base ≡ self.old.base }
+        ensures readers { self.new.readers ≡ self.old.readers }
+        ensures versions { OnOk result (self.new.versions ≡ with_version a (changed tree.now a (plain_change change) self.old).0 self.old.versions) }
+        ensures answer { IfOk result (λ answer. plain_answer answer ≡ (changed tree.now a (plain_change change) self.old).1) }
+        ensures err { OnErr result (self.new.versions ≡ self.old.versions) }
+        ensures lawful { is_lawful tree.now self.new ≡ true }
+    {
+        change_version(&self.base, &mut self.versions, a, change)
+    }
+
+    /// The content that `a` sees: the version of its nearest ancestor that has one, else the base.
+    pub fn visible(&self, tree: &ActionTree, a: ActionId) -> &Option<Content>
+        requires { may_read tree.now self.now a ≡ true }
+        ensures { plain_option result.now ≡ seen_by tree.now a self.now.base self.now.versions }
+    {
+        content_on_top(&self.base, self.versions.as_slice())
+    }
+
+    /// Hands what the subaction `s` holds to its parent, which then has it in place of its own.
+    ///
+    /// Call it before the tree commits `s`.
+    pub fn inherit(&mut self, tree: &ActionTree, s: ActionId, parent: ActionId)
+        requires lawful { is_lawful tree.now self.old ≡ true }
+        requires parent { IsParent tree.now parent s }
+        requires free { commit_refusal tree.now s.0 ≡ None }
+        ensures base { self.new.base ≡ self.old.base }
+        ensures readers { self.new.readers ≡ readers_inherited s parent self.old.readers }
+        ensures versions { self.new.versions ≡ versions_inherited s parent self.old.versions }
+        ensures lawful { is_lawful tree.now self.new ≡ true }
+    {
+        inherit_reader(&mut self.readers, s, parent);
+        inherit_version(&mut self.versions, s, parent);
+    }
+
+    /// Makes the topaction's version, if it has one, the base, and releases its locks.
+    ///
+    /// Call it before the tree commits `t`.
+    pub fn settle_top(&mut self, tree: &ActionTree, t: ActionId)
+        requires lawful { is_lawful tree.now self.old ≡ true }
+        requires free { commit_refusal tree.now t.0 ≡ None }
+        ensures base { self.new.base ≡ unwrap_or (version_of t self.old.versions) self.old.base }
+        ensures readers { self.new.readers ≡ without_reader t self.old.readers }
+        ensures versions { self.new.versions ≡ without_version t self.old.versions }
+        ensures lawful { is_lawful tree.now self.new ≡ true }
+    {
+        drop_reader(&mut self.readers, t);
+        settle_version(&mut self.base, &mut self.versions, t);
+    }
+
+    /// Discards the locks and versions of `a`, and of all actions that have `a` as an ancestor.
+    pub fn discard(&mut self, tree: &ActionTree, a: ActionId)
+        requires lawful { is_lawful tree.now self.old ≡ true }
+        ensures base { self.new.base ≡ self.old.base }
+        ensures readers { self.new.readers ≡ readers_discarded tree.now a self.old.readers }
+        ensures versions { self.new.versions ≡ versions_discarded tree.now a self.old.versions }
+        ensures lawful { is_lawful tree.now self.new ≡ true }
+    {
+        discard_readers(&mut self.readers, tree, a);
+        discard_versions(&mut self.versions, tree, a);
+    }
+}

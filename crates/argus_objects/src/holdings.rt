@@ -1,0 +1,133 @@
+//! `Holdings`: for each action, the objects on which it has locks.
+
+ghost use Rattle.std.specs.Prelude.{◌≡◌, ◌≢◌, ◌<◌, ◌≤◌, ◌==◌, if◌then◌else◌, [], length, OnOk};
+ghost use Rattle.std.specs.List.{IsDistinct};
+ghost use Rattle.indexmap.specs.IndexSet.{spare};
+ghost use Rattle.argus_objects.specs.Holdings.{listed, Lists, noted, passed, room_of, SameLists};
+
+use argus_actions::ActionId;
+use argus_contents::ObjId;
+use argus_memory::{Heap, OutOfMemory};
+use indexmap::IndexSet;
+use std::collections::HashMap;
+use std::hash::{BuildHasherDefault, FoldHasher};
+
+type Hasher = BuildHasherDefault<FoldHasher>;
+
+type Objects = IndexSet<ObjId, Hasher, Heap>;
+
+// Notes these objects in their order, in the room that is there.
+fn note_all(into: &mut Objects, objects: &[ObjId])
+    requires { length objects.now ≤ spare into.old }
+    ensures { into.new.keys ≡ passed objects.now into.old.keys }
+{
+    for o in objects {
+        let _ = into.insert(*o);
+    }
+}
+
+/// For each action a list of objects, in the order in which they were noted, each once. So a commit
+/// or an abort visits the objects of the actions that it ends, and no others.
+///
+/// A list is a set in the order of insertion, so `note` costs one look-up however long it is. A list
+/// that was passed on or cleared keeps no memory.
+///
+/// ```text
+/// holdings.reserve(a)?;
+/// holdings.note(a, o);
+/// assert_eq!(rt; holdings.of(a), [o].as_slice());
+/// ```
+#[derive(Drop)]
+pub struct Holdings {
+    heap: Heap,
+    lists: HashMap<u32, Objects, Hasher, Heap>,
+}
+
+impl Holdings {
+    /// Holdings in which nothing was noted. It takes no memory.
+    pub fn new(heap: Heap) -> Holdings
+        ensures { (x : ActionId) → listed result x ≡ [] }
+    {
+        Holdings {
+            heap,
+            lists: HashMap::with_hasher(heap, BuildHasherDefault::default()),
+        }
+    }
+
+    /// The objects of the action's list; none where nothing was noted.
+    pub fn of(&self, a: ActionId) -> &[ObjId]
+        ensures list { result.now ≡ listed self.now a }
+        ensures once { IsDistinct (λ x y. x.0 == y.0) result.now }
+    {
+        match self.lists.get(&a.0) {
+            Some(objects) => objects.as_slice(),
+            None => &[],
+        }
+    }
+
+    /// Makes room for one more object in the action's list. After `OutOfMemory` the lists are as before.
+    pub fn reserve(&mut self, a: ActionId) -> Result<(), OutOfMemory>
+        ensures same { SameLists self.old self.new }
+        ensures ok { OnOk result (0 < room_of self.new a) }
+    {
+        self.reserve_for(a, 1)
+    }
+
+    /// Puts the object at the end of the action's list, unless it is there. It takes no memory.
+    pub fn note(&mut self, a: ActionId, o: ObjId)
+        requires { 0 < room_of self.old a }
+        ensures { Lists self.old a (noted o (listed self.old a)) self.new }
+    {
+        if let Some(objects) = self.lists.get_mut(&a.0) {
+            let _ = objects.insert(o);
+        }
+    }
+
+    /// Makes room in the parent's list for all objects of `s`. After `OutOfMemory` the lists are as before.
+    pub fn reserve_pass(&mut self, s: ActionId, parent: ActionId) -> Result<(), OutOfMemory>
+        ensures same { SameLists self.old self.new }
+        ensures ok { OnOk result (length (listed self.new s) ≤ room_of self.new parent) }
+    {
+        let count = self.of(s).len();
+        if count == 0 {
+            return Ok(());
+        }
+        self.reserve_for(parent, count)
+    }
+
+    /// Puts the objects of `s` that the parent's list lacks at its end, in their order, and empties the
+    /// list of `s`. It takes no memory, and gives that of the list of `s` back.
+    pub fn pass(&mut self, s: ActionId, parent: ActionId)
+        requires room { length (listed self.old s) ≤ room_of self.old parent }
+        requires other { s.0 ≢ parent.0 }
+        ensures { (x : ActionId) → listed self.new x ≡ (if x.0 == s.0 then [] else (if x.0 == parent.0 then passed (listed self.old s) (listed self.old parent) else listed self.old x)) }
+    {
+        if let Some(objects) = self.lists.remove(&s.0)
+            && let Some(into) = self.lists.get_mut(&parent.0)
+        {
+            note_all(into, objects.as_slice());
+        }
+    }
+
+    /// Empties the action's list, and gives its memory back.
+    pub fn clear(&mut self, a: ActionId)
+        ensures { Lists self.old a [] self.new }
+    {
+        let _ = self.lists.remove(&a.0);
+    }
+
+    // Makes room for so many more objects in the action's list.
+    fn reserve_for(&mut self, a: ActionId, additional: usize) -> Result<(), OutOfMemory>
+        ensures same { SameLists self.old self.new }
+        ensures ok { OnOk result (additional ≤ room_of self.new a) }
+    {
+        if let Some(objects) = self.lists.get_mut(&a.0) {
+            objects.reserve(additional)?;
+            return Ok(());
+        }
+        let mut objects: Objects = IndexSet::with_hasher(self.heap, BuildHasherDefault::default());
+        objects.reserve(additional)?;
+        self.lists.insert(a.0, objects)?;
+        Ok(())
+    }
+}

@@ -1,0 +1,73 @@
+//! Work on the readers of a cell, which stand in increasing number.
+
+ghost use Rattle.std.specs.Prelude.{◌≡◌, ◌<◌, ◌≤◌, true, vec_len};
+ghost use Rattle.std.specs.Vec.{vec_capacity};
+ghost use Rattle.argus_objects.specs.Rules.{all_above, is_ascending};
+ghost use Rattle.argus_objects.specs.Moves.{is_reader, with_reader, without_reader, readers_inherited, readers_discarded};
+
+use argus_actions::{ActionId, ActionTree};
+use argus_memory::Heap;
+
+pub(crate) fn has_reader(readers: &[ActionId], a: ActionId) -> bool
+    ensures { result ≡ is_reader a readers.now }
+{
+    readers.iter().any(|x| x.0 == a.0)
+}
+
+/// Whether all readers are ancestors of `a`. The climb goes on where the last one ended, so it costs the readers and the
+/// depth of `a`.
+pub(crate) fn all_readers_above(readers: &[ActionId], tree: &ActionTree, a: ActionId) -> bool
+    requires { is_ascending readers.now ≡ true }
+    ensures { result ≡ all_above tree.now a readers.now }
+{
+    let mut at = a;
+    let mut left = readers.len();
+    while left > 0 {
+        left -= 1;
+        let reader = readers[left];
+        if !tree.is_ancestor(reader, at) {
+            return false;
+        }
+        at = reader;
+    }
+    true
+}
+
+/// Puts `a` in its place in the room that is there, if it isn't a reader.
+pub(crate) fn add_reader(readers: &mut Vec<ActionId, Heap>, a: ActionId)
+    requires room { vec_len readers.old < vec_capacity readers.old }
+    requires ascending { is_ascending readers.old.items ≡ true }
+    ensures { readers.new.items ≡ with_reader a readers.old.items }
+{
+    let mut at = readers.len();
+    while at > 0 && a.0 < readers[at - 1].0 {
+        at -= 1;
+    }
+    if at == 0 || readers[at - 1].0 != a.0 {
+        let _ = readers.insert(at, a);
+    }
+}
+
+pub(crate) fn drop_reader(readers: &mut Vec<ActionId, Heap>, a: ActionId)
+    ensures readers { readers.new.items ≡ without_reader a readers.old.items }
+    ensures capacity { vec_capacity readers.new ≡ vec_capacity readers.old }
+{
+    readers.retain(|x| x.0 != a.0);
+}
+
+/// Puts the parent in the place of `s`.
+pub(crate) fn inherit_reader(readers: &mut Vec<ActionId, Heap>, s: ActionId, parent: ActionId)
+    requires { is_ascending readers.old.items ≡ true }
+    ensures { readers.new.items ≡ readers_inherited s parent readers.old.items }
+{
+    if has_reader(readers.as_slice(), s) {
+        drop_reader(readers, s);
+        add_reader(readers, parent);
+    }
+}
+
+pub(crate) fn discard_readers(readers: &mut Vec<ActionId, Heap>, tree: &ActionTree, a: ActionId)
+    ensures { readers.new.items ≡ readers_discarded tree.now a readers.old.items }
+{
+    readers.retain(|x| !tree.is_ancestor(a, *x));
+}

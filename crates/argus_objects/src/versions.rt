@@ -1,0 +1,155 @@
+//! Work on the versions of a cell, which stand from ancestor to descendant.
+
+ghost use Rattle.std.specs.Prelude.{◌≡◌, ◌<◌, ◌≤◌, ◌==◌, true, map, vec_len};
+ghost use Rattle.std.specs.List.{list_all, list_any};
+ghost use Rattle.std.specs.Option.{option_map, unwrap_or};
+ghost use Rattle.std.specs.Vec.{vec_capacity};
+ghost use Rattle.argus_contents.specs.Content.{plain_option};
+ghost use Rattle.argus_objects.specs.Object.{holders, newest_first, plain_version, writers};
+ghost use Rattle.argus_objects.specs.Rules.{all_above, are_related, are_up_to, is_ascending, is_chain, is_strictly_above};
+ghost use Rattle.argus_objects.specs.Moves.{handed, version_of, with_version, without_version, versions_inherited, versions_discarded};
+
+use crate::version::Version;
+use argus_actions::{ActionId, ActionTree};
+use argus_contents::Content;
+use argus_memory::Heap;
+
+pub(crate) fn has_version(versions: &[Version], a: ActionId) -> bool
+    ensures { result ≡ list_any (λ v. v.holder.0 == a.0) versions.now }
+{
+    versions.iter().any(|version| version.holder.0 == a.0)
+}
+
+/// Whether all holders are ancestors of `a`. The climb goes on where the last one ended, so it costs no more than the depth
+/// of `a`.
+pub(crate) fn all_writers_above(versions: &[Version], tree: &ActionTree, a: ActionId) -> bool
+    requires { is_ascending (writers versions.now) ≡ true }
+    ensures { result ≡ all_above tree.now a (holders (newest_first versions.now)) }
+{
+    let mut at = a;
+    let mut left = versions.len();
+    while left > 0 {
+        left -= 1;
+        let holder = versions[left].holder;
+        if !tree.is_ancestor(holder, at) {
+            return false;
+        }
+        at = holder;
+    }
+    true
+}
+
+// Whether `a` is below all holders, and none of them.
+fn is_below_all(versions: &[Version], tree: &ActionTree, a: ActionId) -> bool
+    ensures { result ≡ list_all (λ v. is_strictly_above tree.now v.holder a) versions.now }
+{
+    versions.iter().all(|version| tree.is_ancestor(version.holder, a) && version.holder.0 != a.0)
+}
+
+/// Whether each holder is another action than those before it, and below them all.
+pub(crate) fn are_chained(versions: &[Version], tree: &ActionTree) -> bool
+    ensures { result ≡ is_chain tree.now (holders (newest_first versions.now)) }
+{
+    match versions.split_last() {
+        None => true,
+        Some((newest, older)) => {
+            is_below_all(older, tree, newest.holder) && are_chained(older, tree)
+        }
+    }
+}
+
+/// Whether the action is an ancestor or a descendant of each holder.
+fn is_related_to_all(versions: &[Version], tree: &ActionTree, x: ActionId) -> bool
+    ensures { result ≡ list_all (λ v. are_related tree.now x v.holder) versions.now }
+{
+    versions.iter().all(|version| tree.is_ancestor(x, version.holder)
+        || tree.is_ancestor(version.holder, x))
+}
+
+/// Whether each of these actions is an ancestor or a descendant of each holder.
+pub(crate) fn are_all_related(readers: &[ActionId], versions: &[Version], tree: &ActionTree) -> bool
+    ensures { result ≡ list_all (λ x. list_all (λ v. are_related tree.now x v.holder) versions.now) readers.now }
+{
+    readers
+        .iter()
+        .all(|reader| is_related_to_all(versions, tree, *reader))
+}
+
+/// Makes this the content of `a`'s version, which is pushed in the room that is there if `a` had none.
+pub(crate) fn put_version(versions: &mut Vec<Version, Heap>, a: ActionId, content: Option<Content>)
+    requires room { vec_len versions.old < vec_capacity versions.old }
+    requires ascending { is_ascending (writers versions.old.items) ≡ true }
+    requires newest { are_up_to a (writers versions.old.items) ≡ true }
+    ensures { newest_first versions.new.items ≡ with_version a (plain_option content) (newest_first versions.old.items) }
+{
+    let held = versions.len();
+    if held > 0 && versions[held - 1].holder.0 == a.0 {
+        versions[held - 1].content = content;
+    } else {
+        versions.push_reserved(Version { holder: a, content });
+    }
+}
+
+// Takes the version of `t` out, and gives its content.
+fn take_version(versions: &mut Vec<Version, Heap>, t: ActionId) -> Option<Option<Content>>
+    requires { is_ascending (writers versions.old.items) ≡ true }
+    ensures content { option_map plain_option result ≡ version_of t (newest_first versions.old.items) }
+    ensures versions { newest_first versions.new.items ≡ without_version t (newest_first versions.old.items) }
+{
+    let mut at = versions.len();
+    while at > 0 {
+        at -= 1;
+        if versions[at].holder.0 == t.0 {
+            return Some(versions.remove(at).content);
+        }
+    }
+    None
+}
+
+/// Makes the version of `t`, if it has one, the base.
+pub(crate) fn settle_version(
+    base: &mut Option<Content>,
+    versions: &mut Vec<Version, Heap>,
+    t: ActionId,
+)
+    requires { is_ascending (writers versions.old.items) ≡ true }
+    ensures base { plain_option base.new ≡ unwrap_or (version_of t (newest_first versions.old.items)) (plain_option base.old) }
+    ensures versions { newest_first versions.new.items ≡ without_version t (newest_first versions.old.items) }
+{
+    if let Some(content) = take_version(versions, t) {
+        *base = content;
+    }
+}
+
+fn drop_version(versions: &mut Vec<Version, Heap>, a: ActionId)
+    ensures { newest_first versions.new.items ≡ without_version a (newest_first versions.old.items) }
+{
+    versions.retain(|version| version.holder.0 != a.0);
+}
+
+// Makes versions of `s` those of the parent.
+fn hand_over(versions: &mut [Version], s: ActionId, parent: ActionId)
+    ensures { map plain_version versions.new ≡ map (handed s parent) (map plain_version versions.old) }
+{
+    for version in versions.iter_mut() {
+        if version.holder.0 == s.0 {
+            version.holder = parent;
+        }
+    }
+}
+
+/// Makes the version of `s`, if it has one, the parent's only one.
+pub(crate) fn inherit_version(versions: &mut Vec<Version, Heap>, s: ActionId, parent: ActionId)
+    ensures { newest_first versions.new.items ≡ versions_inherited s parent (newest_first versions.old.items) }
+{
+    if has_version(versions.as_slice(), s) {
+        drop_version(versions, parent);
+        hand_over(versions.as_mut_slice(), s, parent);
+    }
+}
+
+pub(crate) fn discard_versions(versions: &mut Vec<Version, Heap>, tree: &ActionTree, a: ActionId)
+    ensures { newest_first versions.new.items ≡ versions_discarded tree.now a (newest_first versions.old.items) }
+{
+    versions.retain(|version| !tree.is_ancestor(a, version.holder));
+}
