@@ -70,3 +70,11 @@ Contents k = record { Thing = PlainContent; Good = PartsWithin k; form = content
 -- the bytes that close a list of values
 abbrev pub IsClose : ℕ → Type 0
 IsClose c = (c ≡ 93) ⊎ (c ≡ 125)
+
+-- an integer's form begins with the byte: the sign or a digit
+abbrev pub BeginsInt : ℕ → Type 0
+BeginsInt c = (45 ≤ c) × (c ≤ 57) × (c ≢ 46) × (c ≢ 47)
+
+-- no scalar's form begins with the byte
+abbrev pub BeginsNoScalar : ℕ → Type 0
+BeginsNoScalar c = (c ≢ 110) × (c ≢ 116) × (c ≢ 102) × (c ≢ 34) × (c ≢ 64) × (BeginsInt c → ⊥)

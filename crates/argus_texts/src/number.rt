@@ -4,7 +4,7 @@ ghost use Rattle.std.specs.Prelude.{◌≡◌, ℕ, negsuc, ◌<◌, ◌≤◌, 
 ghost use Rattle.argus_texts.specs.Language.{OnLeft, Reads, Stops};
 ghost use Rattle.argus_texts.specs.Languages.{Ints, Numbers};
 
-use crate::scan::split_ascii;
+use crate::scan::{split_ascii, strip};
 use crate::stop::Stop;
 
 /// The integer at the front, and what is behind it.
@@ -12,12 +12,12 @@ pub(crate) fn int(text: &str) -> Result<(i64, &str), Stop>
     ensures read { IfOk result (λ r. Reads Ints text.now r.0 r.1.now) }
     ensures stops { IfErr result (λ e. OnLeft e (λ left. Stops Ints text.now left)) }
 {
-    if let Some((b'-', others)) = split_ascii(text) {
-        let (number, rest) = number(others, 1, 1 << 63)?;
-        return Ok((negative(number), rest));
-    }
-    let (number, rest) = number(text, 0, (1 << 63) - 1)?;
-    Ok((number as i64, rest))
+    let Some(others) = strip(text, b'-') else {
+        let (number, rest) = number(text, 0, 9_223_372_036_854_775_807)?;
+        return Ok((number as i64, rest));
+    };
+    let (number, rest) = number(others, 1, 9_223_372_036_854_775_808)?;
+    Ok((negative(number), rest))
 }
 
 fn negative(number: u64) -> i64
@@ -27,16 +27,19 @@ fn negative(number: u64) -> i64
     -1 - (number - 1) as i64
 }
 
-/// The number at the front, from least to most, and what is behind it.
+/// The number at the front, from least (0 or 1) to most, and what is behind it.
 pub(crate) fn number(text: &str, least: u8, most: u64) -> Result<(u64, &str), Stop>
-    requires { (least ≤ 9) × (9 ≤ most) }
+    requires { (least ≤ 1) × (9 ≤ most) }
     ensures read { IfOk result (λ r. Reads (Numbers least most) text.now r.0 r.1.now) }
     ensures stops { IfErr result (λ e. OnLeft e (λ left. Stops (Numbers least most) text.now left)) }
 {
     let Some((first, others)) = split_ascii(text) else {
         return Err(Stop::Left(text.len()));
     };
-    if first < b'0' + least || first > b'9' {
+    if first < b'0' + least {
+        return Err(Stop::Left(text.len()));
+    }
+    if first > b'9' {
         return Err(Stop::Left(text.len()));
     }
     let mut number = u64::from(first - b'0');

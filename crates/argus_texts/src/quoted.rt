@@ -1,6 +1,7 @@
 //! The text of a text value: up to its closing quote, and behind an opening one.
 
-ghost use Rattle.std.specs.Prelude.{◌≡◌, true, false, ◌∷◌, [], ◌++◌, length, IfOk, IfErr, string_bytes};
+ghost use Rattle.std.specs.Prelude.{◌≡◌, ◌<◌, true, false, ◌∷◌, [], ◌++◌, length, IfOk, IfErr, string_bytes};
+ghost use Rattle.std.specs.Str.{IsUtf8};
 ghost use Rattle.argus_texts.specs.Language.{First, OnLeft, Reads, Stops};
 ghost use Rattle.argus_texts.specs.Languages.{Quoted};
 ghost use Rattle.argus_texts.specs.Quotes.{IsNoEscape, IsSpecial};
@@ -38,6 +39,7 @@ pub(crate) fn quoted(heap: Heap, text: &str) -> Result<(String<Heap>, &str), Sto
 /// The character that stands behind a backslash, and what is behind it.
 fn after_backslash(text: &str) -> Result<(&'static str, &str), Stop>
     ensures read { IfOk result (λ r. 92 ∷ text.now ≡ escaped r.0.now ++ r.1.now) }
+    ensures shorter { IfOk result (λ r. (length r.1.now < length text.now) × IsUtf8 r.1.now) }
     ensures stops { IfErr result (λ e. OnLeft e (λ left. (left ≡ length text.now) × First IsNoEscape text.now)) }
 {
     let Some((first, others)) = split_ascii(text) else {
@@ -60,6 +62,7 @@ pub(crate) fn split_plain(text: &str) -> (&str, &str)
     ensures whole { text.now ≡ result.0.now ++ result.1.now }
     ensures plain { escaped result.0.now ≡ result.0.now }
     ensures special { First IsSpecial result.1.now }
+    ensures utf8 { IsUtf8 result.1.now }
 {
     let bytes = text.as_bytes();
     let mut at = 0;

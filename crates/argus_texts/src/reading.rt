@@ -1,18 +1,18 @@
 //! `read_value`: the value of a written form.
 
-ghost use Rattle.std.specs.Prelude.{◌≡◌, ◌<◌, ◌≤◌, ◌-◌, length, IfOk, IfErr};
+ghost use Rattle.std.specs.Prelude.{◌≡◌, ◌<◌, ◌≤◌, ◌-◌, true, false, length, IfOk, IfErr};
 ghost use Rattle.argus_contents.specs.Value.{listed, plain_list, plain_value};
 ghost use Rattle.argus_contents.specs.declared.limits.TheConstants.{MAX_VALUE_DEPTH};
 ghost use Rattle.argus_texts.specs.Fault.{IsFault, IsValueText, OnFault};
-ghost use Rattle.argus_texts.specs.Language.{OnLeft, Reads, Stops};
-ghost use Rattle.argus_texts.specs.Languages.{Choices, Insides, IsClose, Items, Values};
+ghost use Rattle.argus_texts.specs.Language.{First, OnLeft, Reads, Stops};
+ghost use Rattle.argus_texts.specs.Languages.{BeginsInt, BeginsNoScalar, Choices, Insides, IsClose, Items, Values};
 ghost use Rattle.argus_texts.specs.Spelling.{Within, spelling};
 
 use crate::number::{int, number};
 use crate::quoted::quoted;
 use crate::read_error::ReadError;
 use crate::read_fault::ReadFault;
-use crate::scan::{expect, split_ascii, word};
+use crate::scan::{expect, split_ascii, strip, word};
 use crate::stop::Stop;
 use argus_contents::limits::MAX_VALUE_DEPTH;
 use argus_contents::{ObjId, Value};
@@ -40,7 +40,7 @@ fn whole_value(heap: Heap, text: &str) -> Result<Value, Stop>
     ensures stops { IfErr result (λ e. OnLeft e (λ left. (left ≤ length text.now) × IsFault IsValueText text.now (length text.now - left))) }
 {
     let (value, rest) = one_value(heap, text, MAX_VALUE_DEPTH)?;
-    if !rest.is_empty() {
+    if rest.len() > 0 {
         return Err(Stop::Left(rest.len()));
     }
     Ok(value)
@@ -73,19 +73,27 @@ pub(crate) fn one_value(heap: Heap, text: &str, levels: usize) -> Result<(Value,
         return Ok((Value::Text(read), rest));
     }
     if first == b'@' {
-        let (object, rest) = number(others, 0, u64::from(u32::MAX))?;
+        let (object, rest) = number(others, 0, 4_294_967_295)?;
         return Ok((Value::Atomic(ObjId(object as u32)), rest));
     }
-    if first == b'-' || (first >= b'0' && first <= b'9') {
+    if begins_int(first) {
         let (number, rest) = int(text)?;
         return Ok((Value::Int(number), rest));
     }
     compound(heap, text, levels)
 }
 
+fn begins_int(byte: u8) -> bool
+    ensures yes { result ≡ true → BeginsInt byte }
+    ensures no { result ≡ false → BeginsInt byte → ⊥ }
+{
+    matches!(byte, b'-' | b'0'..=b'9')
+}
+
+/// The value at the front, which doesn't begin as a scalar does, and what is behind it.
 #[cycle(reading)]
 fn compound(heap: Heap, text: &str, levels: usize) -> Result<(Value, &str), Stop>
-    requires { 0 < levels }
+    requires { (0 < levels) × First BeginsNoScalar text.now }
     ensures read { IfOk result (λ r. Reads (Values levels) text.now (plain_value r.0) r.1.now) }
     ensures stops { IfErr result (λ e. OnLeft e (λ left. Stops (Values levels) text.now left)) }
 {
@@ -100,7 +108,10 @@ fn compound(heap: Heap, text: &str, levels: usize) -> Result<(Value, &str), Stop
         let (fields, rest) = inside(heap, others, levels - 1, b'}')?;
         return Ok((Value::Fields(fields), rest));
     }
-    if first != b'<' || levels == 1 {
+    if first != b'<' {
+        return Err(Stop::Left(text.len()));
+    }
+    if levels == 1 {
         return Err(Stop::Left(text.len()));
     }
     let (tag, part, rest) = choice(heap, others, levels - 1)?;
@@ -114,7 +125,7 @@ pub(crate) fn choice(heap: Heap, text: &str, levels: usize) -> Result<(u8, Value
     ensures read { IfOk result (λ r. Reads (Choices levels) text.now (r.0, (plain_value r.1, tt)) r.2.now) }
     ensures stops { IfErr result (λ e. OnLeft e (λ left. Stops (Choices levels) text.now left)) }
 {
-    let (tag, rest) = number(text, 0, u64::from(u8::MAX))?;
+    let (tag, rest) = number(text, 0, 255)?;
     let rest = expect(rest, b':')?;
     let (part, rest) = one_value(heap, rest, levels)?;
     let rest = expect(rest, b'>')?;
@@ -133,15 +144,13 @@ pub(crate) fn inside(
     ensures read { IfOk result (λ r. Reads (Insides close levels) text.now (listed (plain_list r.0.items)) r.1.now) }
     ensures stops { IfErr result (λ e. OnLeft e (λ left. Stops (Insides close levels) text.now left)) }
 {
-    if let Some((first, others)) = split_ascii(text) {
-        if first == close {
-            return Ok((Vec::new(heap), others));
+    let Some(others) = strip(text, close) else {
+        if levels == 0 {
+            return Err(Stop::Left(text.len()));
         }
-    }
-    if levels == 0 {
-        return Err(Stop::Left(text.len()));
-    }
-    items(heap, text, levels, close)
+        return items(heap, text, levels, close);
+    };
+    Ok((Vec::new(heap), others))
 }
 
 /// The values from the first on, up to the closing byte, and what is behind that.
