@@ -22,7 +22,7 @@ Lead (sequence vs) c = c ≡ 91
 Lead (fields vs) c = c ≡ 123
 Lead (choice t v) c = c ≡ 60
 
-int_lead : (z : ℤ) (c : ℕ) (x y : List ℕ) → IsI64 z → c ∷ x ≡ signed_decimal z ++ y → BeginsInt c
+pub int_lead : (z : ℤ) (c : ℕ) (x y : List ℕ) → IsI64 z → c ∷ x ≡ signed_decimal z ++ y → BeginsInt c
 int_lead (pos n) c x y g e =
     let d : (48 ≤ c) × (c ≤ 57) = first_digit n c x y (omega arith) e in
     (omega arith, d.1, omega arith, omega arith)
@@ -69,7 +69,7 @@ kind_of k e c x y w i = kind_from e c (lead_of k e c x y w i)
 abbrev Front : List ℕ → Type 0
 Front form = (c : ℕ) × (ds : List ℕ) × (form ≡ c ∷ ds)
 
-int_front : (z : ℤ) → IsI64 z → Front (signed_decimal z)
+pub int_front : (z : ℤ) → IsI64 z → Front (signed_decimal z)
 int_front (pos n) g = let s = some_decimal n (omega arith) in (s.0, s.1, s.2)
 int_front (negsuc n) g = (45, decimal (suc n), refl)
 
@@ -157,7 +157,7 @@ both_kinds k d e x y w v q =
     (f.0, kind_of k d f.0 f.1 [] w (sym f.2 ∙ sym (append-nil (spelling d))), kind_of k e f.0 (f.1 ++ x) y v (sym (ap (λ (z : List ℕ). z ++ x) f.2) ∙ q))
 
 -- a tag's form, a value's and what comes behind them
-choice_form : (t : ℕ) (v : PlainValue) (x : List ℕ) → (decimal t ++ 58 ∷ (spelling v ++ 62 ∷ [])) ++ x ≡ decimal t ++ 58 ∷ (spelling v ++ 62 ∷ x)
+pub choice_form : (t : ℕ) (v : PlainValue) (x : List ℕ) → (decimal t ++ 58 ∷ (spelling v ++ 62 ∷ [])) ++ x ≡ decimal t ++ 58 ∷ (spelling v ++ 62 ∷ x)
 choice_form t v x = append_assoc (decimal t) (58 ∷ (spelling v ++ 62 ∷ [])) x ∙ ap (λ z. decimal t ++ 58 ∷ z) (append_assoc (spelling v) (62 ∷ []) x)
 
 mutual

@@ -1,5 +1,6 @@
 pub mod Accepted
 pub mod Choices
+pub mod Contents
 pub mod Digits
 pub mod Exits
 pub mod Faults

@@ -78,3 +78,7 @@ BeginsInt c = (45 ≤ c) × (c ≤ 57) × (c ≢ 46) × (c ≢ 47)
 -- no scalar's form begins with the byte
 abbrev pub BeginsNoScalar : ℕ → Type 0
 BeginsNoScalar c = (c ≢ 110) × (c ≢ 116) × (c ≢ 102) × (c ≢ 34) × (c ≢ 64) × (BeginsInt c → ⊥)
+
+-- arrays whose items have depth at most k each
+abbrev pub Arrays : ℕ → Language
+Arrays k = Pairs Ints 91 (Insides 93 k)

@@ -11,16 +11,24 @@
 //! | `1[10,20]` | as a content, an array with low bound 1 |
 #![tactic(auto)]
 
+mod laws;
 mod number;
 mod quoted;
+mod content_reading;
 mod read_error;
 mod read_fault;
 mod reading;
 mod scan;
 mod stop;
+mod content_writing;
 mod writing;
 
+pub use laws::{
+    contents_are_read_back, each_content_is_told, each_value_is_told, values_are_read_back,
+};
+pub use content_reading::read_content;
 pub use read_error::ReadError;
 pub use read_fault::ReadFault;
 pub use reading::read_value;
+pub use content_writing::write_content;
 pub use writing::write_value;
