@@ -10,3 +10,7 @@ pub use Rattle.argus_contents.specs.ShapeView
 pub use Rattle.argus_contents.specs.Ty
 pub use Rattle.argus_contents.specs.Typing
 pub use Rattle.argus_contents.specs.Value
+pub use Rattle.argus_texts.specs.ContentSpelling
+pub use Rattle.argus_texts.specs.Fault
+pub use Rattle.argus_texts.specs.Laws
+pub use Rattle.argus_texts.specs.Spelling

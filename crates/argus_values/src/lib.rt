@@ -1,10 +1,10 @@
 //! Values of atomic objects: the crate that users name.
 //!
-//! It passes on `argus_contents` (types, values, contents, and what operations do), so that users see
-//! one crate. The readers and writers of texts join it under the same name.
+//! It passes two crates on, so that users see one: `argus_contents` (types, values, contents, and what
+//! operations do) and `argus_texts` (their written forms).
 //!
 //! ```text
-//! use argus_values::{Change, Content, Heap, Name, Shape, Ty, Value, alter, fits};
+//! use argus_values::{Change, Content, Heap, Name, Shape, Ty, Value, alter, fits, read_value};
 //! ```
 #![tactic(auto)]
 
@@ -13,3 +13,4 @@ pub use argus_contents::{
     ShapeView, Signal, Ty, Value, alter, alter_in_place, ask, change_fits, fits, limits,
     query_fits, typed,
 };
+pub use argus_texts::{ReadError, ReadFault, read_content, read_value, write_content, write_value};

@@ -1,0 +1,13 @@
+pub mod Accepted
+pub mod Choices
+pub mod Contents
+pub mod Digits
+pub mod Exits
+pub mod Faults
+pub mod Forms
+pub mod Grown
+pub mod Items
+pub mod Lists
+pub mod Quotes
+pub mod Stops
+pub mod Values

@@ -1,0 +1,20 @@
+-- The fault of the whole text.
+use Rattle.std.proofs.Common.{[], ◌∷◌, length, sym, subst}
+use Rattle.std.proofs.lemmas.Result.{err_from_is_err_and}
+use Rattle.argus_contents.specs.Content.{plain_content}
+use Rattle.argus_texts.specs.Fault.{IsContentText}
+use Rattle.argus_texts.specs.Language.{Stops}
+use Rattle.argus_texts.specs.Languages.{Choices, Contents, Insides}
+use Rattle.argus_texts.proofs.Contents.{contents_clear, content_texts, record_brace, variant_angle, neither, low_stops, bracket_stops, items_stops}
+use Rattle.argus_texts.proofs.Exits.{passed}
+use Rattle.argus_texts.proofs.Faults.{stopped, left_behind}
+use Rattle.argus_texts.proofs.Stops.{stops_in}
+use Rattle.argus_texts.proofs.content_reading.whole_content.Goals as goal
+
+pub returns-in_err-content-clause-stops : goal.returns-in_err-content-clause-stops
+returns-in_err-content-clause-stops c =
+    let p = err_from_is_err_and c.from_residual.result c.from_residual.ensures.1 in
+    rw (p.1, p.2) (passed c.in_err-content.field-0.0 _ _ (λ left s. stopped (Contents 16) IsContentText (contents_clear 16) content_texts c.args.text.now left s) c.in_err-content.ensures.stops)
+
+pub returns-then-rest-gt0-clause-stops : goal.returns-then-rest-gt0-clause-stops
+returns-then-rest-gt0-clause-stops c = left_behind (Contents 16) IsContentText (contents_clear 16) content_texts (plain_content c.in_ok-content.content) c.args.text.now c.in_ok-content.rest.now c.in_ok-content.ensures.read c.if-rest-gt0.true

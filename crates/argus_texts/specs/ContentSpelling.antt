@@ -1,0 +1,18 @@
+-- The one written form of a content.
+use Rattle.std.specs.Prelude.{ℕ, ◌<◌, ◌^◌, List, [], ◌∷◌, ◌++◌}
+use Rattle.std.specs.Fmt.{decimal, signed_decimal}
+use Rattle.argus_contents.specs.Content.{PlainContent, rec, arr, var}
+use Rattle.argus_contents.specs.Value.{listed}
+use Rattle.argus_texts.specs.Spelling.{spelling, inside, IsI64, Within, AllWithin}
+
+-- the written form of a content
+abbrev pub content_spelling : PlainContent → List ℕ
+content_spelling (rec vs) = 123 ∷ inside 125 (listed vs)
+content_spelling (arr low vs) = signed_decimal low ++ 91 ∷ inside 93 (listed vs)
+content_spelling (var t v) = 60 ∷ (decimal t ++ 58 ∷ (spelling v ++ 62 ∷ []))
+
+-- a content whose values have depth at most k each, such as a program can hold
+abbrev pub PartsWithin : ℕ → PlainContent → Type 0
+PartsWithin k (rec vs) = AllWithin k (listed vs)
+PartsWithin k (arr low vs) = IsI64 low × AllWithin k (listed vs)
+PartsWithin k (var t v) = (t < 2 ^ 8) × Within k v

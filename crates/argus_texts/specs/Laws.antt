@@ -1,0 +1,26 @@
+-- The laws of the written forms.
+use Rattle.std.specs.Prelude.{◌≡◌, ℕ, List}
+use Rattle.argus_contents.specs.Value.{PlainValue}
+use Rattle.argus_contents.specs.Content.{PlainContent}
+use Rattle.argus_contents.specs.declared.limits.TheConstants.{MAX_VALUE_DEPTH}
+use Rattle.argus_texts.specs.Spelling.{spelling, Within}
+use Rattle.argus_texts.specs.ContentSpelling.{content_spelling, PartsWithin}
+use Rattle.argus_texts.specs.Fault.{IsValueText, IsContentText, IsFault}
+
+-- the written form of a value has no fault, and is that of no other value
+abbrev pub ValuesAreReadBack : Type 0
+ValuesAreReadBack = (v : PlainValue) → Within MAX_VALUE_DEPTH v
+    → ((at : ℕ) → IsFault IsValueText (spelling v) at → ⊥) × ((w : PlainValue) → Within MAX_VALUE_DEPTH w → spelling v ≡ spelling w → w ≡ v)
+
+-- values of whatever depth with one written form are the same
+abbrev pub EachValueIsTold : Type 0
+EachValueIsTold = (k : ℕ) (v w : PlainValue) → Within k v → Within k w → spelling v ≡ spelling w → v ≡ w
+
+-- the written form of a content has no fault, and is that of no other content
+abbrev pub ContentsAreReadBack : Type 0
+ContentsAreReadBack = (c : PlainContent) → PartsWithin MAX_VALUE_DEPTH c
+    → ((at : ℕ) → IsFault IsContentText (content_spelling c) at → ⊥) × ((d : PlainContent) → PartsWithin MAX_VALUE_DEPTH d → content_spelling c ≡ content_spelling d → d ≡ c)
+
+-- contents of whatever depth with one written form are the same
+abbrev pub EachContentIsTold : Type 0
+EachContentIsTold = (k : ℕ) (c d : PlainContent) → PartsWithin k c → PartsWithin k d → content_spelling c ≡ content_spelling d → c ≡ d

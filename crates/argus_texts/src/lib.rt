@@ -1,0 +1,34 @@
+//! The written forms of values, contents and shapes: each has exactly one, which is written and read.
+//!
+//! | Written form | Stands for |
+//! |---|---|
+//! | `null`, `true`, `-5` | a scalar |
+//! | `"a\"b"` | a text; the quote, the backslash and the line feed are written `\"`, `\\` and `\n` |
+//! | `@3` | a reference to object number 3 |
+//! | `[1,2]` | a sequence |
+//! | `{1,"a"}` | the fields of a struct; as a content, of a record |
+//! | `<1:"no">` | tag 1 of a oneof and its value; as a content, of a variant |
+//! | `1[10,20]` | as a content, an array with low bound 1 |
+#![tactic(auto)]
+
+mod content_reading;
+mod content_writing;
+mod laws;
+mod number;
+mod quoted;
+mod read_error;
+mod read_fault;
+mod reading;
+mod scan;
+mod stop;
+mod writing;
+
+pub use content_reading::read_content;
+pub use content_writing::write_content;
+pub use laws::{
+    contents_are_read_back, each_content_is_told, each_value_is_told, values_are_read_back,
+};
+pub use read_error::ReadError;
+pub use read_fault::ReadFault;
+pub use reading::read_value;
+pub use writing::write_value;

@@ -1,0 +1,23 @@
+//! `ReadError`: why a text wasn't read.
+
+use crate::read_fault::ReadFault;
+use thiserror::Error;
+
+/// Why a text wasn't read.
+///
+/// ```text
+/// match read_value(heap, text) {
+///     Ok(value) => ..,
+///     Err(ReadError::Fault(fault)) => ..,      // no accepted form: the text is wrong from byte fault.at on
+///     Err(ReadError::Memory) => ..,            // nothing is said of the text
+/// }
+/// ```
+#[derive(Clone, Copy, Debug, PartialEq, Eq, Error)]
+pub enum ReadError {
+    /// The text is no accepted form.
+    #[error("{0}")]
+    Fault(ReadFault),
+    /// There was no memory for the answer.
+    #[error("out of memory")]
+    Memory,
+}

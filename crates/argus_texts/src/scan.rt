@@ -1,0 +1,70 @@
+//! The front of a text: its first byte, one byte that must come, a word that must come.
+
+ghost use Rattle.std.specs.Prelude.{◌≡◌, true, nat_lt, ◌<◌, ◌≤◌, ◌∷◌, ◌++◌, length, IfOk, IfErr, IfSome, IfNone};
+ghost use Rattle.std.specs.List.{list_all};
+ghost use Rattle.std.specs.Str.{IsUtf8};
+ghost use Rattle.argus_texts.specs.Language.{First, IsNot, OnLeft, Stops};
+ghost use Rattle.argus_texts.specs.Languages.{Word};
+
+use crate::stop::Stop;
+
+/// The first byte, and what is behind it. None at the end, and where no ASCII comes.
+pub(crate) fn split_ascii(text: &str) -> Option<(u8, &str)>
+    ensures some { IfSome result (λ r. (text.now ≡ r.0 ∷ r.1.now) × (r.0 < 128)) }
+    ensures utf8 { IfSome result (λ r. IsUtf8 r.1.now) }
+    ensures none { IfNone result (First (λ c. 128 ≤ c) text.now) }
+{
+    let Some((first, _)) = text.as_bytes().split_first() else {
+        return None;
+    };
+    if *first >= 128 {
+        return None;
+    }
+    Some((*first, &text[1..]))
+}
+
+/// What is behind the byte, where it comes.
+pub(crate) fn strip(text: &str, wanted: u8) -> Option<&str>
+    requires { wanted < 128 }
+    ensures some { IfSome result (λ rest. text.now ≡ wanted ∷ rest.now) }
+    ensures none { IfNone result (IsNot wanted text.now) }
+{
+    let Some((first, others)) = split_ascii(text) else {
+        return None;
+    };
+    if first != wanted {
+        return None;
+    }
+    Some(others)
+}
+
+/// What is behind the byte, which must come.
+pub(crate) fn expect(text: &str, wanted: u8) -> Result<&str, Stop>
+    requires { wanted < 128 }
+    ensures read { IfOk result (λ rest. text.now ≡ wanted ∷ rest.now) }
+    ensures stops { IfErr result (λ e. OnLeft e (λ left. (left ≡ length text.now) × IsNot wanted text.now)) }
+{
+    match strip(text, wanted) {
+        Some(rest) => Ok(rest),
+        None => Err(Stop::Left(text.len())),
+    }
+}
+
+/// What is behind the word, which is ASCII and must come.
+pub(crate) fn word<'a>(text: &'a str, word: &str) -> Result<&'a str, Stop>
+    requires { list_all (λ b. nat_lt b 128) word.now ≡ true }
+    ensures read { IfOk result (λ rest. text.now ≡ word.now ++ rest.now) }
+    ensures stops { IfErr result (λ e. OnLeft e (λ left. Stops (Word word.now) text.now left)) }
+{
+    let mut rest = text;
+    for byte in word.as_bytes() {
+        let Some((first, others)) = split_ascii(rest) else {
+            return Err(Stop::Left(rest.len()));
+        };
+        if first != *byte {
+            return Err(Stop::Left(rest.len()));
+        }
+        rest = others;
+    }
+    Ok(rest)
+}

@@ -1,0 +1,36 @@
+//! `Stop`: why a part of a text wasn't read.
+
+use crate::read_error::ReadError;
+use crate::read_fault::ReadFault;
+use std::alloc::{AllocError, AllocFailed};
+
+// The bytes that are left are counted, and not those that were read: so a part hands on what a part
+// of it answers, as it is.
+#[derive(Debug, Drop)]
+pub(crate) enum Stop {
+    // So many bytes are left where the text stops being the beginning of a form.
+    Left(usize),
+    Memory,
+}
+
+impl From<AllocError> for Stop {
+    ghost use Rattle.std.specs.Prelude.{◌≡◌};
+    ghost use Rattle.argus_texts.specs.declared.stop.Stop.TheVariants as stop;
+
+    ghost from_gives = { λ _ given. given ≡ stop.Memory };
+
+    fn from(_refused: AllocError) -> Stop {
+        Stop::Memory
+    }
+}
+
+impl<T: Drop> From<AllocFailed<T>> for Stop {
+    ghost use Rattle.std.specs.Prelude.{◌≡◌};
+    ghost use Rattle.argus_texts.specs.declared.stop.Stop.TheVariants as stop;
+
+    ghost from_gives = { λ _ given. given ≡ stop.Memory };
+
+    fn from(_refused: AllocFailed<T>) -> Stop {
+        Stop::Memory
+    }
+}
