@@ -1,6 +1,7 @@
 #!/usr/bin/env bash
 # Prints what copies and changes of contents take, and what the same copy takes in Rust: medians of
-# interleaved runs, in nanoseconds. Nothing is compared with a limit: the figures are the machine's.
+# interleaved runs, in nanoseconds of processor time. Nothing is compared with a limit: the figures
+# are the machine's.
 #
 #   bench/contents.sh [RUNS]        RUNS is 7 if left out; a quiet machine gives figures worth keeping
 set -euo pipefail
