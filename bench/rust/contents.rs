@@ -6,14 +6,16 @@
 use std::collections::VecDeque;
 use std::env;
 use std::hint::black_box;
-use std::time::Instant;
+use std::time::Duration;
 
 const HELP: &str = "\
 contents KIND N: does a piece of work N times, and prints what each took
 
 KIND is WORK:SIZE, where SIZE is a number of items:
   duplicate:SIZE   a copy of an array of integers by hand, made and dropped
-  clone:SIZE       a copy by the derived Clone, made and dropped";
+  clone:SIZE       a copy of it by the derived Clone, made and dropped
+  nested:SIZE      a copy of a record of an integer, a sequence of integers, a text and
+                   a tagged value by hand, made and dropped";
 
 #[derive(Clone)]
 #[allow(dead_code)]
@@ -99,21 +101,53 @@ fn array(size: u16) -> Content {
     }
 }
 
-fn nanos_each(copy: impl Fn(&Content) -> Content, size: u16, turns: u32) -> f64 {
-    let content = array(size);
-    let start = Instant::now();
+// std has no clock of the processor's time.
+#[repr(C)]
+struct Timespec {
+    seconds: i64,
+    nanos: i64,
+}
+
+unsafe extern "C" {
+    fn clock_gettime(clock: i32, time: *mut Timespec) -> i32;
+}
+
+fn process_cpu_time() -> Duration {
+    const CLOCK_PROCESS_CPUTIME_ID: i32 = 2;
+    let mut time = Timespec {
+        seconds: 0,
+        nanos: 0,
+    };
+    // SAFETY: the place that is written is a timespec of 64-bit Linux.
+    unsafe { clock_gettime(CLOCK_PROCESS_CPUTIME_ID, &mut time) };
+    Duration::new(time.seconds as u64, time.nanos as u32)
+}
+
+fn nested(size: u16) -> Content {
+    Content::Rec(vec![
+        Value::Int(1),
+        Value::Sequence((0..size).map(|n| Value::Int(n.into())).collect()),
+        Value::Text(String::from("a text")),
+        Value::Choice(1, Box::new(Value::Null)),
+    ])
+}
+
+fn nanos_each(copy: impl Fn(&Content) -> Content, content: Content, turns: u32) -> f64 {
+    let before = process_cpu_time();
     for _ in 0..turns {
         drop(black_box(copy(black_box(&content))));
     }
-    start.elapsed().as_secs_f64() * 1e9 / f64::from(turns)
+    let taken = process_cpu_time() - before;
+    taken.as_secs_f64() * 1e9 / f64::from(turns)
 }
 
 fn timed(kind: &str, turns: &str) -> Option<f64> {
     let (work, size) = kind.split_once(':')?;
     let (size, turns) = (size.parse().ok()?, turns.parse().ok()?);
     match work {
-        "duplicate" => Some(nanos_each(Content::duplicate, size, turns)),
-        "clone" => Some(nanos_each(Content::clone, size, turns)),
+        "duplicate" => Some(nanos_each(Content::duplicate, array(size), turns)),
+        "clone" => Some(nanos_each(Content::clone, array(size), turns)),
+        "nested" => Some(nanos_each(Content::duplicate, nested(size), turns)),
         _ => None,
     }
 }

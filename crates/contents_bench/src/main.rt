@@ -18,14 +18,16 @@ contents_bench KIND N: does a piece of work N times, and prints what each took
 
 KIND is WORK:SIZE, where SIZE, at most 65535, is a number of items or fields:
   duplicate:SIZE   a copy of an array of integers, made and dropped
+  nested:SIZE      a copy of a record of an integer, a sequence of integers, a text and
+                   a tagged value, made and dropped
   copy_store:SIZE  alter by a store: a copy with one item replaced, made and dropped
   store:SIZE       alter_in_place by a store in the middle of an array
-  high:SIZE        alter_in_place by an addh and then a remh
-  low:SIZE         alter_in_place by an addl and then a reml
+  high:SIZE        alter_in_place by an addh and a remh in turn
+  low:SIZE         alter_in_place by an addl and a reml in turn
   set_low:SIZE     alter_in_place by a set_low
   set_field:SIZE   alter_in_place by a set_field of a record's first field
 
-It prints KIND n=N ns_each=NANOSECONDS.";
+It prints KIND n=N ns_each=NANOSECONDS, of processor time.";
 
 fn main(rt: HostRuntime) -> anyhow::Result<()> {
     let mut words = env::args(&rt)?;

@@ -13,16 +13,24 @@ pub(crate) fn sample(heap: Heap, kind: Kind) -> Result<Option<Content>, OutOfMem
     ensures { IfOk result (λ content. KeepsLimits (plain_option content)) }
 {
     match kind.work {
-        Work::SetField => record(heap, kind.size),
+        Work::SetField => Ok(Some(Content::Rec(ints(heap, kind.size)?))),
+        Work::Nested => Ok(Some(Content::Rec(nested(heap, kind.size)?))),
         _ => array(heap, kind.size),
     }
 }
 
-fn record(heap: Heap, size: u16) -> Result<Option<Content>, OutOfMemory>
-    ensures { IfOk result (λ content. KeepsLimits (plain_option content)) }
-{
-    let fields: Vec<Value, Heap> = (0..size).map(|n| Value::Int(n as i64)).collect(heap)?;
-    Ok(Some(Content::Rec(fields)))
+fn ints(heap: Heap, size: u16) -> Result<Vec<Value, Heap>, OutOfMemory> {
+    let values = (0..size).map(|n| Value::Int(n as i64)).collect(heap)?;
+    Ok(values)
+}
+
+fn nested(heap: Heap, size: u16) -> Result<Vec<Value, Heap>, OutOfMemory> {
+    let mut fields = Vec::with_capacity(heap, 4)?;
+    fields.push(Value::Int(1))?;
+    fields.push(Value::Sequence(ints(heap, size)?))?;
+    fields.push(Value::Text(String::from_str(heap, "a text")?))?;
+    fields.push(Value::Choice(1, Box::new(heap, Value::Null)?))?;
+    Ok(fields)
 }
 
 fn array(heap: Heap, size: u16) -> Result<Option<Content>, OutOfMemory>

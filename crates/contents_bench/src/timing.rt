@@ -1,27 +1,29 @@
 //! What a piece of work takes.
 
+ghost use Rattle.argus_contents.specs.Change.{CreatesWithin, plain_change};
 ghost use Rattle.argus_contents.specs.Content.{KeepsLimits, plain_option};
 
 use crate::kind::Kind;
 use crate::samples::sample;
 use crate::work::Work;
-use argus_contents::{Change, Content, Heap, OutOfMemory, Value, alter, alter_in_place};
+use argus_contents::{Change, Content, Heap, OutOfMemory, alter, alter_in_place};
 use std::alloc::Global;
-use std::rt::Clock;
-use std::time::Instant;
+use std::time::CpuClock;
 
-/// The nanoseconds that each of so many turns of the work took.
+/// The nanoseconds of processor time that each of so many turns of the work took.
+//
+// Time on the clock would count what other programs take of the machine.
 pub(crate) fn nanos_each(
-    rt: &impl Clock,
+    rt: &impl CpuClock,
     alloc: Global,
     kind: Kind,
     turns: u32,
 ) -> anyhow::Result<f64> {
     let heap = Heap::new(alloc)?;
     let mut content = sample(heap, kind)?;
-    let start = Instant::now(rt)?;
+    let before = rt.process_cpu_time()?;
     repeat(heap, &mut content, kind, turns)?;
-    let taken = start.elapsed(rt)?;
+    let taken = rt.process_cpu_time()?.saturating_sub(before);
     Ok(taken.as_secs_f64() * 1e9 / turns as f64)
 }
 
@@ -33,50 +35,37 @@ fn repeat(
 ) -> Result<(), OutOfMemory>
     requires { KeepsLimits (plain_option content.old) }
 {
-    let middle = 1 + kind.size as i64 / 2;
     for turn in 0..turns {
-        take_turn(heap, content, kind.work, middle, turn as i64)?;
+        match kind.work {
+            Work::Duplicate | Work::Nested => duplicate(heap, content)?,
+            Work::CopyStore => change_copy(heap, content, &kind.change(turn))?,
+            _ => change_in_place(content, kind.change(turn))?,
+        }
     }
     Ok(())
 }
 
-// The place is in the middle of an array. Where the content keeps the limits, so does what is left.
-fn take_turn(
-    heap: Heap,
-    content: &mut Option<Content>,
-    work: Work,
-    place: i64,
-    turn: i64,
-) -> Result<(), OutOfMemory>
-    requires { KeepsLimits (plain_option content.old) }
+// What each turn does is a function of its own, so that a turn prepares its own locals alone.
+
+fn duplicate(heap: Heap, content: &Option<Content>) -> Result<(), OutOfMemory> {
+    if let Some(content) = content {
+        let _ = content.duplicate(heap)?;
+    }
+    Ok(())
+}
+
+fn change_copy(heap: Heap, content: &Option<Content>, change: &Change) -> Result<(), OutOfMemory>
+    requires { KeepsLimits (plain_option content.now) }
+{
+    let _ = alter(heap, content, change)?;
+    Ok(())
+}
+
+fn change_in_place(content: &mut Option<Content>, change: Change) -> Result<(), OutOfMemory>
+    requires content { KeepsLimits (plain_option content.old) }
+    requires change { CreatesWithin (plain_change change) }
     ensures { KeepsLimits (plain_option content.new) }
 {
-    match work {
-        Work::Duplicate => {
-            if let Some(content) = content {
-                let _ = content.duplicate(heap)?;
-            }
-        }
-        Work::CopyStore => {
-            let _ = alter(heap, content, &Change::Store(place, Value::Int(turn)))?;
-        }
-        Work::Store => {
-            let _ = alter_in_place(content, Change::Store(place, Value::Int(turn)))?;
-        }
-        Work::High => {
-            let _ = alter_in_place(content, Change::Addh(Value::Int(turn)))?;
-            let _ = alter_in_place(content, Change::Remh)?;
-        }
-        Work::Low => {
-            let _ = alter_in_place(content, Change::Addl(Value::Int(turn)))?;
-            let _ = alter_in_place(content, Change::Reml)?;
-        }
-        Work::SetLow => {
-            let _ = alter_in_place(content, Change::SetLow(1 + turn % 2))?;
-        }
-        Work::SetField => {
-            let _ = alter_in_place(content, Change::SetField(0, Value::Int(turn)))?;
-        }
-    }
+    let _ = alter_in_place(content, change)?;
     Ok(())
 }

@@ -12,6 +12,7 @@ use std::str::FromStr;
 #[derive(Clone, Copy)]
 pub(crate) enum Work {
     Duplicate,
+    Nested,
     CopyStore,
     Store,
     High,
@@ -26,6 +27,7 @@ impl FromStr for Work {
     fn from_str(name: &str) -> Result<Work, KindError> {
         match name {
             "duplicate" => Ok(Work::Duplicate),
+            "nested" => Ok(Work::Nested),
             "copy_store" => Ok(Work::CopyStore),
             "store" => Ok(Work::Store),
             "high" => Ok(Work::High),
@@ -41,6 +43,7 @@ impl fmt::Display for Work {
     fn fmt<W: fmt::Write>(&self, f: &mut fmt::Formatter<W>) -> fmt::Result {
         f.write_str(match self {
             Work::Duplicate => "duplicate",
+            Work::Nested => "nested",
             Work::CopyStore => "copy_store",
             Work::Store => "store",
             Work::High => "high",
