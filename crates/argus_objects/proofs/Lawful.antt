@@ -8,9 +8,9 @@ use Rattle.argus_actions.specs.Tree.{Tree, is_ancestor}
 use Rattle.argus_contents.specs.Content.{PlainContent}
 use Rattle.argus_objects.specs.declared.version.Version.{Version}
 use Rattle.argus_objects.specs.Object.{PlainVersion, newest_first, holders, writers}
-use Rattle.argus_objects.specs.Rules.{all_above, are_related, is_ascending, is_chain, is_related, is_strictly_above, IsParent, AreInOrder}
+use Rattle.argus_objects.specs.Rules.{all_above, are_related, is_ascending, is_chain, is_related, is_strictly_above, AreInOrder}
 use Rattle.argus_objects.specs.Moves.{is_reader, has_version, handed, with_reader, without_reader, readers_inherited, with_version, without_version, versions_inherited, readers_discarded, versions_discarded}
-use Rattle.argus_objects.proofs.Chains.{all_imp, all_moved, all_filter, all_filtered, chain_moved, chain_filter, strictly_from, renamed, renamed_same, renamed_other, renamed_strictly, renamed_related}
+use Rattle.argus_objects.proofs.Chains.{IsParent, all_imp, all_moved, all_filter, all_filtered, chain_moved, chain_filter, strictly_from, renamed, renamed_same, renamed_other, renamed_strictly, renamed_related}
 use Rattle.argus_objects.proofs.Ascending.{chain_ascends, ascending_filter}
 use Rattle.argus_objects.proofs.InOrder.{all_with, ascending_with, ascending_inherited}
 use Rattle.argus_objects.proofs.Stacks.{holders_newest, holders_filter, holders_handed}
