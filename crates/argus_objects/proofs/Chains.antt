@@ -1,11 +1,11 @@
 -- Chains of holders, and who is related to them.
-use Rattle.std.proofs.Common.{◌≡◌, ◌≢◌, ℕ, ◌+◌, ◌<◌, ◌≤◌, Bool, true, false, not, cond, eqb, ltb, ◌&&◌, ◌||◌, List, [], ◌∷◌, ◌++◌, map, filter, reverse, length, Some, subst, refl, sym, ◌∙◌, ap, arith, inl, inr}
+use Rattle.std.proofs.Common.{◌≡◌, ◌≢◌, ℕ, ◌+◌, ◌<◌, ◌≤◌, Bool, true, not, cond, eqb, ◌||◌, List, [], ◌∷◌, map, filter, length, Some, subst, refl, sym, ◌∙◌, ap, arith, inl, inr}
 use Rattle.std.specs.List.{list_all}
-use Rattle.std.proofs.lemmas.Bool.{eq-eqb, ne_eqb, eqb-true, eqb-false, lt-ltb, cases_eq, cases_Bool, and_parts, and_from, or_left, or_right, or_cases, not-true, not_from_false, false≢true}
+use Rattle.std.proofs.lemmas.Bool.{eq-eqb, ne_eqb, eqb-false, cases_eq, cases_Bool, and_parts, and_from, or_left, or_right, or_cases, not-true, not_from_false}
 use Rattle.argus_actions.specs.declared.action_id.ActionId.{ActionId}
 use Rattle.argus_actions.specs.Tree.{Tree, is_ancestor, parent_of}
-use Rattle.argus_objects.specs.Rules.{all_above, is_strictly_above, is_chain, are_related, is_related}
-use Rattle.argus_objects.proofs.Above.{above_le, above_self, above_trans, above_linear, above_up}
+use Rattle.argus_objects.specs.Rules.{is_strictly_above, is_chain, are_related}
+use Rattle.argus_objects.proofs.Above.{above_le, above_self, above_trans, above_up}
 
 pub all_imp : {X : Type 0} (p q : X → Bool) → ((x : X) → p x ≡ true → q x ≡ true) → (xs : List X) → list_all p xs ≡ true → list_all q xs ≡ true
 all_imp p q h [] all = refl

@@ -29,6 +29,14 @@ use std::marker::Model;
 /// Contracts see these three, and for how many more grants there is room. Readers stand in
 /// increasing number, versions from ancestor to descendant. Only `reserve_grant` and
 /// `grant_change` take memory.
+///
+/// ```text
+/// let mut cell = Cell::new(heap, None);
+/// cell.reserve_grant()?;
+/// cell.grant_write(&tree, sub, Some(content));    // the subaction has a version
+/// cell.inherit(&tree, sub, top);                  // its parent has it; then tree.commit(sub)
+/// cell.settle_top(&tree, top);                    // it is the base; then tree.commit(top)
+/// ```
 #[derive(Drop)]
 pub struct Cell {
     base: Option<Content>,

@@ -1,6 +1,6 @@
-use Rattle.std.proofs.Common.{◌≡◌, true, Some, sym, subst}
+use Rattle.std.proofs.Common.{◌≡◌, Some, sym, subst}
 use Rattle.argus_actions.specs.Nodes.{rows_of}
-use Rattle.argus_actions.specs.Tree.{Tree, is_ancestor, parent_of}
+use Rattle.argus_actions.specs.Tree.{Tree, parent_of}
 use Rattle.argus_actions.proofs.Parents.{parent_above}
 use Rattle.argus_actions.proofs.action_tree.ActionTree.parent_is_ancestor.Goals as goal
 
