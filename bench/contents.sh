@@ -35,7 +35,7 @@ turns() {
 
 run_copies() {
     for size in $sizes; do
-        for work in duplicate nested; do
+        for work in duplicate made nested; do
             ours "$work:$size" "$(turns "$size")"
             rust "$work:$size" "$(turns "$size")"
         done
@@ -66,7 +66,7 @@ ratio() {
 
 print_copies() {
     printf '%-18s %12s %12s %7s\n' kind 'ns each' 'in Rust' ratio
-    for work in duplicate nested; do
+    for work in made duplicate nested; do
         for size in $sizes; do
             mine=$figures/ours-$work:$size
             theirs=$figures/rust-$work:$size

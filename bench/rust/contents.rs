@@ -20,6 +20,7 @@ contents KIND N: does a piece of work N times, and prints what each took
 
 KIND is WORK:SIZE, where SIZE is a number of items:
   duplicate:SIZE   a copy of an array of integers by hand, made and dropped
+  made:SIZE        the same until the copy is made
   bare:SIZE        the same with no handle of an allocator in the values
   clone:SIZE       a copy of it by the derived Clone, made and dropped
   nested:SIZE      a copy of a record of an integer, a sequence of integers, a text and
@@ -168,11 +169,24 @@ fn nanos_each<H: Copy>(
     taken.as_secs_f64() * 1e9 / f64::from(turns)
 }
 
+// The clock stands while the copies are dropped.
+fn nanos_made<H: Copy>(content: Content<H>, turns: u32) -> f64 {
+    let mut taken = Duration::ZERO;
+    for _ in 0..turns {
+        let before = process_cpu_time();
+        let copy = black_box(black_box(&content).duplicate());
+        taken += process_cpu_time() - before;
+        drop(copy);
+    }
+    taken.as_secs_f64() * 1e9 / f64::from(turns)
+}
+
 fn timed(kind: &str, turns: &str) -> Option<f64> {
     let (work, size) = kind.split_once(':')?;
     let (size, turns) = (size.parse().ok()?, turns.parse().ok()?);
     match work {
         "duplicate" => Some(nanos_each(Content::duplicate, array(&HEAP, size), turns)),
+        "made" => Some(nanos_made(array(&HEAP, size), turns)),
         "bare" => Some(nanos_each(Content::duplicate, array((), size), turns)),
         "clone" => Some(nanos_each(Content::clone, array(&HEAP, size), turns)),
         "nested" => Some(nanos_each(Content::duplicate, nested(&HEAP, size), turns)),
