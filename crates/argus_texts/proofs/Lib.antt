@@ -9,5 +9,6 @@ pub mod Grown
 pub mod Items
 pub mod Lists
 pub mod Quotes
+pub mod ShapeForms
 pub mod Stops
 pub mod Values
