@@ -24,6 +24,7 @@ mod scan;
 mod shape_reading;
 mod shape_writing;
 mod stop;
+mod unread;
 mod writing;
 
 pub use content_reading::read_content;
