@@ -1,0 +1,21 @@
+//! Scripts: read, run, and what their objects then hold.
+#![tactic(auto)]
+
+mod block;
+mod cut;
+mod fault_kind;
+mod fields;
+pub mod limits;
+mod line;
+mod line_error;
+mod objects;
+mod part;
+mod reading;
+mod script;
+mod script_fault;
+mod step;
+mod verb;
+mod words;
+
+pub use fault_kind::FaultKind;
+pub use script_fault::ScriptFault;
