@@ -1,2 +1,4 @@
 pub mod Cutting
+pub mod Ends
+pub mod Faults
 pub mod Finding

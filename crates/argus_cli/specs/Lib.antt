@@ -3,6 +3,7 @@ pub mod Fault
 pub mod Fields
 pub mod Lines
 pub mod Object
+pub mod Parsed
 pub mod Reading
 pub mod Said
 pub mod Script

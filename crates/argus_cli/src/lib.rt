@@ -9,6 +9,8 @@ pub mod limits;
 mod line;
 mod line_error;
 mod objects;
+mod parse;
+mod parse_error;
 mod part;
 mod reading;
 mod script;
