@@ -1,4 +1,5 @@
 pub mod Command
+pub mod Doing
 pub mod Fault
 pub mod Fields
 pub mod Lines
@@ -7,3 +8,4 @@ pub mod Parsed
 pub mod Reading
 pub mod Said
 pub mod Script
+pub mod Work

@@ -1,8 +1,10 @@
 //! Scripts: read, run, and what their objects then hold.
 #![tactic(auto)]
 
+mod bases;
 mod block;
 mod cut;
+mod deed;
 mod fault_kind;
 mod fields;
 pub mod limits;
@@ -18,6 +20,8 @@ mod script_fault;
 mod step;
 mod verb;
 mod words;
+mod work;
+mod working;
 
 pub use fault_kind::FaultKind;
 pub use script_fault::ScriptFault;

@@ -1,6 +1,6 @@
 //! `parse`: the script that bytes spell.
 
-ghost use Rattle.std.specs.Prelude.{◌≡◌, ◌∷◌, [], None, IfOk, IfErr, OnOk};
+ghost use Rattle.std.specs.Prelude.{◌≡◌, ◌≤◌, length, ◌∷◌, [], None, IfOk, IfErr, OnOk};
 ghost use Rattle.argus_cli.specs.Fault.{IsFaultOf, NoFault};
 ghost use Rattle.argus_cli.specs.Lines.{lines_of};
 ghost use Rattle.argus_cli.specs.Parsed.{IsUnclosedAt, OnScriptFault};
@@ -20,6 +20,7 @@ use argus_memory::Heap;
 /// The script that the bytes spell, or its first faulty line.
 pub(crate) fn parse(heap: Heap, bytes: &[u8]) -> Result<Script<'_>, ParseError>
     ensures spells { IfOk result (λ script. Spells (lines_of bytes.now) (plain_script script)) }
+    ensures few { IfOk result (λ script. length script.parts.items ≤ 100000) }
     ensures fine { OnOk result (NoFault (lines_of bytes.now)) }
     ensures fault { IfErr result (λ e. OnScriptFault e (IsFaultOf (lines_of bytes.now))) }
 {

@@ -1,6 +1,6 @@
 //! `Reading`: a script that is being read, line by line.
 
-ghost use Rattle.std.specs.Prelude.{◌≡◌, ℕ, List, true, false, ◌+◌, ◌<◌, ◌^◌, [], ◌∷◌, ◌++◌, length, map, None, IsSome, IfErr, OnOk};
+ghost use Rattle.std.specs.Prelude.{◌≡◌, ℕ, List, true, false, ◌+◌, ◌≤◌, ◌<◌, ◌^◌, [], ◌∷◌, ◌++◌, length, map, None, IsSome, IfErr, OnOk};
 ghost use Rattle.argus_texts.specs.Fault.{IsContentText, IsValueText};
 ghost use Rattle.argus_texts.specs.ShapeSpelling.{IsShapeText};
 ghost use Rattle.argus_cli.specs.Command.{says, verb_of};
@@ -73,6 +73,7 @@ impl<'a> Reading<'a> {
         ensures objects { OnOk result (map spelled self.new.objects ≡ map spelled self.old.objects ++ (name.now, shape.now) ∷ []) }
         ensures block { OnOk result (self.new.block ≡ None) }
         ensures text { OnOk result (text_of (plain_parts self.new.parts.items) ≡ text_of (plain_parts self.old.parts.items) ++ command.declare name.now shape.now ∷ []) }
+        ensures few { OnOk result (length self.new.parts.items ≤ length self.old.parts.items + 1) }
     {
         let Some(made) = read_shape(heap, shape)? else {
             return Err(LineError::Fault(FaultKind::BadType));
@@ -151,6 +152,7 @@ impl<'a> Reading<'a> {
         ensures same { OnOk result (self.new.objects ≡ self.old.objects) }
         ensures block { OnOk result (self.new.block ≡ None) }
         ensures text { OnOk result (text_of (plain_parts self.new.parts.items) ≡ so_far self.old.parts.items self.old.block ++ command.«end» ∷ []) }
+        ensures few { OnOk result (length self.new.parts.items ≤ length self.old.parts.items + 1) }
     {
         let Some(block) = self.block.take() else {
             return Ok(());
@@ -190,6 +192,7 @@ impl<'a> Reading<'a> {
         ensures open_blocks { OnOk result (opened self.new.block ≡ open_after (says (said_in line.now)) (lines + 1) (opened self.old.block)) }
         ensures text { OnOk result (so_far self.new.parts.items self.new.block ≡ so_far self.old.parts.items self.old.block ++ told (says (said_in line.now))) }
         ensures counted { OnOk result (lines < 100000) }
+        ensures few { OnOk result (length self.new.parts.items ≤ length self.old.parts.items + 1) }
     {
         if self.is_too_long(lines, bytes, line) {
             return Err(LineError::Fault(FaultKind::TooLong));
@@ -209,6 +212,7 @@ impl<'a> Reading<'a> {
         ensures objects { OnOk result (map spelled self.new.objects ≡ map spelled self.old.objects ++ declared_by (said line.entry)) }
         ensures open_blocks { OnOk result (opened self.new.block ≡ open_after (said line.entry) number (opened self.old.block)) }
         ensures text { OnOk result (so_far self.new.parts.items self.new.block ≡ so_far self.old.parts.items self.old.block ++ told (said line.entry)) }
+        ensures few { OnOk result (length self.new.parts.items ≤ length self.old.parts.items + 1) }
     {
         match line {
             Line::Nothing | Line::Bad => Ok(()),

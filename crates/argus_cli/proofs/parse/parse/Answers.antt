@@ -1,5 +1,5 @@
 -- Each line more keeps what was read in step with the lines; at the end no line is left.
-use Rattle.std.proofs.Common.{◌≡◌, ◌∷◌, ◌+◌, ◌-◌, ◌++◌, None, length, take, refl, sym, ◌∙◌, ap, arith}
+use Rattle.std.proofs.Common.{◌≡◌, ◌≤◌, subst, ◌∷◌, ◌+◌, ◌-◌, ◌++◌, None, length, take, refl, sym, ◌∙◌, ap, arith}
 use Rattle.argus_cli.specs.Command.{says}
 use Rattle.argus_cli.specs.Fault.{IsFaultOf, NoFault}
 use Rattle.argus_cli.specs.Lines.{lines_of, said_in}
@@ -39,6 +39,7 @@ loop-rest-preserved c =
       objects = declares-more lines i line c.loop-rest.reading.objects c.take.new.self.objects h.front I.objects new.objects;
       text = commands-more lines i line h.front ∙ ap (λ t. t ++ told (says (said_in line))) I.text ∙ sym new.text;
       fine = fine-more lines i line c.loop-rest.reading.objects _ h.here I.objects I.place new.fine I.fine;
+      few = omega (arith, new.few);
       most = omega arith;
       within = omega arith }
 
@@ -66,3 +67,10 @@ returns-clause-fault c =
     err_more c.whole.result (IsUnclosedAt (opened c.loop-rest.reading.block)) (λ e. OnScriptFault e (IsFaultOf (lines_of c.args.bytes.now)))
     (λ e h. end_unclosed (lines_of c.args.bytes.now) c.loop-rest.lines left _ (opened c.loop-rest.reading.block) e I.place refl I.fine h)
     c.whole.ensures.unclosed
+
+pub returns-clause-few : goal.returns-clause-few
+returns-clause-few c =
+    let I = c.loop-rest.invariant in
+    ok_more c.whole.result _ (λ script. length script.parts.items ≤ 100000)
+    (λ script h. subst (λ v. length v.items ≤ 100000) (sym h.2) (omega arith))
+    c.whole.ensures.ok

@@ -13,6 +13,7 @@ invariant-loop-rest l = record {
   objects : Declares (take l.lines (lines_of l.bytes)) l.reading.objects;
   text : commands (take l.lines (lines_of l.bytes)) ≡ so_far l.reading.parts.items l.reading.block;
   fine : FineBefore (lines_of l.bytes) l.lines;
+  few : length l.reading.parts.items ≤ l.lines;
   most : l.lines ≤ 100000;
   within : length l.rest ≤ length l.bytes }
 
