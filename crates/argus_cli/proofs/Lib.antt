@@ -1,3 +1,4 @@
+pub mod Basing
 pub mod Cutting
 pub mod Ends
 pub mod Faults
