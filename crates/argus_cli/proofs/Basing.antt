@@ -22,7 +22,7 @@ pub changed_at : (bases : List (Option Content)) (i : ℕ) (old new : Option Con
     → plain_option new ≡ (result c (plain_option old)).0 → plain_bases (slice_set bases i new) ≡ changed (plain_bases bases) (i, c)
 changed_at bases i old new c within is e =
     let here : plain_option old ≡ slice_index_or (plain_bases bases) i None =
-      ap plain_option is ∙ sym (lists.get_or-map plain_option bases i old None within) in
+    ap plain_option is ∙ sym (lists.get_or-map plain_option bases i old None within) in
     map-set plain_option bases i new ∙ ap (slice_set (plain_bases bases) i) (e ∙ ap (λ o. (result c o).0) here)
 
 -- a change is done
@@ -75,8 +75,8 @@ listed_more objects bases i old new name base total w v n b e h =
     ap (λ t. t ++ more) (e ∙ ap (λ x. old ++ base_line x (plain_option base)) same)
     ∙ append_assoc old (base_line o.0 (plain_option base)) more
     ∙ sym (ap (λ os. old ++ listing os (plain_bases (drop i bases))) (drop_here objects i d w)
-      ∙ ap (λ bs. old ++ listing (o ∷ drop (i + 1) objects) (plain_bases bs)) (drop_here bases i base v)
-      ∙ ap (λ x. old ++ (base_line o.0 (plain_option x) ++ more)) (sym b))
+    ∙ ap (λ bs. old ++ listing (o ∷ drop (i + 1) objects) (plain_bases bs)) (drop_here bases i base v)
+    ∙ ap (λ x. old ++ (base_line o.0 (plain_option x) ++ more)) (sym b))
     ∙ h
   where
     some_same : {A : Type 0} {x y : A} → Some x ≡ Some y → x ≡ y

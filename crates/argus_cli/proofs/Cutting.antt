@@ -71,16 +71,18 @@ passed_more bs i h e p =
     let w = word_other (get_or bs i 0) (drop (i + 1) bs) e in
     record {
       word = p.word ∙ ap (λ d. take i bs ++ word d) here ∙ ap (λ d. take i bs ++ d) w.0
-        ∙ sym (append_assoc (take i bs) (get_or bs i 0 ∷ []) (word (drop (i + 1) bs)))
-        ∙ ap (λ t. t ++ word (drop (i + 1) bs)) (sym (take_more bs i 0 h));
-      behind = p.behind ∙ ap behind_word here ∙ w.1 }
+          ∙ sym (append_assoc (take i bs) (get_or bs i 0 ∷ []) (word (drop (i + 1) bs)))
+          ∙ ap (λ t. t ++ word (drop (i + 1) bs)) (sym (take_more bs i 0 h));
+      behind = p.behind ∙ ap behind_word here ∙ w.1;
+    }
 
 pub passed_word : (bs : List ℕ) (i : ℕ) → i < length bs → is_blank (get_or bs i 0) ≡ true → Passed bs i → (take i bs ≡ word bs) × (drop i bs ≡ behind_word bs)
 passed_word bs i h e p =
     let here = drop_here bs i h in
-    let w = word_blank (get_or bs i 0) (drop (i + 1) bs) e in
-    (sym (p.word ∙ ap (λ d. take i bs ++ word d) here ∙ ap (λ d. take i bs ++ d) w.0 ∙ append-nil (take i bs)),
-     sym (p.behind ∙ ap behind_word here ∙ w.1 ∙ sym here))
+    let w = word_blank (get_or bs i 0) (drop (i + 1) bs) e in (
+      sym (p.word ∙ ap (λ d. take i bs ++ word d) here ∙ ap (λ d. take i bs ++ d) w.0 ∙ append-nil (take i bs)),
+      sym (p.behind ∙ ap behind_word here ∙ w.1 ∙ sym here),
+    )
 
 pub before_blanks-blank : (bs : List ℕ) (b : ℕ) → is_blank b ≡ true → before_blanks (bs ++ b ∷ []) ≡ before_blanks bs
 before_blanks-blank bs b e = ap (λ r. reverse (behind_blanks r)) (reverse-append bs (b ∷ []))
@@ -100,10 +102,10 @@ reach_end bs i some low high e =
     let nothing = drop-length bs in
     let whole = take-length bs in
     e ∙ ap (λ n. glue (take n bs) (lines_of (drop n bs))) same
-      ∙ ap (λ d. glue (take (length bs) bs) (lines_of d)) nothing
-      ∙ ap (λ t. glue t []) whole ∙ glue_whole bs some
-      ∙ ap (λ t. t ∷ []) (sym whole)
-      ∙ ap (λ d. take (length bs) bs ∷ lines_of d) (sym nothing)
+    ∙ ap (λ d. glue (take (length bs) bs) (lines_of d)) nothing
+    ∙ ap (λ t. glue t []) whole ∙ glue_whole bs some
+    ∙ ap (λ t. t ∷ []) (sym whole)
+    ∙ ap (λ d. take (length bs) bs ∷ lines_of d) (sym nothing)
 
 pub blank_ascii : (b : ℕ) → is_blank b ≡ true → b < 128
 blank_ascii b e = grind (arith, nat_tests)

@@ -34,17 +34,23 @@ module _ (lines : List (List ℕ)) (i : ℕ) (left : drop i lines ≡ []) where
       let all = all-taken lines i left in
       record {
         text = ap commands (sym all) ∙ text ∙ ap (so_far parts) none ∙ append-nil (text_of (plain_parts parts)) ∙ ap (λ ps. text_of (plain_parts ps)) (sym f);
-        declares = subst (λ ls. Declares ls script.objects) all (subst (λ os. Declares (take i lines) os) (sym e) declares) }
+        declares = subst (λ ls. Declares ls script.objects) all (subst (λ os. Declares (take i lines) os) (sym e) declares);
+      }
 
   pub end_fine : (p : Place) (block : Option Block) → place_behind (take i lines) ≡ p → p.open_blocks ≡ opened block → block ≡ None → FineBefore lines i → NoFault lines
   end_fine p block place e none before = record {
-      fine = fine-all lines i left before;
-      closed = ap (λ ls. (place_behind ls).open_blocks) (sym (all-taken lines i left)) ∙ ap (λ q. q.open_blocks) place ∙ e ∙ ap opened none }
+    fine = fine-all lines i left before;
+    closed = ap (λ ls. (place_behind ls).open_blocks) (sym (all-taken lines i left)) ∙ ap (λ q. q.open_blocks) place ∙ e ∙ ap opened none;
+  }
 
   pub end_unclosed : (p : Place) (blocks : List ℕ) (e : ParseError) → place_behind (take i lines) ≡ p → p.open_blocks ≡ blocks → FineBefore lines i
       → IsUnclosedAt blocks e → OnScriptFault e (IsFaultOf lines)
-  end_unclosed p blocks (error.Fault fault) place same before h = inr (h.0, record {
+  end_unclosed p blocks (error.Fault fault) place same before h = inr (
+    h.0,
+    record {
       outer = [];
       open_blocks = ap (λ ls. (place_behind ls).open_blocks) (sym (all-taken lines i left)) ∙ ap (λ q. q.open_blocks) place ∙ same ∙ h.1;
-      before = fine-all lines i left before })
+      before = fine-all lines i left before;
+    },
+  )
   end_unclosed p blocks error.Memory place same before h = absurd h

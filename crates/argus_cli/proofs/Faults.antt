@@ -31,7 +31,8 @@ here_at lines i line more e =
     record {
       here = slice_get-get_or lines i line within ∙ ap Some first;
       front = take_more lines i line within ∙ ap (λ x. take i lines ++ x ∷ []) first;
-      left = tail_same both }
+      left = tail_same both;
+    }
 
 place_same : (a b c d : ℕ) (xs ys : List ℕ) → a ≡ b → c ≡ d → xs ≡ ys
     → ◌≡◌ {A = Place} (record { lines = a; bytes = c; open_blocks = xs }) (record { lines = b; bytes = d; open_blocks = ys })

@@ -36,5 +36,5 @@ pub declared_last : {S : Type 0} (m : IndexMap (Bor (List ℕ)) PlainShape S) (n
     → map object (insert_entry (λ j k. bytes_eq j.now k.now) m.entries name shape) ≡ map object m.entries ++ (name.now, shape) ∷ []
 declared_last m name shape h =
     let absent : get (λ j k. bytes_eq j.now k.now) m name ≡ None =
-      is_none _ (sym (some_index (λ k. bytes_eq name.now k.now) m.entries) ∙ ap is_some (number-keys name.now m.entries ∙ h)) in
+    is_none _ (sym (some_index (λ k. bytes_eq name.now k.now) m.entries) ∙ ap is_some (number-keys name.now m.entries ∙ h)) in
     ap (map object) (insert_entry-new (λ j k. bytes_eq j.now k.now) m name shape absent) ∙ map-append object m.entries ((name, shape) ∷ [])

@@ -37,7 +37,8 @@ within_keeps low size e =
       from = not_below low MIN_BOUND (both_left _ (not (int_lt MAX_BOUND low)) front);
       to = not_below MAX_BOUND low (both_right (not (int_lt low MIN_BOUND)) _ front);
       high = omega (arith, ints);
-      items = at_most size MAX_ITEMS (both_right (not (int_lt MAX_BOUND (high_of low size))) _ back) }
+      items = at_most size MAX_ITEMS (both_right (not (int_lt MAX_BOUND (high_of low size))) _ back);
+    }
 
 pub fitting_keeps : (s : PlainShape) (n : ℕ) (c : PlainContent) → is_fitting s n c ≡ true → KeepsLimits (Some c)
 fitting_keeps s n (rec vs) e = tt

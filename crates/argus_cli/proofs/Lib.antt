@@ -1,4 +1,5 @@
 pub mod Basing
+pub mod Bytes
 pub mod Cutting
 pub mod Ends
 pub mod Faults

@@ -35,7 +35,8 @@ abbrev pub place_after : Place → List ℕ → Place
 place_after p line = record {
   lines = p.lines + 1;
   bytes = p.bytes + length line;
-  open_blocks = open_after (says (said_in line)) (p.lines + 1) p.open_blocks }
+  open_blocks = open_after (says (said_in line)) (p.lines + 1) p.open_blocks;
+}
 
 -- what stands behind all these lines
 abbrev pub place_behind : List (List ℕ) → Place

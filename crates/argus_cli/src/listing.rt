@@ -31,7 +31,11 @@ pub(crate) fn list_bases(
     Ok(text)
 }
 
-fn append_base(name: &str, base: &Option<Content>, text: &mut String<Heap>) -> Result<(), OutOfMemory>
+fn append_base(
+    name: &str,
+    base: &Option<Content>,
+    text: &mut String<Heap>,
+) -> Result<(), OutOfMemory>
     ensures { OnOk result (string_bytes text.new ≡ string_bytes text.old ++ base_line name.now (plain_option base.now)) }
 {
     text.push_str(name)?;

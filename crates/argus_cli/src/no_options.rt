@@ -7,10 +7,7 @@ use std::alloc::AllocError;
 pub enum NoOptions {
     /// The program ends with this text and this status: 2 for a mistake in the command line, 0 for
     /// `--help`.
-    Usage {
-        status: u8,
-        text: String,
-    },
+    Usage { status: u8, text: String },
     /// There was no memory to read the command line.
     Memory,
 }

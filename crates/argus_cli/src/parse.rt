@@ -52,7 +52,11 @@ fn whole(reading: Reading<'_>) -> Result<Script<'_>, ParseError>
     ensures ok { IfOk result (λ script. (reading.entry.block ≡ None) × (script.objects ≡ reading.entry.objects) × (script.parts ≡ reading.entry.parts)) }
     ensures unclosed { IfErr result (IsUnclosedAt (opened reading.entry.block)) }
 {
-    let Reading { objects, parts, block } = reading;
+    let Reading {
+        objects,
+        parts,
+        block,
+    } = reading;
     match block {
         None => Ok(Script { objects, parts }),
         Some(block) => Err(fault_at(block.line, FaultKind::Unclosed)),

@@ -114,7 +114,13 @@ impl<'a> Reading<'a> {
     }
 
     /// Sets a field to the value of a written form.
-    fn set(&mut self, heap: Heap, name: &'a str, field: &'a str, text: &'a str) -> Result<(), LineError>
+    fn set(
+        &mut self,
+        heap: Heap,
+        name: &'a str,
+        field: &'a str,
+        text: &'a str,
+    ) -> Result<(), LineError>
         requires { IsSome self.old.block }
         ensures fault { IfErr result (λ e. OnKind e (λ k. TextFault (command.set name.now field.now text.now) k)) }
         ensures fine { OnOk result (IsValueText text.now) }

@@ -89,13 +89,7 @@ fn get<'a>(objects: &Objects<'a>, name: &'a str, field: &str) -> Deed
     Deed::Dropped
 }
 
-fn set<'a>(
-    objects: &Objects<'a>,
-    declared: u32,
-    name: &'a str,
-    field: &str,
-    value: Value,
-) -> Deed
+fn set<'a>(objects: &Objects<'a>, declared: u32, name: &'a str, field: &str, value: Value) -> Deed
     ensures deed { plain_deed result ≡ deed objects.now declared (plain.set name.now field.now (plain_value value)) }
     ensures kept { KeepsIt result }
 {

@@ -7,4 +7,5 @@ use Rattle.argus_cli.proofs.bases.absent.Given as goal
 abbrev pub invariant-loop : goal.invariant-loop
 invariant-loop l = record {
   bases : plain_bases l.bases.items ≡ all_absent (take l.counter l.objects);
-  limits : AllKeep l.bases.items }
+  limits : AllKeep l.bases.items;
+}

@@ -9,7 +9,8 @@ abbrev pub invariant-loop-one : goal.invariant-loop-one
 invariant-loop-one l = record {
   done : fold changed (plain_bases l.bases.items) (plain_works l.work.items) ≡ fold changed (plain_bases l.initial.bases.items) (plain_works l.initial.work.items);
   limits : AllKeep l.bases.items;
-  kept : All IsKept l.work.items }
+  kept : All IsKept l.work.items;
+}
 
 abbrev pub decreases-loop-one : goal.decreases-loop-one
 decreases-loop-one l = length l.work.items

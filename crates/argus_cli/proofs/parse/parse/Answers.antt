@@ -41,7 +41,8 @@ loop-rest-preserved c =
       fine = fine-more lines i line c.loop-rest.reading.objects _ h.here I.objects I.place new.fine I.fine;
       few = omega (arith, new.few);
       most = omega arith;
-      within = omega arith }
+      within = omega arith;
+    }
 
 pub returns-clause-spells : goal.returns-clause-spells
 returns-clause-spells c =

@@ -15,7 +15,8 @@ invariant-loop-rest l = record {
   fine : FineBefore (lines_of l.bytes) l.lines;
   few : length l.reading.parts.items ≤ l.lines;
   most : l.lines ≤ 100000;
-  within : length l.rest ≤ length l.bytes }
+  within : length l.rest ≤ length l.bytes;
+}
 
 abbrev pub decreases-loop-rest : goal.decreases-loop-rest
 decreases-loop-rest l = length l.rest

@@ -10,5 +10,6 @@ loop-step-preserved c =
     let pushed = c.in_ok-push-in-Changed.ensures.items in
     record {
       work = gathered c.args.objects.now c.args.declared c.loop-step.work.items c.push.new.self.items c.in-Changed.one c.loop-step.steps.items c.pop_front.new.self.items c.in-Some.step _
-        pushed c.in-Some.ensures.items c.in-Changed.ensures.deed c.loop-step.invariant.work;
-      kept = subst (All IsKept) (sym pushed) (All-push IsKept c.loop-step.work.items c.in-Changed.one c.loop-step.invariant.kept c.in-Changed.ensures.kept) }
+          pushed c.in-Some.ensures.items c.in-Changed.ensures.deed c.loop-step.invariant.work;
+      kept = subst (All IsKept) (sym pushed) (All-push IsKept c.loop-step.work.items c.in-Changed.one c.loop-step.invariant.kept c.in-Changed.ensures.kept);
+    }
