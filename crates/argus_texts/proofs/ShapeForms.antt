@@ -1,5 +1,5 @@
 -- The forms of types and shapes: a text begins with one at most.
-use Rattle.std.proofs.Common.{◌≡◌, ℕ, Bool, true, List, [], ◌∷◌, ◌++◌, length, get_or, ◌&&◌, nat_lt, nat_le, refl, sym, ap, ◌∙◌, subst, append_assoc, append-nil, codes, arith}
+use Rattle.std.proofs.Common.{◌≡◌, ◌≢◌, ℕ, true, List, [], ◌∷◌, ◌++◌, length, get_or, ◌&&◌, nat_lt, nat_le, refl, sym, ap, ◌∙◌, subst, append_assoc, codes, arith}
 use Rattle.std.specs.List.{list_all}
 use Rattle.std.proofs.lemmas.Bool.{and_parts}
 use Rattle.argus_contents.specs.declared.limits.TheConstants.{MAX_NAME_BYTES}
@@ -26,17 +26,29 @@ no_colon b h e = let f : is_name_byte 58 ≡ true = subst (λ d. is_name_byte d 
 no_bracket : (b : ℕ) → is_name_byte b ≡ true → b ≡ 93 → ⊥
 no_bracket b h e = let f : is_name_byte 93 ≡ true = subst (λ d. is_name_byte d ≡ true) e h in cc
 
-bytes_told : (a b x y : List ℕ) → list_all is_name_byte a ≡ true → list_all is_name_byte b ≡ true → a ++ 58 ∷ x ≡ b ++ 58 ∷ y → (a ≡ b) × (x ≡ y)
-bytes_told [] [] x y g h e = (refl, tail_of e)
-bytes_told [] (c ∷ b) x y g h e = absurd (no_colon c (first_byte c b h) (sym (head_of e)))
-bytes_told (c ∷ a) [] x y g h e = absurd (no_colon c (first_byte c a g) (head_of e))
-bytes_told (c ∷ a) (d ∷ b) x y g h e =
-    let r = bytes_told a b x y (other_bytes c a g) (other_bytes d b h) (tail_of e) in
+-- no byte of the list is a colon
+abbrev pub NoColon : List ℕ → Type 0
+NoColon [] = Unit {0}
+NoColon (b ∷ bs) = (b ≢ 58) × NoColon bs
+
+-- bytes without a colon end at the first colon
+pub colon_told : (a b x y : List ℕ) → NoColon a → NoColon b → a ++ 58 ∷ x ≡ b ++ 58 ∷ y → (a ≡ b) × (x ≡ y)
+colon_told [] [] x y g h e = (refl, tail_of e)
+colon_told [] (c ∷ b) x y g h e = absurd (h.0 (sym (head_of e)))
+colon_told (c ∷ a) [] x y g h e = absurd (g.0 (head_of e))
+colon_told (c ∷ a) (d ∷ b) x y g h e =
+    let r = colon_told a b x y g.1 h.1 (tail_of e) in
     (ap (λ z. c ∷ z) r.0 ∙ ap (λ z. z ∷ b) (head_of e), r.1)
 
--- a name ends at the first colon
+bytes_no_colon : (bs : List ℕ) → list_all is_name_byte bs ≡ true → NoColon bs
+bytes_no_colon [] h = tt
+bytes_no_colon (b ∷ bs) h = (no_colon b (first_byte b bs h), bytes_no_colon bs (other_bytes b bs h))
+
+pub name_no_colon : (name : List ℕ) → is_name name ≡ true → NoColon name
+name_no_colon name h = bytes_no_colon name (name_bytes name h)
+
 pub name_told : (a b x y : List ℕ) → is_name a ≡ true → is_name b ≡ true → a ++ 58 ∷ x ≡ b ++ 58 ∷ y → (a ≡ b) × (x ≡ y)
-name_told a b x y g h e = bytes_told a b x y (name_bytes a g) (name_bytes b h) e
+name_told a b x y g h e = colon_told a b x y (name_no_colon a g) (name_no_colon b h) e
 
 -- a name is no closing bracket
 pub name_opens : (a x y : List ℕ) → is_name a ≡ true → 93 ∷ y ≡ a ++ x → ⊥
@@ -130,7 +142,7 @@ mutual
 -- SHAPES
 
 -- the byte behind `atomic_`
-abbrev Kind : PlainShape → ℕ
+abbrev pub Kind : PlainShape → ℕ
 Kind (rec fs) = 114
 Kind (arr x) = 97
 Kind (var fs) = 118
@@ -142,6 +154,10 @@ kind_at (var fs) x = refl
 
 same_kind : (s t : PlainShape) (x y : List ℕ) → shape_spelling s ++ x ≡ shape_spelling t ++ y → Kind s ≡ Kind t
 same_kind s t x y e = sym (kind_at s x) ∙ ap (λ z. get_or z 7 0) e ∙ kind_at t y
+
+-- a shape's form has that byte
+pub kind_told : (s : PlainShape) (x rest : List ℕ) (k : ℕ) → get_or x 7 0 ≡ k → x ≡ shape_spelling s ++ rest → Kind s ≡ k
+kind_told s x rest k h e = sym (kind_at s rest) ∙ sym (ap (λ z. get_or z 7 0) e) ∙ h
 
 -- a text begins with the form of one shape at most
 pub one_shape : (s t : PlainShape) (x y : List ℕ) → HasNames s → HasNames t → shape_spelling s ++ x ≡ shape_spelling t ++ y → (s ≡ t) × (x ≡ y)

@@ -9,7 +9,7 @@
 //! | `{1,"a"}` | the fields of a struct; as a content, of a record |
 //! | `<1:"no">` | tag 1 of a oneof and its value; as a content, of a variant |
 //! | `1[10,20]` | as a content, an array with low bound 1 |
-//! | `atomic_record[n:int,s:sequence[text]]` | the shape of a record; `atomic_array` and `atomic_variant` likewise |
+//! | `atomic_record[n:int,s:sequence[text]]` | the shape of a record; likewise of an array and a variant |
 #![tactic(auto)]
 
 mod content_reading;
@@ -24,6 +24,7 @@ mod scan;
 mod shape_reading;
 mod shape_writing;
 mod stop;
+mod unread;
 mod writing;
 
 pub use content_reading::read_content;
