@@ -1,0 +1,79 @@
+//! `argus`: runs a script from standard input, and lists what its objects then hold.
+//!
+//! | Status | Meaning | On standard error |
+//! |---|---|---|
+//! | 0 | done | nothing |
+//! | 2 | a mistake in the command line | its text |
+//! | 3 | the script is refused | `line N: KIND` |
+//! | 4 | want of memory | `out of memory` |
+//! | 5 | a read or a write failed | `read fault` or `write fault` |
+#![tactic(auto)]
+
+use argus_cli::{CliFault, NoOptions, Options, Watched, options, run};
+use argus_memory::Heap;
+use std::alloc::Global;
+use std::io::{Read, Write};
+use std::process::ExitCode;
+use std::rt::Env;
+use std::{env, io};
+
+fn main(rt: HostRuntime) -> ExitCode {
+    let Ok(words) = words(&rt) else {
+        return failed(&rt, CliFault::Memory);
+    };
+    match options(rt.alloc(), words) {
+        Ok(options) => ran(&rt, rt.alloc(), rt.stdin(), rt.stdout(), options),
+        Err(NoOptions::Usage { status, text }) => shown(&rt, status, &text),
+        Err(NoOptions::Memory) => failed(&rt, CliFault::Memory),
+    }
+}
+
+// The words behind the program's name.
+fn words(rt: &(impl Env + AllocGlobal)) -> io::Result<Vec<String>> {
+    let mut words = Vec::new(rt.alloc());
+    for word in env::args(rt)?.skip(1) {
+        words.push(word)?;
+    }
+    Ok(words)
+}
+
+// Runs the script that the reader has, and lists to the writer.
+fn ran<R: Read + Drop, W: Write + Drop>(
+    rt: &impl Eprint,
+    alloc: Global,
+    reader: R,
+    writer: W,
+    options: Options,
+) -> ExitCode {
+    let Ok(heap) = Heap::new(alloc) else {
+        return failed(rt, CliFault::Memory);
+    };
+    match run(
+        heap,
+        &mut Watched::new(reader),
+        &mut Watched::new(writer),
+        options,
+    ) {
+        Ok(()) => ExitCode::SUCCESS,
+        Err(fault) => failed(rt, fault),
+    }
+}
+
+// The text of the command line's parser: help goes to standard output, a mistake to standard error.
+fn shown(rt: &(impl Print + Eprint), status: u8, text: &String) -> ExitCode {
+    let shown = if status == 0 {
+        rt.print(text)
+    } else {
+        rt.eprint(text)
+    };
+    match shown {
+        Ok(()) => ExitCode::from(status),
+        Err(_) => failed(rt, CliFault::Write),
+    }
+}
+
+// That standard error can't be written is told by the status alone.
+fn failed(rt: &impl Eprint, fault: CliFault) -> ExitCode {
+    let _ = rt.eprintln(&fault);
+    ExitCode::from(fault.status())
+}

@@ -1,0 +1,8 @@
+pub mod Basing
+pub mod Bytes
+pub mod Cutting
+pub mod Ends
+pub mod Faults
+pub mod Finding
+pub mod Fitting
+pub mod Gathering

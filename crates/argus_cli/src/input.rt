@@ -1,0 +1,40 @@
+//! Reading a bounded input.
+
+ghost use Rattle.std.specs.Prelude.{◌≡◌, true, false, IfOk, IfErr};
+ghost use Rattle.argus_cli.specs.Ran.{ReadUpTo};
+ghost use Rattle.argus_cli.specs.declared.input_fault.InputFault.TheVariants as InputFault;
+
+use crate::input_fault::InputFault;
+use crate::watched::Watched;
+use argus_memory::Heap;
+use std::io::Read;
+
+// How much is read at once.
+const CHUNK: usize = 16_384;
+
+/// All that the reader has, at most `limit` bytes of it. A read that fails isn't tried again.
+pub(crate) fn read_up_to<R: Read + Drop>(
+    heap: Heap,
+    reader: &mut Watched<R>,
+    limit: usize,
+) -> Result<Vec<u8, Heap>, InputFault>
+    requires { reader.old.failed ≡ false }
+    ensures read { IfOk result (λ bytes. ReadUpTo limit (R.remaining reader.old.inner) (R.remaining reader.new.inner) bytes.items) }
+    ensures failed { IfErr result (λ e. e ≡ InputFault.Read → reader.new.failed ≡ true) }
+{
+    let mut all = Vec::new(heap);
+    let mut chunk = [0u8; CHUNK];
+    while all.len() < limit {
+        let size = CHUNK.min(limit - all.len());
+        match reader.read_once(&mut chunk[..size]) {
+            None => return Err(InputFault::Read),
+            Some(0) => return Ok(all),
+            Some(n) => {
+                if all.extend_from_slice(&chunk[..n]).is_err() {
+                    return Err(InputFault::Memory);
+                }
+            }
+        }
+    }
+    Ok(all)
+}

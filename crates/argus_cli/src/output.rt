@@ -1,0 +1,31 @@
+//! Writing a text.
+
+ghost use Rattle.std.specs.Prelude.{◌≡◌, ◌≤◌, ℕ, length, take, true, false, OnOk, OnErr};
+ghost use Rattle.std.specs.Io.KnownBytes.{Appends};
+
+use crate::watched::Watched;
+use std::io::Write;
+
+/// The writer failed.
+#[derive(Clone, Copy)]
+pub(crate) struct NotWritten;
+
+/// Writes all the bytes. A write that fails or takes nothing isn't tried again.
+pub(crate) fn write_whole<W: Write + Drop>(
+    writer: &mut Watched<W>,
+    bytes: &[u8],
+) -> Result<(), NotWritten>
+    requires { writer.old.failed ≡ false }
+    ensures ok { OnOk result (Appends (W.contents writer.old.inner) (W.contents writer.new.inner) bytes.now) }
+    ensures cut { OnErr result ((n : ℕ) × (n ≤ length bytes.now) × Appends (W.contents writer.old.inner) (W.contents writer.new.inner) (take n bytes.now)) }
+    ensures failed { OnErr result (writer.new.failed ≡ true) }
+{
+    let mut at = 0;
+    while at < bytes.len() {
+        match writer.write_once(&bytes[at..]) {
+            Some(n) => at += n,
+            None => return Err(NotWritten),
+        }
+    }
+    Ok(())
+}
