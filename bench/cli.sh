@@ -39,7 +39,7 @@ faulty() {
 # seconds SCRIPT: what one run takes
 seconds() {
     local TIMEFORMAT=%R
-    { time "$top/argus" < "$1" > /dev/null 2> /dev/null || true; } 2>&1
+    { time "$top/crates/argus/out/argus" < "$1" > /dev/null 2> /dev/null || true; } 2>&1
 }
 
 median() {
@@ -58,6 +58,7 @@ line() {
     rm "$work/whole" "$work/parsed"
 }
 
+# this builds the program where it isn't built
 "$top/argus" < /dev/null
 for n in 1000 10000 100000; do
     lines "$n" > "$work/script"
