@@ -14,6 +14,7 @@ pub use argus_contents::{
     query_fits, typed,
 };
 pub use argus_texts::{
-    ReadError, ReadFault, read_content, read_shape, read_value, write_content, write_shape,
-    write_value,
+    ReadError, ReadFault, contents_are_read_back, each_content_is_told, each_shape_is_told,
+    each_value_is_told, read_content, read_shape, read_value, shapes_are_read_back,
+    values_are_read_back, write_content, write_shape, write_value,
 };

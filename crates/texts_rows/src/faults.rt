@@ -67,6 +67,7 @@ fn of_depth(rt: HostRuntime) -> Result<(), Fail> {
         ("[[[[[[[[[[[[[[[[1]]]]]]]]]]]]]]]]", Some(16)),
         ("[[[[[[[[[[[[[[[<0:1>]]]]]]]]]]]]]]]", Some(15)),
         ("[[[[[[[[[[[[[[[1]]]]]]]]]]]]]]]", None),
+        ("<0:<0:<0:<0:<0:<0:<0:<0:<0:<0:<0:<0:<0:<0:<0:<0:", Some(45)),
     ];
     for (text, want) in cases {
         assert_eq!(rt; value_fault(heap, text)?, want, "at {text}");

@@ -5,6 +5,8 @@
 #[cfg(test)]
 mod faults;
 #[cfg(test)]
+mod laws;
+#[cfg(test)]
 mod long_shapes;
 #[cfg(test)]
 mod refusals;

@@ -8,22 +8,23 @@ use argus_texts::{
 use std::process::Abort;
 use std::test::Fail;
 
+// An example of a value that is a content's text, too.
+const TEXT: &str = "{1,\"ab\",[2,<0:@1>]}";
+
 #[test]
-fn of_reading_and_writing(rt: HostRuntime) -> Result<(), Fail> {
-    let heap = Heap::new(rt.alloc())?;
+fn of_reading(rt: HostRuntime) -> Result<(), Fail> {
     let budget = Budget::new(rt.alloc())?;
     let tight = Limited::with_budget(rt.alloc(), budget);
-    let text = "{1,\"ab\",[2,<0:@1>]}";
     let (mut values, mut contents) = (0u64, 0u64);
     for n in 0..20u64 {
         budget.allow(n);
-        match read_value(tight, text) {
+        match read_value(tight, TEXT) {
             Ok(_) => {}
             Err(ReadError::Memory) => values = values.saturating_add(1),
             Err(ReadError::Fault(_)) => assert!(rt; false),
         }
         budget.allow(n);
-        match read_content(tight, text) {
+        match read_content(tight, TEXT) {
             Ok(_) => {}
             Err(ReadError::Memory) => contents = contents.saturating_add(1),
             Err(ReadError::Fault(_)) => assert!(rt; false),
@@ -31,7 +32,15 @@ fn of_reading_and_writing(rt: HostRuntime) -> Result<(), Fail> {
     }
     assert!(rt; values > 2 && values < 20, "{values}");
     assert!(rt; contents > 2 && contents < 20, "{contents}");
-    let (Ok(value), Ok(content)) = (read_value(heap, text), read_content(heap, text)) else {
+    Ok(())
+}
+
+#[test]
+fn of_writing(rt: HostRuntime) -> Result<(), Fail> {
+    let heap = Heap::new(rt.alloc())?;
+    let budget = Budget::new(rt.alloc())?;
+    let tight = Limited::with_budget(rt.alloc(), budget);
+    let (Ok(value), Ok(content)) = (read_value(heap, TEXT), read_content(heap, TEXT)) else {
         assert!(rt; false);
         return Ok(());
     };

@@ -2,17 +2,42 @@
 
 use argus_contents::{Content, Value};
 use argus_memory::{Heap, OutOfMemory};
-use argus_texts::{ReadError, read_content, read_value, write_content, write_value};
+use argus_texts::{read_content, read_value, write_content, write_value};
+use std::process::Abort;
 use std::test::Fail;
 
-fn memory(_error: ReadError) -> OutOfMemory {
-    OutOfMemory
+// Each text is a value's, and the value is written so.
+fn each_value_is_read(rt: &impl Abort, heap: Heap, texts: &[&str]) -> Result<(), OutOfMemory> {
+    for text in texts {
+        let Ok(value) = read_value(heap, text) else {
+            assert!(rt; false, "{text}");
+            return Ok(());
+        };
+        let mut out = String::new(heap);
+        write_value(&value, &mut out)?;
+        assert!(rt; out.as_str() == *text, "{text}");
+    }
+    Ok(())
+}
+
+// Each text is a content's, and the content is written so.
+fn each_content_is_read(rt: &impl Abort, heap: Heap, texts: &[&str]) -> Result<(), OutOfMemory> {
+    for text in texts {
+        let Ok(content) = read_content(heap, text) else {
+            assert!(rt; false, "{text}");
+            return Ok(());
+        };
+        let mut out = String::new(heap);
+        write_content(&content, &mut out)?;
+        assert!(rt; out.as_str() == *text, "{text}");
+    }
+    Ok(())
 }
 
 #[test]
 fn values_are_written_as_they_were_read(rt: HostRuntime) -> Result<(), Fail> {
     let heap = Heap::new(rt.alloc())?;
-    let texts = [
+    let texts: &[&str] = &[
         "null",
         "true",
         "false",
@@ -30,38 +55,33 @@ fn values_are_written_as_they_were_read(rt: HostRuntime) -> Result<(), Fail> {
         "<1:\"no\">",
         "[1,{null,<0:\"a\\n\">},@3]",
     ];
-    for text in texts {
-        let value = read_value(heap, text).map_err(memory)?;
-        let mut out = String::new(heap);
-        write_value(&value, &mut out)?;
-        assert!(rt; out.as_str() == text, "{text}");
-    }
+    each_value_is_read(&rt, heap, texts)?;
     Ok(())
 }
 
 #[test]
 fn contents_are_written_as_they_were_read(rt: HostRuntime) -> Result<(), Fail> {
     let heap = Heap::new(rt.alloc())?;
-    for text in [
+    let texts: &[&str] = &[
         "{}",
         "{1,\"a\"}",
         "1[]",
         "-1[true]",
         "1[10,20,30]",
         "<1:\"no\">",
-    ] {
-        let content = read_content(heap, text).map_err(memory)?;
-        let mut out = String::new(heap);
-        write_content(&content, &mut out)?;
-        assert!(rt; out.as_str() == text, "{text}");
-    }
+    ];
+    each_content_is_read(&rt, heap, texts)?;
     Ok(())
 }
 
 #[test]
 fn an_array_has_its_low_bound_and_its_items(rt: HostRuntime) -> Result<(), Fail> {
     let heap = Heap::new(rt.alloc())?;
-    match read_content(heap, "-1[true]").map_err(memory)? {
+    let Ok(content) = read_content(heap, "-1[true]") else {
+        assert!(rt; false);
+        return Ok(());
+    };
+    match content {
         Content::Arr { low, items } => {
             assert_eq!(rt; low, -1);
             assert_eq!(rt; items.len(), 1);

@@ -7,7 +7,7 @@ use argus_texts::{read_shape, write_shape};
 use std::process::Abort;
 use std::test::Fail;
 
-// Each text is a shape's, and the shape is written so.
+// Each text is a shape's, and the shape and its copy are written so.
 fn each_is_read(rt: &impl Abort, heap: Heap, texts: &[&str]) -> Result<(), OutOfMemory> {
     for text in texts {
         let Some(shape) = read_shape(heap, text)? else {
@@ -17,6 +17,9 @@ fn each_is_read(rt: &impl Abort, heap: Heap, texts: &[&str]) -> Result<(), OutOf
         let mut out = String::new(heap);
         write_shape(&shape, &mut out)?;
         assert!(rt; out.as_str() == *text, "{text}");
+        let mut copy = String::new(heap);
+        write_shape(&shape.duplicate(heap)?, &mut copy)?;
+        assert!(rt; copy.as_str() == *text, "the copy of {text}");
     }
     Ok(())
 }
@@ -45,46 +48,48 @@ fn shapes_are_written_as_they_were_read(rt: HostRuntime) -> Result<(), Fail> {
     Ok(())
 }
 
+// Texts that differ from a written form in one place.
+const OTHER_TEXTS: &[&str] = &[
+    "",
+    "int",
+    "atomic_record",
+    "atomic_record[",
+    "atomic_record[]",
+    "atomic_variant[]",
+    "atomic_array[]",
+    "atomic_array[struct[]]",
+    "atomic_record[a:int,a:text]",
+    "atomic_array[oneof[a:int,b:int,a:int]]",
+    "atomic_record[:int]",
+    "atomic_record[A:int]",
+    "atomic_record[a b:int]",
+    "atomic_record[a-b:int]",
+    "atomic_record[é:int]",
+    "atomic_record[abcdefghijklmnopqrstuvwxyz0123456:int]",
+    "atomic_record[a:int,]",
+    "atomic_record[a:int ]",
+    "atomic_record[a: int]",
+    "atomic_record[a:int, b:int]",
+    "atomic_record[a:integer]",
+    "atomic_record[a]",
+    "atomic_record[a:int]]",
+    "atomic_record[a:int}",
+    "atomic_record{a:int}",
+    " atomic_array[int]",
+    "atomic_array[int] ",
+    "atomic_array[int]\n",
+    "atomic_array[int",
+    "atomic_array[int,int]",
+    "atomic_array[a:int]",
+    "atomic_array[atomic_array[int]]",
+    "Atomic_array[int]",
+    "array[int]",
+];
+
 #[test]
 fn other_texts_are_refused(rt: HostRuntime) -> Result<(), Fail> {
     let heap = Heap::new(rt.alloc())?;
-    let texts: &[&str] = &[
-        "",
-        "int",
-        "atomic_record",
-        "atomic_record[",
-        "atomic_record[]",
-        "atomic_variant[]",
-        "atomic_array[]",
-        "atomic_array[struct[]]",
-        "atomic_record[a:int,a:text]",
-        "atomic_array[oneof[a:int,b:int,a:int]]",
-        "atomic_record[:int]",
-        "atomic_record[A:int]",
-        "atomic_record[a b:int]",
-        "atomic_record[a-b:int]",
-        "atomic_record[é:int]",
-        "atomic_record[abcdefghijklmnopqrstuvwxyz0123456:int]",
-        "atomic_record[a:int,]",
-        "atomic_record[a:int ]",
-        "atomic_record[a: int]",
-        "atomic_record[a:int, b:int]",
-        "atomic_record[a:integer]",
-        "atomic_record[a]",
-        "atomic_record[a:int]]",
-        "atomic_record[a:int}",
-        "atomic_record{a:int}",
-        " atomic_array[int]",
-        "atomic_array[int] ",
-        "atomic_array[int]\n",
-        "atomic_array[int",
-        "atomic_array[int,int]",
-        "atomic_array[a:int]",
-        "atomic_array[atomic_array[int]]",
-        "Atomic_array[int]",
-        "array[int]",
-    ];
-    each_is_refused(&rt, heap, texts)?;
+    each_is_refused(&rt, heap, OTHER_TEXTS)?;
     Ok(())
 }
 
