@@ -1,0 +1,5 @@
+pub mod Legal
+pub mod Fitting
+pub mod References
+pub mod Contents
+pub mod Growth
