@@ -1,8 +1,8 @@
 -- When a journal is legal, and what it says of each object.
-use Rattle.std.specs.Prelude.{List, Option, [], ℕ, ◌+◌, ◌∷◌, ◌≡◌}
+use Rattle.std.specs.Prelude.{List, Option, [], map, ℕ, ◌+◌, ◌∷◌, ◌≡◌}
 use Rattle.argus_contents.specs.Content.{PlainContent}
 use Rattle.argus_entries.specs.Entry.{PlainEntry}
-use Rattle.argus_model.specs.Contents.{base}
+use Rattle.argus_model.specs.Contents.{base, sees}
 use Rattle.argus_model.specs.Effects.{effects}
 use Rattle.argus_model.specs.Holders.{readers, writers}
 use Rattle.argus_model.specs.Owner.{Owner, owner}
@@ -26,6 +26,10 @@ writers_of s j o = writers entries (history s j) o
 -- what the action sees in the object
 abbrev pub seen_by : Opening → List PlainEntry → ℕ → ℕ → Option PlainContent
 seen_by s j a o = seen s (history s j) a o
+
+-- each who holds the object for writing, from ancestor to descendant, with what it sees there: its version
+abbrev pub versions_of : Opening → List PlainEntry → ℕ → List (ℕ × Option PlainContent)
+versions_of s j o = map (λ x. (x, sees entries (opened s) (history s j) x o)) (writers_of s j o)
 
 -- what is in the object for good
 abbrev pub base_of : Opening → List PlainEntry → ℕ → Option PlainContent

@@ -5,3 +5,4 @@ pub mod Objects
 pub mod Answers
 pub mod Legal
 pub mod References
+pub mod Worked

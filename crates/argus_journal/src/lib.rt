@@ -16,3 +16,4 @@
 #![tactic(auto)]
 
 pub mod laws;
+pub mod worked;
