@@ -3,3 +3,4 @@ pub mod Fitting
 pub mod References
 pub mod Contents
 pub mod Growth
+pub mod NextEntry

@@ -16,4 +16,5 @@
 #![tactic(auto)]
 
 pub mod laws;
+pub mod next_entry;
 pub mod worked;
