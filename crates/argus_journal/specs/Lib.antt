@@ -6,3 +6,5 @@ pub mod Answers
 pub mod Legal
 pub mod References
 pub mod Worked
+pub mod Told
+pub mod Journal

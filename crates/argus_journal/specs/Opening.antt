@@ -1,10 +1,12 @@
 -- Where a journal begins.
 use Rattle.std.specs.List.{list_all}
 use Rattle.std.specs.Option.{option_and_then}
-use Rattle.std.specs.Prelude.{Bool, List, None, Option, Some, false, length, slice_get, true, ℕ}
-use Rattle.argus_contents.specs.Content.{PlainContent}
+use Rattle.std.specs.Prelude.{Bool, List, None, Option, Some, [], false, length, map, slice_get, true, ℕ}
+use Rattle.argus_contents.specs.Content.{PlainContent, plain_option}
 use Rattle.argus_contents.specs.Fitting.{is_fitting}
 use Rattle.argus_contents.specs.Shape.{PlainShape}
+use Rattle.argus_contents.specs.declared.content.Content.{Content}
+use Rattle.argus_contents.specs.declared.shape.Shape.{Shape}
 use Rattle.argus_model.specs.History as model
 
 -- what went before is folded: the objects stay with shape and content, the actions and entries are forgotten
@@ -15,6 +17,10 @@ pub record Opening : Type 0 where
   pub first_action : ℕ
   -- the number of the first entry, and how many are folded
   pub first_entry : ℕ
+
+-- no object, no action, no entry
+abbrev pub empty : Opening
+empty = record { objects = []; first_action = 0; first_entry = 0 }
 
 -- the content of an object; none where it wasn't declared
 abbrev pub content_in : List (PlainShape × Option PlainContent) → ℕ → Option PlainContent
@@ -33,3 +39,11 @@ fits_shape (Some shape) n (Some c) = is_fitting shape n c
 -- each content of the opening fits its shape
 abbrev pub is_sound : Opening → Bool
 is_sound s = list_all (λ object. fits_shape (Some object.0) (length s.objects) object.1) s.objects
+
+-- what an object with its content says
+abbrev pub plain_object : Shape × Option Content → PlainShape × Option PlainContent
+plain_object object = (object.0, plain_option object.1)
+
+-- the opening with these objects
+abbrev pub opening_with : List (Shape × Option Content) → ℕ → ℕ → Opening
+opening_with objects first_action first_entry = record { objects = map plain_object objects; first_action = first_action; first_entry = first_entry }

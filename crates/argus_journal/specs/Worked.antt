@@ -12,11 +12,7 @@ use Rattle.argus_entries.specs.Call.{PlainCall, abort, alter, ask, begin_nested,
 use Rattle.argus_entries.specs.Entry.{PlainEntry}
 use Rattle.argus_entries.specs.Reply.{PlainReply}
 use Rattle.argus_journal.specs.Answers.{answer}
-use Rattle.argus_journal.specs.Opening.{Opening}
-
--- no object, no action, no entry
-abbrev pub empty : Opening
-empty = record { objects = []; first_action = 0; first_entry = 0 }
+use Rattle.argus_journal.specs.Opening.{Opening, empty}
 
 -- the journal, with each of these calls and its answer after it
 abbrev pub then_calls : Opening → List PlainEntry → List PlainCall → List PlainEntry

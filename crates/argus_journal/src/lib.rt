@@ -15,6 +15,11 @@
 //! every legal journal, whatever its opening.
 #![tactic(auto)]
 
+mod journal;
 pub mod laws;
 pub mod next_entry;
+mod owner;
 pub mod worked;
+
+pub use journal::Journal;
+pub use owner::Owner;

@@ -13,8 +13,9 @@ ghost use Rattle.argus_entries.specs.declared.refusal.Refusal.TheVariants.{Confl
 ghost use Rattle.argus_model.specs.Owner.{Base, Gone, Held};
 ghost use Rattle.argus_model.specs.Work.{committed_topactions};
 ghost use Rattle.argus_journal.specs.Events.{history};
+ghost use Rattle.argus_journal.specs.Opening.{empty};
 ghost use Rattle.argus_journal.specs.Legal.{base_of, effects_of, owner_in, readers_of, seen_by, versions_of, writers_of};
-ghost use Rattle.argus_journal.specs.Worked.{all_wait, chain, empty, full, holding, journal, nested_outlives, prepared, refused_in_turn, replies, set_to, signal_ends, signal_holds, sub_writes, tag_changed, tag_changes, tag_refused, tests_no, turns, two_read, reference_waits};
+ghost use Rattle.argus_journal.specs.Worked.{all_wait, chain, full, holding, journal, nested_outlives, prepared, refused_in_turn, replies, set_to, signal_ends, signal_holds, sub_writes, tag_changed, tag_changes, tag_refused, tests_no, turns, two_read, reference_waits};
 
 /// A subaction's write is undone by its abort, and what its parent had written stays.
 pub fn a_subaction_aborts()
