@@ -4,3 +4,6 @@ pub mod References
 pub mod Contents
 pub mod Growth
 pub mod NextEntry
+pub mod Told
+pub mod Newest
+pub mod Replay

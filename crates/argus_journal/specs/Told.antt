@@ -1,10 +1,14 @@
 -- What the numbers in a journal's entries tell, newest first. Of a legal journal it is what its history says.
-use Rattle.std.specs.Prelude.{Bool, List, None, Option, Some, [], false, if◌then◌else◌, true, ℕ, ◌==◌, ◌||◌, ◌∷◌}
+use Rattle.std.specs.Prelude.{◌+◌, ◌&&◌, Bool, List, None, Option, Some, [], false, if◌then◌else◌, true, ℕ, ◌==◌, ◌||◌, ◌∷◌}
 use Rattle.argus_actions.specs.declared.action_id.ActionId.{ActionId}
 use Rattle.argus_contents.specs.Answer.{flag}
+use Rattle.argus_contents.specs.Content.{PlainContent}
 use Rattle.argus_entries.specs.Call.{PlainCall, abort, alter, begin_sub, commit, test_write}
 use Rattle.argus_entries.specs.Entry.{PlainEntry}
 use Rattle.argus_entries.specs.Reply.{PlainReply, answered, begun}
+use Rattle.argus_model.specs.Owner as model
+use Rattle.argus_journal.specs.Entries.{left_by}
+use Rattle.argus_journal.specs.Opening.{Opening, content_in}
 use Rattle.argus_journal.specs.declared.owner.Owner.{Owner}
 use Rattle.argus_journal.specs.declared.owner.Owner.TheVariants.{Base, Gone, Held}
 
@@ -61,8 +65,34 @@ counts_with j reader owner = false
 abbrev pub told_counts : List PlainEntry → Option ActionId → ℕ → Bool
 told_counts j reader a = counts_with j reader (told_owner j a)
 
+-- a test is answered yes
+abbrev pub says_yes : PlainReply → Bool
+says_yes (answered (flag truth)) = truth
+says_yes _ = false
+
 -- the action that writes the object by a call of this reply
 abbrev pub writer_by : PlainCall → PlainReply → ℕ → Option ActionId
-writer_by (alter a i change) (answered x) o = if i == o then Some (record { 0 = a }) else None
-writer_by (test_write a i) (answered (flag true)) o = if i == o then Some (record { 0 = a }) else None
-writer_by _ _ o = None
+writer_by (alter a i change) reply o = if i == o && is_answered reply then Some (record { 0 = a }) else None
+writer_by (test_write a i) reply o = if i == o && says_yes reply then Some (record { 0 = a }) else None
+writer_by _ reply o = None
+
+-- an owner, none of an action that hasn't begun, in the words of the history
+abbrev pub model_owner : Option Owner → model.Owner
+model_owner None = model.Folded
+model_owner (Some Gone) = model.Gone
+model_owner (Some Base) = model.Base
+model_owner (Some (Held x)) = model.Held (x.0 + 1)
+
+-- what f leaves of the content, where there is a writer and it counts
+abbrev pub written_if : (ℕ → Bool) → (Option PlainContent → Option PlainContent) → Option ActionId → Option PlainContent → Option PlainContent
+written_if counts f None c = c
+written_if counts f (Some a) c = if counts a.0 then f c else c
+
+-- the content after an entry, where its action writes the object and counts
+abbrev pub replay_next : (ℕ → Bool) → PlainEntry → ℕ → Option PlainContent → Option PlainContent
+replay_next counts e o c = written_if counts (left_by e.call) (writer_by e.call e.reply o) c
+
+-- from the opening on, what each write to the object leaves, in order, where its action counts by the whole journal
+abbrev pub replayed : Opening → List PlainEntry → Option ActionId → ℕ → List PlainEntry → Option PlainContent
+replayed s j reader o [] = content_in s.objects o
+replayed s j reader o (e ∷ older) = replay_next (told_counts j reader) e o (replayed s j reader o older)

@@ -1,10 +1,11 @@
 //! `Journal`: the calls that were made, and what they were answered.
 
-ghost use Rattle.std.specs.Prelude.{◌≡◌, ◌<◌, ◌≤◌, ◌+◌, true, [], ◌∷◌, length, map, slice_get, OnOk};
+ghost use Rattle.std.specs.Prelude.{◌≡◌, ◌<◌, ◌≤◌, ◌+◌, true, [], ◌∷◌, length, map, slice_get, IfOk, OnOk};
+ghost use Rattle.argus_contents.specs.Content.{plain_option};
 ghost use Rattle.argus_entries.specs.Entry.{plain_entry};
-ghost use Rattle.argus_journal.specs.Opening.{empty, is_sound, opening_with};
+ghost use Rattle.argus_journal.specs.Opening.{content_in, empty, is_sound, opening_with};
 
-use argus_contents::{Content, Shape};
+use argus_contents::{Content, ObjId, Shape};
 use argus_entries::Entry;
 use argus_memory::{Heap, OutOfMemory};
 
@@ -84,9 +85,39 @@ impl Journal {
         Journal::at_place(&self.entries, (at - self.first_entry) as usize)
     }
 
+    /// All entries since the opening, the oldest first.
+    pub(crate) fn entries(&self) -> &[Entry]
+        ensures { result.now ≡ self.now.entries.items }
+    {
+        self.entries.as_slice()
+    }
+
+    /// A copy of what the object held in the opening; none where it wasn't declared.
+    pub(crate) fn opening_content(
+        &self,
+        heap: Heap,
+        o: ObjId,
+    ) -> Result<Option<Content>, OutOfMemory>
+        ensures { IfOk result (λ content. plain_option content ≡ content_in (opening_of self.now).objects o.0) }
+    {
+        match self.objects.get(o.0 as usize) {
+            Some((_, content)) => copy_of(heap, content),
+            None => Ok(None),
+        }
+    }
+
     fn at_place(entries: &[Entry], place: usize) -> Option<&Entry>
         ensures { plain_found result ≡ slice_get (map plain_entry entries.now) place }
     {
         entries.get(place)
+    }
+}
+
+fn copy_of(heap: Heap, content: &Option<Content>) -> Result<Option<Content>, OutOfMemory>
+    ensures { IfOk result (λ copy. plain_option copy ≡ plain_option content.now) }
+{
+    match content {
+        None => Ok(None),
+        Some(content) => Ok(Some(content.duplicate(heap)?)),
     }
 }

@@ -19,7 +19,11 @@ mod journal;
 pub mod laws;
 pub mod next_entry;
 mod owner;
+mod owning;
+mod replaying;
 pub mod worked;
 
 pub use journal::Journal;
 pub use owner::Owner;
+pub use owning::owner_of;
+pub use replaying::{replay_base, replay_for};
