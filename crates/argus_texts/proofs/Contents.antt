@@ -1,14 +1,14 @@
 -- The form of a content: that a text begins with one at most, and where reading it stops.
-use Rattle.std.proofs.Common.{◌≡◌, ◌≢◌, ℕ, ◌<◌, ◌⊎◌, inl, inr, List, [], ◌∷◌, ◌++◌, length, refl, sym, ap, ◌∙◌, subst, append_assoc, append-nil, arith}
-use Rattle.std.specs.Prelude.{ℤ, codes}
+use Rattle.std.proofs.Common.{◌≡◌, ◌≢◌, ℕ, inl, inr, List, [], ◌∷◌, ◌++◌, length, refl, sym, ap, ◌∙◌, subst, append_assoc, append-nil, arith}
+use Rattle.std.specs.Prelude.{ℤ}
 use Rattle.std.specs.Fmt.{decimal, signed_decimal}
 use Rattle.argus_contents.specs.Value.{PlainValue, PlainValues, none, more, listed}
 use Rattle.argus_contents.specs.Content.{PlainContent, rec, arr, var}
 use Rattle.argus_texts.specs.ContentSpelling.{content_spelling, PartsWithin}
 use Rattle.argus_texts.specs.Fault.{IsContentText}
-use Rattle.argus_texts.specs.Language.{Language, FormOf, Reads, Starts, Stops, First, IsNot}
-use Rattle.argus_texts.specs.Languages.{BeginsInt, NotDigit, Ints, Insides, Choices, Contents, Arrays}
-use Rattle.argus_texts.specs.Spelling.{spelling, inside, IsI64, Within, AllWithin}
+use Rattle.argus_texts.specs.Language.{Reads, Starts, Stops, First, IsNot}
+use Rattle.argus_texts.specs.Languages.{BeginsInt, Ints, Insides, Choices, Contents, Arrays}
+use Rattle.argus_texts.specs.Spelling.{spelling, inside, AllWithin}
 use Rattle.argus_texts.proofs.Digits.{one_decimal, ints_clear}
 use Rattle.argus_texts.proofs.Faults.{Accepts}
 use Rattle.argus_texts.proofs.Forms.{int_lead, int_front, one_form, one_inside, value_ends, choice_form}

@@ -3,7 +3,7 @@ use Rattle.std.proofs.Common.{◌≡◌, ◌≢◌, ℕ, zero, suc, ◌<◌, ◌
 use Rattle.std.specs.Prelude.{◌%◌, ◌/◌, ℤ, pos, negsuc}
 use Rattle.std.specs.Fmt.{decimal, signed_decimal}
 use Rattle.std.proofs.lemmas.Fmt.{decimal_by_steps, decimal_step, decimal_digit, first_decimal, decimal_injective}
-use Rattle.argus_texts.specs.Language.{FormOf, Reads, Starts, NoWay, Stops, First, IsNot}
+use Rattle.argus_texts.specs.Language.{Reads, Starts, NoWay, Stops, First}
 use Rattle.argus_texts.specs.Languages.{IsNoDigit, NotDigit, Numbers, Ints}
 use Rattle.argus_texts.specs.Spelling.{IsI64}
 use Rattle.argus_texts.proofs.Lists.{tail_of, head_of}

@@ -1,9 +1,9 @@
 -- The form of a value: what it begins with, and that a text begins with one at most.
-use Rattle.std.proofs.Common.{◌≡◌, ◌≢◌, ℕ, suc, ◌<◌, ◌≤◌, ◌-◌, ◌⊎◌, inl, inr, true, false, List, [], ◌∷◌, ◌++◌, refl, sym, ap, ◌∙◌, subst, append_assoc, append-nil, arith}
+use Rattle.std.proofs.Common.{◌≡◌, ◌≢◌, ℕ, suc, ◌≤◌, ◌-◌, inl, inr, true, false, List, [], ◌∷◌, ◌++◌, refl, sym, ap, ◌∙◌, append_assoc, append-nil, arith}
 use Rattle.std.specs.Prelude.{ℤ, pos, negsuc, codes}
 use Rattle.std.specs.Fmt.{decimal, signed_decimal}
 use Rattle.argus_contents.specs.Value.{PlainValue, PlainValues, null, bool, int, text, atomic, sequence, fields, choice, none, more}
-use Rattle.argus_texts.specs.Languages.{IsNoDigit, NotDigit, ValueEnds, BeginsInt, BeginsNoScalar, IsClose, Values, Quoted, Insides}
+use Rattle.argus_texts.specs.Languages.{IsNoDigit, NotDigit, ValueEnds, BeginsInt, IsClose, Values}
 use Rattle.argus_texts.specs.Spelling.{spelling, escaped, inside, behind, IsI64, Within, AllWithin}
 use Rattle.argus_texts.proofs.Lists.{tail_of, head_of}
 use Rattle.argus_texts.proofs.Digits.{some_decimal, first_digit, one_decimal, ints_clear}

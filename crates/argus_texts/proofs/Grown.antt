@@ -1,8 +1,11 @@
 -- Texts that had bytes appended.
-use Rattle.std.proofs.Common.{◌≡◌, ℕ, ◌<◌, ◌≤◌, List, [], ◌∷◌, ◌++◌, length, take, refl, sym, ap, ◌∙◌, subst, append_assoc, length-append, arith}
+use Rattle.std.proofs.Common.{◌≡◌, ℕ, List, [], ◌∷◌, ◌++◌, length, take, refl, sym, ap, ◌∙◌, subst, append_assoc, length-append, String, string_bytes, rules, arith}
+use Rattle.std.specs.String.{string_len}
+use Rattle.std.specs.declared.alloc.Global.{Global}
 use Rattle.std.specs.Str.{IsUtf8, IsCharBoundary}
 use Rattle.std.specs.Fmt.{decimal}
-use Rattle.std.proofs.lemmas.Str.{IsCharBoundary-from_take}
+use Rattle.std.proofs.lemmas.Str.{IsCharBoundary-from_take, IsUtf8-string_bytes}
+use Rattle.argus_memory.specs.declared.limited.Limited.{Limited}
 use Rattle.argus_contents.specs.Value.{PlainValue, choice, listed}
 use Rattle.argus_texts.specs.Grown.{Grew, commas}
 use Rattle.argus_texts.specs.Spelling.{escape, escaped, spelling, inside, behind}
@@ -12,11 +15,19 @@ use Rattle.argus_texts.proofs.Quotes.{escaped-append}
 pub grew_more : (a b c : List ℕ) → Grew a b → Grew b c → Grew a c
 grew_more a b c g h = record { tail = g.tail ++ h.tail; is = h.is ∙ ap (λ x. x ++ h.tail) g.is ∙ append_assoc a g.tail h.tail }
 
--- a text that grew may be cut back
-pub cut_back : (old new : List ℕ) → IsUtf8 old → IsUtf8 new → Grew old new → IsCharBoundary new (length old)
-cut_back old new u w g =
+-- a text that grew may be cut where it ended
+cut_at_end : (old new : List ℕ) → IsUtf8 old → IsUtf8 new → Grew old new → IsCharBoundary new (length old)
+cut_at_end old new u w g =
     let t : take (length old) new ≡ old = ap (take (length old)) g.is ∙ take_front old g.tail in
     IsCharBoundary-from_take new (length old) w (omega (arith, ap length g.is, length-append old g.tail)) (subst IsUtf8 (sym t) u)
+
+len_is : (s : String (Limited Global)) → length (string_bytes s) ≡ string_len s
+len_is s = search (rules, arith)
+
+-- a string that grew may be cut back to the length that it had
+pub cut_back : (old new : String (Limited Global)) (len : ℕ) → len ≡ string_len old → Grew (string_bytes old) (string_bytes new) → IsCharBoundary (string_bytes new) len
+cut_back old new len e g =
+    subst (IsCharBoundary (string_bytes new)) (len_is old ∙ sym e) (cut_at_end (string_bytes old) (string_bytes new) (IsUtf8-string_bytes old) (IsUtf8-string_bytes new) g)
 
 regroup : (o p e b q : List ℕ) → ((o ++ p) ++ e) ++ (b ++ q) ≡ o ++ ((p ++ (e ++ b)) ++ q)
 regroup o p e b q = simp append_assoc

@@ -8,6 +8,9 @@ pub mod Forms
 pub mod Grown
 pub mod Items
 pub mod Lists
+pub mod Makeable
 pub mod Quotes
+pub mod ShapeForms
+pub mod ShapeParts
 pub mod Stops
 pub mod Values

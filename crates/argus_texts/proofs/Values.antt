@@ -1,15 +1,13 @@
 -- Where reading a value stops, from where a part of it does.
-use Rattle.std.proofs.Common.{◌≡◌, ◌≢◌, ℕ, suc, ◌<◌, ◌≤◌, ◌-◌, ◌⊎◌, inl, inr, true, false, List, [], ◌∷◌, ◌++◌, length, map, refl, sym, ap, ◌∙◌, subst, append_assoc, append-nil, arith}
-use Rattle.std.proofs.lemmas.List.{map-append}
+use Rattle.std.proofs.Common.{◌≡◌, ◌≢◌, ℕ, ◌<◌, ◌≤◌, ◌-◌, ◌⊎◌, inl, inr, true, false, List, [], ◌∷◌, ◌++◌, length, refl, ap, subst, arith}
 use Rattle.std.specs.Prelude.{codes}
-use Rattle.argus_contents.specs.Value.{PlainValue, PlainValues, null, bool, int, text, atomic, sequence, fields, choice, none, more, listed, plain_value, plain_list}
-use Rattle.argus_contents.specs.declared.value.Value.{Value}
-use Rattle.argus_texts.specs.Language.{Language, FormOf, Reads, Starts, NoWay, Stops, First, IsNot}
-use Rattle.argus_texts.specs.Languages.{IsNoDigit, NotDigit, ValueEnds, BeginsInt, BeginsNoScalar, IsClose, Numbers, Ints, Word, Quoted, Pairs, Values, Insides, Items, Choices}
-use Rattle.argus_texts.specs.Spelling.{spelling, inside, behind, Within, AllWithin}
+use Rattle.argus_contents.specs.Value.{PlainValue, null, bool, int, text, atomic, sequence, fields, choice}
+use Rattle.argus_texts.specs.Language.{Starts, NoWay, Stops, First}
+use Rattle.argus_texts.specs.Languages.{ValueEnds, BeginsInt, BeginsNoScalar, Numbers, Ints, Word, Quoted, Values, Insides, Choices}
+use Rattle.argus_texts.specs.Spelling.{spelling, Within}
 use Rattle.argus_texts.proofs.Lists.{tail_of, head_of}
-use Rattle.argus_texts.proofs.Forms.{Lead, lead_of, kind_of, NoLead, no_lead, close_no_comma, close_no_lead, some_form, one_form, ends_behind, ends_first, value_ends, value_precedes, values_clear}
-use Rattle.argus_texts.proofs.Stops.{Clear, Behind, Among, Precedes, stops_now, stops_in, stops_behind, stops_among, pair_first, pair_second, pair_between, pair_reads, word_clear, word_reads}
+use Rattle.argus_texts.proofs.Forms.{Lead, lead_of, kind_of, no_lead, some_form}
+use Rattle.argus_texts.proofs.Stops.{Behind, Among, stops_now}
 
 -- SCALARS
 

@@ -1,5 +1,5 @@
 -- What reading does with a part of a text: it is read, or it stops being the beginning of a form.
-use Rattle.std.specs.Prelude.{◌≡◌, ◌≢◌, ℕ, ℤ, ◌<◌, ◌≤◌, ◌⊎◌, List, [], ◌∷◌, ◌++◌, length}
+use Rattle.std.specs.Prelude.{◌≡◌, ◌≢◌, ℕ, List, [], ◌∷◌, ◌++◌, length}
 use Rattle.argus_texts.specs.declared.stop.Stop.{Stop}
 use Rattle.argus_texts.specs.declared.stop.Stop.TheVariants as stop
 

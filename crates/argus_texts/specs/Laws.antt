@@ -1,11 +1,13 @@
 -- The laws of the written forms.
-use Rattle.std.specs.Prelude.{◌≡◌, ℕ, List}
+use Rattle.std.specs.Prelude.{◌≡◌, ℕ}
 use Rattle.argus_contents.specs.Value.{PlainValue}
 use Rattle.argus_contents.specs.Content.{PlainContent}
+use Rattle.argus_contents.specs.Shape.{PlainShape}
 use Rattle.argus_contents.specs.declared.limits.TheConstants.{MAX_VALUE_DEPTH}
 use Rattle.argus_texts.specs.Spelling.{spelling, Within}
 use Rattle.argus_texts.specs.ContentSpelling.{content_spelling, PartsWithin}
 use Rattle.argus_texts.specs.Fault.{IsValueText, IsContentText, IsFault}
+use Rattle.argus_texts.specs.ShapeSpelling.{shape_spelling, HasNames, IsMakeable, IsShapeText}
 
 -- the written form of a value has no fault, and is that of no other value
 abbrev pub ValuesAreReadBack : Type 0
@@ -24,3 +26,11 @@ ContentsAreReadBack = (c : PlainContent) → PartsWithin MAX_VALUE_DEPTH c
 -- contents of whatever depth with one written form are the same
 abbrev pub EachContentIsTold : Type 0
 EachContentIsTold = (k : ℕ) (c d : PlainContent) → PartsWithin k c → PartsWithin k d → content_spelling c ≡ content_spelling d → c ≡ d
+
+-- the written form of a shape that can be made is accepted, and is that of no other such shape
+abbrev pub ShapesAreReadBack : Type 0
+ShapesAreReadBack = (s : PlainShape) → IsMakeable s → IsShapeText (shape_spelling s) × ((t : PlainShape) → IsMakeable t → shape_spelling s ≡ shape_spelling t → t ≡ s)
+
+-- shapes of whatever depth and length with one written form are the same
+abbrev pub EachShapeIsTold : Type 0
+EachShapeIsTold = (s t : PlainShape) → HasNames s → HasNames t → shape_spelling s ≡ shape_spelling t → s ≡ t

@@ -5,5 +5,6 @@ pub mod Language
 pub mod Languages
 pub mod Laws
 pub mod Quotes
+pub mod ShapeLanguages
 pub mod ShapeSpelling
 pub mod Spelling

@@ -1,4 +1,4 @@
-//! The written forms of values and contents: each has exactly one, which is written and read.
+//! The written forms of values, contents and shapes: each has exactly one, which is written and read.
 //!
 //! | Written form | Stands for |
 //! |---|---|
@@ -9,6 +9,7 @@
 //! | `{1,"a"}` | the fields of a struct; as a content, of a record |
 //! | `<1:"no">` | tag 1 of a oneof and its value; as a content, of a variant |
 //! | `1[10,20]` | as a content, an array with low bound 1 |
+//! | `atomic_record[n:int,s:sequence[text]]` | the shape of a record; likewise of an array and a variant |
 #![tactic(auto)]
 
 mod content_reading;
@@ -20,15 +21,21 @@ mod read_error;
 mod read_fault;
 mod reading;
 mod scan;
+mod shape_reading;
+mod shape_writing;
 mod stop;
+mod unread;
 mod writing;
 
 pub use content_reading::read_content;
 pub use content_writing::write_content;
 pub use laws::{
-    contents_are_read_back, each_content_is_told, each_value_is_told, values_are_read_back,
+    contents_are_read_back, each_content_is_told, each_shape_is_told, each_value_is_told,
+    shapes_are_read_back, values_are_read_back,
 };
 pub use read_error::ReadError;
 pub use read_fault::ReadFault;
 pub use reading::read_value;
+pub use shape_reading::read_shape;
+pub use shape_writing::write_shape;
 pub use writing::write_value;

@@ -3,7 +3,7 @@
 ghost use Rattle.std.specs.Prelude.{◌≡◌, true, nat_lt, ◌<◌, ◌≤◌, ◌∷◌, ◌++◌, length, IfOk, IfErr, IfSome, IfNone};
 ghost use Rattle.std.specs.List.{list_all};
 ghost use Rattle.std.specs.Str.{IsUtf8};
-ghost use Rattle.argus_texts.specs.Language.{First, IsNot, OnLeft, Stops};
+ghost use Rattle.argus_texts.specs.Language.{First, IsNot, OnLeft, Starts, Stops};
 ghost use Rattle.argus_texts.specs.Languages.{Word};
 
 use crate::stop::Stop;
@@ -48,6 +48,14 @@ pub(crate) fn expect(text: &str, wanted: u8) -> Result<&str, Stop>
         Some(rest) => Ok(rest),
         None => Err(Stop::Left(text.len())),
     }
+}
+
+/// What is behind the word, where it comes.
+pub(crate) fn strip_word<'a>(text: &'a str, word: &str) -> Option<&'a str>
+    ensures some { IfSome result (λ rest. text.now ≡ word.now ++ rest.now) }
+    ensures none { IfNone result (Starts (Word word.now) text.now → ⊥) }
+{
+    text.strip_prefix(word)
 }
 
 /// What is behind the word, which is ASCII and must come.

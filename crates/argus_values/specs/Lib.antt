@@ -13,4 +13,5 @@ pub use Rattle.argus_contents.specs.Value
 pub use Rattle.argus_texts.specs.ContentSpelling
 pub use Rattle.argus_texts.specs.Fault
 pub use Rattle.argus_texts.specs.Laws
+pub use Rattle.argus_texts.specs.ShapeSpelling
 pub use Rattle.argus_texts.specs.Spelling

@@ -13,4 +13,7 @@ pub use argus_contents::{
     ShapeView, Signal, Ty, Value, alter, alter_in_place, ask, change_fits, fits, limits,
     query_fits, typed,
 };
-pub use argus_texts::{ReadError, ReadFault, read_content, read_value, write_content, write_value};
+pub use argus_texts::{
+    ReadError, ReadFault, read_content, read_shape, read_value, write_content, write_shape,
+    write_value,
+};

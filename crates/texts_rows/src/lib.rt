@@ -5,6 +5,10 @@
 #[cfg(test)]
 mod faults;
 #[cfg(test)]
+mod long_shapes;
+#[cfg(test)]
 mod refusals;
 #[cfg(test)]
 mod round_trips;
+#[cfg(test)]
+mod shapes;

@@ -23,6 +23,8 @@ fn values_are_written_as_they_were_read(rt: HostRuntime) -> Result<(), Fail> {
         "\"\"",
         "\"a\\\"b\\\\c\\nd\"",
         "\"tab\tand bell\u{7} and \u{1F600}\"",
+        "\"return\rand null\0and tab\t\"",
+        "{\"\r\",\"\t\",\"\0\"}",
         "[]",
         "{1,true}",
         "<1:\"no\">",

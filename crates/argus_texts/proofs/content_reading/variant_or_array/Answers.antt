@@ -1,13 +1,9 @@
 -- Where a variant stops.
-use Rattle.std.proofs.Common.{[], ◌∷◌, length, sym, subst}
+use Rattle.std.proofs.Common.{[], ◌∷◌}
 use Rattle.std.proofs.lemmas.Result.{err_from_is_err_and}
-use Rattle.argus_contents.specs.Content.{plain_content}
-use Rattle.argus_texts.specs.Fault.{IsContentText}
-use Rattle.argus_texts.specs.Language.{Stops}
-use Rattle.argus_texts.specs.Languages.{Choices, Contents, Insides}
-use Rattle.argus_texts.proofs.Contents.{contents_clear, content_texts, record_brace, variant_angle, neither, low_stops, bracket_stops, items_stops}
+use Rattle.argus_texts.specs.Languages.{Choices, Contents}
+use Rattle.argus_texts.proofs.Contents.{variant_angle}
 use Rattle.argus_texts.proofs.Exits.{passed}
-use Rattle.argus_texts.proofs.Faults.{stopped, left_behind}
 use Rattle.argus_texts.proofs.Stops.{stops_in}
 use Rattle.argus_texts.proofs.content_reading.variant_or_array.Goals as goal
 

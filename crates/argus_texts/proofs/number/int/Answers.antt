@@ -1,5 +1,5 @@
 -- An integer stops where its digits do.
-use Rattle.std.proofs.Common.{◌≢◌, [], ◌∷◌, ap, ◌∙◌, subst, sym}
+use Rattle.std.proofs.Common.{◌≢◌, [], ◌∷◌}
 use Rattle.std.proofs.lemmas.Result.{err_from_is_err_and}
 use Rattle.argus_texts.specs.Languages.{Numbers, Ints}
 use Rattle.argus_texts.proofs.Digits.{minus, plain}

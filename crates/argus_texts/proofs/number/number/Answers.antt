@@ -1,5 +1,5 @@
 -- Where a number stops.
-use Rattle.std.proofs.Common.{◌≡◌, ◌++◌, length, ap, sym, ◌∙◌, subst, inl, inr, arith}
+use Rattle.std.proofs.Common.{◌++◌, length, ap, sym, ◌∙◌, subst, inl, inr, arith}
 use Rattle.std.specs.Fmt.{decimal}
 use Rattle.argus_texts.specs.Language.{First, Stops}
 use Rattle.argus_texts.specs.Languages.{Numbers}

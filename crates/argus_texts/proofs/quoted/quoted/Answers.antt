@@ -1,12 +1,12 @@
 -- What was read so far stands between the opening quote and the rest.
-use Rattle.std.proofs.Common.{◌≡◌, ◌++◌, ◌∷◌, [], length, string_bytes, sym, ap, ◌∙◌, subst}
+use Rattle.std.proofs.Common.{◌++◌, ◌∷◌, string_bytes, sym, ap, ◌∙◌, subst}
 use Rattle.std.proofs.lemmas.Result.{err_from_is_err_and}
 use Rattle.std.proofs.lemmas.Str.{IsUtf8-string_bytes}
-use Rattle.argus_texts.specs.Language.{First, Stops}
+use Rattle.argus_texts.specs.Language.{Stops}
 use Rattle.argus_texts.specs.Languages.{Quoted}
 use Rattle.argus_texts.specs.Spelling.{escaped}
 use Rattle.argus_texts.proofs.Exits.{passed}
-use Rattle.argus_texts.proofs.Quotes.{IsFeed, feed_stops, escape_stops, quoted_reads, read_plain, read_escape, ends_here, feed_here}
+use Rattle.argus_texts.proofs.Quotes.{feed_stops, escape_stops, quoted_reads, read_plain, read_escape, ends_here, feed_here}
 use Rattle.argus_texts.proofs.quoted.quoted.Goals as goal
 
 pub returns-in_default-clause-stops : goal.returns-in_default-clause-stops

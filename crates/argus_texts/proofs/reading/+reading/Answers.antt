@@ -1,5 +1,5 @@
 -- Where each part of a value stops.
-use Rattle.std.proofs.Common.{◌≡◌, ◌≢◌, ◌-◌, [], ◌∷◌, ◌++◌, length, sym, ap, ◌∙◌, subst, inl, inr}
+use Rattle.std.proofs.Common.{◌-◌, [], ◌∷◌, length, sym, ap, ◌∙◌, subst, inl, inr}
 use Rattle.std.specs.Prelude.{codes}
 use Rattle.std.proofs.lemmas.Result.{err_from_is_err_and, IfErr-weaker}
 use Rattle.argus_contents.specs.Value.{plain_value, plain_list}

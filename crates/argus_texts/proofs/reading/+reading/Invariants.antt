@@ -1,5 +1,5 @@
 -- How far down the calls go, and what is left to decide.
-use Rattle.std.proofs.Common.{◌≡◌, ℕ, ◌+◌, ◌*◌, length}
+use Rattle.std.proofs.Common.{ℕ, ◌+◌, ◌*◌, length}
 use Rattle.std.specs.Str.{IsUtf8}
 use Rattle.argus_contents.specs.Value.{plain_list}
 use Rattle.argus_texts.specs.Language.{Stops}

@@ -1,5 +1,4 @@
 -- The fault of the whole text.
-use Rattle.std.proofs.Common.{length}
 use Rattle.std.proofs.lemmas.Result.{err_from_is_err_and}
 use Rattle.argus_contents.specs.Value.{plain_value}
 use Rattle.argus_texts.specs.Fault.{IsValueText}

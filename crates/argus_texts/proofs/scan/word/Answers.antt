@@ -1,6 +1,6 @@
 -- The text leaves the word.
-use Rattle.std.proofs.Common.{◌≡◌, ◌<◌, length, get_or, subst, sym, ap, ◌∙◌}
-use Rattle.argus_texts.specs.Language.{First, IsNot}
+use Rattle.std.proofs.Common.{◌<◌, length, get_or, subst, sym, ap}
+use Rattle.argus_texts.specs.Language.{IsNot}
 use Rattle.argus_texts.proofs.Lists.{ascii_at, no_ascii_not}
 use Rattle.argus_texts.proofs.Stops.{word_stops}
 use Rattle.argus_texts.proofs.scan.word.Goals as goal

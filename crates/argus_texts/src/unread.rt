@@ -1,0 +1,21 @@
+//! `Unread`: why no part of a shape was read.
+
+use std::alloc::AllocFailed;
+
+#[derive(Debug, Drop)]
+pub(crate) enum Unread {
+    // The text begins with no form that could be a part of a shape there.
+    NoForm,
+    Memory,
+}
+
+impl<T: Drop> From<AllocFailed<T>> for Unread {
+    ghost use Rattle.std.specs.Prelude.{◌≡◌};
+    ghost use Rattle.argus_texts.specs.declared.unread.Unread.TheVariants as unread;
+
+    ghost from_gives = { λ _ given. given ≡ unread.Memory };
+
+    fn from(_refused: AllocFailed<T>) -> Unread {
+        Unread::Memory
+    }
+}
