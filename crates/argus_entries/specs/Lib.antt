@@ -1,0 +1,5 @@
+pub mod Call
+pub mod Reply
+pub mod Entry
+pub mod OperationSpelling
+pub mod EntrySpelling

@@ -1,0 +1,48 @@
+//! `Refusal`: why a call is refused.
+
+use thiserror::Error;
+
+/// Why a call is refused. Where several apply, the first of this list is answered. A refused call
+/// changes nothing: it takes no lock.
+///
+/// | Refusal | When | Calls |
+/// |---|---|---|
+/// | `NoAction` | the action isn't begun | all that name an action |
+/// | `Over` | it has committed or was aborted | all that name an action |
+/// | `Suspended` | it has a live child | `Commit`, `Ask`, `Alter`, `TestRead`, `TestWrite` |
+/// | `NoObject` | the object isn't declared | `Ask`, `Alter`, `TestRead`, `TestWrite` |
+/// | `IllTyped` | the operation doesn't suit the object's shape | `Ask`, `Alter` |
+/// | `Conflict` | the lock rule denies the lock | `Ask` the read lock, `Alter` the write lock |
+/// | `TooDeep` | the parent has the greatest depth | `BeginSub` |
+/// | `TooMany` | as many are begun or declared as may be | `Declare`, `BeginTop`, `BeginSub`, `BeginNested` |
+///
+/// ```text
+/// assert_eq!(rt; reply, Reply::Refused(Refusal::Conflict));
+/// ```
+#[derive(Clone, Copy, Debug, PartialEq, Eq, Error)]
+pub enum Refusal {
+    /// The action isn't begun.
+    #[error("the action isn't begun")]
+    NoAction,
+    /// The action has committed or was aborted.
+    #[error("the action is over")]
+    Over,
+    /// The action has a live child.
+    #[error("the action has a live child")]
+    Suspended,
+    /// The object isn't declared.
+    #[error("the object isn't declared")]
+    NoObject,
+    /// The operation doesn't suit the object's shape.
+    #[error("the operation doesn't suit the object's shape")]
+    IllTyped,
+    /// Another action holds the object.
+    #[error("another action holds the object")]
+    Conflict,
+    /// The parent has the greatest depth that there may be.
+    #[error("the parent is too deep")]
+    TooDeep,
+    /// As many actions are begun, or objects declared, as there may be.
+    #[error("there are too many already")]
+    TooMany,
+}

@@ -1,0 +1,9 @@
+pub mod Legal
+pub mod Fitting
+pub mod References
+pub mod Contents
+pub mod Growth
+pub mod NextEntry
+pub mod Told
+pub mod Newest
+pub mod Replay

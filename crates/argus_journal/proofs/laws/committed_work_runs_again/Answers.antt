@@ -1,0 +1,14 @@
+-- The proof of the laws that stand on `committed_work_runs_again`.
+use Rattle.argus_model.proofs.Theorems.{serial_answers, serial_each, serial_leaves}
+use Rattle.argus_journal.specs.Entries.{entries}
+use Rattle.argus_journal.specs.Events.{history}
+use Rattle.argus_journal.specs.Opening.{opened}
+use Rattle.argus_journal.proofs.Legal.{lawful}
+use Rattle.argus_journal.proofs.laws.committed_work_runs_again.Goals as goal
+
+pub returns : goal.returns
+returns c = record {
+  answers = λ s j l. serial_answers entries (opened s) (history s j) (lawful s j l);
+  each = λ s j later e earlier l. serial_each entries (opened s) (history s j) later e earlier (lawful s j l);
+  leaves = λ s j o l. serial_leaves entries (opened s) (history s j) o (lawful s j l);
+}

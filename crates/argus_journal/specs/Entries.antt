@@ -1,0 +1,51 @@
+-- What the accesses of a journal mean: the one `Meaning` of its history.
+use Rattle.std.proofs.Common.{refl, sym}
+use Rattle.std.proofs.lemmas.Bool.{false≢true}
+use Rattle.std.specs.Prelude.{Bool, Option, false, true, ◌≡◌}
+use Rattle.argus_contents.specs.Answer.{PlainAnswer, done, flag}
+use Rattle.argus_contents.specs.Change.{result, touch}
+use Rattle.argus_contents.specs.Content.{PlainContent}
+use Rattle.argus_contents.specs.Query.{reply}
+use Rattle.argus_entries.specs.Call.{PlainCall, alter, ask, test_read, test_write}
+use Rattle.argus_entries.specs.Entry.{PlainEntry}
+use Rattle.argus_entries.specs.Reply.{PlainReply, answered}
+use Rattle.argus_model.specs.Meaning.{Meaning}
+
+-- it needs a write lock
+abbrev pub is_write : PlainCall → Bool
+is_write (alter a o change) = true
+is_write (test_write a o) = true
+is_write _ = false
+
+-- what the call leaves of a content; a granted test for writing acts as the change `touch`
+abbrev pub left_by : PlainCall → Option PlainContent → Option PlainContent
+left_by (alter a o change) c = (result change c).0
+left_by (test_write a o) c = (result touch c).0
+left_by _ c = c
+
+-- what the call is answered at a content, where its lock is granted
+abbrev pub said_by : PlainCall → Option PlainContent → PlainAnswer
+said_by (ask a o query) c = reply query c
+said_by (alter a o change) c = (result change c).1
+said_by (test_read a o) c = flag true
+said_by (test_write a o) c = flag true
+said_by _ c = done
+
+-- a call that needs no write lock leaves the content
+abbrev pub calls_keep : (call : PlainCall) → is_write call ≡ false → (c : Option PlainContent) → left_by call c ≡ c
+calls_keep (alter a o change) n c = absurd (false≢true (sym n))
+calls_keep (test_write a o) n c = absurd (false≢true (sym n))
+calls_keep _ n c = refl
+
+abbrev pub entry_keeps : (e : PlainEntry) → is_write e.call ≡ false → (c : Option PlainContent) → left_by e.call c ≡ c
+entry_keeps e n c = calls_keep e.call n c
+
+-- the recorded reply is the one that the content gives
+abbrev pub entries : Meaning PlainEntry (Option PlainContent) PlainReply
+entries = record {
+  writes = λ e. is_write e.call;
+  after = λ e c. left_by e.call c;
+  answer = λ e c. answered (said_by e.call c);
+  recorded = λ e. e.reply;
+  reads_keep = entry_keeps;
+}

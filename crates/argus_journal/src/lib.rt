@@ -1,0 +1,29 @@
+//! The journal of a guardian: which calls were made and what they were answered, when such a list is
+//! legal, what it says of each object, and the laws of every legal journal.
+//!
+//! The definitions are in specs/: the answer of a call after a journal (the first refusal that
+//! applies, or else what it asked for), legal journals, the history that a journal tells in the words
+//! of `argus_model`, and who holds an object, what an action sees in it and what is in it for good.
+//!
+//! | Module | Its laws |
+//! |---|---|
+//! | `laws` | exclusion, one after another, contents that fit, the table of effects |
+//! | `next_entry` | what one more entry changes |
+//! | `worked` | journals worked out |
+//!
+//! No function of these modules does anything when it is called: each carries laws, which hold of
+//! every legal journal, whatever its opening.
+#![tactic(auto)]
+
+mod journal;
+pub mod laws;
+pub mod next_entry;
+mod owner;
+mod owning;
+mod replaying;
+pub mod worked;
+
+pub use journal::Journal;
+pub use owner::Owner;
+pub use owning::owner_of;
+pub use replaying::{replay_base, replay_for};

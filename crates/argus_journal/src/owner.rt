@@ -1,0 +1,21 @@
+//! `Owner`: who answers for what an action did.
+
+use argus_actions::ActionId;
+
+/// Who answers for what an action did: itself until it commits, and then whoever answers for its
+/// parent.
+///
+/// Source: inheritance of locks (Moss, Nested Transactions, MIT/LCS/TR-260, 1981).
+///
+/// ```text
+/// assert_eq!(rt; owner_of(&journal, ActionId(2)), Some(Owner::Held(ActionId(1))));
+/// ```
+#[derive(Clone, Copy, Debug, PartialEq, Eq)]
+pub enum Owner {
+    /// Nobody: the action was aborted, or an ancestor of it was.
+    Gone,
+    /// What it did is there for good.
+    Base,
+    /// This live action: itself, or an ancestor.
+    Held(ActionId),
+}

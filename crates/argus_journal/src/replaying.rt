@@ -1,0 +1,136 @@
+//! `replay_for` and `replay_base`: what the entries leave in an object.
+
+ghost use Rattle.std.specs.Prelude.{◌≡◌, IfOk, OnOk, OnErr};
+ghost use Rattle.argus_contents.specs.Content.{KeepsLimits, plain_option};
+ghost use Rattle.argus_entries.specs.Entry.{plain_entry};
+ghost use Rattle.argus_entries.specs.Reply.{plain_reply};
+ghost use Rattle.argus_journal.specs.Entries.{left_by};
+ghost use Rattle.argus_journal.specs.Journal.{entries_of, newest_first, opening_of};
+ghost use Rattle.argus_journal.specs.Legal.{Legal, base_of, seen_by};
+ghost use Rattle.argus_journal.specs.Told as told;
+ghost use Rattle.argus_journal.specs.Told.{replayed, replay_next, told_counts, writer_by};
+
+use crate::journal::Journal;
+use crate::owner::Owner;
+use crate::owning::{is_above, is_answered, owner_among};
+use argus_actions::ActionId;
+use argus_contents::{Content, ObjId, alter_in_place};
+use argus_entries::{Call, Entry, Reply};
+use argus_memory::{Heap, OutOfMemory};
+
+/// What the action sees in the object: what was written for good, and what was written by those whose
+/// owner is the action or an ancestor of it. Absent where the object isn't declared.
+///
+/// The journal has to be legal, as a guardian's is. All entries are gone through, for each write of
+/// the object once more; this is for audits.
+pub fn replay_for(
+    heap: Heap,
+    journal: &Journal,
+    h: ActionId,
+    o: ObjId,
+) -> Result<Option<Content>, OutOfMemory>
+    requires { Legal (opening_of journal.now) (entries_of journal.now) }
+    ensures { IfOk result (λ content. plain_option content ≡ seen_by (opening_of journal.now) (entries_of journal.now) h.0 o.0) }
+{
+    replay(heap, journal, Some(h), o)
+}
+
+/// What is in the object for good. Absent where the object isn't declared.
+///
+/// The journal has to be legal, as a guardian's is. All entries are gone through, for each write of
+/// the object once more; this is for audits.
+pub fn replay_base(heap: Heap, journal: &Journal, o: ObjId) -> Result<Option<Content>, OutOfMemory>
+    requires { Legal (opening_of journal.now) (entries_of journal.now) }
+    ensures { IfOk result (λ content. plain_option content ≡ base_of (opening_of journal.now) (entries_of journal.now) o.0) }
+{
+    replay(heap, journal, None, o)
+}
+
+// What the writes that count for the reader leave in the object; without a reader, for good.
+fn replay(
+    heap: Heap,
+    journal: &Journal,
+    reader: Option<ActionId>,
+    o: ObjId,
+) -> Result<Option<Content>, OutOfMemory>
+    requires { Legal (opening_of journal.now) (entries_of journal.now) }
+    ensures { IfOk result (λ content. plain_option content ≡ replayed (opening_of journal.now) (entries_of journal.now) reader o.0 (entries_of journal.now)) }
+{
+    let mut content = journal.opening_content(heap, o)?;
+    let entries = journal.entries();
+    for entry in entries {
+        replay_entry(heap, entries, entry, reader, o, &mut content)?;
+    }
+    Ok(content)
+}
+
+fn replay_entry(
+    heap: Heap,
+    entries: &[Entry],
+    entry: &Entry,
+    reader: Option<ActionId>,
+    o: ObjId,
+    content: &mut Option<Content>,
+) -> Result<(), OutOfMemory>
+    requires { KeepsLimits (plain_option content.old) }
+    ensures { OnOk result (plain_option content.new ≡ replay_next (told_counts (newest_first entries.now) reader) (plain_entry entry.now) o.0 (plain_option content.old)) }
+{
+    match writer_of(entry, o) {
+        None => Ok(()),
+        Some(a) => {
+            if counts(entries, reader, a) {
+                write(heap, entry, content)
+            } else {
+                Ok(())
+            }
+        }
+    }
+}
+
+// The action that writes the object by this entry.
+fn writer_of(entry: &Entry, o: ObjId) -> Option<ActionId>
+    ensures { result ≡ writer_by (plain_entry entry.now).call (plain_entry entry.now).reply o.0 }
+{
+    match &entry.call {
+        Call::Alter(a, i, _) if i.0 == o.0 && is_answered(&entry.reply) => Some(*a),
+        Call::TestWrite(a, i) if i.0 == o.0 && says_yes(&entry.reply) => Some(*a),
+        _ => None,
+    }
+}
+
+fn says_yes(reply: &Reply) -> bool
+    ensures { result ≡ told.says_yes (plain_reply reply.now) }
+{
+    match reply {
+        Reply::Flag(truth) => *truth,
+        _ => false,
+    }
+}
+
+// Whether what the action did counts for the reader.
+fn counts(entries: &[Entry], reader: Option<ActionId>, a: ActionId) -> bool
+    ensures { result ≡ told_counts (newest_first entries.now) reader a.0 }
+{
+    match owner_among(entries, a) {
+        Some(Owner::Base) => true,
+        Some(Owner::Held(x)) => match reader {
+            Some(h) => is_above(entries, x, h),
+            None => false,
+        },
+        _ => false,
+    }
+}
+
+// What the entry's call leaves of the content.
+fn write(heap: Heap, entry: &Entry, content: &mut Option<Content>) -> Result<(), OutOfMemory>
+    requires { KeepsLimits (plain_option content.old) }
+    ensures { OnOk result (plain_option content.new ≡ left_by (plain_entry entry.now).call (plain_option content.old)) }
+{
+    match &entry.call {
+        Call::Alter(_, _, change) => {
+            let _ = alter_in_place(content, change.duplicate(heap)?)?;
+            Ok(())
+        }
+        _ => Ok(()),
+    }
+}

@@ -1,0 +1,12 @@
+//! Journals worked out: owners, what is replayed, lines, and each allocation refused in turn.
+#![tactic(auto)]
+
+#[cfg(test)]
+mod lines;
+#[cfg(test)]
+mod refusals;
+#[cfg(test)]
+mod replays;
+mod rows;
+
+pub use rows::{PREPARED, Said, Step, journal_of, prepared_then};
