@@ -6,7 +6,7 @@ use Rattle.std.proofs.lemmas.Grind.{fold-append, flat_map-append}
 use Rattle.argus_cli.specs.Command.{says}
 use Rattle.argus_cli.specs.Fault.{FineAt, FineBefore, FirstFault, HasFault, IsFine, IsFaultOf, NoFault, Place, Unclosed, open_after, place_after, place_behind}
 use Rattle.argus_cli.specs.Lines.{said_in}
-use Rattle.argus_cli.specs.Object.{Object, spelled}
+use Rattle.argus_cli.specs.Object.{AllMakeable, Object, spelled}
 use Rattle.argus_cli.specs.Script.{Declares, commands, declared_by, told}
 use Rattle.argus_cli.specs.declared.fault_kind.FaultKind.{FaultKind}
 
@@ -52,9 +52,11 @@ flat-more : {B : Type 0} (f : List ℕ → List B) (lines : List (List ℕ)) (i 
 flat-more f lines i line front = ap (flat_map f) front ∙ flat_map-append f (take i lines) (line ∷ []) ∙ ap (λ t. flat_map f (take i lines) ++ t) (append-nil (f line))
 
 pub declares-more : (lines : List (List ℕ)) (i : ℕ) (line : List ℕ) (old new : List Object) → take (i + 1) lines ≡ take i lines ++ line ∷ []
-    → Declares (take i lines) old → map spelled new ≡ map spelled old ++ declared_by (says (said_in line)) → Declares (take (i + 1) lines) new
-declares-more lines i line old new front e f =
-    flat-more (λ line. declared_by (says (said_in line))) lines i line front ∙ ap (λ t. t ++ declared_by (says (said_in line))) e ∙ sym f
+    → Declares (take i lines) old → map spelled new ≡ map spelled old ++ declared_by (says (said_in line)) → (AllMakeable old → AllMakeable new)
+    → Declares (take (i + 1) lines) new
+declares-more lines i line old new front e f g = record {
+    spelled = flat-more (λ line. declared_by (says (said_in line))) lines i line front ∙ ap (λ t. t ++ declared_by (says (said_in line))) e.spelled ∙ sym f;
+    makeable = g e.makeable }
 
 pub commands-more : (lines : List (List ℕ)) (i : ℕ) (line : List ℕ) → take (i + 1) lines ≡ take i lines ++ line ∷ []
     → commands (take (i + 1) lines) ≡ commands (take i lines) ++ told (says (said_in line))

@@ -7,7 +7,7 @@ use Rattle.argus_texts.specs.ContentSpelling.{content_spelling}
 use Rattle.argus_cli.specs.Command.{Command, says}
 use Rattle.argus_cli.specs.Command as command
 use Rattle.argus_cli.specs.Lines.{said_in}
-use Rattle.argus_cli.specs.Object.{Object, spelled}
+use Rattle.argus_cli.specs.Object.{AllMakeable, Object, spelled}
 
 -- a step of a block; objects and fields go by name
 pub data PlainStep : Type 0 where
@@ -59,9 +59,10 @@ abbrev pub declared_by : Command → List (List ℕ × List ℕ)
 declared_by (command.declare name shape) = (name, shape) ∷ []
 declared_by c = []
 
--- lines declare these objects, in this order
-abbrev pub Declares : List (List ℕ) → List Object → Type 0
-Declares lines objects = flat_map (λ line. declared_by (says (said_in line))) lines ≡ map spelled objects
+-- lines declare these objects, in this order, and each has a shape that can be made
+pub record Declares (lines : List (List ℕ)) (objects : List Object) : Type 0 where
+  pub spelled : flat_map (λ line. declared_by (says (said_in line))) lines ≡ map spelled objects
+  pub makeable : AllMakeable objects
 
 -- Lines spell a script: their commands are its text, and they declare its objects.
 pub record Spells (lines : List (List ℕ)) (script : PlainScript) : Type 0 where

@@ -8,7 +8,7 @@ ghost use Rattle.argus_cli.specs.Command as command;
 ghost use Rattle.argus_cli.specs.Fault.{begins_declare, field_fault, HasFault, is_bad, is_too_long, IsFine, may_stand, name_fault, open_after, TextFault, TextIsFine, word_fault};
 ghost use Rattle.argus_cli.specs.declared.line_error.LineError.TheVariants as LineError;
 ghost use Rattle.argus_cli.specs.Lines.{before_blanks, behind_blanks, said_in, word};
-ghost use Rattle.argus_cli.specs.Object.{number_of, shape_of, spelled};
+ghost use Rattle.argus_cli.specs.Object.{AllMakeable, number_of, shape_of, spelled};
 ghost use Rattle.argus_cli.specs.Reading.{block_text, OnKind, opened, plain_parts, plain_step, so_far};
 ghost use Rattle.argus_cli.specs.Said.{said};
 ghost use Rattle.argus_cli.specs.Script.{declared_by, step_text, text_of, told};
@@ -71,6 +71,7 @@ impl<'a> Reading<'a> {
         ensures fault { IfErr result (λ e. OnKind e (λ k. TextFault (command.declare name.now shape.now) k)) }
         ensures fine { OnOk result (IsShapeText shape.now) }
         ensures objects { OnOk result (map spelled self.new.objects ≡ map spelled self.old.objects ++ (name.now, shape.now) ∷ []) }
+        ensures makeable { OnOk result (AllMakeable self.old.objects → AllMakeable self.new.objects) }
         ensures block { OnOk result (self.new.block ≡ None) }
         ensures text { OnOk result (text_of (plain_parts self.new.parts.items) ≡ text_of (plain_parts self.old.parts.items) ++ command.declare name.now shape.now ∷ []) }
         ensures few { OnOk result (length self.new.parts.items ≤ length self.old.parts.items + 1) }
@@ -195,6 +196,7 @@ impl<'a> Reading<'a> {
         ensures fault { IfErr result (λ e. OnKind e (λ k. HasFault (record { lines = lines; bytes = bytes; open_blocks = opened self.old.block }) self.old.objects line.now k)) }
         ensures fine { OnOk result (IsFine (record { lines = lines; bytes = bytes; open_blocks = opened self.old.block }) self.old.objects line.now) }
         ensures objects { OnOk result (map spelled self.new.objects ≡ map spelled self.old.objects ++ declared_by (says (said_in line.now))) }
+        ensures makeable { OnOk result (AllMakeable self.old.objects → AllMakeable self.new.objects) }
         ensures open_blocks { OnOk result (opened self.new.block ≡ open_after (says (said_in line.now)) (lines + 1) (opened self.old.block)) }
         ensures text { OnOk result (so_far self.new.parts.items self.new.block ≡ so_far self.old.parts.items self.old.block ++ told (says (said_in line.now))) }
         ensures counted { OnOk result (lines < 100000) }
@@ -216,6 +218,7 @@ impl<'a> Reading<'a> {
         ensures fault { IfErr result (λ e. OnKind e (λ k. TextFault (said line.entry) k)) }
         ensures fine { OnOk result (TextIsFine (said line.entry)) }
         ensures objects { OnOk result (map spelled self.new.objects ≡ map spelled self.old.objects ++ declared_by (said line.entry)) }
+        ensures makeable { OnOk result (AllMakeable self.old.objects → AllMakeable self.new.objects) }
         ensures open_blocks { OnOk result (opened self.new.block ≡ open_after (said line.entry) number (opened self.old.block)) }
         ensures text { OnOk result (so_far self.new.parts.items self.new.block ≡ so_far self.old.parts.items self.old.block ++ told (said line.entry)) }
         ensures few { OnOk result (length self.new.parts.items ≤ length self.old.parts.items + 1) }

@@ -36,7 +36,7 @@ loop-rest-preserved c =
     record {
       left = h.left;
       place = place-more lines i _ _ line (opened c.loop-rest.reading.block) (opened c.take.new.self.block) h.front I.place count new.open_blocks;
-      objects = declares-more lines i line c.loop-rest.reading.objects c.take.new.self.objects h.front I.objects new.objects;
+      objects = declares-more lines i line c.loop-rest.reading.objects c.take.new.self.objects h.front I.objects new.objects new.makeable;
       text = commands-more lines i line h.front ∙ ap (λ t. t ++ told (says (said_in line))) I.text ∙ sym new.text;
       fine = fine-more lines i line c.loop-rest.reading.objects _ h.here I.objects I.place new.fine I.fine;
       few = omega (arith, new.few);
