@@ -16,7 +16,8 @@ use argus_texts::{write_content, write_shape, write_value};
 
 pub(crate) fn append(text: &str, out: &mut String<Heap>) -> Result<(), OutOfMemory>
     ensures grew { Grew (string_bytes out.old) (string_bytes out.new) }
-    ensures written { OnOk result (string_bytes out.new ≡ string_bytes out.old ++ text.now) }
+    ensures written { OnOk result (string_bytes out.new
+        ≡ string_bytes out.old ++ text.now) }
 {
     out.push_str(text)?;
     Ok(())
@@ -29,7 +30,8 @@ pub(crate) fn append_number(
     out: &mut String<Heap>,
 ) -> Result<(), OutOfMemory>
     ensures grew { Grew (string_bytes out.old) (string_bytes out.new) }
-    ensures written { OnOk result (string_bytes out.new ≡ string_bytes out.old ++ (word.now ++ decimal number)) }
+    ensures written { OnOk result (string_bytes out.new
+        ≡ string_bytes out.old ++ (word.now ++ decimal number)) }
 {
     append(word, out)?;
     let mut digits = itoa::Buffer::new();
@@ -39,7 +41,8 @@ pub(crate) fn append_number(
 /// A word and an integer.
 pub(crate) fn append_int(word: &str, number: i64, out: &mut String<Heap>) -> Result<(), OutOfMemory>
     ensures grew { Grew (string_bytes out.old) (string_bytes out.new) }
-    ensures written { OnOk result (string_bytes out.new ≡ string_bytes out.old ++ (word.now ++ signed_decimal number)) }
+    ensures written { OnOk result (string_bytes out.new
+        ≡ string_bytes out.old ++ (word.now ++ signed_decimal number)) }
 {
     append(word, out)?;
     let mut digits = itoa::Buffer::new();
@@ -53,7 +56,8 @@ pub(crate) fn append_value(
     out: &mut String<Heap>,
 ) -> Result<(), OutOfMemory>
     ensures grew { Grew (string_bytes out.old) (string_bytes out.new) }
-    ensures written { OnOk result (string_bytes out.new ≡ string_bytes out.old ++ (word.now ++ spelling (plain_value value.now))) }
+    ensures written { OnOk result (string_bytes out.new
+        ≡ string_bytes out.old ++ (word.now ++ spelling (plain_value value.now))) }
 {
     append(word, out)?;
     write_value(value, out)
@@ -66,7 +70,8 @@ pub(crate) fn append_content(
     out: &mut String<Heap>,
 ) -> Result<(), OutOfMemory>
     ensures grew { Grew (string_bytes out.old) (string_bytes out.new) }
-    ensures written { OnOk result (string_bytes out.new ≡ string_bytes out.old ++ (word.now ++ content_spelling (plain_content content.now))) }
+    ensures written { OnOk result (string_bytes out.new
+        ≡ string_bytes out.old ++ (word.now ++ content_spelling (plain_content content.now))) }
 {
     append(word, out)?;
     write_content(content, out)
@@ -79,7 +84,8 @@ pub(crate) fn append_shape(
     out: &mut String<Heap>,
 ) -> Result<(), OutOfMemory>
     ensures grew { Grew (string_bytes out.old) (string_bytes out.new) }
-    ensures written { OnOk result (string_bytes out.new ≡ string_bytes out.old ++ (word.now ++ shape_spelling shape.now)) }
+    ensures written { OnOk result (string_bytes out.new
+        ≡ string_bytes out.old ++ (word.now ++ shape_spelling shape.now)) }
 {
     append(word, out)?;
     write_shape(shape, out)

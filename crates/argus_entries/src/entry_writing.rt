@@ -3,7 +3,8 @@
 ghost use Rattle.std.specs.Prelude.{◌≡◌, ◌++◌, OnErr, OnOk, string_bytes};
 ghost use Rattle.argus_entries.specs.Call.{plain_call};
 ghost use Rattle.argus_entries.specs.Entry.{plain_entry};
-ghost use Rattle.argus_entries.specs.EntrySpelling.{call_spelling, entry_spelling, place_spelling, refusal_name, reply_spelling, signal_spelling};
+ghost use Rattle.argus_entries.specs.EntrySpelling.{call_spelling, entry_spelling, place_spelling};
+ghost use Rattle.argus_entries.specs.EntrySpelling.{refusal_name, reply_spelling, signal_spelling};
 ghost use Rattle.argus_entries.specs.Reply.{plain_reply};
 ghost use Rattle.argus_texts.specs.Grown.{Grew};
 
@@ -26,7 +27,8 @@ use argus_memory::{Heap, OutOfMemory};
 /// write_entry(4, &entry, &mut out)?;       // 4 ask a0 o0 field 0 -> val 7
 /// ```
 pub fn write_entry(at: u64, entry: &Entry, out: &mut String<Heap>) -> Result<(), OutOfMemory>
-    ensures written { OnOk result (string_bytes out.new ≡ string_bytes out.old ++ entry_spelling at (plain_entry entry.now)) }
+    ensures written { OnOk result (string_bytes out.new
+        ≡ string_bytes out.old ++ entry_spelling at (plain_entry entry.now)) }
     ensures unchanged { OnErr result (string_bytes out.new ≡ string_bytes out.old) }
 {
     let start = out.len();
@@ -39,7 +41,8 @@ pub fn write_entry(at: u64, entry: &Entry, out: &mut String<Heap>) -> Result<(),
 
 fn append_entry(at: u64, entry: &Entry, out: &mut String<Heap>) -> Result<(), OutOfMemory>
     ensures grew { Grew (string_bytes out.old) (string_bytes out.new) }
-    ensures written { OnOk result (string_bytes out.new ≡ string_bytes out.old ++ entry_spelling at (plain_entry entry.now)) }
+    ensures written { OnOk result (string_bytes out.new
+        ≡ string_bytes out.old ++ entry_spelling at (plain_entry entry.now)) }
 {
     append_number("", at, out)?;
     append(" ", out)?;
@@ -50,7 +53,8 @@ fn append_entry(at: u64, entry: &Entry, out: &mut String<Heap>) -> Result<(), Ou
 
 fn append_call(call: &Call, out: &mut String<Heap>) -> Result<(), OutOfMemory>
     ensures grew { Grew (string_bytes out.old) (string_bytes out.new) }
-    ensures written { OnOk result (string_bytes out.new ≡ string_bytes out.old ++ call_spelling (plain_call call.now)) }
+    ensures written { OnOk result (string_bytes out.new
+        ≡ string_bytes out.old ++ call_spelling (plain_call call.now)) }
 {
     match call {
         Call::Declare(shape) => append_shape("declare ", shape, out),
@@ -81,7 +85,8 @@ fn append_place(
     out: &mut String<Heap>,
 ) -> Result<(), OutOfMemory>
     ensures grew { Grew (string_bytes out.old) (string_bytes out.new) }
-    ensures written { OnOk result (string_bytes out.new ≡ string_bytes out.old ++ place_spelling word.now a.0 o.0) }
+    ensures written { OnOk result (string_bytes out.new
+        ≡ string_bytes out.old ++ place_spelling word.now a.0 o.0) }
 {
     append_number(word, u64::from(a.0), out)?;
     append_number(" o", u64::from(o.0), out)
@@ -89,7 +94,8 @@ fn append_place(
 
 fn append_reply(reply: &Reply, out: &mut String<Heap>) -> Result<(), OutOfMemory>
     ensures grew { Grew (string_bytes out.old) (string_bytes out.new) }
-    ensures written { OnOk result (string_bytes out.new ≡ string_bytes out.old ++ reply_spelling (plain_reply reply.now)) }
+    ensures written { OnOk result (string_bytes out.new
+        ≡ string_bytes out.old ++ reply_spelling (plain_reply reply.now)) }
 {
     match reply {
         Reply::Object(o) => append_number("o", u64::from(o.0), out),

@@ -11,7 +11,8 @@ use argus_memory::{Heap, OutOfMemory};
 
 pub(crate) fn append_query(query: &Query, out: &mut String<Heap>) -> Result<(), OutOfMemory>
     ensures grew { Grew (string_bytes out.old) (string_bytes out.new) }
-    ensures written { OnOk result (string_bytes out.new ≡ string_bytes out.old ++ query_spelling query.now) }
+    ensures written { OnOk result (string_bytes out.new
+        ≡ string_bytes out.old ++ query_spelling query.now) }
 {
     match query {
         Query::Whole => append("whole", out),
@@ -29,7 +30,8 @@ pub(crate) fn append_query(query: &Query, out: &mut String<Heap>) -> Result<(), 
 
 pub(crate) fn append_change(change: &Change, out: &mut String<Heap>) -> Result<(), OutOfMemory>
     ensures grew { Grew (string_bytes out.old) (string_bytes out.new) }
-    ensures written { OnOk result (string_bytes out.new ≡ string_bytes out.old ++ change_spelling (plain_change change.now)) }
+    ensures written { OnOk result (string_bytes out.new
+        ≡ string_bytes out.old ++ change_spelling (plain_change change.now)) }
 {
     match change {
         Change::Create(content) => append_content("create ", content, out),

@@ -18,7 +18,7 @@ use Rattle.argus_model.specs.Contents.{replay}
 use Rattle.argus_model.specs.Event.{Accessed}
 use Rattle.argus_model.specs.History.{History, ◌▹◌}
 use Rattle.argus_model.specs.Holders.{may_read, may_write}
-use Rattle.argus_journal.specs.Answers.{granted, if_declared, or_refused, refusal, suits, unless}
+use Rattle.argus_journal.specs.Answers.{granted, if_declared, or_refused, refusal, suits, suits_change, unless}
 use Rattle.argus_journal.specs.Entries.{entries, is_write, left_by}
 use Rattle.argus_journal.specs.Events.{history, with_event}
 use Rattle.argus_journal.specs.Legal.{Legal}
@@ -77,12 +77,12 @@ module _ (counts : ℕ → Bool) (objects : List PlainShape) (o : ℕ) (c : Opti
   granted_fits s h (abort a) e w = w
   granted_fits s h (ask a i q) e w = accessed a i (ask a i q) (granted s h objects (ask a i q)) h (λ _ k. nothing k) w
   granted_fits s h (alter a i x) e w =
-      let test = suits (λ shape. change_suits shape (length objects) x) (slice_get objects i) in
+      let test = suits_change objects i x in
       let lock = may_write entries h (a + 1) i in
       let k = free_none h a (if_declared objects i (unless test IllTyped (unless lock Conflict None))) e in
       let fit = (access_none objects i test lock k.none).suits in
       accessed a i (alter a i x) (granted s h objects (alter a i x)) h
-      (λ here _. altered x (slice_get objects o) (content h) (subst (λ u. suits (λ shape. change_suits shape (length objects) x) (slice_get objects u) ≡ true) here fit) w)
+      (λ here _. altered x (slice_get objects o) (content h) (subst (λ u. suits_change objects u x ≡ true) here fit) w)
       w
   granted_fits s h (test_read a i) e w = tested AllFits h a i (may_read entries h (a + 1) i) (test_read a i) (test_read_event a i) (λ _. accessed a i (test_read a i) (answered (flag true)) h (λ _ k. nothing k) w) w
   granted_fits s h (test_write a i) e w =

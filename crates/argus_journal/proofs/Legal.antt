@@ -1,22 +1,20 @@
 -- What a legal journal says happened was allowed.
 use Rattle.std.proofs.Common.{Bool, List, None, Option, Some, [], cond, false, refl, subst, sym, true, ℕ, ◌+◌, ◌∷◌, ◌≡◌}
-use Rattle.std.specs.Prelude.{length, nat_lt, not, slice_get, ◌&&◌, ◌==◌, ◌||◌}
+use Rattle.std.specs.Prelude.{length, nat_lt, not, ◌&&◌, ◌==◌, ◌||◌}
 use Rattle.std.proofs.lemmas.Bool.{not-true}
 use Rattle.argus_contents.specs.Answer.{flag}
-use Rattle.argus_contents.specs.Fitting.{change_suits, query_suits}
 use Rattle.argus_contents.specs.Shape.{PlainShape}
-use Rattle.argus_contents.specs.declared.limits.TheConstants.{MAX_ACTION_DEPTH}
 use Rattle.argus_entries.specs.Call.{PlainCall, abort, alter, ask, begin_nested, begin_sub, begin_top, commit, declare, test_read, test_write}
 use Rattle.argus_entries.specs.Entry.{PlainEntry}
 use Rattle.argus_entries.specs.Reply.{PlainReply, answered, refused}
 use Rattle.argus_entries.specs.declared.refusal.Refusal.{Refusal}
-use Rattle.argus_entries.specs.declared.refusal.Refusal.TheVariants.{Conflict, IllTyped, NoAction, NoObject, Over, Suspended, TooDeep}
+use Rattle.argus_entries.specs.declared.refusal.Refusal.TheVariants.{Conflict, IllTyped, NoAction, NoObject, Over, Suspended}
 use Rattle.argus_model.specs.Event.{Accessed}
 use Rattle.argus_model.specs.History.{History, next_action, ◌▹◌}
 use Rattle.argus_model.specs.Holders.{may_read, may_write}
 use Rattle.argus_model.specs.Lawful.{Lawful}
 use Rattle.argus_model.specs.Status.{has_live_child, is_live}
-use Rattle.argus_journal.specs.Answers.{depth, granted, if_declared, if_free, if_live, if_room, or_refused, refusal, suits, unless}
+use Rattle.argus_journal.specs.Answers.{granted, if_declared, if_free, if_live, if_room, if_shallow, or_refused, refusal, suits_change, suits_query, unless}
 use Rattle.argus_journal.specs.Entries.{entries}
 use Rattle.argus_journal.specs.Events.{event_of, history, with_event}
 use Rattle.argus_journal.specs.Legal.{Legal}
@@ -100,17 +98,17 @@ granted_step : (s : Opening) (h : History PlainEntry) (objects : List PlainShape
 granted_step s h objects (declare shape) w e = w
 granted_step s h objects begin_top w e = (refl, w)
 granted_step s h objects (begin_sub p) w e =
-    (or_live (p + 1 == 0) (is_live h (p + 1)) (live_none h p (unless (nat_lt (depth h (p + 1)) MAX_ACTION_DEPTH) TooDeep (if_room h)) e).0, w)
+    (or_live (p + 1 == 0) (is_live h (p + 1)) (live_none h p (if_shallow h p) e).0, w)
 granted_step s h objects (begin_nested c) w e = (or_live (c + 1 == 0) (is_live h (c + 1)) (live_none h c (if_room h) e).0, w)
 granted_step s h objects (commit a) w e = let k = free_none h a None e in ((k.live, k.childless), w)
 granted_step s h objects (abort a) w e = (and_all (is_live h (a + 1)) (live_none h a None e).0, w)
 granted_step s h objects (ask a o q) w e =
-    let test = suits (λ shape. query_suits shape q) (slice_get objects o) in
+    let test = suits_query objects o q in
     let lock = may_read entries h (a + 1) o in
     let k = free_none h a (if_declared objects o (unless test IllTyped (unless lock Conflict None))) e in
     ((k.live, k.childless, (access_none objects o test lock k.none).lock, refl), w)
 granted_step s h objects (alter a o x) w e =
-    let test = suits (λ shape. change_suits shape (length objects) x) (slice_get objects o) in
+    let test = suits_change objects o x in
     let lock = may_write entries h (a + 1) o in
     let k = free_none h a (if_declared objects o (unless test IllTyped (unless lock Conflict None))) e in
     ((k.live, k.childless, (access_none objects o test lock k.none).lock, refl), w)

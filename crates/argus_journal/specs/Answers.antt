@@ -1,11 +1,12 @@
 -- What a call is answered after a journal: the first refusal that applies, or else what it asked for.
 use Rattle.std.specs.Prelude.{Bool, List, None, Option, Some, false, length, nat_lt, not, slice_get, true, ℕ, ◌+◌, ◌-◌}
 use Rattle.argus_contents.specs.Answer.{done, flag}
-use Rattle.argus_contents.specs.Change.{result}
+use Rattle.argus_contents.specs.Change.{PlainChange, result}
 use Rattle.argus_contents.specs.Content.{PlainContent}
 use Rattle.argus_contents.specs.Fitting.{change_suits, query_suits}
 use Rattle.argus_contents.specs.Query.{reply}
 use Rattle.argus_contents.specs.Shape.{PlainShape}
+use Rattle.argus_contents.specs.declared.query.Query.{Query}
 use Rattle.argus_contents.specs.declared.limits.TheConstants.{MAX_ACTIONS, MAX_ACTION_DEPTH, MAX_OBJECTS}
 use Rattle.argus_entries.specs.Call.{PlainCall, abort, alter, ask, begin_nested, begin_sub, begin_top, commit, declare, test_read, test_write}
 use Rattle.argus_entries.specs.Entry.{PlainEntry}
@@ -44,6 +45,14 @@ abbrev pub suits : (PlainShape → Bool) → Option PlainShape → Bool
 suits test None = false
 suits test (Some shape) = test shape
 
+-- the query suits the shape of the object
+abbrev pub suits_query : List PlainShape → ℕ → Query → Bool
+suits_query shapes o query = suits (λ shape. query_suits shape query) (slice_get shapes o)
+
+-- the change suits the shape of the object, and the references in it name declared objects
+abbrev pub suits_change : List PlainShape → ℕ → PlainChange → Bool
+suits_change shapes o change = suits (λ shape. change_suits shape (length shapes) change) (slice_get shapes o)
+
 -- how many ancestors an action has, itself among them
 abbrev pub depth : History PlainEntry → ℕ → ℕ
 depth h a = length (lineage h a) - 1
@@ -52,21 +61,25 @@ depth h a = length (lineage h a) - 1
 abbrev pub if_room : History PlainEntry → Option Refusal
 if_room h = unless (nat_lt (next_action h - 1) MAX_ACTIONS) TooMany None
 
+-- the parent may have subactions, and one more action may begin
+abbrev pub if_shallow : History PlainEntry → ℕ → Option Refusal
+if_shallow h parent = unless (nat_lt (depth h (parent + 1)) MAX_ACTION_DEPTH) TooDeep (if_room h)
+
 -- the first refusal that applies, where these objects are declared (Argus Reference Manual 1987, locking rules)
 abbrev pub refusal : History PlainEntry → List PlainShape → PlainCall → Option Refusal
 refusal h shapes (declare shape) = unless (nat_lt (length shapes) MAX_OBJECTS) TooMany None
 refusal h shapes begin_top = if_room h
-refusal h shapes (begin_sub parent) = if_live h parent (unless (nat_lt (depth h (parent + 1)) MAX_ACTION_DEPTH) TooDeep (if_room h))
+refusal h shapes (begin_sub parent) = if_live h parent (if_shallow h parent)
 refusal h shapes (begin_nested creator) = if_live h creator (if_room h)
 refusal h shapes (commit a) = if_free h a None
 refusal h shapes (abort a) = if_live h a None
 refusal h shapes (ask a o query) =
     if_free h a (if_declared shapes o
-    (unless (suits (λ shape. query_suits shape query) (slice_get shapes o)) IllTyped
+    (unless (suits_query shapes o query) IllTyped
     (unless (may_read entries h (a + 1) o) Conflict None)))
 refusal h shapes (alter a o change) =
     if_free h a (if_declared shapes o
-    (unless (suits (λ shape. change_suits shape (length shapes) change) (slice_get shapes o)) IllTyped
+    (unless (suits_change shapes o change) IllTyped
     (unless (may_write entries h (a + 1) o) Conflict None)))
 refusal h shapes (test_read a o) = if_free h a (if_declared shapes o None)
 refusal h shapes (test_write a o) = if_free h a (if_declared shapes o None)

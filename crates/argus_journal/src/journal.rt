@@ -98,7 +98,8 @@ impl Journal {
         heap: Heap,
         o: ObjId,
     ) -> Result<Option<Content>, OutOfMemory>
-        ensures { IfOk result (λ content. plain_option content ≡ content_in (opening_of self.now).objects o.0) }
+        ensures { IfOk result (λ content. plain_option content
+            ≡ content_in (opening_of self.now).objects o.0) }
     {
         match self.objects.get(o.0 as usize) {
             Some((_, content)) => copy_of(heap, content),

@@ -89,9 +89,11 @@ pub fn contents_fit()
         → fits_shape (shape_of s j o) (declared s j) (base_of s j o) ≡ true }
     ensures seen { (s : Opening) (j : List PlainEntry) (a o : ℕ) → is_sound s ≡ true → Legal s j
         → fits_shape (shape_of s j o) (declared s j) (seen_by s j a o) ≡ true }
-    ensures base_references { (s : Opening) (j : List PlainEntry) (o : ℕ) → is_sound s ≡ true → Legal s j
+    ensures base_references { (s : Opening) (j : List PlainEntry) (o : ℕ)
+        → is_sound s ≡ true → Legal s j
         → list_all (λ r. nat_lt r (declared s j)) (references_in (base_of s j o)) ≡ true }
-    ensures seen_references { (s : Opening) (j : List PlainEntry) (a o : ℕ) → is_sound s ≡ true → Legal s j
+    ensures seen_references { (s : Opening) (j : List PlainEntry) (a o : ℕ)
+        → is_sound s ≡ true → Legal s j
         → list_all (λ r. nat_lt r (declared s j)) (references_in (seen_by s j a o)) ≡ true }
 {}
 

@@ -23,6 +23,7 @@ mod owning;
 mod replaying;
 pub mod worked;
 
+pub use argus_entries::{Call, Entry, Refusal, Reply, write_entry};
 pub use journal::Journal;
 pub use owner::Owner;
 pub use owning::owner_of;

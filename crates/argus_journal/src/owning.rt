@@ -36,7 +36,8 @@ pub(crate) fn owner_among(entries: &[Entry], a: ActionId) -> Option<Owner>
 }
 
 fn owner_after(older: &[Entry], entry: &Entry, a: ActionId, owner: Option<Owner>) -> Option<Owner>
-    ensures { result ≡ (if told.begins (plain_reply entry.now.reply) a.0 then Some (Owner.Held a) else told.owner_next (plain_entry entry.now) (newest_first older.now) owner) }
+    ensures { result ≡ (if told.begins (plain_reply entry.now.reply) a.0 then Some (Owner.Held a)
+        else told.owner_next (plain_entry entry.now) (newest_first older.now) owner) }
 {
     if begins(&entry.reply, a) {
         return Some(Owner::Held(a));

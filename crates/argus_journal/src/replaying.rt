@@ -30,7 +30,8 @@ pub fn replay_for(
     o: ObjId,
 ) -> Result<Option<Content>, OutOfMemory>
     requires { Legal (opening_of journal.now) (entries_of journal.now) }
-    ensures { IfOk result (λ content. plain_option content ≡ seen_by (opening_of journal.now) (entries_of journal.now) h.0 o.0) }
+    ensures { IfOk result (λ content. plain_option content
+        ≡ seen_by (opening_of journal.now) (entries_of journal.now) h.0 o.0) }
 {
     replay(heap, journal, Some(h), o)
 }
@@ -41,7 +42,8 @@ pub fn replay_for(
 /// the object once more; this is for audits.
 pub fn replay_base(heap: Heap, journal: &Journal, o: ObjId) -> Result<Option<Content>, OutOfMemory>
     requires { Legal (opening_of journal.now) (entries_of journal.now) }
-    ensures { IfOk result (λ content. plain_option content ≡ base_of (opening_of journal.now) (entries_of journal.now) o.0) }
+    ensures { IfOk result (λ content. plain_option content
+        ≡ base_of (opening_of journal.now) (entries_of journal.now) o.0) }
 {
     replay(heap, journal, None, o)
 }
@@ -54,7 +56,8 @@ fn replay(
     o: ObjId,
 ) -> Result<Option<Content>, OutOfMemory>
     requires { Legal (opening_of journal.now) (entries_of journal.now) }
-    ensures { IfOk result (λ content. plain_option content ≡ replayed (opening_of journal.now) (entries_of journal.now) reader o.0 (entries_of journal.now)) }
+    ensures { let j = entries_of journal.now in
+        IfOk result (λ content. plain_option content ≡ replayed (opening_of journal.now) j reader o.0 j) }
 {
     let mut content = journal.opening_content(heap, o)?;
     let entries = journal.entries();
@@ -73,7 +76,9 @@ fn replay_entry(
     content: &mut Option<Content>,
 ) -> Result<(), OutOfMemory>
     requires { KeepsLimits (plain_option content.old) }
-    ensures { OnOk result (plain_option content.new ≡ replay_next (told_counts (newest_first entries.now) reader) (plain_entry entry.now) o.0 (plain_option content.old)) }
+    ensures { let counts = told_counts (newest_first entries.now) reader in
+        OnOk result (plain_option content.new
+        ≡ replay_next counts (plain_entry entry.now) o.0 (plain_option content.old)) }
 {
     match writer_of(entry, o) {
         None => Ok(()),
@@ -124,7 +129,8 @@ fn counts(entries: &[Entry], reader: Option<ActionId>, a: ActionId) -> bool
 // What the entry's call leaves of the content.
 fn write(heap: Heap, entry: &Entry, content: &mut Option<Content>) -> Result<(), OutOfMemory>
     requires { KeepsLimits (plain_option content.old) }
-    ensures { OnOk result (plain_option content.new ≡ left_by (plain_entry entry.now).call (plain_option content.old)) }
+    ensures { OnOk result (plain_option content.new
+        ≡ left_by (plain_entry entry.now).call (plain_option content.old)) }
 {
     match &entry.call {
         Call::Alter(_, _, change) => {

@@ -1,21 +1,25 @@
 //! Journals worked out. Each has two records of a number, objects 0 and 1, which topaction 0 has
 //! created with 0 in them. In lists of holders and of versions the action a is a + 1, as in the
 //! history.
-ghost use Rattle.std.specs.Prelude.{◌≡◌, ℕ, true, false, Option, Some, None, List, [], ◌∷◌, ◌++◌, codes, map, pos};
+ghost use Rattle.std.specs.Prelude.{◌≡◌, true, false, Some, [], ◌∷◌, ◌++◌, codes, map, pos};
 ghost use Rattle.argus_contents.specs.Answer.{body, done, flag, num, signal, val};
-ghost use Rattle.argus_contents.specs.Content.{arr, rec, var};
+ghost use Rattle.argus_contents.specs.Content.{arr, var};
 ghost use Rattle.argus_contents.specs.Value.{int, text};
 ghost use Rattle.argus_contents.specs.declared.query.Query.TheVariants.{Field, High};
 ghost use Rattle.argus_contents.specs.declared.signal.Signal.TheVariants.{Bounds, WrongTag};
 ghost use Rattle.argus_entries.specs.Call.{abort, alter, ask, begin_top, commit, test_read, test_write};
 ghost use Rattle.argus_entries.specs.Reply.{answered, begun, object, refused};
-ghost use Rattle.argus_entries.specs.declared.refusal.Refusal.TheVariants.{Conflict, IllTyped, NoAction, NoObject, Over, Suspended, TooDeep, TooMany};
+ghost use Rattle.argus_entries.specs.declared.refusal.Refusal.TheVariants.{Conflict, IllTyped, NoAction, NoObject};
+ghost use Rattle.argus_entries.specs.declared.refusal.Refusal.TheVariants.{Over, Suspended, TooDeep, TooMany};
 ghost use Rattle.argus_model.specs.Owner.{Base, Gone, Held};
 ghost use Rattle.argus_model.specs.Work.{committed_topactions};
 ghost use Rattle.argus_journal.specs.Events.{history};
 ghost use Rattle.argus_journal.specs.Opening.{empty};
-ghost use Rattle.argus_journal.specs.Legal.{base_of, effects_of, owner_in, readers_of, seen_by, versions_of, writers_of};
-ghost use Rattle.argus_journal.specs.Worked.{all_wait, chain, full, holding, journal, nested_outlives, prepared, refused_in_turn, replies, set_to, signal_ends, signal_holds, sub_writes, tag_changed, tag_changes, tag_refused, tests_no, turns, two_read, reference_waits};
+ghost use Rattle.argus_journal.specs.Legal.{base_of, effects_of, owner_in, readers_of, versions_of, writers_of};
+ghost use Rattle.argus_journal.specs.Worked.{chain, full, holding, journal, prepared, replies, set_to};
+ghost use Rattle.argus_journal.specs.Worked.{all_wait, nested_outlives, reference_waits, refused_in_turn};
+ghost use Rattle.argus_journal.specs.Worked.{signal_ends, signal_holds, sub_writes, tag_changed};
+ghost use Rattle.argus_journal.specs.Worked.{tag_changes, tag_refused, tests_no, turns, two_read};
 
 /// A subaction's write is undone by its abort, and what its parent had written stays.
 pub fn a_subaction_aborts()

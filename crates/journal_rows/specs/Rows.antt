@@ -1,5 +1,5 @@
 -- Rows of a journal on records of one number, in short.
-use Rattle.std.specs.Prelude.{List, [], codes, map, pos, reverse, ℕ, ◌∷◌}
+use Rattle.std.specs.Prelude.{List, [], codes, map, pos, reverse, ◌∷◌}
 use Rattle.argus_contents.specs.Answer.{done, val}
 use Rattle.argus_contents.specs.Change.{create, set_field}
 use Rattle.argus_contents.specs.Content.{rec}
