@@ -78,63 +78,35 @@ fn of_tests_of_locks(rt: HostRuntime) -> Result<(), Fail> {
     Ok(())
 }
 
+// Each query, with a reply to it and the end of their line.
+const QUERIES: &[(Query, Signal, &str)] = &[
+    (Query::Whole, Signal::Absent, "whole -> signal absent"),
+    (Query::Field(1), Signal::Absent, "field 1 -> signal absent"),
+    (Query::Low, Signal::Absent, "low -> signal absent"),
+    (Query::High, Signal::Absent, "high -> signal absent"),
+    (Query::Size, Signal::Absent, "size -> signal absent"),
+    (
+        Query::Fetch(-5),
+        Signal::Bounds,
+        "fetch -5 -> signal bounds",
+    ),
+    (Query::Bottom, Signal::Bounds, "bottom -> signal bounds"),
+    (Query::Top, Signal::Bounds, "top -> signal bounds"),
+    (Query::IsTag(0), Signal::Absent, "is_tag 0 -> signal absent"),
+    (
+        Query::TagValue(1),
+        Signal::WrongTag,
+        "tag_value 1 -> signal wrong_tag",
+    ),
+];
+
 #[test]
 fn of_each_query(rt: HostRuntime) -> Result<(), Fail> {
     let heap = Heap::new(rt.alloc())?;
-    let rows = [
-        (
-            Query::Whole,
-            Signal::Absent,
-            "> 7 ask a2 o30 whole -> signal absent",
-        ),
-        (
-            Query::Field(1),
-            Signal::Absent,
-            "> 7 ask a2 o30 field 1 -> signal absent",
-        ),
-        (
-            Query::Low,
-            Signal::Absent,
-            "> 7 ask a2 o30 low -> signal absent",
-        ),
-        (
-            Query::High,
-            Signal::Absent,
-            "> 7 ask a2 o30 high -> signal absent",
-        ),
-        (
-            Query::Size,
-            Signal::Absent,
-            "> 7 ask a2 o30 size -> signal absent",
-        ),
-        (
-            Query::Fetch(-5),
-            Signal::Bounds,
-            "> 7 ask a2 o30 fetch -5 -> signal bounds",
-        ),
-        (
-            Query::Bottom,
-            Signal::Bounds,
-            "> 7 ask a2 o30 bottom -> signal bounds",
-        ),
-        (
-            Query::Top,
-            Signal::Bounds,
-            "> 7 ask a2 o30 top -> signal bounds",
-        ),
-        (
-            Query::IsTag(0),
-            Signal::Absent,
-            "> 7 ask a2 o30 is_tag 0 -> signal absent",
-        ),
-        (
-            Query::TagValue(1),
-            Signal::WrongTag,
-            "> 7 ask a2 o30 tag_value 1 -> signal wrong_tag",
-        ),
-    ];
-    for (query, signal, wanted) in rows {
-        let agrees = is_line(heap, Call::Ask(A, O, query), Reply::Signal(signal), wanted)?;
+    for (query, signal, end) in QUERIES {
+        let wanted = format!(in heap; "> 7 ask a2 o30 {end}")?;
+        let reply = Reply::Signal(*signal);
+        let agrees = is_line(heap, Call::Ask(A, O, *query), reply, &wanted)?;
         assert!(rt; agrees, "{wanted}");
     }
     Ok(())
