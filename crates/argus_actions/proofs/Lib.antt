@@ -9,3 +9,4 @@ pub mod Links
 pub mod Walked
 pub mod Accepted
 pub mod Parents
+pub mod Above

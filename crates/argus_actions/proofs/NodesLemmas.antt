@@ -49,35 +49,36 @@ rows_of-push nodes node = ap (map shown) (reverse-append nodes (node ∷ []))
 abbrev pub some_node : Node
 some_node = record { origin = Top; newest_sub = 0; older_sub = 0; live_children = 0; status = Live; depth = 0 }
 
+-- nodes show these rows where each does
+rows_are : (n : ℕ) (new : List Node) (rows : List Row) → length new ≡ length rows
+    → ((a k : ℕ) → a ≡ n + k → k < length new → Some (shown (get_or new k some_node)) ≡ numbered n rows a) → rows_of new ≡ rows
+rows_are n new rows long each =
+    same_numbered n (rows_of new) rows (length-rows_of new ∙ long)
+    (λ a low below.
+    let in_new : a < n + length new = rw length-rows_of at below in
+    let e : a ≡ n + (a - n) = omega arith in
+    let k_new : a - n < length new = omega arith in
+    row_at n new a (a - n) some_node e k_new ∙ each a (a - n) e k_new)
+
 -- the rows after one action's status has changed
 pub rows_of-marked : (n : ℕ) (nodes new : List Node) (ended : ℕ) (s : Status) → length new ≡ length nodes
     → ((a k : ℕ) (d : Node) → a ≡ n + k → k < length nodes → shown (get_or new k d) ≡ cond (eqb a ended) (with_status s (shown (get_or nodes k d))) (shown (get_or nodes k d)))
     → rows_of new ≡ mark n (λ a. eqb a ended) s (rows_of nodes)
 rows_of-marked n nodes new ended s long each =
-    same_numbered n (rows_of new) (mark n (λ a. eqb a ended) s (rows_of nodes))
-    (length-rows_of new ∙ long ∙ sym (length-mark n (λ a. eqb a ended) s (rows_of nodes) ∙ length-rows_of nodes))
-    (λ a low below.
-    let in_new : a < n + length new = rw length-rows_of at below in
-    let e : a ≡ n + (a - n) = omega arith in
-    let k_new : a - n < length new = omega arith in
-    let k_old : a - n < length nodes = omega arith in
-    row_at n new a (a - n) some_node e k_new
-    ∙ ap Some (each a (a - n) some_node e k_old)
-    ∙ sym (numbered-mark n (λ a. eqb a ended) s (rows_of nodes) a (shown (get_or nodes (a - n) some_node)) (row_at n nodes a (a - n) some_node e k_old)))
+    rows_are n new (mark n (λ a. eqb a ended) s (rows_of nodes)) (long ∙ sym (length-mark n (λ a. eqb a ended) s (rows_of nodes) ∙ length-rows_of nodes))
+    (λ a k e below.
+    let k_old : k < length nodes = omega arith in
+    ap Some (each a k some_node e k_old)
+    ∙ sym (numbered-mark n (λ a. eqb a ended) s (rows_of nodes) a (shown (get_or nodes k some_node)) (row_at n nodes a k some_node e k_old)))
 
 -- lists of nodes that show the same rows
 pub rows_of-same : (n : ℕ) (nodes new : List Node) → length new ≡ length nodes
     → ((k : ℕ) (d : Node) → k < length nodes → shown (get_or new k d) ≡ shown (get_or nodes k d)) → rows_of new ≡ rows_of nodes
 rows_of-same n nodes new long each =
-    same_numbered n (rows_of new) (rows_of nodes) (length-rows_of new ∙ long ∙ sym (length-rows_of nodes))
-    (λ a low below.
-    let in_new : a < n + length new = rw length-rows_of at below in
-    let e : a ≡ n + (a - n) = omega arith in
-    let k_new : a - n < length new = omega arith in
-    let k_old : a - n < length nodes = omega arith in
-    row_at n new a (a - n) some_node e k_new
-    ∙ ap Some (each (a - n) some_node k_old)
-    ∙ sym (row_at n nodes a (a - n) some_node e k_old))
+    rows_are n new (rows_of nodes) (long ∙ sym (length-rows_of nodes))
+    (λ a k e below.
+    let k_old : k < length nodes = omega arith in
+    ap Some (each k some_node k_old) ∙ sym (row_at n nodes a k some_node e k_old))
 
 -- the action under which a live one was begun has a live child
 pub under_is_there : (nodes : List Node) (a under : ℕ) (d : Node) → AreNodes 0 nodes → a < length nodes → under_of (get_or nodes a d).origin ≡ Some under

@@ -24,7 +24,8 @@ or_true : (b : Bool) → (b || true) ≡ true
 or_true true = refl
 or_true false = refl
 
-origin_of : (o : Origin) (parent : ActionId) → parent_in o ≡ Some parent → o ≡ Sub parent.0
+-- an action with a parent is a subaction of it
+pub origin_of : (o : Origin) (parent : ActionId) → parent_in o ≡ Some parent → o ≡ Sub parent.0
 origin_of Top parent e = cc
 origin_of (Sub p) parent e = cc
 origin_of (Nested c) parent e = cc

@@ -1,4 +1,4 @@
-//! `ActionId`: the name of an action.
+//! `ActionId`: the number of an action.
 
 /// The number of an action. Actions are numbered from 0 in the order in which they are begun.
 ///

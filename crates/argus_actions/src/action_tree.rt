@@ -1,6 +1,7 @@
 //! `ActionTree`: the actions that were begun.
 
 ghost use Rattle.std.specs.Prelude.{◌≡◌, ℕ, ◌<◌, ◌+◌, ◌-◌, true, [], ◌∷◌, None, Some, OnOk, OnErr, IfOk, MatchOption};
+ghost use Rattle.std.specs.Option.{option_and_then};
 ghost use Rattle.std.specs.Result.{result_err};
 ghost use Rattle.argus_actions.specs.declared.origin.Origin.TheVariants.{Top, Sub, Nested};
 ghost use Rattle.argus_actions.specs.declared.status.Status.TheVariants.{Live};
@@ -65,12 +66,12 @@ fn linked(link: u32) -> Option<ActionId>
 
 impl ActionTree {
     /// A tree in which no action was begun. It takes no memory.
-    pub fn new(alloc: Heap) -> Self
+    pub fn new(heap: Heap) -> Self
         ensures rows { result.rows ≡ [] }
         ensures folded { result.folded ≡ 0 }
     {
         ActionTree {
-            nodes: Vec::new(alloc),
+            nodes: Vec::new(heap),
         }
     }
 
@@ -114,24 +115,14 @@ impl ActionTree {
     pub fn newest_sub(&self, a: ActionId) -> Option<ActionId>
         ensures { result ≡ newest_sub_of self.now a.0 }
     {
-        let at = a.0 as usize;
-        if at < self.nodes.len() {
-            linked(self.nodes[at].newest_sub)
-        } else {
-            None
-        }
+        linked(self.node(a)?.newest_sub)
     }
 
     /// The subaction of the same parent that was begun next before this one; None where it is the first, and for topactions.
     pub fn older_sub(&self, a: ActionId) -> Option<ActionId>
         ensures { result ≡ older_sub_of self.now a.0 }
     {
-        let at = a.0 as usize;
-        if at < self.nodes.len() {
-            linked(self.nodes[at].older_sub)
-        } else {
-            None
-        }
+        linked(self.node(a)?.older_sub)
     }
 
     /// The number of the action's ancestors, itself among them: 1 to 64. None where it was not begun.
@@ -376,7 +367,9 @@ impl ActionTree {
 
     // The node of an action; None where it was not begun.
     fn node(&self, a: ActionId) -> Option<Node>
-        ensures { IsNodeOf self.now a.0 result }
+        ensures node { IsNodeOf self.now a.0 result }
+        ensures newest { option_and_then (λ node. link_end node.newest_sub) result ≡ newest_sub_of self.now a.0 }
+        ensures older { option_and_then (λ node. link_end node.older_sub) result ≡ older_sub_of self.now a.0 }
     {
         let at = a.0 as usize;
         if at < self.nodes.len() {

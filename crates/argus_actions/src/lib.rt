@@ -12,8 +12,6 @@ mod action_tree;
 mod node;
 mod origin;
 mod status;
-#[cfg(test)]
-mod tests;
 mod walk;
 
 pub use action_error::ActionError;

@@ -21,5 +21,5 @@ pub(crate) struct Node {
     pub(crate) depth: u8,
 }
 
-// A million nodes are 24 megabytes, and each fits in half a cache line.
-const _: () = prove!(size_of::<Node>() <= 32);
+// A million nodes are 24 megabytes.
+const _: () = prove!(size_of::<Node>() == 24);

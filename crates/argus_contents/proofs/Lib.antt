@@ -1,4 +1,5 @@
 pub mod Arrays
+pub mod Fitted
 pub mod Kept
 pub mod Levels
 pub mod Places

@@ -1,11 +1,13 @@
 -- What a change says, and what it does, by cases of the operation and the content.
-use Rattle.std.specs.Prelude.{ℕ, ℤ, Bool, pos, ◌+ℤ◌, ◌-ℤ◌, ◌-◌, int_lt, unsigned_abs, nat_lt, nat_le, ◌||◌, if◌then◌else◌, List, [], ◌∷◌, ◌++◌, length, take, drop, slice_get, slice_set, Option, Some, None}
+use Rattle.std.specs.Prelude.{◌≡◌, ℕ, ℤ, Bool, pos, ◌+ℤ◌, ◌-ℤ◌, ◌-◌, int_lt, unsigned_abs, nat_lt, nat_le, ◌||◌, if◌then◌else◌, List, [], ◌∷◌, ◌++◌, length, take, drop, slice_get, slice_set, Option, Some, None}
 use Rattle.std.specs.Ordering.{int_eq}
-use Rattle.argus_contents.specs.Value.{PlainValue, plain_value}
+use Rattle.argus_contents.specs.Value.{PlainValue, plain_list, plain_value}
 use Rattle.argus_contents.specs.Content.{PlainContent, rec, arr, var, plain_content, KeepsLimits}
-use Rattle.argus_contents.specs.Answer.{PlainAnswer, done, val, signal, value_or}
+use Rattle.argus_contents.specs.Answer.{PlainAnswer, done, plain_answer, val, signal, value_or}
 use Rattle.argus_contents.specs.Place.{place_of, high_of}
 use Rattle.argus_contents.specs.declared.limits.TheConstants.{MIN_BOUND, MAX_BOUND, MAX_ITEMS}
+use Rattle.argus_contents.specs.declared.value.Value.{Value}
+use Rattle.argus_contents.specs.declared.answer.Answer.{Answer}
 use Rattle.argus_contents.specs.declared.signal.Signal.{Signal}
 use Rattle.argus_contents.specs.declared.signal.Signal.TheVariants.{Absent, Exists, Bounds, NegativeSize, Limits}
 use Rattle.argus_contents.specs.declared.change.Change.{Change}
@@ -96,6 +98,10 @@ array_result reml low vs = removed_low low vs
 array_result (set_low i) low vs = if is_out_of_limits i (length vs) then signals Limits (arr low vs) else (Some (arr i vs), done)
 array_result (trim from count) low vs = trimmed from count low vs
 array_result _ low vs = signals Absent (arr low vs)
+
+-- the change of an array answers so, and leaves this low bound and these items of those
+abbrev pub Leaves : PlainChange → ℤ → List Value → ℤ → List Value → Answer → Type 0
+Leaves c low vs left_low left answer = (Some (arr left_low (plain_list left)), plain_answer answer) ≡ array_result c low (plain_list vs)
 
 -- what a change does to a record
 abbrev pub record_result : PlainChange → List PlainValue → Outcome

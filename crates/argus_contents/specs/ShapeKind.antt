@@ -2,8 +2,8 @@
 use Rattle.std.specs.Prelude.{ℕ, Bool, List}
 use Rattle.argus_contents.specs.Shape.{PlainShape, rec, arr, var, has_twice, has_none, has_too_many}
 use Rattle.argus_contents.specs.Ty.{plain_ty, plain_fields}
-use Rattle.argus_contents.specs.declared.shape.ShapeKind.{ShapeKind}
-use Rattle.argus_contents.specs.declared.shape.ShapeKind.TheVariants as kind
+use Rattle.argus_contents.specs.declared.shape_kind.ShapeKind.{ShapeKind}
+use Rattle.argus_contents.specs.declared.shape_kind.ShapeKind.TheVariants as kind
 use Rattle.argus_contents.specs.declared.shaping.NameTest.{NameTest}
 use Rattle.argus_contents.specs.declared.shaping.NameTest.TheVariants as test
 

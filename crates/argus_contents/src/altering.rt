@@ -1,4 +1,4 @@
-//! `alter` and `alter_in_place`: what a change does.
+//! `alter`, `alter_copy` and `alter_in_place`: what a change does.
 
 ghost use Rattle.std.specs.Prelude.{◌≡◌, Some, None, length, IfOk, OnErr};
 ghost use Rattle.argus_contents.specs.Answer.{plain_answer};
@@ -19,7 +19,7 @@ use std::collections::VecDeque;
 /// The content that the change leaves, and its answer; [`Change`] has the table.
 ///
 /// A present array has to keep the limits, as `fits` tests; what comes back keeps them where the
-/// change's own content does. Nothing is changed; the copies may want memory.
+/// change's own content does. Nothing is changed. `OutOfMemory`: there was no memory for a copy.
 pub fn alter(
     heap: Heap,
     content: &Option<Content>,
@@ -29,9 +29,24 @@ pub fn alter(
     ensures ok { IfOk result (λ left. (plain_option left.0, plain_answer left.1) ≡ outcome_of (plain_change change.now) (plain_option content.now)) }
     ensures kept { CreatesWithin (plain_change change.now) → IfOk result (λ left. KeepsLimits (plain_option left.0)) }
 {
-    let mut altered = duplicate_option(heap, content)?;
-    let answer = alter_in_place(&mut altered, change.duplicate(heap)?)?;
-    Ok((altered, answer))
+    alter_copy(heap, content, change.duplicate(heap)?)
+}
+
+/// What [`alter`] answers, by a change that is handed in: its value moves in, and isn't copied.
+///
+/// Nothing is changed. `OutOfMemory`: there was no memory for a copy, or for a longer array.
+pub fn alter_copy(
+    heap: Heap,
+    content: &Option<Content>,
+    change: Change,
+) -> Result<(Option<Content>, Answer), OutOfMemory>
+    requires { KeepsLimits (plain_option content.now) }
+    ensures ok { IfOk result (λ left. (plain_option left.0, plain_answer left.1) ≡ outcome_of (plain_change change) (plain_option content.now)) }
+    ensures kept { CreatesWithin (plain_change change) → IfOk result (λ left. KeepsLimits (plain_option left.0)) }
+{
+    let mut copy = duplicate_option(heap, content)?;
+    let answer = alter_in_place(&mut copy, change)?;
+    Ok((copy, answer))
 }
 
 /// Makes the change where the content lies, with the meaning of [`alter`]. The change's value moves

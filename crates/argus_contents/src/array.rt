@@ -2,8 +2,8 @@
 
 ghost use Rattle.std.specs.Prelude.{◌≡◌, ◌≤◌, ◌-◌, Some, length, take, drop, slice_get, IfOk, OnErr};
 ghost use Rattle.argus_contents.specs.Answer.{plain_answer, value_or};
-ghost use Rattle.argus_contents.specs.Change.{addh, addl, array_result, plain_change, reml, set_low, store, trim};
-ghost use Rattle.argus_contents.specs.Content.{arr, KeepsBounds};
+ghost use Rattle.argus_contents.specs.Change.{addh, addl, Leaves, plain_change, reml, set_low, store, trim};
+ghost use Rattle.argus_contents.specs.Content.{KeepsBounds};
 ghost use Rattle.argus_contents.specs.Value.{plain_value, plain_list};
 
 use crate::answer::Answer;
@@ -21,7 +21,7 @@ pub(crate) fn alter_array(
     change: Change,
 ) -> Result<Answer, OutOfMemory>
     requires { KeepsBounds low.old (length items.old.items) }
-    ensures ok { IfOk result (λ answer. (Some (arr low.new (plain_list items.new.items)), plain_answer answer) ≡ array_result (plain_change change) low.old (plain_list items.old.items)) }
+    ensures ok { IfOk result (λ answer. Leaves (plain_change change) low.old items.old.items low.new items.new.items answer) }
     ensures err_low { OnErr result (low.new ≡ low.old) }
     ensures err_items { OnErr result (items.new.items ≡ items.old.items) }
 {
@@ -41,7 +41,7 @@ pub(crate) fn alter_array(
 
 fn store_item(low: i64, items: &mut VecDeque<Value, Heap>, index: i64, value: Value) -> Answer
     requires { KeepsBounds low (length items.old.items) }
-    ensures { (Some (arr low (plain_list items.new.items)), plain_answer result) ≡ array_result (store index (plain_value value)) low (plain_list items.old.items) }
+    ensures { Leaves (store index (plain_value value)) low items.old.items low items.new.items result }
 {
     match place_in(low, items.len(), index) {
         None => Answer::Signal(Signal::Bounds),
@@ -58,7 +58,7 @@ fn add_high(
     value: Value,
 ) -> Result<Answer, OutOfMemory>
     requires { KeepsBounds low (length items.old.items) }
-    ensures ok { IfOk result (λ answer. (Some (arr low (plain_list items.new.items)), plain_answer answer) ≡ array_result (addh (plain_value value)) low (plain_list items.old.items)) }
+    ensures ok { IfOk result (λ answer. Leaves (addh (plain_value value)) low items.old.items low items.new.items answer) }
     ensures err { OnErr result (items.new.items ≡ items.old.items) }
 {
     if items.len() >= MAX_ITEMS || low + items.len() as i64 > MAX_BOUND {
@@ -74,7 +74,7 @@ fn add_low(
     value: Value,
 ) -> Result<Answer, OutOfMemory>
     requires { KeepsBounds low.old (length items.old.items) }
-    ensures ok { IfOk result (λ answer. (Some (arr low.new (plain_list items.new.items)), plain_answer answer) ≡ array_result (addl (plain_value value)) low.old (plain_list items.old.items)) }
+    ensures ok { IfOk result (λ answer. Leaves (addl (plain_value value)) low.old items.old.items low.new items.new.items answer) }
     ensures err_low { OnErr result (low.new ≡ low.old) }
     ensures err_items { OnErr result (items.new.items ≡ items.old.items) }
 {
@@ -98,7 +98,7 @@ fn remove_high(items: &mut VecDeque<Value, Heap>) -> Answer
 
 fn remove_low(low: &mut i64, items: &mut VecDeque<Value, Heap>) -> Answer
     requires { KeepsBounds low.old (length items.old.items) }
-    ensures { (Some (arr low.new (plain_list items.new.items)), plain_answer result) ≡ array_result reml low.old (plain_list items.old.items) }
+    ensures { Leaves reml low.old items.old.items low.new items.new.items result }
 {
     if items.is_empty() {
         return Answer::Signal(Signal::Bounds);
@@ -117,7 +117,7 @@ fn remove_low(low: &mut i64, items: &mut VecDeque<Value, Heap>) -> Answer
 
 fn move_low(low: &mut i64, items: &VecDeque<Value, Heap>, bound: i64) -> Answer
     requires { KeepsBounds low.old (length items.now.items) }
-    ensures { (Some (arr low.new (plain_list items.now.items)), plain_answer result) ≡ array_result (set_low bound) low.old (plain_list items.now.items) }
+    ensures { Leaves (set_low bound) low.old items.now.items low.new items.now.items result }
 {
     let size = items.len() as i64;
     if bound < MIN_BOUND || bound > MAX_BOUND || bound + size - 1 > MAX_BOUND {
@@ -129,7 +129,7 @@ fn move_low(low: &mut i64, items: &VecDeque<Value, Heap>, bound: i64) -> Answer
 
 fn trim_items(low: &mut i64, items: &mut VecDeque<Value, Heap>, from: i64, count: i64) -> Answer
     requires { KeepsBounds low.old (length items.old.items) }
-    ensures { (Some (arr low.new (plain_list items.new.items)), plain_answer result) ≡ array_result (trim from count) low.old (plain_list items.old.items) }
+    ensures { Leaves (trim from count) low.old items.old.items low.new items.new.items result }
 {
     if count < 0 {
         return Answer::Signal(Signal::NegativeSize);

@@ -18,8 +18,8 @@ use std::collections::VecDeque;
 /// What the query answers of the content; [`Query`] has the table.
 ///
 /// A present array has to keep the limits, as `fits` tests; a content that `alter` or
-/// `alter_in_place` left does. The answer owns what it holds: it's a copy, for which memory may be
-/// wanting.
+/// `alter_in_place` left does. The answer owns what it holds: it's a copy.
+/// `OutOfMemory`: there was no memory for it.
 pub fn ask(heap: Heap, content: &Option<Content>, query: &Query) -> Result<Answer, OutOfMemory>
     requires { KeepsLimits (plain_option content.now) }
     ensures { IfOk result (λ answer. plain_answer answer ≡ reply query.now (plain_option content.now)) }

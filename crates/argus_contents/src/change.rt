@@ -50,7 +50,7 @@ pub enum Change {
 }
 
 impl Change {
-    /// A change equal to this one.
+    /// A change equal to this one. `OutOfMemory`: nothing was copied.
     pub fn duplicate(&self, heap: Heap) -> Result<Change, OutOfMemory>
         ensures { IfOk result (λ copy. plain_change copy ≡ plain_change self.now) }
     {

@@ -40,7 +40,7 @@ pub enum Content {
 const _: () = prove!(size_of::<Content>() == 64);
 
 impl Content {
-    /// A content equal to this one.
+    /// A content equal to this one. `OutOfMemory`: nothing was copied.
     pub fn duplicate(&self, heap: Heap) -> Result<Content, OutOfMemory>
         ensures { IfOk result (λ copy. plain_content copy ≡ plain_content self.now) }
     {

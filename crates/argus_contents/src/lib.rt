@@ -15,6 +15,7 @@ mod query;
 mod record;
 mod shape;
 mod shape_fault;
+mod shape_kind;
 mod shape_view;
 mod shaping;
 mod signal;
@@ -22,7 +23,7 @@ mod ty;
 mod typing;
 mod value;
 
-pub use altering::{alter, alter_in_place};
+pub use altering::{alter, alter_copy, alter_in_place};
 pub use answer::Answer;
 pub use argus_memory::{Heap, OutOfMemory};
 pub use asking::ask;

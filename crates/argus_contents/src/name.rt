@@ -34,7 +34,10 @@ impl Model for Name {
 }
 
 impl Name {
-    /// The name with this text. `BadName` comes exactly where the text has no name's form.
+    /// The name with this text.
+    ///
+    /// `BadName` comes exactly where the text has no name's form, `OutOfMemory` where there is no
+    /// memory for the copy.
     pub fn new(heap: Heap, text: &str) -> Result<Name, NameError>
         ensures ok { IfOk result (λ name. name ≡ text.now) }
         ensures bad { IsErrOf result NameError.BadName ↔ (is_name text.now ≡ false) }
@@ -54,7 +57,7 @@ impl Name {
         self.text.as_str()
     }
 
-    /// A name equal to this one.
+    /// A name equal to this one. `OutOfMemory`: nothing was copied.
     pub fn duplicate(&self, heap: Heap) -> Result<Name, OutOfMemory>
         ensures { IfOk result (λ name. name ≡ self.now) }
     {

@@ -5,6 +5,14 @@ use std::alloc::AllocError;
 use thiserror::Error;
 
 /// Why a text makes no [`Name`](crate::Name).
+///
+/// ```text
+/// match Name::new(heap, "Balance") {
+///     Ok(name) => ..,
+///     Err(NameError::BadName) => ..,          // here: a capital letter
+///     Err(NameError::OutOfMemory) => ..,
+/// }
+/// ```
 #[derive(Clone, Copy, Debug, PartialEq, Eq, Error)]
 pub enum NameError {
     /// The text isn't 1 to 32 bytes of `[a-z0-9_]`.

@@ -8,6 +8,7 @@ ghost use Rattle.argus_contents.specs.Ty.{plain_fields, plain_ty};
 
 use crate::name::Name;
 use crate::shape_fault::ShapeFault;
+use crate::shape_kind::ShapeKind;
 use crate::shape_view::ShapeView;
 use crate::shaping::fault_in;
 use crate::ty::{Ty, duplicate_fields};
@@ -29,13 +30,6 @@ use std::marker::Model;
 #[derive(Debug, Drop)]
 pub struct Shape {
     kind: ShapeKind,
-}
-
-#[derive(Debug, Drop)]
-pub(crate) enum ShapeKind {
-    Rec(Vec<(Name, Ty), Heap>),
-    Arr(Ty),
-    Var(Vec<(Name, Ty), Heap>),
 }
 
 impl Model for Shape {
@@ -99,7 +93,7 @@ impl Shape {
         }
     }
 
-    /// A shape equal to this one.
+    /// A shape equal to this one. `OutOfMemory`: nothing was copied.
     pub fn duplicate(&self, heap: Heap) -> Result<Shape, OutOfMemory>
         ensures { IfOk result (λ copy. copy ≡ self.now) }
     {

@@ -4,6 +4,13 @@ use thiserror::Error;
 
 /// Why no [`Shape`](crate::Shape) can be made. Where several apply, anywhere in the shape, the first
 /// of this list is answered.
+///
+/// ```text
+/// match Shape::rec(Vec::new(heap)) {
+///     Ok(shape) => ..,
+///     Err(fault) => ..,                       // here: ShapeFault::NoNames
+/// }
+/// ```
 #[derive(Clone, Copy, Debug, PartialEq, Eq, Error)]
 pub enum ShapeFault {
     /// A name stands twice in one list of names.

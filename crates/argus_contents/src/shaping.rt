@@ -9,8 +9,8 @@ ghost use Rattle.argus_contents.specs.Ty.{plain_fields, plain_ty};
 
 use crate::limits::{MAX_NAMES, MAX_VALUE_DEPTH};
 use crate::name::Name;
-use crate::shape::ShapeKind;
 use crate::shape_fault::ShapeFault;
+use crate::shape_kind::ShapeKind;
 use crate::ty::Ty;
 
 // What is looked for in every list of names.

@@ -32,7 +32,7 @@ pub enum Ty {
 }
 
 impl Ty {
-    /// A type equal to this one.
+    /// A type equal to this one. `OutOfMemory`: nothing was copied.
     pub fn duplicate(&self, heap: Heap) -> Result<Ty, OutOfMemory>
         ensures { IfOk result (λ copy. plain_ty copy ≡ plain_ty self.now) }
     {

@@ -1,8 +1,8 @@
 //! `typed`, `fits`, `query_fits` and `change_fits`: what suits a type or a shape.
 
-ghost use Rattle.std.specs.Prelude.{◌≡◌, drop, length};
-ghost use Rattle.argus_contents.specs.Change.{plain_change};
-ghost use Rattle.argus_contents.specs.Content.{plain_content};
+ghost use Rattle.std.specs.Prelude.{◌≡◌, drop, length, Some, true};
+ghost use Rattle.argus_contents.specs.Change.{CreatesWithin, plain_change};
+ghost use Rattle.argus_contents.specs.Content.{KeepsLimits, plain_content};
 ghost use Rattle.argus_contents.specs.Fitting.{change_suits, has_number, is_fitting, is_within, query_suits};
 ghost use Rattle.argus_contents.specs.Ty.{plain_fields, plain_ty};
 ghost use Rattle.argus_contents.specs.Typing.{all_typed, each_typed, is_typed, is_typed_at};
@@ -86,9 +86,10 @@ fn has_type_at(value: &Value, number: u8, names: &[(Name, Ty)], declared: u32) -
 }
 
 /// Whether the content fits the shape, where so many objects are declared: the kinds agree, each
-/// part is of its type, and an array keeps the limits.
+/// part is of its type, and an array keeps the limits. A content that fits may be asked and altered.
 pub fn fits(shape: &Shape, declared: u32, content: &Content) -> bool
-    ensures { result ≡ is_fitting shape.now declared (plain_content content.now) }
+    ensures exact { result ≡ is_fitting shape.now declared (plain_content content.now) }
+    ensures keeps { result ≡ true → KeepsLimits (Some (plain_content content.now)) }
 {
     match (shape.view(), content) {
         (ShapeView::Rec(names), Content::Rec(fields)) => each_has_type(fields, names, declared),
@@ -142,9 +143,10 @@ fn have_number(names: &[(Name, Ty)], number: u8) -> bool
 
 /// Whether the change suits the shape, where so many objects are declared: it is one of the shape's
 /// kind, there is a field or a tag with its number, and its value is of the type or its content
-/// fits. `Touch` suits every shape.
+/// fits. `Touch` suits every shape. After a change that suits, an array keeps the limits still.
 pub fn change_fits(shape: &Shape, declared: u32, change: &Change) -> bool
-    ensures { result ≡ change_suits shape.now declared (plain_change change.now) }
+    ensures exact { result ≡ change_suits shape.now declared (plain_change change.now) }
+    ensures keeps { result ≡ true → CreatesWithin (plain_change change.now) }
 {
     match (change, shape.view()) {
         (Change::Touch, _) => true,

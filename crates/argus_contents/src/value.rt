@@ -43,7 +43,7 @@ pub enum Value {
 const _: () = prove!(size_of::<Value>() == 40);
 
 impl Value {
-    /// A value equal to this one.
+    /// A value equal to this one. `OutOfMemory`: nothing was copied.
     pub fn duplicate(&self, heap: Heap) -> Result<Value, OutOfMemory>
         ensures { IfOk result (λ copy. plain_value copy ≡ plain_value self.now) }
     {

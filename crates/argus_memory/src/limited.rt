@@ -6,9 +6,16 @@ use std::alloc::{AllocError, Allocator, Global};
 /// An allocator that answers as its inner one does, and refuses once its budget is used up.
 ///
 /// A refusal is an `AllocError`, as where the machine has no memory left, and changes nothing.
+///
+/// ```text
+/// let budget = Budget::new(rt.alloc())?;
+/// let tight = Limited::with_budget(rt.alloc(), budget);
+/// budget.allow(1);
+/// let mut names = Vec::with_capacity(tight, 4)?;   // the one allocation; the next is refused
+/// ```
 #[derive(Clone, Copy)]
 pub struct Limited<B: Allocator> {
-    // The proofs below count on this order: the inner allocator, then one word.
+    // The proofs in proofs/limited count on this order: the inner allocator, then one word.
     inner: B,
     budget: Budget,
 }

@@ -8,7 +8,7 @@ use Rattle.std.proofs.lemmas.Grind.{reverse_onto}
 use Rattle.argus_actions.specs.declared.action_id.ActionId.{ActionId}
 use Rattle.argus_actions.specs.Tree.{Tree, is_ancestor}
 use Rattle.argus_objects.specs.Rules.{all_above, is_ascending, is_chain, is_strictly_above, are_up_to}
-use Rattle.argus_objects.proofs.Above.{above_le, above_trans, above_linear}
+use Rattle.argus_actions.proofs.Above.{above_le, above_trans, above_linear}
 use Rattle.argus_objects.proofs.Chains.{all_imp, all_filter, strictly_lt}
 
 pub ascending_filter : (keep : ActionId → Bool) (ids : List ActionId) → is_ascending ids ≡ true → is_ascending (filter keep ids) ≡ true

@@ -5,7 +5,7 @@ use Rattle.std.proofs.lemmas.Bool.{eq-eqb, ne_eqb, eqb-false, cases_eq, cases_Bo
 use Rattle.argus_actions.specs.declared.action_id.ActionId.{ActionId}
 use Rattle.argus_actions.specs.Tree.{Tree, is_ancestor, parent_of}
 use Rattle.argus_objects.specs.Rules.{is_strictly_above, is_chain, are_related}
-use Rattle.argus_objects.proofs.Above.{above_le, above_self, above_trans, above_up}
+use Rattle.argus_actions.proofs.Above.{above_le, above_self, above_trans, above_up}
 
 pub all_imp : {X : Type 0} (p q : X → Bool) → ((x : X) → p x ≡ true → q x ≡ true) → (xs : List X) → list_all p xs ≡ true → list_all q xs ≡ true
 all_imp p q h [] all = refl

@@ -1,4 +1,3 @@
-pub mod Above
 pub mod Chains
 pub mod Lawful
 pub mod Ascending

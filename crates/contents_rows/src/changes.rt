@@ -2,8 +2,10 @@
 
 ghost use Rattle.argus_contents.specs.Content.{KeepsLimits, plain_option};
 
-use crate::makers::{array, record, variant};
-use argus_contents::{Answer, Change, Content, OutOfMemory, Signal, Value, alter, alter_in_place};
+use crate::makers::{array, nulls, record, variant};
+use argus_contents::{
+    Answer, Change, Content, OutOfMemory, Signal, Value, alter, alter_copy, alter_in_place,
+};
 use argus_memory::Heap;
 use std::process::Abort;
 use std::test::Fail;
@@ -51,6 +53,9 @@ fn leaves(
 {
     let mut content = before;
     let (left, answered) = alter(heap, &content, &change)?;
+    assert!(rt; answered == *answer, "{answered:?}");
+    assert!(rt; left == *after, "{left:?}");
+    let (left, answered) = alter_copy(heap, &content, change.duplicate(heap)?)?;
     assert!(rt; answered == *answer, "{answered:?}");
     assert!(rt; left == *after, "{left:?}");
     let answered = alter_in_place(&mut content, change)?;
@@ -253,5 +258,23 @@ fn variants_change(rt: HostRuntime) -> Result<(), Fail> {
     )?;
     leaves(&rt, heap, None, Change::Touch, &Answer::Done, &None)?;
     leaves(&rt, heap, None, Change::Remh, &absent, &None)?;
+    Ok(())
+}
+
+#[test]
+fn arrays_take_65535_items(rt: HostRuntime) -> Result<(), Fail> {
+    let heap = Heap::new(rt.alloc())?;
+    let rows = [
+        (Change::Addh(Value::Null), 65_535, Some(Signal::Limits), 1),
+        (Change::Addl(Value::Null), 65_535, Some(Signal::Limits), 1),
+        (Change::Addh(Value::Null), 65_534, None, 1),
+        (Change::Addl(Value::Null), 65_534, None, 0),
+    ];
+    for (change, count, signal, low) in rows {
+        let before = nulls(&rt, heap, 1, count)?;
+        let after = nulls(&rt, heap, low, 65_535)?;
+        let answer = signal.map_or(Answer::Done, |signal| Answer::Signal(signal));
+        leaves(&rt, heap, before, change, &answer, &after)?;
+    }
     Ok(())
 }

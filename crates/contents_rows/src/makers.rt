@@ -1,6 +1,6 @@
 //! Contents for tests, made of numbers.
 
-ghost use Rattle.std.specs.Prelude.{◌≡◌, length, IfOk};
+ghost use Rattle.std.specs.Prelude.{IfOk};
 ghost use Rattle.argus_contents.specs.Content.{KeepsLimits, plain_option};
 
 use argus_contents::limits::{MAX_BOUND, MAX_ITEMS, MIN_BOUND};
@@ -18,19 +18,34 @@ pub(crate) fn array(
 ) -> Result<Option<Content>, OutOfMemory>
     ensures { IfOk result (λ content. KeepsLimits (plain_option content)) }
 {
-    assert!(rt; low >= MIN_BOUND);
-    assert!(rt; low <= MAX_BOUND);
-    assert!(rt; numbers.len() <= MAX_ITEMS);
-    assert!(rt; low + numbers.len() as i64 - 1 <= MAX_BOUND);
-    let items = queue_of(heap, numbers)?;
-    Ok(Some(Content::Arr { low, items }))
+    let values: Vec<Value, Heap> = numbers.iter().map(|n| Value::Int(*n)).collect(heap)?;
+    Ok(array_of(rt, low, VecDeque::from_vec(values)))
 }
 
-fn queue_of(heap: Heap, numbers: &[i64]) -> Result<VecDeque<Value, Heap>, OutOfMemory>
-    ensures { IfOk result (λ queue. length queue.items ≡ length numbers.now) }
+/// An array of so many nulls; it has to keep the limits.
+pub(crate) fn nulls(
+    rt: &impl Abort,
+    heap: Heap,
+    low: i64,
+    count: usize,
+) -> Result<Option<Content>, OutOfMemory>
+    ensures { IfOk result (λ content. KeepsLimits (plain_option content)) }
 {
-    let values: Vec<Value, Heap> = numbers.iter().map(|n| Value::Int(*n)).collect(heap)?;
-    Ok(VecDeque::from_vec(values))
+    let mut items = VecDeque::new(heap);
+    for _ in 0..count {
+        items.push_back(Value::Null)?;
+    }
+    Ok(array_of(rt, low, items))
+}
+
+fn array_of(rt: &impl Abort, low: i64, items: VecDeque<Value, Heap>) -> Option<Content>
+    ensures { KeepsLimits (plain_option result) }
+{
+    assert!(rt; low >= MIN_BOUND);
+    assert!(rt; low <= MAX_BOUND);
+    assert!(rt; items.len() <= MAX_ITEMS);
+    assert!(rt; low + items.len() as i64 - 1 <= MAX_BOUND);
+    Some(Content::Arr { low, items })
 }
 
 /// A record of ints.

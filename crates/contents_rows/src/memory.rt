@@ -2,7 +2,8 @@
 
 use crate::makers::array;
 use argus_contents::{
-    Change, Content, Name, NameError, OutOfMemory, Query, Ty, Value, alter, alter_in_place, ask,
+    Change, Content, Name, NameError, OutOfMemory, Query, Shape, ShapeView, Ty, Value, alter,
+    alter_copy, alter_in_place, ask,
 };
 use argus_memory::{Budget, Heap, Limited};
 use std::test::Fail;
@@ -40,6 +41,21 @@ fn copies_are_refused_in_turn(rt: HostRuntime) -> Result<(), Fail> {
 }
 
 #[test]
+fn changes_are_copied(rt: HostRuntime) -> Result<(), Fail> {
+    let ample = Heap::new(rt.alloc())?;
+    let budget = Budget::new(rt.alloc())?;
+    let tight = Limited::with_budget(rt.alloc(), budget);
+    let change = Change::SetField(0, nested(ample)?);
+    for n in 0..4 {
+        budget.allow(n);
+        assert!(rt; change.duplicate(tight).is_err(), "{n}");
+    }
+    budget.allow(4);
+    assert!(rt; change.duplicate(tight)? == change);
+    Ok(())
+}
+
+#[test]
 fn names_are_refused(rt: HostRuntime) -> Result<(), Fail> {
     let budget = Budget::new(rt.alloc())?;
     let tight = Limited::with_budget(rt.alloc(), budget);
@@ -47,7 +63,12 @@ fn names_are_refused(rt: HostRuntime) -> Result<(), Fail> {
     assert!(rt; matches!(Name::new(tight, "acct"), Err(NameError::OutOfMemory)));
     assert!(rt; matches!(Name::new(tight, "Acct"), Err(NameError::BadName)));
     budget.allow(1);
-    assert_eq!(rt; Name::new(tight, "acct")?.as_str(), "acct");
+    let name = Name::new(tight, "acct")?;
+    assert_eq!(rt; name.as_str(), "acct");
+    budget.allow(0);
+    assert!(rt; name.duplicate(tight).is_err());
+    budget.allow(1);
+    assert_eq!(rt; name.duplicate(tight)?.as_str(), "acct");
     Ok(())
 }
 
@@ -78,6 +99,7 @@ fn a_refused_change_leaves_the_content(rt: HostRuntime) -> Result<(), Fail> {
     assert!(rt; alter_in_place(&mut content, Change::Addh(Value::Int(30))).is_err());
     assert!(rt; content == wanted);
     assert!(rt; alter(tight, &wanted, &Change::Addh(Value::Int(30))).is_err());
+    assert!(rt; alter_copy(tight, &wanted, Change::Touch).is_err());
     budget.allow(1);
     let _ = alter_in_place(&mut content, Change::Addh(Value::Int(30)))?;
     assert!(rt; content == array(&rt, ample, 1, &[10, 20, 30])?);
@@ -91,9 +113,51 @@ fn types_are_refused_in_turn(rt: HostRuntime) -> Result<(), Fail> {
     let tight = Limited::with_budget(rt.alloc(), budget);
     let inner = Ty::Sequence(Box::new(ample, Ty::Int)?);
     let ty = Ty::Sequence(Box::new(ample, inner)?);
-    budget.allow(1);
-    assert!(rt; ty.duplicate(tight).is_err());
+    for n in 0..2 {
+        budget.allow(n);
+        assert!(rt; ty.duplicate(tight).is_err(), "{n}");
+    }
     budget.allow(2);
-    assert!(rt; ty.duplicate(tight).is_ok());
+    assert!(rt; is_int_in_two(&ty.duplicate(tight)?));
     Ok(())
+}
+
+// Whether it is sequence[sequence[int]].
+fn is_int_in_two(ty: &Ty) -> bool {
+    match ty {
+        Ty::Sequence(inner) => match &**inner {
+            Ty::Sequence(item) => matches!(&**item, Ty::Int),
+            _ => false,
+        },
+        _ => false,
+    }
+}
+
+#[test]
+fn shapes_are_refused_in_turn(rt: HostRuntime) -> Result<(), Fail> {
+    let ample = Heap::new(rt.alloc())?;
+    let budget = Budget::new(rt.alloc())?;
+    let tight = Limited::with_budget(rt.alloc(), budget);
+    let mut fields = Vec::new(ample);
+    fields.push((Name::new(ample, "balance")?, Ty::Int))?;
+    let shape = Shape::rec(fields)?;
+    // the list, and the name's text
+    for n in 0..2 {
+        budget.allow(n);
+        assert!(rt; shape.duplicate(tight).is_err(), "{n}");
+    }
+    budget.allow(2);
+    let copy = shape.duplicate(tight)?;
+    assert!(rt; is_balance(&copy));
+    Ok(())
+}
+
+// Whether it is atomic_record[balance:int].
+fn is_balance(shape: &Shape) -> bool {
+    match shape.view() {
+        ShapeView::Rec(fields) => {
+            fields.len() == 1 && fields[0].0.as_str() == "balance" && matches!(fields[0].1, Ty::Int)
+        }
+        _ => false,
+    }
 }

@@ -1,3 +1,4 @@
+-- When no subaction is left, all below the action are Aborted.
 use Rattle.std.proofs.Common.{◌<◌, ◌-◌, length, arith}
 use Rattle.argus_actions.proofs.Walked.{walk_start, walk_begun, walk_step, walk_smaller, walk_end}
 use Rattle.argus_actions.proofs.walk.+abort_under.Goals as goal

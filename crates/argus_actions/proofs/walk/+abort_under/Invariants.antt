@@ -1,3 +1,4 @@
+-- In the midst of an abort the subactions so far are Aborted.
 use Rattle.std.proofs.Common.{◌≡◌, ◌-◌, length}
 use Rattle.argus_actions.specs.Nodes.{AreNodes}
 use Rattle.argus_actions.proofs.Walks.{steps_left}

@@ -1,3 +1,4 @@
+-- The number of live children stays within its bounds.
 use Rattle.std.proofs.Common.{length, ap, arith}
 use Rattle.argus_actions.specs.Row.{under_of}
 use Rattle.argus_actions.proofs.NodesLemmas.{some_node}

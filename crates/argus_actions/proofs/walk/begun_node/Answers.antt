@@ -1,3 +1,4 @@
+-- A node is made of what its parent says.
 use Rattle.std.proofs.Common.{◌≡◌, ◌<◌, ◌≤◌, ◌+◌, length, get_or, sym, ◌∙◌, ap, arith}
 use Rattle.argus_contents.specs.declared.limits.TheConstants.{MAX_ACTION_DEPTH}
 use Rattle.argus_actions.specs.declared.origin.Origin.{Origin}

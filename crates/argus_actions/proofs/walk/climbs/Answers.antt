@@ -1,3 +1,4 @@
+-- Where the climb ends, the answer is known.
 use Rattle.std.proofs.Common.{sym, ◌∙◌, arith, inl, inr}
 use Rattle.std.proofs.lemmas.Bool.{eq-eqb, ne_eqb, cases_eq}
 use Rattle.argus_actions.specs.Nodes.{rows_of}

@@ -1,3 +1,4 @@
+-- Who is above the place of the climb is above the action, and no other is.
 use Rattle.std.proofs.Common.{◌≡◌, ◌<◌, length}
 use Rattle.argus_actions.specs.Rows.{is_above}
 use Rattle.argus_actions.specs.Nodes.{rows_of}

@@ -1,3 +1,4 @@
+-- What ending one action does to the nodes.
 use Rattle.std.proofs.Common.{◌≡◌, ◌<◌, ◌+◌, ℕ, Option, Some, None, length, get_or, set, refl, sym, ◌∙◌, arith, inl, inr}
 use Rattle.std.proofs.lemmas.List.{length-set}
 use Rattle.argus_actions.specs.declared.node.Node.{Node}

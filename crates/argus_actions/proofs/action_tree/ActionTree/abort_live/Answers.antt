@@ -1,3 +1,4 @@
+-- Who may be aborted was begun.
 use Rattle.std.proofs.Common.{List, length, ap, arith}
 use Rattle.argus_actions.specs.declared.node.Node.{Node}
 use Rattle.argus_actions.specs.Nodes.{rows_of}

@@ -1,3 +1,4 @@
+-- A creator that nothing refuses was begun.
 use Rattle.argus_actions.proofs.Accepted.{none_first, live_is_begun}
 use Rattle.argus_actions.proofs.action_tree.ActionTree.begin_nested_reserved.Goals as goal
 

@@ -1,3 +1,4 @@
+-- A parent that nothing refuses was begun.
 use Rattle.argus_actions.proofs.Accepted.{none_first, live_is_begun}
 use Rattle.argus_actions.proofs.action_tree.ActionTree.begin_sub_reserved.Goals as goal
 

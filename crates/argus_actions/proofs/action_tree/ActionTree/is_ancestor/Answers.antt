@@ -1,3 +1,4 @@
+-- Who was not begun has no ancestor.
 use Rattle.std.proofs.Common.{sym, ◌∙◌, arith}
 use Rattle.std.proofs.lemmas.Bool.{le-ltb}
 use Rattle.argus_actions.specs.Nodes.{rows_of}

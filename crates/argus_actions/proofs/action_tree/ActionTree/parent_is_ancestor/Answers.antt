@@ -1,3 +1,4 @@
+-- The law, from what is so of all nodes.
 use Rattle.std.proofs.Common.{◌≡◌, Some, sym, subst}
 use Rattle.argus_actions.specs.Nodes.{rows_of}
 use Rattle.argus_actions.specs.Tree.{Tree, parent_of}

@@ -1,8 +1,7 @@
 //! What no clause says: that calls with ample memory succeed, that each refusal comes in its place, and that a refused
 //! allocation changes nothing.
 
-use crate::origin::Origin;
-use crate::{ActionError, ActionId, ActionTree, Status};
+use argus_actions::{ActionError, ActionId, ActionTree, Status};
 use argus_memory::{Budget, Heap, Limited};
 use std::alloc::Global;
 use std::process::Abort;
@@ -100,12 +99,23 @@ fn what_each_action_is(rt: HostRuntime) -> Result<(), Fail> {
 fn who_was_begun_under_whom(rt: HostRuntime) -> Result<(), Fail> {
     let tree = family(Heap::new(rt.alloc())?)?;
     assert_eq!(rt; tree.parent(ActionId(1)), Some(ActionId(0)));
+    tree.parent_is_ancestor(ActionId(0), ActionId(1));
     assert_eq!(rt; tree.parent(ActionId(2)), None);
     assert_eq!(rt; tree.creator(ActionId(2)), Some(ActionId(1)));
     assert_eq!(rt; tree.creator(ActionId(1)), None);
     assert_eq!(rt; tree.newest_sub(ActionId(0)), Some(ActionId(1)));
     assert_eq!(rt; tree.newest_sub(ActionId(1)), None);
     assert_eq!(rt; tree.older_sub(ActionId(3)), None);
+    Ok(())
+}
+
+#[test]
+fn links_lead_to_all_subactions(rt: HostRuntime) -> Result<(), Fail> {
+    let mut tree = family(Heap::new(rt.alloc())?)?;
+    assert_eq!(rt; tree.begin_sub(ActionId(0))?, ActionId(4));
+    assert_eq!(rt; tree.newest_sub(ActionId(0)), Some(ActionId(4)));
+    assert_eq!(rt; tree.older_sub(ActionId(4)), Some(ActionId(1)));
+    assert_eq!(rt; tree.older_sub(ActionId(1)), None);
     Ok(())
 }
 
@@ -146,33 +156,42 @@ fn a_call_that_nothing_refuses_needs_no_second_test(rt: HostRuntime) -> Result<(
     Ok(())
 }
 
-fn begin(tree: &mut ActionTree, origin: Origin) -> Result<ActionId, ActionError> {
-    match origin {
-        Origin::Top => tree.begin_top(),
-        Origin::Sub(parent) => tree.begin_sub(ActionId(parent)),
-        Origin::Nested(creator) => tree.begin_nested(ActionId(creator)),
+// How an action is begun.
+#[derive(Clone, Copy, PartialEq)]
+enum Kind {
+    Top,
+    Sub,
+    Nested,
+}
+
+// Begins an action, under the first one where it has to be under another.
+fn begin(tree: &mut ActionTree, kind: Kind) -> Result<ActionId, ActionError> {
+    match kind {
+        Kind::Top => tree.begin_top(),
+        Kind::Sub => tree.begin_sub(ActionId(0)),
+        Kind::Nested => tree.begin_nested(ActionId(0)),
     }
 }
 
 // Begins 1,000 actions under a topaction, each first with no memory and, where that was refused, again with memory.
 // Answers how often it was refused.
-fn refusals(rt: &impl Abort, inner: Global, origin: Origin) -> Result<u32, Fail> {
+fn refusals(rt: &impl Abort, inner: Global, kind: Kind) -> Result<u32, Fail> {
     let budget = Budget::new(inner)?;
     let mut tree = ActionTree::new(Limited::with_budget(inner, budget));
     tree.begin_top()?;
     let mut refused = 0u32;
     for number in 1..=1_000u32 {
         budget.allow(0);
-        let answer = begin(&mut tree, origin);
+        let answer = begin(&mut tree, kind);
         budget.lift();
         if answer.is_err() {
             assert_eq!(rt; answer, Err(ActionError::OutOfMemory));
             assert_eq!(rt; tree.len(), number);
             assert_eq!(rt;
                 tree.has_live_child(ActionId(0)),
-                number > 1 && origin != Origin::Top
+                number > 1 && kind != Kind::Top
             );
-            assert_eq!(rt; begin(&mut tree, origin)?, ActionId(number));
+            assert_eq!(rt; begin(&mut tree, kind)?, ActionId(number));
             refused = refused.saturating_add(1);
         }
     }
@@ -182,9 +201,9 @@ fn refusals(rt: &impl Abort, inner: Global, origin: Origin) -> Result<u32, Fail>
 
 #[test]
 fn each_allocation_is_refused_in_turn(rt: HostRuntime) -> Result<(), Fail> {
-    for origin in [Origin::Top, Origin::Sub(0), Origin::Nested(0)] {
+    for kind in [Kind::Top, Kind::Sub, Kind::Nested] {
         // a list that doubles has grown some eight times by then
-        let refused = refusals(&rt, rt.alloc(), origin)?;
+        let refused = refusals(&rt, rt.alloc(), kind)?;
         assert!(rt; refused >= 7 && refused <= 11, "{refused}");
     }
     Ok(())

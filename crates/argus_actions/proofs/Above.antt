@@ -9,6 +9,7 @@ use Rattle.argus_actions.specs.Row.{Row, at_parent}
 use Rattle.argus_actions.specs.Rows.{numbered, is_above}
 use Rattle.argus_actions.specs.Tree.{parent_in}
 use Rattle.argus_actions.proofs.RowsLemmas.{is_above_newest, is_above_older, numbered_newest, numbered_older}
+use Rattle.argus_actions.proofs.Parents.{origin_of}
 
 -- the parent by which a test of an origin is true
 through : (o : Origin) (f : ℕ → Bool) → at_parent false o f ≡ true → (p : ℕ) × ((o ≡ Sub p) × (f p ≡ true))
@@ -106,14 +107,6 @@ above_linear n (r ∷ older) x y z up up' le =
       | inr ne ↦ lift n r older x y (above_linear n older x y z (sym (is_above_older n r older x z ne) ∙ up) (sym (is_above_older n r older y z ne) ∙ up') le)
     ]
 
-parent_is : (o : Origin) (parent : ActionId) → parent_in o ≡ Some parent → o ≡ Sub parent.0
-parent_is Top parent e = cc
-parent_is (Sub p) parent e = ap Sub (ap (λ (a : ActionId). a.0) (some_same (record { 0 = p }) parent e))
-  where
-    some_same : (a b : ActionId) → Some a ≡ Some b → a ≡ b
-    some_same a b e = cc
-parent_is (Nested c) parent e = cc
-
 -- another ancestor of a subaction is an ancestor of its parent
 pub above_up : (n : ℕ) (rows : List Row) (x s : ℕ) (parent : ActionId) → option_and_then (λ (row : Row). parent_in row.origin) (numbered n rows s) ≡ Some parent
     → is_above n rows x s ≡ true → x ≢ s → is_above n rows x parent.0 ≡ true
@@ -121,7 +114,7 @@ above_up n [] x s parent is up ne = absurd (false≢true up)
 above_up n (r ∷ older) x s parent is up other =
     elim (cases_eq s (n + length older)) [
       | inl e ↦
-          let o : r.origin ≡ Sub parent.0 = parent_is r.origin parent (sym (ap (option_and_then (λ (row : Row). parent_in row.origin)) (numbered_newest n r older s e)) ∙ is) in
+          let o : r.origin ≡ Sub parent.0 = origin_of r.origin parent (sym (ap (option_and_then (λ (row : Row). parent_in row.origin)) (numbered_newest n r older s e)) ∙ is) in
           elim (ways n r older x s e up) [
             | inl same ↦ absurd (other same)
             | inr via ↦ lift n r older x parent.0 (subst (λ (w : ℕ). is_above n older x w ≡ true) (sub_same via.0 parent.0 r.origin via.1.0 o) via.1.1)

@@ -1,0 +1,65 @@
+-- A content that fits keeps the limits, and so does one that a change creates that suits.
+use Rattle.std.proofs.Common.{◌≡◌, ℕ, ◌≤◌, ℤ, ◌≤ℤ◌, Bool, true, false, not, nat_le, length, Some, refl, arith}
+use Rattle.std.specs.Prelude.{int_lt, ◌&&◌}
+use Rattle.std.proofs.lemmas.Int.{ints}
+use Rattle.std.proofs.lemmas.Bool.Decides.{nat_tests}
+use Rattle.argus_contents.specs.Content.{PlainContent, rec, arr, var, KeepsBounds, KeepsLimits}
+use Rattle.argus_contents.specs.Change.{PlainChange, CreatesWithin, create, set_field, store, addh, addl, remh, reml, set_low, trim, change_tag, touch}
+use Rattle.argus_contents.specs.Fitting.{change_suits, is_fitting, is_within}
+use Rattle.argus_contents.specs.Place.{high_of}
+use Rattle.argus_contents.specs.Shape.{PlainShape}
+use Rattle.argus_contents.specs.Shape as shape
+use Rattle.argus_contents.specs.declared.limits.TheConstants.{MIN_BOUND, MAX_BOUND, MAX_ITEMS}
+
+both_left : (a b : Bool) → (a && b) ≡ true → a ≡ true
+both_left true b e = refl
+both_left false b e = e
+
+both_right : (a b : Bool) → (a && b) ≡ true → b ≡ true
+both_right true b e = e
+both_right false b e = absurd (cc)
+
+not_below : (a b : ℤ) → not (int_lt a b) ≡ true → b ≤ℤ a
+not_below a b e = let f : int_lt a b ≡ false = other (int_lt a b) e in grind (arith, ints)
+  where
+    other : (t : Bool) → not t ≡ true → t ≡ false
+    other false h = refl
+    other true h = absurd (cc)
+
+at_most : (m n : ℕ) → nat_le m n ≡ true → m ≤ n
+at_most m n e = grind (arith, nat_tests)
+
+-- the test of an array's limits
+pub within_keeps : (low : ℤ) (size : ℕ) → is_within low size ≡ true → KeepsBounds low size
+within_keeps low size e =
+    let front = both_left _ (not (int_lt MAX_BOUND (high_of low size)) && nat_le size MAX_ITEMS) e in
+    let back = both_right (not (int_lt low MIN_BOUND) && not (int_lt MAX_BOUND low)) _ e in
+    let high = not_below MAX_BOUND (high_of low size) (both_left _ (nat_le size MAX_ITEMS) back) in
+    record {
+      from = not_below low MIN_BOUND (both_left _ (not (int_lt MAX_BOUND low)) front);
+      to = not_below MAX_BOUND low (both_right (not (int_lt low MIN_BOUND)) _ front);
+      high = omega (arith, ints);
+      items = at_most size MAX_ITEMS (both_right (not (int_lt MAX_BOUND (high_of low size))) _ back);
+    }
+
+-- the test of a content
+pub fitting_keeps : (s : PlainShape) (n : ℕ) (c : PlainContent) → is_fitting s n c ≡ true → KeepsLimits (Some c)
+fitting_keeps s n (rec vs) e = tt
+fitting_keeps s n (var t v) e = tt
+fitting_keeps (shape.arr t) n (arr low vs) e = within_keeps low (length vs) (both_left _ _ e)
+fitting_keeps (shape.rec fs) n (arr low vs) e = absurd (cc)
+fitting_keeps (shape.var fs) n (arr low vs) e = absurd (cc)
+
+-- the test of a change
+pub suiting_keeps : (s : PlainShape) (n : ℕ) (c : PlainChange) → change_suits s n c ≡ true → CreatesWithin c
+suiting_keeps s n (create c) e = fitting_keeps s n c e
+suiting_keeps s n (set_field i v) e = tt
+suiting_keeps s n (store i v) e = tt
+suiting_keeps s n (addh v) e = tt
+suiting_keeps s n (addl v) e = tt
+suiting_keeps s n remh e = tt
+suiting_keeps s n reml e = tt
+suiting_keeps s n (set_low i) e = tt
+suiting_keeps s n (trim from count) e = tt
+suiting_keeps s n (change_tag t v) e = tt
+suiting_keeps s n touch e = tt
