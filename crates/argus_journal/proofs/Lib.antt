@@ -7,3 +7,4 @@ pub mod NextEntry
 pub mod Told
 pub mod Newest
 pub mod Replay
+pub mod Limits

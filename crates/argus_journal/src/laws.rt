@@ -1,8 +1,14 @@
 //! What holds of every legal journal, whatever its opening.
-ghost use Rattle.std.specs.Prelude.{◌≡◌, ◌<◌, ◌+◌, ℕ, true, List, Option, ◌∷◌, ◌++◌, ◌||◌, reverse, nat_lt};
+ghost use Rattle.std.specs.Prelude.{length, ◌≡◌, ◌<◌, ◌≤◌, ◌+◌, ℕ, true, List, Option, ◌∷◌, ◌++◌, ◌||◌, reverse, nat_lt};
 ghost use Rattle.std.specs.List.{list_all};
+ghost use Rattle.argus_contents.specs.Change.{PlainChange, result as result_of};
 ghost use Rattle.argus_contents.specs.Content.{PlainContent};
+ghost use Rattle.argus_contents.specs.Query.{reply};
+ghost use Rattle.argus_contents.specs.declared.limits.TheConstants.{MAX_ACTIONS, MAX_OBJECTS};
+ghost use Rattle.argus_contents.specs.declared.query.Query.{Query};
+ghost use Rattle.argus_entries.specs.Call.{alter, ask};
 ghost use Rattle.argus_entries.specs.Entry.{PlainEntry};
+ghost use Rattle.argus_entries.specs.Reply.{answered};
 ghost use Rattle.argus_journal.specs.Answers.{seen};
 ghost use Rattle.argus_journal.specs.Entries.{entries};
 ghost use Rattle.argus_journal.specs.Events.{history};
@@ -12,6 +18,7 @@ ghost use Rattle.argus_journal.specs.Opening.{Opening, content_in, fits_shape, i
 ghost use Rattle.argus_journal.specs.References.{references_in};
 ghost use Rattle.argus_model.specs.Ancestors.{is_ancestor};
 ghost use Rattle.argus_model.specs.Effects.{table};
+ghost use Rattle.argus_model.specs.History.{next_action};
 ghost use Rattle.argus_model.specs.Lawful.{Lawful};
 ghost use Rattle.argus_model.specs.Meaning.{Fits};
 ghost use Rattle.argus_model.specs.Numbers.{contains};
@@ -60,6 +67,18 @@ pub fn committed_work_runs_again()
         (later : List (Access PlainEntry)) (e : Access PlainEntry) (earlier : List (Access PlainEntry))
         → Legal s j → serial_order (history s j) ≡ later ++ e ∷ earlier
         → Fits entries e.what (content_before entries (content_in s.objects) e earlier) }
+    ensures ask { (s : Opening) (j : List PlainEntry) (later : List (Access PlainEntry))
+        (e : Access PlainEntry) (earlier : List (Access PlainEntry)) (a o : ℕ) (query : Query)
+        → Legal s j → serial_order (history s j) ≡ later ++ e ∷ earlier
+        → e.what.call ≡ ask a o query
+        → e.what.reply
+        ≡ answered (reply query (content_before entries (content_in s.objects) e earlier)) }
+    ensures alter { (s : Opening) (j : List PlainEntry) (later : List (Access PlainEntry))
+        (e : Access PlainEntry) (earlier : List (Access PlainEntry)) (a o : ℕ) (change : PlainChange)
+        → Legal s j → serial_order (history s j) ≡ later ++ e ∷ earlier
+        → e.what.call ≡ alter a o change
+        → e.what.reply
+        ≡ answered (result_of change (content_before entries (content_in s.objects) e earlier)).1 }
     ensures leaves { (s : Opening) (j : List PlainEntry) (o : ℕ) → Legal s j
         → run entries (content_in s.objects) (reverse (serial_order (history s j))) o ≡ base_of s j o }
 {}
@@ -75,6 +94,20 @@ pub fn live_work_runs_again()
         → Legal s j → is_live (history s j) (a + 1) ≡ true
         → serial_order_to (history s j) (a + 1) ≡ later ++ e ∷ earlier
         → Fits entries e.what (content_before entries (content_in s.objects) e earlier) }
+    ensures ask { (s : Opening) (j : List PlainEntry) (x : ℕ) (later : List (Access PlainEntry))
+        (e : Access PlainEntry) (earlier : List (Access PlainEntry)) (a o : ℕ) (query : Query)
+        → Legal s j → is_live (history s j) (x + 1) ≡ true
+        → serial_order_to (history s j) (x + 1) ≡ later ++ e ∷ earlier
+        → e.what.call ≡ ask a o query
+        → e.what.reply
+        ≡ answered (reply query (content_before entries (content_in s.objects) e earlier)) }
+    ensures alter { (s : Opening) (j : List PlainEntry) (x : ℕ) (later : List (Access PlainEntry))
+        (e : Access PlainEntry) (earlier : List (Access PlainEntry)) (a o : ℕ) (change : PlainChange)
+        → Legal s j → is_live (history s j) (x + 1) ≡ true
+        → serial_order_to (history s j) (x + 1) ≡ later ++ e ∷ earlier
+        → e.what.call ≡ alter a o change
+        → e.what.reply
+        ≡ answered (result_of change (content_before entries (content_in s.objects) e earlier)).1 }
     ensures leaves { (s : Opening) (j : List PlainEntry) (a o : ℕ) → Legal s j
         → is_live (history s j) (a + 1) ≡ true
         → run entries (content_in s.objects) (reverse (serial_order_to (history s j) (a + 1))) o
@@ -105,4 +138,13 @@ pub fn table_of_effects()
     ensures grows { (s : Opening) (e : PlainEntry) (j : List PlainEntry) → Legal s (e ∷ j)
         → (more : List (List (ℕ × Option PlainContent)))
         × (effects_of s (e ∷ j) ≡ effects_of s j ++ more) }
+{}
+
+/// From an opening within the limits on, as many objects are declared and actions begun as there may
+/// be, and no more.
+pub fn numbers_stay_within_limits()
+    ensures objects { (s : Opening) (j : List PlainEntry) → length s.objects ≤ MAX_OBJECTS → Legal s j
+        → declared s j ≤ MAX_OBJECTS }
+    ensures actions { (s : Opening) (j : List PlainEntry) → s.first_action ≤ MAX_ACTIONS → Legal s j
+        → next_action (history s j) ≤ MAX_ACTIONS + 1 }
 {}

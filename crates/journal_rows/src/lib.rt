@@ -2,6 +2,8 @@
 #![tactic(auto)]
 
 #[cfg(test)]
+mod laws;
+#[cfg(test)]
 mod lines;
 #[cfg(test)]
 mod refusals;
