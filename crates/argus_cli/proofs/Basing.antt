@@ -55,12 +55,6 @@ pub listed_all : (objects : List Object) (bases : List (Option Content)) (i : �
 listed_all objects bases i text total past e =
     sym (ap (λ bs. text ++ listing (drop i objects) (plain_bases bs)) (lists.drop_all i bases past) ∙ ap (λ t. text ++ t) (listing_nil (drop i objects)) ∙ append-nil text) ∙ e
 
--- no object is left
-pub listed_objects : (objects : List Object) (bases : List (Option Content)) (i : ℕ) (text : List ℕ) (total : List ℕ) → length objects ≤ i
-    → text ++ listing (drop i objects) (plain_bases (drop i bases)) ≡ total → text ≡ total
-listed_objects objects bases i text total past e =
-    sym (ap (λ os. text ++ listing os (plain_bases (drop i bases))) (lists.drop_all i objects past) ∙ append-nil text) ∙ e
-
 -- one line more is listed
 pub listed_more : (objects : List Object) (bases : List (Option Content)) (i : ℕ) (old new name : List ℕ) (base : Option Content) (total : List ℕ)
     → i < length objects → i < length bases → Some name ≡ option_map (λ o. o.0) (slice_get objects i) → base ≡ slice_index_or bases i base

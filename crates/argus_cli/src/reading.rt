@@ -199,7 +199,7 @@ impl<'a> Reading<'a> {
         ensures makeable { OnOk result (AllMakeable self.old.objects → AllMakeable self.new.objects) }
         ensures open_blocks { OnOk result (opened self.new.block ≡ open_after (says (said_in line.now)) (lines + 1) (opened self.old.block)) }
         ensures text { OnOk result (so_far self.new.parts.items self.new.block ≡ so_far self.old.parts.items self.old.block ++ told (says (said_in line.now))) }
-        ensures counted { OnOk result (lines < 100000) }
+        ensures counted { OnOk result (lines < MAX_LINES) }
         ensures few { OnOk result (length self.new.parts.items ≤ length self.old.parts.items + 1) }
     {
         if self.is_too_long(lines, bytes, line) {
