@@ -1,17 +1,15 @@
 -- One change more of the bases, and one line more of their listing.
-use Rattle.std.proofs.Common.{◌≡◌, ℕ, ◌+◌, ◌<◌, ◌≤◌, List, [], ◌∷◌, ◌++◌, fold, length, map, take, drop, get_or, slice_get, slice_set, slice_index_or, Option, Some, None, refl, sym, ◌∙◌, ap, subst, append_assoc, append-nil, add-one, drop-cons, arith}
+use Rattle.std.proofs.Common.{◌≡◌, ℕ, ◌+◌, ◌<◌, ◌≤◌, List, [], ◌∷◌, ◌++◌, fold, length, take, drop, get_or, slice_get, slice_set, slice_index_or, Option, Some, None, refl, sym, ◌∙◌, ap, append_assoc, append-nil, add-one, drop-cons}
 use Rattle.std.proofs.lemmas.List.{map-set, map-append, get_or_default, take_more}
 use Rattle.std.proofs.lemmas.List as lists
 use Rattle.std.proofs.lemmas.Option.{slice_get-get_or}
-use Rattle.std.specs.List.{All}
 use Rattle.std.specs.Option.{option_map}
-use Rattle.std.proofs.lemmas.List.Elements.{All-head, All-tail, All-push}
 use Rattle.argus_contents.specs.Change.{PlainChange, result}
 use Rattle.argus_contents.specs.Content.{PlainContent, plain_option}
 use Rattle.argus_contents.specs.Shape as shape
 use Rattle.argus_contents.specs.Ty as ty
 use Rattle.argus_contents.specs.declared.content.Content.{Content}
-use Rattle.argus_cli.specs.Doing.{AllKeep, IsKept, plain_bases, plain_work, plain_works}
+use Rattle.argus_cli.specs.Doing.{plain_bases, plain_work, plain_works}
 use Rattle.argus_cli.specs.Listing.{base_line, listing}
 use Rattle.argus_cli.specs.Object.{Object}
 use Rattle.argus_cli.specs.Work.{all_absent, changed}

@@ -1,5 +1,5 @@
 -- Each line more keeps what was read in step with the lines; at the end no line is left.
-use Rattle.std.proofs.Common.{◌≡◌, ◌≤◌, subst, ◌∷◌, ◌+◌, ◌-◌, ◌++◌, None, length, take, refl, sym, ◌∙◌, ap, arith}
+use Rattle.std.proofs.Common.{◌≡◌, ◌≤◌, subst, ◌∷◌, ◌+◌, ◌-◌, ◌++◌, length, refl, sym, ◌∙◌, ap, arith}
 use Rattle.argus_cli.specs.Command.{says}
 use Rattle.argus_cli.specs.Fault.{IsFaultOf, NoFault}
 use Rattle.argus_cli.specs.Lines.{lines_of, said_in}
