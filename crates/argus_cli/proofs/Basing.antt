@@ -1,17 +1,15 @@
 -- One change more of the bases, and one line more of their listing.
-use Rattle.std.proofs.Common.{◌≡◌, ℕ, ◌+◌, ◌<◌, ◌≤◌, List, [], ◌∷◌, ◌++◌, fold, length, map, take, drop, get_or, slice_get, slice_set, slice_index_or, Option, Some, None, refl, sym, ◌∙◌, ap, subst, append_assoc, append-nil, add-one, drop-cons, arith}
+use Rattle.std.proofs.Common.{◌≡◌, ℕ, ◌+◌, ◌<◌, ◌≤◌, List, [], ◌∷◌, ◌++◌, fold, length, take, drop, get_or, slice_get, slice_set, slice_index_or, Option, Some, None, refl, sym, ◌∙◌, ap, append_assoc, append-nil, add-one, drop-cons}
 use Rattle.std.proofs.lemmas.List.{map-set, map-append, get_or_default, take_more}
 use Rattle.std.proofs.lemmas.List as lists
 use Rattle.std.proofs.lemmas.Option.{slice_get-get_or}
-use Rattle.std.specs.List.{All}
 use Rattle.std.specs.Option.{option_map}
-use Rattle.std.proofs.lemmas.List.Elements.{All-head, All-tail, All-push}
 use Rattle.argus_contents.specs.Change.{PlainChange, result}
 use Rattle.argus_contents.specs.Content.{PlainContent, plain_option}
 use Rattle.argus_contents.specs.Shape as shape
 use Rattle.argus_contents.specs.Ty as ty
 use Rattle.argus_contents.specs.declared.content.Content.{Content}
-use Rattle.argus_cli.specs.Doing.{AllKeep, IsKept, plain_bases, plain_work, plain_works}
+use Rattle.argus_cli.specs.Doing.{plain_bases, plain_work, plain_works}
 use Rattle.argus_cli.specs.Listing.{base_line, listing}
 use Rattle.argus_cli.specs.Object.{Object}
 use Rattle.argus_cli.specs.Work.{all_absent, changed}
@@ -54,12 +52,6 @@ pub listed_all : (objects : List Object) (bases : List (Option Content)) (i : �
     → text ++ listing (drop i objects) (plain_bases (drop i bases)) ≡ total → text ≡ total
 listed_all objects bases i text total past e =
     sym (ap (λ bs. text ++ listing (drop i objects) (plain_bases bs)) (lists.drop_all i bases past) ∙ ap (λ t. text ++ t) (listing_nil (drop i objects)) ∙ append-nil text) ∙ e
-
--- no object is left
-pub listed_objects : (objects : List Object) (bases : List (Option Content)) (i : ℕ) (text : List ℕ) (total : List ℕ) → length objects ≤ i
-    → text ++ listing (drop i objects) (plain_bases (drop i bases)) ≡ total → text ≡ total
-listed_objects objects bases i text total past e =
-    sym (ap (λ os. text ++ listing os (plain_bases (drop i bases))) (lists.drop_all i objects past) ∙ append-nil text) ∙ e
 
 -- one line more is listed
 pub listed_more : (objects : List Object) (bases : List (Option Content)) (i : ℕ) (old new name : List ℕ) (base : Option Content) (total : List ℕ)

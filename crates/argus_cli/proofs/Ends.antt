@@ -1,13 +1,12 @@
 -- The end of a script: no line is left.
-use Rattle.std.proofs.Common.{◌≡◌, ℕ, ◌≤◌, List, [], ◌∷◌, ◌++◌, length, take, drop, Option, Some, None, Result, Ok, Err, IfOk, IfErr, Vec, refl, sym, ◌∙◌, ap, subst, arith, inr}
+use Rattle.std.proofs.Common.{◌≡◌, ℕ, ◌≤◌, List, [], ◌∷◌, length, take, drop, Option, None, Result, Ok, Err, IfOk, IfErr, refl, sym, ◌∙◌, ap, subst, arith, inr}
 use Rattle.std.proofs.lemmas.List.{append-nil}
-use Rattle.std.specs.Prelude.{OnOk}
 use Rattle.argus_cli.specs.Fault.{FineBefore, IsFaultOf, NoFault, Place, place_behind}
 use Rattle.argus_cli.specs.Lines.{lines_of}
-use Rattle.argus_cli.specs.Object.{Object, spelled}
+use Rattle.argus_cli.specs.Object.{Object}
 use Rattle.argus_cli.specs.Parsed.{IsUnclosedAt, OnScriptFault}
 use Rattle.argus_cli.specs.Reading.{opened, plain_parts, plain_script, so_far}
-use Rattle.argus_cli.specs.Script.{Declares, PlainScript, Spells, commands, text_of}
+use Rattle.argus_cli.specs.Script.{Declares, Spells, commands, text_of}
 use Rattle.argus_cli.specs.declared.block.Block.{Block}
 use Rattle.argus_cli.specs.declared.parse_error.ParseError.{ParseError}
 use Rattle.argus_cli.specs.declared.parse_error.ParseError.TheVariants as error

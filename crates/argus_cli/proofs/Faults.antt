@@ -1,10 +1,10 @@
 -- One line more of a script.
-use Rattle.std.proofs.Common.{◌≡◌, ℕ, ◌+◌, ◌-◌, ◌<◌, ◌≤◌, List, [], ◌∷◌, ◌++◌, length, map, take, drop, get_or, slice_get, Option, Some, None, refl, sym, ◌∙◌, ap, subst, arith, below_more, fold, flat_map, add-one, drop-cons, length-drop, inl, inr}
+use Rattle.std.proofs.Common.{◌≡◌, ℕ, ◌+◌, ◌<◌, List, [], ◌∷◌, ◌++◌, length, map, take, drop, get_or, slice_get, Some, refl, sym, ◌∙◌, ap, subst, arith, below_more, flat_map, add-one, drop-cons, length-drop, inl}
 use Rattle.std.proofs.lemmas.List.{take_more, append-nil, take_all}
 use Rattle.std.proofs.lemmas.Option.{slice_get-get_or}
 use Rattle.std.proofs.lemmas.Grind.{fold-append, flat_map-append}
 use Rattle.argus_cli.specs.Command.{says}
-use Rattle.argus_cli.specs.Fault.{FineAt, FineBefore, FirstFault, HasFault, IsFine, IsFaultOf, NoFault, Place, Unclosed, open_after, place_after, place_behind}
+use Rattle.argus_cli.specs.Fault.{FineAt, FineBefore, HasFault, IsFine, IsFaultOf, Place, open_after, place_after, place_behind}
 use Rattle.argus_cli.specs.Lines.{said_in}
 use Rattle.argus_cli.specs.Object.{AllMakeable, Object, spelled}
 use Rattle.argus_cli.specs.Script.{Declares, commands, declared_by, told}
@@ -55,8 +55,9 @@ pub declares-more : (lines : List (List ℕ)) (i : ℕ) (line : List ℕ) (old n
     → Declares (take i lines) old → map spelled new ≡ map spelled old ++ declared_by (says (said_in line)) → (AllMakeable old → AllMakeable new)
     → Declares (take (i + 1) lines) new
 declares-more lines i line old new front e f g = record {
-    spelled = flat-more (λ line. declared_by (says (said_in line))) lines i line front ∙ ap (λ t. t ++ declared_by (says (said_in line))) e.spelled ∙ sym f;
-    makeable = g e.makeable }
+  spelled = flat-more (λ line. declared_by (says (said_in line))) lines i line front ∙ ap (λ t. t ++ declared_by (says (said_in line))) e.spelled ∙ sym f;
+  makeable = g e.makeable;
+}
 
 pub commands-more : (lines : List (List ℕ)) (i : ℕ) (line : List ℕ) → take (i + 1) lines ≡ take i lines ++ line ∷ []
     → commands (take (i + 1) lines) ≡ commands (take i lines) ++ told (says (said_in line))

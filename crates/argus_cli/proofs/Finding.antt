@@ -1,5 +1,5 @@
 -- Objects by name, as the map of their shapes finds them.
-use Rattle.std.proofs.Common.{◌≡◌, ℕ, ◌+◌, Bool, true, false, not, cond, nat_lt, List, [], ◌∷◌, ◌++◌, length, map, position, Option, Some, None, is_some, Bor, refl, sym, ◌∙◌, ap}
+use Rattle.std.proofs.Common.{◌≡◌, ℕ, ◌+◌, Bool, false, not, cond, nat_lt, List, [], ◌∷◌, ◌++◌, length, map, position, Option, Some, None, is_some, Bor, refl, sym, ◌∙◌, ap}
 use Rattle.std.proofs.lemmas.List.{length-map, map-append}
 use Rattle.std.specs.List.{prefix_len}
 use Rattle.std.specs.Map.{keys_of}

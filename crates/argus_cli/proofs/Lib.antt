@@ -4,5 +4,4 @@ pub mod Cutting
 pub mod Ends
 pub mod Faults
 pub mod Finding
-pub mod Fitting
 pub mod Gathering

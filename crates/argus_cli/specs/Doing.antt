@@ -1,5 +1,5 @@
 -- What a program's work says.
-use Rattle.std.specs.Prelude.{◌≡◌, ℕ, List, [], ◌∷◌, map, Option}
+use Rattle.std.specs.Prelude.{ℕ, List, [], ◌∷◌, map, Option}
 use Rattle.std.specs.List.{All}
 use Rattle.argus_contents.specs.Change.{CreatesWithin, PlainChange, plain_change}
 use Rattle.argus_contents.specs.Content.{KeepsLimits, PlainContent, plain_option}

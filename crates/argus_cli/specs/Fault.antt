@@ -1,5 +1,5 @@
 -- The first faulty line of a script, and why it is faulty.
-use Rattle.std.specs.Prelude.{◌≡◌, ℕ, ◌+◌, ◌<◌, nat_lt, nat_le, Bool, true, false, not, ◌&&◌, ◌||◌, if◌then◌else◌, ◌⊎◌, List, [], ◌∷◌, drop, fold, length, take, slice_get, Option, Some, None, is_some}
+use Rattle.std.specs.Prelude.{◌≡◌, ℕ, ◌+◌, ◌<◌, nat_lt, nat_le, Bool, true, false, ◌&&◌, ◌||◌, if◌then◌else◌, ◌⊎◌, List, [], ◌∷◌, drop, fold, length, take, slice_get, Option, Some, None, is_some}
 use Rattle.argus_contents.specs.Shape.{PlainShape, rec}
 use Rattle.argus_contents.specs.Shape as shape
 use Rattle.argus_contents.specs.declared.limits.TheConstants.{MAX_OBJECTS}

@@ -2,7 +2,7 @@
 use Rattle.std.specs.Prelude.{ℕ, ◌+◌, nat_lt, if◌then◌else◌, List, [], ◌∷◌, Option, Some, None}
 use Rattle.std.specs.Option.{option_and_then}
 use Rattle.std.specs.Str.{bytes_eq}
-use Rattle.argus_contents.specs.Shape.{PlainShape, names_of, rec}
+use Rattle.argus_contents.specs.Shape.{names_of}
 use Rattle.argus_contents.specs.Ty.{PlainFields}
 
 -- the place of a name in a list of names that begins at n

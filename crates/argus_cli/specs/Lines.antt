@@ -1,5 +1,5 @@
 -- How a script is cut into lines, and what of a line counts.
-use Rattle.std.specs.Prelude.{ℕ, ◌+◌, ◌-◌, ◌==◌, nat_lt, Bool, ◌&&◌, ◌||◌, if◌then◌else◌, List, [], ◌∷◌, length, take, reverse, slice_index}
+use Rattle.std.specs.Prelude.{ℕ, ◌-◌, ◌==◌, nat_lt, Bool, ◌&&◌, ◌||◌, if◌then◌else◌, List, [], ◌∷◌, length, take, reverse, slice_index}
 
 -- a byte in front of the first line
 abbrev pub onto : ℕ → List (List ℕ) → List (List ℕ)

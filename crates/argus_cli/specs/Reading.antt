@@ -4,6 +4,7 @@ use Rattle.argus_contents.specs.Value.{plain_value}
 use Rattle.argus_contents.specs.Content.{plain_content}
 use Rattle.argus_cli.specs.Command.{Command}
 use Rattle.argus_cli.specs.Command as command
+use Rattle.argus_cli.specs.Fault.{Place}
 use Rattle.argus_cli.specs.Script.{PlainStep, PlainPart, PlainScript, step_text, text_of}
 use Rattle.argus_cli.specs.Script as plain
 use Rattle.argus_cli.specs.declared.fault_kind.FaultKind.{FaultKind}
@@ -45,6 +46,10 @@ plain_script s = record { objects = s.objects; parts = plain_parts s.parts.items
 abbrev pub opened : Option Block → List ℕ
 opened None = []
 opened (Some b) = b.line ∷ []
+
+-- the place behind so many lines and bytes, where this block is open
+abbrev pub place_at : ℕ → ℕ → Option Block → Place
+place_at lines bytes block = record { lines = lines; bytes = bytes; open_blocks = opened block }
 
 -- the lines of a block that isn't closed yet
 abbrev pub block_text : Option Block → List Command

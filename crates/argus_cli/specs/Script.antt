@@ -1,7 +1,7 @@
 -- A script as the rules speak of it, and the lines that spell it.
 use Rattle.std.specs.Prelude.{◌≡◌, ℕ, List, [], ◌∷◌, ◌++◌, map, flat_map}
-use Rattle.argus_contents.specs.Value.{PlainValue, plain_value}
-use Rattle.argus_contents.specs.Content.{PlainContent, plain_content}
+use Rattle.argus_contents.specs.Value.{PlainValue}
+use Rattle.argus_contents.specs.Content.{PlainContent}
 use Rattle.argus_texts.specs.Spelling.{spelling}
 use Rattle.argus_texts.specs.ContentSpelling.{content_spelling}
 use Rattle.argus_cli.specs.Command.{Command, says}

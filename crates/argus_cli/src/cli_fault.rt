@@ -15,6 +15,12 @@ use thiserror::Error;
 /// | `Memory` | `out of memory` | 4 |
 /// | `Read` | `read fault` | 5 |
 /// | `Write` | `write fault` | 5 |
+///
+/// ```text
+/// if let Err(fault) = run(heap, &mut reader, &mut writer, options) {
+///     return ExitCode::from(fault.status());
+/// }
+/// ```
 #[derive(Clone, Copy, Debug, PartialEq, Eq, Error)]
 pub enum CliFault {
     /// The script is refused.

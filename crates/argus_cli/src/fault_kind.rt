@@ -7,13 +7,17 @@ use thiserror::Error;
 /// | Kind | When |
 /// |---|---|
 /// | `TooLong` | a limit of [`limits`](crate::limits) is passed, at this line |
-/// | `BadWord` | the line isn't UTF-8, its first words are no command, a word is missing or too many, or a name hasn't a name's form |
+/// | `BadWord` | the line isn't UTF-8, is no command, lacks a word or has too many, or a name's form is wrong |
 /// | `Misplaced` | the line may not stand there |
 /// | `NameTwice` | the object is declared already |
 /// | `UnknownName` | no such object is declared, or the record has no such field |
 /// | `BadType` | the shape is no written form, or the object is no record |
 /// | `BadValue` | the value or the content is no written form |
 /// | `Unclosed` | no line is faulty, and a block is open at the end; the line is the one that opened it |
+///
+/// ```text
+/// fault.kind == FaultKind::Misplaced          // `end` where no block is open
+/// ```
 #[derive(Clone, Copy, Debug, PartialEq, Eq, Error)]
 pub enum FaultKind {
     #[error("BadWord")]

@@ -3,6 +3,14 @@
 use std::alloc::AllocError;
 
 /// Why a command line gives no options.
+///
+/// ```text
+/// match options(rt.alloc(), words) {
+///     Ok(options) => ..,
+///     Err(NoOptions::Usage { status, text }) => ..,     // of `argus --workers 9`: 2, and what clap says
+///     Err(NoOptions::Memory) => ..,
+/// }
+/// ```
 #[derive(Debug, Drop)]
 pub enum NoOptions {
     /// The program ends with this text and this status: 2 for a mistake in the command line, 0 for

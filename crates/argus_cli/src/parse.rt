@@ -4,6 +4,7 @@ ghost use Rattle.std.specs.Prelude.{◌≡◌, ◌≤◌, length, ◌∷◌, [],
 ghost use Rattle.argus_cli.specs.Fault.{IsFaultOf, NoFault};
 ghost use Rattle.argus_cli.specs.Lines.{lines_of};
 ghost use Rattle.argus_cli.specs.Parsed.{IsUnclosedAt, OnScriptFault};
+ghost use Rattle.argus_cli.specs.declared.limits.TheConstants.{MAX_LINES};
 ghost use Rattle.argus_cli.specs.declared.parse_error.ParseError.TheVariants as ParseError;
 ghost use Rattle.argus_cli.specs.Reading.{opened, plain_script};
 ghost use Rattle.argus_cli.specs.Script.{Spells};
@@ -20,7 +21,7 @@ use argus_memory::Heap;
 /// The script that the bytes spell, or its first faulty line.
 pub(crate) fn parse(heap: Heap, bytes: &[u8]) -> Result<Script<'_>, ParseError>
     ensures spells { IfOk result (λ script. Spells (lines_of bytes.now) (plain_script script)) }
-    ensures few { IfOk result (λ script. length script.parts.items ≤ 100000) }
+    ensures few { IfOk result (λ script. length script.parts.items ≤ MAX_LINES) }
     ensures fine { OnOk result (NoFault (lines_of bytes.now)) }
     ensures fault { IfErr result (λ e. OnScriptFault e (IsFaultOf (lines_of bytes.now))) }
 {

@@ -9,7 +9,7 @@ ghost use Rattle.argus_cli.specs.Fault.{begins_declare, field_fault, HasFault, i
 ghost use Rattle.argus_cli.specs.declared.line_error.LineError.TheVariants as LineError;
 ghost use Rattle.argus_cli.specs.Lines.{before_blanks, behind_blanks, said_in, word};
 ghost use Rattle.argus_cli.specs.Object.{AllMakeable, number_of, shape_of, spelled};
-ghost use Rattle.argus_cli.specs.Reading.{block_text, OnKind, opened, plain_parts, plain_step, so_far};
+ghost use Rattle.argus_cli.specs.Reading.{block_text, OnKind, opened, place_at, plain_parts, plain_step, so_far};
 ghost use Rattle.argus_cli.specs.Said.{said};
 ghost use Rattle.argus_cli.specs.Script.{declared_by, step_text, text_of, told};
 
@@ -55,7 +55,7 @@ impl<'a> Reading<'a> {
     /// Whether a limit is passed at this line, where so many lines and bytes stand before it.
     fn is_too_long(&self, lines: u32, bytes: usize, line: &[u8]) -> bool
         requires { bytes + length line.now < 2 ^ 64 }
-        ensures { result ≡ is_too_long (record { lines = lines; bytes = bytes; open_blocks = [] }) (length self.now.objects) line.now }
+        ensures { result ≡ is_too_long (place_at lines bytes None) (length self.now.objects) line.now }
     {
         let text = without_end(line);
         if text.len() > MAX_LINE_BYTES || bytes + line.len() > MAX_SCRIPT_BYTES {
@@ -193,13 +193,13 @@ impl<'a> Reading<'a> {
         line: &'a [u8],
     ) -> Result<(), LineError>
         requires { bytes + length line.now < 2 ^ 64 }
-        ensures fault { IfErr result (λ e. OnKind e (λ k. HasFault (record { lines = lines; bytes = bytes; open_blocks = opened self.old.block }) self.old.objects line.now k)) }
-        ensures fine { OnOk result (IsFine (record { lines = lines; bytes = bytes; open_blocks = opened self.old.block }) self.old.objects line.now) }
+        ensures fault { IfErr result (λ e. OnKind e (λ k. HasFault (place_at lines bytes self.old.block) self.old.objects line.now k)) }
+        ensures fine { OnOk result (IsFine (place_at lines bytes self.old.block) self.old.objects line.now) }
         ensures objects { OnOk result (map spelled self.new.objects ≡ map spelled self.old.objects ++ declared_by (says (said_in line.now))) }
         ensures makeable { OnOk result (AllMakeable self.old.objects → AllMakeable self.new.objects) }
         ensures open_blocks { OnOk result (opened self.new.block ≡ open_after (says (said_in line.now)) (lines + 1) (opened self.old.block)) }
         ensures text { OnOk result (so_far self.new.parts.items self.new.block ≡ so_far self.old.parts.items self.old.block ++ told (says (said_in line.now))) }
-        ensures counted { OnOk result (lines < 100000) }
+        ensures counted { OnOk result (lines < MAX_LINES) }
         ensures few { OnOk result (length self.new.parts.items ≤ length self.old.parts.items + 1) }
     {
         if self.is_too_long(lines, bytes, line) {

@@ -1,6 +1,6 @@
 //! `run`: from the bytes of a script to the listing of its bases.
 
-ghost use Rattle.std.specs.Prelude.{◌≡◌, false, IfOk, IfErr, OnOk, string_bytes};
+ghost use Rattle.std.specs.Prelude.{◌≡◌, ◌+◌, false, IfOk, IfErr, OnOk, string_bytes};
 ghost use Rattle.argus_cli.specs.Ran.{Failed, IsListingFault, Lists, Ran};
 
 use crate::bases::bases_after;
@@ -45,8 +45,8 @@ pub fn run<R: Read + Drop, W: Write + Drop>(
 ) -> Result<(), CliFault>
     requires reader { reader.old.failed ≡ false }
     requires writer { writer.old.failed ≡ false }
-    ensures ran { OnOk result (Ran 16777217 (R.remaining reader.old.inner) (R.remaining reader.new.inner) (W.contents writer.old.inner) (W.contents writer.new.inner)) }
-    ensures failed { IfErr result (λ e. Failed e 16777217 (R.remaining reader.old.inner) (R.remaining reader.new.inner) reader.new.failed (W.contents writer.old.inner) (W.contents writer.new.inner) writer.new.failed) }
+    ensures ran { OnOk result (Ran (MAX_SCRIPT_BYTES + 1) (R.remaining reader.old.inner) (R.remaining reader.new.inner) (W.contents writer.old.inner) (W.contents writer.new.inner)) }
+    ensures failed { IfErr result (λ e. Failed e (MAX_SCRIPT_BYTES + 1) (R.remaining reader.old.inner) (R.remaining reader.new.inner) reader.new.failed (W.contents writer.old.inner) (W.contents writer.new.inner) writer.new.failed) }
 {
     let bytes = match read_up_to(heap, reader, MAX_SCRIPT_BYTES + 1) {
         Ok(bytes) => bytes,

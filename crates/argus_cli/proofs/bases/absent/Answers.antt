@@ -1,4 +1,4 @@
-use Rattle.std.proofs.Common.{◌≡◌, None, subst, sym, arith}
+use Rattle.std.proofs.Common.{None, subst, sym, arith}
 use Rattle.std.proofs.lemmas.List.Elements.{All-push}
 use Rattle.argus_contents.specs.Content.{KeepsLimits, plain_option}
 use Rattle.argus_cli.specs.Doing.{AllKeep}

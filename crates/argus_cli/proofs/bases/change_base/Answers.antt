@@ -1,4 +1,4 @@
-use Rattle.std.proofs.Common.{◌≡◌, ap, arith}
+use Rattle.std.proofs.Common.{ap, arith}
 use Rattle.std.proofs.lemmas.List.Elements.{All-set}
 use Rattle.argus_contents.specs.Change.{plain_change}
 use Rattle.argus_contents.specs.Content.{KeepsLimits, plain_option}

@@ -1,4 +1,3 @@
-use Rattle.std.proofs.Common.{arith}
 use Rattle.argus_cli.proofs.Cutting.{pass, meet, reach_end}
 use Rattle.argus_cli.proofs.cut.first_line_len.Goals as goal
 

@@ -1,4 +1,4 @@
-use Rattle.std.proofs.Common.{◌≡◌, arith}
+use Rattle.std.proofs.Common.{arith}
 use Rattle.std.specs.Prelude.{string_bytes}
 use Rattle.argus_cli.proofs.Basing.{listed_all, listed_more}
 use Rattle.argus_cli.proofs.listing.list_bases.Goals as goal

@@ -1,5 +1,5 @@
 -- Each line more keeps what was read in step with the lines; at the end no line is left.
-use Rattle.std.proofs.Common.{◌≡◌, ◌≤◌, subst, ◌∷◌, ◌+◌, ◌-◌, ◌++◌, None, length, take, refl, sym, ◌∙◌, ap, arith}
+use Rattle.std.proofs.Common.{◌≡◌, ◌≤◌, subst, ◌∷◌, ◌+◌, ◌-◌, ◌++◌, length, refl, sym, ◌∙◌, ap, arith}
 use Rattle.argus_cli.specs.Command.{says}
 use Rattle.argus_cli.specs.Fault.{IsFaultOf, NoFault}
 use Rattle.argus_cli.specs.Lines.{lines_of, said_in}
@@ -8,6 +8,7 @@ use Rattle.argus_cli.specs.Reading.{opened, plain_script}
 use Rattle.argus_cli.specs.Script.{Spells, told}
 use Rattle.argus_cli.proofs.Ends.{no_lines, ok_more, err_more, end_spells, end_fine, end_unclosed}
 use Rattle.argus_cli.proofs.Faults.{here_at, place-more, declares-more, commands-more, fine-more, first-fault}
+use Rattle.argus_cli.specs.declared.limits.TheConstants.{MAX_LINES}
 use Rattle.argus_cli.proofs.parse.parse.Goals as goal
 
 pub returns-in-Err-Fault-clause-fault : goal.returns-in-Err-Fault-clause-fault
@@ -72,6 +73,6 @@ returns-clause-fault c =
 pub returns-clause-few : goal.returns-clause-few
 returns-clause-few c =
     let I = c.loop-rest.invariant in
-    ok_more c.whole.result _ (λ script. length script.parts.items ≤ 100000)
-    (λ script h. subst (λ v. length v.items ≤ 100000) (sym h.2) (omega arith))
+    ok_more c.whole.result _ (λ script. length script.parts.items ≤ MAX_LINES)
+    (λ script h. subst (λ v. length v.items ≤ MAX_LINES) (sym h.2) (omega arith))
     c.whole.ensures.ok

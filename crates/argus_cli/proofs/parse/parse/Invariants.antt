@@ -4,6 +4,7 @@ use Rattle.argus_cli.specs.Fault.{FineBefore, Place, place_behind}
 use Rattle.argus_cli.specs.Lines.{lines_of}
 use Rattle.argus_cli.specs.Reading.{opened, so_far}
 use Rattle.argus_cli.specs.Script.{Declares, commands}
+use Rattle.argus_cli.specs.declared.limits.TheConstants.{MAX_LINES}
 use Rattle.argus_cli.proofs.parse.parse.Given as goal
 
 abbrev pub invariant-loop-rest : goal.invariant-loop-rest
@@ -14,7 +15,7 @@ invariant-loop-rest l = record {
   text : commands (take l.lines (lines_of l.bytes)) ≡ so_far l.reading.parts.items l.reading.block;
   fine : FineBefore (lines_of l.bytes) l.lines;
   few : length l.reading.parts.items ≤ l.lines;
-  most : l.lines ≤ 100000;
+  most : l.lines ≤ MAX_LINES;
   within : length l.rest ≤ length l.bytes;
 }
 

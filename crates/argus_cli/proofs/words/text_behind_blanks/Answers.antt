@@ -1,5 +1,5 @@
 -- A text may be cut behind a blank.
-use Rattle.std.proofs.Common.{◌≡◌, ◌∷◌, zero-le, subst, sym, ap, ◌∙◌, arith, true, length, get_or}
+use Rattle.std.proofs.Common.{◌≡◌, zero-le, subst, sym, ap, ◌∙◌, arith, true, length, get_or}
 use Rattle.std.proofs.lemmas.Str.{IsCharBoundary-after_ascii}
 use Rattle.std.specs.Str.{IsUtf8}
 use Rattle.argus_cli.specs.Lines.{is_blank}

@@ -1,4 +1,4 @@
-use Rattle.std.proofs.Common.{◌≡◌, ◌∷◌, [], ◌++◌, None, sym, ◌∙◌, ap, subst, map}
+use Rattle.std.proofs.Common.{◌∷◌, [], ◌++◌, ◌∙◌, ap, map}
 use Rattle.argus_cli.specs.Object.{number_of}
 use Rattle.argus_cli.proofs.Finding.{declared_last, object}
 use Rattle.argus_cli.proofs.objects.Objects.declare.Goals as goal
