@@ -1,7 +1,7 @@
 -- What a change leaves of the versions, where it succeeds and where it finds no memory.
-use Rattle.std.proofs.Common.{◌≡◌, ℕ, ◌+◌, ◌<◌, Bool, true, false, cond, List, [], ◌∷◌, length, take, get_or, set, Option, refl, sym, ◌∙◌, ap, arith}
-use Rattle.std.specs.Prelude.{is_ok, IfOk, OnOk, OnErr, Result, Ok, Err}
-use Rattle.std.proofs.lemmas.Bool.{cond-true, and_parts, false≢true}
+use Rattle.std.proofs.Common.{◌≡◌, ℕ, ◌+◌, ◌<◌, true, List, [], ◌∷◌, length, take, get_or, set, Option, refl, sym, ◌∙◌, ap, arith}
+use Rattle.std.specs.Prelude.{IfOk, OnOk, OnErr, Result, Ok, Err}
+use Rattle.std.proofs.lemmas.Bool.{cond-true, and_parts}
 use Rattle.std.proofs.lemmas.List.{take_all, take_more}
 use Rattle.argus_actions.specs.declared.action_id.ActionId.{ActionId}
 use Rattle.argus_actions.specs.Tree.{Tree, is_ancestor}
@@ -16,14 +16,6 @@ use Rattle.argus_objects.specs.Rules.{all_above, is_ascending, seen_by}
 use Rattle.argus_objects.specs.Moves.{newest_content, with_version}
 use Rattle.argus_objects.proofs.Stacks.{newest_push, newest_set, version_set}
 
-pub ok_content : (r : Result Answer OutOfMemory) (x : Option PlainContent) (o : Outcome) → IfOk r (λ answer. (x, plain_answer answer) ≡ o) → is_ok r ≡ true → x ≡ o.0
-ok_content (Ok answer) x o h is = ap (λ (p : Outcome). p.0) h
-ok_content (Err e) x o h is = absurd (false≢true is)
-
-pub err_content : (r : Result Answer OutOfMemory) (x y : Option PlainContent) → OnErr r (x ≡ y) → is_ok r ≡ false → x ≡ y
-err_content (Ok answer) x y h is = absurd (false≢true (sym is))
-err_content (Err e) x y h is = h
-
 -- the newest version and those below it
 pub newest_top : (vs : List Version) (k : ℕ) (d : Version) → k + 1 ≡ length vs → newest_first vs ≡ plain_version (get_or vs k d) ∷ newest_first (take k vs)
 newest_top vs k d last =
@@ -34,26 +26,29 @@ pub content_on_top : (base : Option PlainContent) (vs : List Version) (k : ℕ) 
 content_on_top base vs k d last = ap (newest_content base) (newest_top vs k d last)
 
 -- the newest version, changed in place, or as it was
-pub changed_in_place : (b : Bool) (a : ActionId) (content : Option PlainContent) (vs : List Version) (k : ℕ) (d v : Version) → k + 1 ≡ length vs → is_ascending (writers vs) ≡ true
-    → (get_or vs k d).holder.0 ≡ a.0 → v.holder ≡ a → v.holder ≡ (get_or vs k d).holder → (b ≡ true → plain_option v.content ≡ content) → (b ≡ false → plain_option v.content ≡ plain_option (get_or vs k d).content)
-    → newest_first (set vs k v) ≡ cond b (with_version a content (newest_first vs)) (newest_first vs)
-changed_in_place true a content vs k d v last asc here mine same ok err = version_set a content vs k d v last asc here mine (ok refl)
-changed_in_place false a content vs k d v last asc here mine same ok err =
-    newest_set vs k v last
-    ∙ (ap (λ (w : PlainVersion). w ∷ newest_first (take k vs))
-    (ap (λ (x : ActionId). let u : PlainVersion = record { holder = x; content = plain_option v.content } in u) same
-    ∙ ap (λ c. let u : PlainVersion = record { holder = (get_or vs k d).holder; content = c } in u) (err refl))
-    ∙ sym (newest_top vs k d last))
+pub changed_in_place : (r : Result Answer OutOfMemory) (a : ActionId) (o : Outcome) (vs : List Version) (k : ℕ) (d v : Version)
+    → k + 1 ≡ length vs → is_ascending (writers vs) ≡ true → (get_or vs k d).holder.0 ≡ a.0
+    → v.holder ≡ a → v.holder ≡ (get_or vs k d).holder
+    → IfOk r (λ answer. (plain_option v.content, plain_answer answer) ≡ o)
+    → OnErr r (plain_option v.content ≡ plain_option (get_or vs k d).content)
+    → OnOk r (newest_first (set vs k v) ≡ with_version a o.0 (newest_first vs)) × OnErr r (newest_first (set vs k v) ≡ newest_first vs)
+changed_in_place (Ok answer) a o vs k d v last asc here mine same ok err =
+    (version_set a o.0 vs k d v last asc here mine (ap (λ (p : Outcome). p.0) ok), tt)
+changed_in_place (Err refused) a o vs k d v last asc here mine same ok err = (
+  tt,
+  newest_set vs k v last
+      ∙ (ap (λ (w : PlainVersion). w ∷ newest_first (take k vs))
+      (ap (λ (x : ActionId). let u : PlainVersion = record { holder = x; content = plain_option v.content } in u) same
+      ∙ ap (λ c. let u : PlainVersion = record { holder = (get_or vs k d).holder; content = c } in u) err)
+      ∙ sym (newest_top vs k d last)),
+)
 
 -- an action that may read sees what is on top
 pub seen_on_top : (t : Tree) (a : ActionId) (base : Option PlainContent) (vs : List PlainVersion) → all_above t a (holders vs) ≡ true → newest_content base vs ≡ seen_by t a base vs
 seen_on_top t a base [] up = refl
 seen_on_top t a base (v ∷ older) up = sym (cond-true _ _ _ (and_parts (is_ancestor t v.holder.0 a.0) (all_above t a (holders older)) up).0)
 
-pub on_ok : {X : Type 0} (r : Result Answer OutOfMemory) (x y z : X) → x ≡ cond (is_ok r) y z → OnOk r (x ≡ y)
-on_ok (Ok answer) x y z e = e
-on_ok (Err e) x y z h = tt
-
-pub on_err : {X : Type 0} (r : Result Answer OutOfMemory) (x y z : X) → x ≡ cond (is_ok r) y z → OnErr r (x ≡ z)
-on_err (Ok answer) x y z e = tt
-on_err (Err e) x y z h = h
+-- what holds in any case holds on Ok
+pub on_ok : (r : Result Answer OutOfMemory) (P : Type 0) → P → OnOk r P
+on_ok (Ok answer) P p = p
+on_ok (Err refused) P p = tt

@@ -1,10 +1,13 @@
 -- Each change of a cell keeps it lawful.
 use Rattle.std.proofs.Common.{◌≡◌, ◌≢◌, Bool, true, false, not, cond, eqb, ◌&&◌, ◌||◌, List, [], ◌∷◌, map, filter, reverse, Option, subst, refl, sym, ◌∙◌, ap, inl, inr}
+use Rattle.std.specs.Prelude.{OnOk, OnErr, Result, Ok, Err}
 use Rattle.std.specs.List.{list_all}
 use Rattle.std.proofs.lemmas.Bool.{eqb-true, eqb-false, cases_Bool, and_parts, and_from, or_left, or_right, or_parts, not-true, false≢true}
 use Rattle.std.proofs.lemmas.List.{reverse-reverse}
 use Rattle.argus_actions.specs.declared.action_id.ActionId.{ActionId}
 use Rattle.argus_actions.specs.Tree.{Tree, is_ancestor}
+use Rattle.argus_memory.specs.declared.out_of_memory.OutOfMemory.{OutOfMemory}
+use Rattle.argus_contents.specs.declared.answer.Answer.{Answer}
 use Rattle.argus_contents.specs.Content.{PlainContent}
 use Rattle.argus_objects.specs.declared.version.Version.{Version}
 use Rattle.argus_objects.specs.Object.{PlainVersion, newest_first, holders, writers}
@@ -186,7 +189,8 @@ module _ (t : Tree) (rs rs' : List ActionId) (vs vs' : List Version) (asc : is_a
       kept_by (filter keep rs) (filter keep' (holders (newest_first vs))) e (ap holders f ∙ holders_filter keep' (newest_first vs))
       (ascending_filter keep rs asc) (lawful_less t keep keep' rs (holders (newest_first vs)) before)
 
-  pub kept_change : (b : Bool) (a : ActionId) (content : Option PlainContent) → (all_above t a (holders (newest_first vs)) && all_above t a rs) ≡ true → rs' ≡ rs
-      → newest_first vs' ≡ cond b (with_version a content (newest_first vs)) (newest_first vs) → Kept t rs' vs'
-  kept_change true a content up e f = kept_write a content up e f
-  kept_change false a content up e f = kept_by rs (holders (newest_first vs)) e (ap holders f) asc before
+  pub kept_change : (r : Result Answer OutOfMemory) (a : ActionId) (content : Option PlainContent)
+      → (all_above t a (holders (newest_first vs)) && all_above t a rs) ≡ true → rs' ≡ rs
+      → OnOk r (newest_first vs' ≡ with_version a content (newest_first vs)) → OnErr r (newest_first vs' ≡ newest_first vs) → Kept t rs' vs'
+  kept_change (Ok answer) a content up e ok err = kept_write a content up e ok
+  kept_change (Err refused) a content up e ok err = kept_by rs (holders (newest_first vs)) e (ap holders err) asc before

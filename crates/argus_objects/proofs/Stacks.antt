@@ -6,6 +6,8 @@ use Rattle.std.proofs.lemmas.List.{take_more, drop_more, append_assoc, append-ni
 use Rattle.std.proofs.lemmas.List.Elements.{filter-append}
 use Rattle.std.proofs.lemmas.List.Folds.{list_any-append, list_all-map}
 use Rattle.std.proofs.lemmas.Grind.{reverse_onto}
+use Rattle.std.proofs.lemmas.Simd.{map-map}
+use Rattle.indexmap.proofs.ReorderLemmas.{map-reverse}
 use Rattle.argus_actions.specs.declared.action_id.ActionId.{ActionId}
 use Rattle.argus_actions.specs.Tree.{Tree}
 use Rattle.argus_contents.specs.Content.{PlainContent}
@@ -19,17 +21,13 @@ use Rattle.argus_objects.proofs.Ascending.{list_all_reverse, lower_before}
 pub newest_push : (vs : List Version) (v : Version) → newest_first (vs ++ v ∷ []) ≡ plain_version v ∷ newest_first vs
 newest_push vs v = ap reverse (map-append plain_version vs (v ∷ [])) ∙ reverse-append (map plain_version vs) (plain_version v ∷ [])
 
-pub map_reverse : {X Y : Type 0} (f : X → Y) (xs : List X) → map f (reverse xs) ≡ reverse (map f xs)
-map_reverse f [] = refl
-map_reverse f (x ∷ xs) = ap (map f) (reverse_onto xs x []) ∙ (map-append f (reverse xs) (x ∷ []) ∙ (ap (λ ys. ys ++ f x ∷ []) (map_reverse f xs) ∙ sym (reverse_onto (map f xs) (f x) [])))
-
-map_twice : {X Y Z : Type 0} (g : Y → Z) (f : X → Y) (xs : List X) → map g (map f xs) ≡ map (λ x. g (f x)) xs
-map_twice g f [] = refl
-map_twice g f (x ∷ xs) = ap (λ ys. g (f x) ∷ ys) (map_twice g f xs)
+-- an action is its number
+pub same_id : (x y : ActionId) → x.0 ≡ y.0 → x ≡ y
+same_id x y e = ap (λ n. let z : ActionId = record { 0 = n } in z) e
 
 -- the holders from descendant to ancestor are those from ancestor to descendant, turned round
 pub holders_newest : (vs : List Version) → holders (newest_first vs) ≡ reverse (writers vs)
-holders_newest vs = map_reverse (λ (v : PlainVersion). v.holder) (map plain_version vs) ∙ ap reverse (map_twice (λ (v : PlainVersion). v.holder) plain_version vs)
+holders_newest vs = map-reverse (λ (v : PlainVersion). v.holder) (map plain_version vs) ∙ ap reverse (map-map (λ (v : PlainVersion). v.holder) plain_version vs)
 
 pub all_holders : (p : ActionId → Bool) (vs : List Version) → list_all p (holders (newest_first vs)) ≡ list_all p (writers vs)
 all_holders p vs = ap (list_all p) (holders_newest vs) ∙ list_all_reverse p (writers vs)

@@ -38,6 +38,12 @@ passed (o ∷ os) list = passed os (noted o list)
 abbrev pub Lists : Holdings → ActionId → List ObjId → Holdings → Type 0
 Lists old a list new = (x : ActionId) → listed new x ≡ (if x.0 == a.0 then list else listed old x)
 
+-- the parent's list takes up that of s, whose list is empty; all others stay
+abbrev pub PassedOn : Holdings → ActionId → ActionId → Holdings → Type 0
+PassedOn old s parent new =
+    (x : ActionId) → listed new x
+    ≡ (if x.0 == s.0 then [] else (if x.0 == parent.0 then passed (listed old s) (listed old parent) else listed old x))
+
 -- all lists stay
 abbrev pub SameLists : Holdings → Holdings → Type 0
 SameLists old new = (x : ActionId) → listed new x ≡ listed old x

@@ -60,6 +60,10 @@ abbrev pub newest_content : Option PlainContent → List PlainVersion → Option
 newest_content base [] = base
 newest_content base (v ∷ older) = v.content
 
+-- what a change does to the content of the newest version, or to the base
+abbrev pub changed_top : PlainChange → Option PlainContent → List PlainVersion → Outcome
+changed_top change base versions = result change (newest_content base versions)
+
 -- what a change does to the content that the action sees
 abbrev pub changed : Tree → ActionId → PlainChange → Object → Outcome
 changed tree a change object = result change (seen_by tree a object.base object.versions)

@@ -5,11 +5,13 @@ ghost use Rattle.std.specs.Option.{unwrap_or};
 ghost use Rattle.argus_actions.specs.Refusals.{commit_refusal};
 ghost use Rattle.argus_actions.specs.Tree.{parent_of};
 ghost use Rattle.argus_contents.specs.Answer.{plain_answer};
-ghost use Rattle.argus_contents.specs.Change.{plain_change};
+ghost use Rattle.argus_contents.specs.Change.{CreatesWithin, plain_change};
 ghost use Rattle.argus_contents.specs.Content.{KeepsLimits, plain_option};
 ghost use Rattle.argus_objects.specs.Object.{newest_first, SameLocks};
 ghost use Rattle.argus_objects.specs.Rules.{is_lawful, may_read, may_write, seen_by};
-ghost use Rattle.argus_objects.specs.Moves.{changed, readers_discarded, readers_inherited, version_of, versions_discarded, versions_inherited, with_reader, with_version, without_reader, without_version};
+ghost use Rattle.argus_objects.specs.Moves.{changed, version_of};
+ghost use Rattle.argus_objects.specs.Moves.{readers_discarded, readers_inherited, with_reader, without_reader};
+ghost use Rattle.argus_objects.specs.Moves.{versions_discarded, versions_inherited, with_version, without_version};
 
 use crate::changing::{change_version, content_on_top};
 use crate::readers::{add_reader, all_readers_above, discard_readers, drop_reader, inherit_reader};
@@ -119,7 +121,7 @@ impl Cell {
         self.may_read(tree, a) && all_readers_above(self.readers.as_slice(), tree, a)
     }
 
-    /// Makes room for one more reader and one more version.
+    /// Makes room for one more reader and one more version. After `OutOfMemory` the lists stay.
     pub fn reserve_grant(&mut self) -> Result<(), OutOfMemory>
         ensures same { SameLocks self.old self.new }
         ensures ok { OnOk result (0 < self.new.room) }
@@ -130,6 +132,9 @@ impl Cell {
     }
 
     /// Makes `a` a reader, if it isn't one.
+    ///
+    /// Condition: the cell is lawful, `a` is live and has no live child, the read lock is granted, and
+    /// there is room.
     pub fn grant_read(&mut self, tree: &ActionTree, a: ActionId)
         requires lawful { is_lawful tree.now self.old ≡ true }
         requires free { commit_refusal tree.now a.0 ≡ None }
@@ -144,6 +149,9 @@ impl Cell {
     }
 
     /// Makes this the content of `a`'s version, which is pushed if `a` had none.
+    ///
+    /// Condition: the cell is lawful, `a` is live and has no live child, the write lock is granted, and
+    /// there is room.
     pub fn grant_write(&mut self, tree: &ActionTree, a: ActionId, new_content: Option<Content>)
         requires lawful { is_lawful tree.now self.old ≡ true }
         requires free { commit_refusal tree.now a.0 ≡ None }
@@ -161,7 +169,11 @@ impl Cell {
     ///
     /// It means what `grant_write` does with the content that the change leaves of what `a` sees. A
     /// version that is there is changed in place, so only the first write of an action copies. After
-    /// `OutOfMemory` the cell is as before.
+    /// `OutOfMemory` the cell is as before. What is left keeps the limits of arrays where a content that
+    /// the change creates does.
+    ///
+    /// Condition: the cell is lawful, `a` is live and has no live child, the write lock is granted, and
+    /// what `a` sees keeps the limits of arrays.
     pub fn grant_change(
         &mut self,
         tree: &ActionTree,
@@ -176,6 +188,7 @@ impl Cell {
         ensures readers { self.new.readers ≡ self.old.readers }
         ensures versions { OnOk result (self.new.versions ≡ with_version a (changed tree.now a (plain_change change) self.old).0 self.old.versions) }
         ensures answer { IfOk result (λ answer. plain_answer answer ≡ (changed tree.now a (plain_change change) self.old).1) }
+        ensures kept { CreatesWithin (plain_change change) → OnOk result (KeepsLimits (changed tree.now a (plain_change change) self.old).0) }
         ensures err { OnErr result (self.new.versions ≡ self.old.versions) }
         ensures lawful { is_lawful tree.now self.new ≡ true }
     {
@@ -183,6 +196,8 @@ impl Cell {
     }
 
     /// The content that `a` sees: the version of its nearest ancestor that has one, else the base.
+    ///
+    /// Condition: the read lock is free for `a`.
     pub fn visible(&self, tree: &ActionTree, a: ActionId) -> &Option<Content>
         requires { may_read tree.now self.now a ≡ true }
         ensures { plain_option result.now ≡ seen_by tree.now a self.now.base self.now.versions }
@@ -192,7 +207,8 @@ impl Cell {
 
     /// Hands what the subaction `s` holds to its parent, which then has it in place of its own.
     ///
-    /// Call it before the tree commits `s`.
+    /// Call it before the tree commits `s`. Condition: the cell is lawful, `s` is live and has no live
+    /// child, and `parent` is its parent.
     pub fn inherit(&mut self, tree: &ActionTree, s: ActionId, parent: ActionId)
         requires lawful { is_lawful tree.now self.old ≡ true }
         requires parent { parent_of tree.now s.0 ≡ Some parent }
@@ -209,7 +225,8 @@ impl Cell {
 
     /// Makes the topaction's version, if it has one, the base, and releases its locks.
     ///
-    /// Call it before the tree commits `t`.
+    /// Call it before the tree commits `t`. Condition: the cell is lawful, and `t` is live and has no
+    /// live child.
     pub fn settle_top(&mut self, tree: &ActionTree, t: ActionId)
         requires lawful { is_lawful tree.now self.old ≡ true }
         requires free { commit_refusal tree.now t.0 ≡ None }
@@ -223,6 +240,8 @@ impl Cell {
     }
 
     /// Discards the locks and versions of `a`, and of all actions that have `a` as an ancestor.
+    ///
+    /// Condition: the cell is lawful.
     pub fn discard(&mut self, tree: &ActionTree, a: ActionId)
         requires lawful { is_lawful tree.now self.old ≡ true }
         ensures base { self.new.base ≡ self.old.base }

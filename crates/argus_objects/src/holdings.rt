@@ -1,9 +1,9 @@
 //! `Holdings`: for each action, the objects on which it has locks.
 
-ghost use Rattle.std.specs.Prelude.{◌≡◌, ◌≢◌, ◌<◌, ◌≤◌, ◌==◌, if◌then◌else◌, [], length, OnOk};
+ghost use Rattle.std.specs.Prelude.{◌≡◌, ◌≢◌, ◌<◌, ◌≤◌, ◌==◌, [], length, OnOk};
 ghost use Rattle.std.specs.List.{IsDistinct};
 ghost use Rattle.indexmap.specs.IndexSet.{spare};
-ghost use Rattle.argus_objects.specs.Holdings.{listed, Lists, noted, passed, room_of, SameLists};
+ghost use Rattle.argus_objects.specs.Holdings.{listed, Lists, noted, passed, PassedOn, room_of, SameLists};
 
 use argus_actions::ActionId;
 use argus_contents::ObjId;
@@ -74,6 +74,8 @@ impl Holdings {
     }
 
     /// Puts the object at the end of the action's list, unless it is there. It takes no memory.
+    ///
+    /// Condition: the list has room, as `reserve` makes it.
     pub fn note(&mut self, a: ActionId, o: ObjId)
         requires { 0 < room_of self.old a }
         ensures { Lists self.old a (noted o (listed self.old a)) self.new }
@@ -97,10 +99,13 @@ impl Holdings {
 
     /// Puts the objects of `s` that the parent's list lacks at its end, in their order, and empties the
     /// list of `s`. It takes no memory, and gives that of the list of `s` back.
+    ///
+    /// Condition: the two are different actions, and the parent's list has room for all of them, as
+    /// `reserve_pass` makes it.
     pub fn pass(&mut self, s: ActionId, parent: ActionId)
         requires room { length (listed self.old s) ≤ room_of self.old parent }
         requires other { s.0 ≢ parent.0 }
-        ensures { (x : ActionId) → listed self.new x ≡ (if x.0 == s.0 then [] else (if x.0 == parent.0 then passed (listed self.old s) (listed self.old parent) else listed self.old x)) }
+        ensures { PassedOn self.old s parent self.new }
     {
         if let Some(objects) = self.lists.remove(&s.0)
             && let Some(into) = self.lists.get_mut(&parent.0)

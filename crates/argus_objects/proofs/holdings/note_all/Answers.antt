@@ -1,3 +1,4 @@
+-- One object more is noted, in the room that is there.
 use Rattle.std.proofs.Common.{◌≡◌, ◌<◌, ◌+◌, get_or, drop, sym, ◌∙◌, ap, arith, rules}
 use Rattle.std.proofs.lemmas.List.{drop_more}
 use Rattle.indexmap.specs.IndexSet.{spare}

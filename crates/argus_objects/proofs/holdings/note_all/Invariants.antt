@@ -1,3 +1,4 @@
+-- Noting what is left gives the same list.
 use Rattle.std.proofs.Common.{◌≡◌, ◌≤◌, ◌+◌, length, drop}
 use Rattle.indexmap.specs.IndexSet.{spare}
 use Rattle.argus_objects.specs.Holdings.{passed}

@@ -1,3 +1,4 @@
+-- Where the search ends is the place of the action.
 use Rattle.std.proofs.Common.{◌≡◌, ℕ, ◌+◌, ◌-◌, ◌<◌, ◌++◌, ◌∷◌, take, drop, get_or, sym, ◌∙◌, ap, arith, rules}
 use Rattle.std.proofs.lemmas.List.{take-append-drop}
 use Rattle.argus_actions.specs.declared.action_id.ActionId.{ActionId}

@@ -1,3 +1,4 @@
+-- One reader more is above, or the answer is known.
 use Rattle.std.proofs.Common.{◌≡◌, ℕ, ◌+◌, ◌-◌, take, sym, ◌∙◌, ap, arith}
 use Rattle.argus_actions.specs.declared.action_id.ActionId.{ActionId}
 use Rattle.argus_objects.specs.Rules.{all_above}

@@ -1,3 +1,4 @@
+-- What is left of the readers decides, asked of the last one that was found above.
 use Rattle.std.proofs.Common.{◌≡◌, ◌≤◌, length, take}
 use Rattle.argus_objects.specs.Rules.{all_above}
 use Rattle.argus_objects.proofs.readers.all_readers_above.Given as goal

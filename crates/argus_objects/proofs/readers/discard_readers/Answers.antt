@@ -1,3 +1,4 @@
+-- The readers that stay are those that pass the test.
 use Rattle.std.proofs.Common.{not, rules, tests}
 use Rattle.std.proofs.lemmas.Fn.{filter_same}
 use Rattle.argus_actions.specs.declared.action_id.ActionId.{ActionId}

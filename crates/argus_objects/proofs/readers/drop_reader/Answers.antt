@@ -1,3 +1,4 @@
+-- The readers that stay are those of other numbers.
 use Rattle.std.proofs.Common.{not, eqb, rules, tests}
 use Rattle.std.proofs.lemmas.Fn.{filter_same}
 use Rattle.argus_actions.specs.declared.action_id.ActionId.{ActionId}

@@ -1,3 +1,4 @@
+-- The reader that went leaves room for the parent.
 use Rattle.std.proofs.Common.{◌<◌, length, not, eqb, sym, ◌∙◌, ap, arith}
 use Rattle.argus_actions.specs.declared.action_id.ActionId.{ActionId}
 use Rattle.argus_objects.specs.Moves.{is_reader, without_reader}

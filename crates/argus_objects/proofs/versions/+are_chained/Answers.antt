@@ -1,3 +1,4 @@
+-- A chain with one more on top.
 use Rattle.std.proofs.Common.{◌&&◌, sym, ◌∙◌, ap, rules}
 use Rattle.argus_objects.specs.Object.{holders, newest_first}
 use Rattle.argus_objects.specs.Rules.{is_chain}

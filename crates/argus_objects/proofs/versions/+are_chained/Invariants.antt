@@ -1,3 +1,4 @@
+-- There are fewer versions each time.
 use Rattle.std.proofs.Common.{length}
 use Rattle.argus_objects.proofs.versions.+are_chained.Given as goal
 

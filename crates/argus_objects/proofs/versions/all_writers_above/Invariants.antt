@@ -1,3 +1,4 @@
+-- What is left of the holders decides, asked of the last one that was found above.
 use Rattle.std.proofs.Common.{◌≡◌, ◌≤◌, length, take}
 use Rattle.argus_objects.specs.Object.{holders, newest_first, writers}
 use Rattle.argus_objects.specs.Rules.{all_above}

@@ -1,3 +1,4 @@
+-- The versions that stay are those of other holders.
 use Rattle.std.proofs.Common.{not, eqb, sym, ◌∙◌, ap, rules, tests}
 use Rattle.std.proofs.lemmas.Fn.{filter_same}
 use Rattle.argus_actions.specs.declared.action_id.ActionId.{ActionId}

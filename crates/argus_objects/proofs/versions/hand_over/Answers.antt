@@ -1,3 +1,4 @@
+-- One version more is handed over, or left as it is.
 use Rattle.std.proofs.Common.{◌≡◌, map, length, get_or, sym, ◌∙◌, ap, arith}
 use Rattle.std.proofs.lemmas.Bool.{eq-eqb, ne_eqb, cond-true, cond-false}
 use Rattle.std.proofs.lemmas.List.{length-map}

@@ -1,3 +1,4 @@
+-- The versions so far are handed over.
 use Rattle.std.proofs.Common.{◌≡◌, map}
 use Rattle.argus_objects.specs.Object.{plain_version}
 use Rattle.argus_objects.proofs.Stacks.{handed_to}

@@ -1,3 +1,4 @@
+-- With the version of the parent gone, that of the subaction takes its place.
 use Rattle.std.proofs.Common.{◌≡◌, List, ◌++◌, map, length, take, drop, reverse, eqb, true, false, sym, ◌∙◌, ap, arith}
 use Rattle.std.specs.List.{list_any}
 use Rattle.std.proofs.lemmas.Bool.{cond-true, cond-false}
@@ -5,7 +6,8 @@ use Rattle.std.proofs.lemmas.List.{drop_all, take_all, append-nil}
 use Rattle.argus_objects.specs.declared.version.Version.{Version}
 use Rattle.argus_objects.specs.Object.{plain_version, newest_first}
 use Rattle.argus_objects.specs.Moves.{handed, has_version}
-use Rattle.argus_objects.proofs.Stacks.{has_newest, map_reverse}
+use Rattle.indexmap.proofs.ReorderLemmas.{map-reverse}
+use Rattle.argus_objects.proofs.Stacks.{has_newest}
 use Rattle.argus_objects.proofs.versions.inherit_version.Goals as goal
 
 pub returns-then-has_version : goal.returns-then-has_version
@@ -21,7 +23,7 @@ returns-then-has_version c =
     has_newest c.args.s vs ∙ (ap (list_any (λ (v : Version). eqb v.holder.0 c.args.s.0)) (sym c.as_slice.ensures.value) ∙ (sym c.has_version.ensures ∙ c.if-has_version.true)) in
     ap newest_first whole
     ∙ (ap reverse (c.hand_over.ensures ∙ ap (λ (ws : List Version). map (handed c.args.s c.args.parent) (map plain_version ws)) c.as_mut_slice.ensures.value)
-    ∙ (sym (map_reverse (handed c.args.s c.args.parent) (map plain_version kept))
+    ∙ (sym (map-reverse (handed c.args.s c.args.parent) (map plain_version kept))
     ∙ (ap (map (handed c.args.s c.args.parent)) c.drop_version.ensures
     ∙ sym (cond-true _ _ _ there))))
 

@@ -1,3 +1,4 @@
+-- The newest version gets the content, or one is pushed above lower holders.
 use Rattle.std.proofs.Common.{◌≡◌, ℕ, ◌-◌, get_or, true, ltb, sym, ◌∙◌, refl, ap, arith}
 use Rattle.std.specs.List.{list_all}
 use Rattle.argus_actions.specs.declared.action_id.ActionId.{ActionId}
@@ -5,12 +6,9 @@ use Rattle.argus_contents.specs.Content.{plain_option}
 use Rattle.argus_objects.specs.declared.version.Version.{Version}
 use Rattle.argus_objects.specs.Object.{newest_first, holders}
 use Rattle.argus_objects.proofs.InOrder.{any_default}
-use Rattle.argus_objects.proofs.Stacks.{version_set, version_pushed, all_lower, none_lower}
+use Rattle.argus_objects.proofs.Stacks.{same_id, version_set, version_pushed, all_lower, none_lower}
 use Rattle.argus_objects.proofs.versions.put_version.Goals as goal
 use Rattle.argus_objects.proofs.versions.put_version.Goals.{else-held-gt0-via-then-held-gt0+else-index-a, else-held-gt0-via-else-held-gt0}
-
-same_id : (x y : ActionId) → x.0 ≡ y.0 → x ≡ y
-same_id x y e = ap (λ n. let z : ActionId = record { 0 = n } in z) e
 
 pub returns-then-index-a : goal.returns-then-index-a
 returns-then-index-a c =

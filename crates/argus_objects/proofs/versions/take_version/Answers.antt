@@ -1,3 +1,4 @@
+-- Where the search ends, the version is found, or there is none.
 use Rattle.std.proofs.Common.{◌≡◌, ℕ, ◌+◌, ◌-◌, ◌++◌, take, drop, get_or, sym, ◌∙◌, refl, ap, arith, Some, suc}
 use Rattle.std.proofs.lemmas.List.{drop_all}
 use Rattle.argus_contents.specs.Content.{plain_option}

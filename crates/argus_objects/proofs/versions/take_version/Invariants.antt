@@ -1,3 +1,4 @@
+-- No version that was passed is that of the action.
 use Rattle.std.proofs.Common.{◌≡◌, ◌≤◌, length, drop, false}
 use Rattle.argus_objects.specs.Object.{newest_first}
 use Rattle.argus_objects.specs.Moves.{has_version}

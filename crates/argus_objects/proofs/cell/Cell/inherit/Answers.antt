@@ -1,11 +1,20 @@
+-- A cell whose locks and versions go to the parent stays in order and lawful.
 use Rattle.std.proofs.Common.{◌≡◌, true, sym, subst}
 use Rattle.argus_objects.specs.Object.{Object}
 use Rattle.argus_objects.specs.Rules.{is_lawful}
-use Rattle.argus_objects.proofs.Lawful.{kept_inherit}
+use Rattle.argus_objects.proofs.Lawful.{Kept, kept_inherit}
 use Rattle.argus_objects.proofs.cell.Cell.inherit.Goals as goal
 
+kept : (c : goal.After-inherit_version) → Kept c.args.tree.now c.inherit_reader.new.readers.items c.inherit_version.new.versions.items
+kept c =
+    kept_inherit c.args.tree.now c.self.inside.readers.items c.inherit_reader.new.readers.items c.self.inside.versions.items
+    c.inherit_version.new.versions.items c.self.invariant.readers_ascend
+    (subst (λ (o : Object). is_lawful c.args.tree.now o ≡ true) (sym c.self.view_is) c.requires.lawful)
+    c.args.s c.args.parent (record { linked = c.requires.parent; above = c.parent_is_ancestor.ensures })
+    c.inherit_reader.ensures c.inherit_version.ensures
+
 pub invariant_of-self : goal.invariant_of-self
-invariant_of-self c = (kept_inherit c.args.tree.now c.self.inside.readers.items c.inherit_reader.new.readers.items c.self.inside.versions.items c.inherit_version.new.versions.items c.self.invariant.readers_ascend (subst (λ (o : Object). is_lawful c.args.tree.now o ≡ true) (sym c.self.view_is) c.requires.lawful) c.args.s c.args.parent (record { linked = c.requires.parent; above = c.parent_is_ancestor.ensures }) c.inherit_reader.ensures c.inherit_version.ensures).order
+invariant_of-self c = (kept c).order
 
 pub returns-clause-lawful : goal.returns-clause-lawful
-returns-clause-lawful c = (kept_inherit c.args.tree.now c.self.inside.readers.items c.inherit_reader.new.readers.items c.self.inside.versions.items c.inherit_version.new.versions.items c.self.invariant.readers_ascend (subst (λ (o : Object). is_lawful c.args.tree.now o ≡ true) (sym c.self.view_is) c.requires.lawful) c.args.s c.args.parent (record { linked = c.requires.parent; above = c.parent_is_ancestor.ensures }) c.inherit_reader.ensures c.inherit_version.ensures).lawful
+returns-clause-lawful c = (kept c).lawful

@@ -1,3 +1,4 @@
+-- The two tests are the two halves of the definition.
 use Rattle.std.proofs.Common.{◌≡◌, ◌&&◌, true, List, sym, ◌∙◌, ap}
 use Rattle.std.specs.List.{list_all}
 use Rattle.argus_actions.specs.declared.action_id.ActionId.{ActionId}

@@ -1,12 +1,21 @@
-use Rattle.std.proofs.Common.{◌≡◌, true, not, eqb, sym, subst}
+-- Fewer holders stay in order and lawful.
+use Rattle.std.proofs.Common.{◌≡◌, Bool, true, not, eqb, sym, subst}
 use Rattle.argus_actions.specs.declared.action_id.ActionId.{ActionId}
 use Rattle.argus_objects.specs.Object.{Object}
 use Rattle.argus_objects.specs.Rules.{is_lawful}
-use Rattle.argus_objects.proofs.Lawful.{kept_less}
+use Rattle.argus_objects.proofs.Lawful.{Kept, kept_less}
 use Rattle.argus_objects.proofs.cell.Cell.settle_top.Goals as goal
 
+kept : (c : goal.After-settle_version) → Kept c.args.tree.now c.drop_reader.new.readers.items c.settle_version.new.versions.items
+kept c =
+    let stays : ActionId → Bool = λ x. not (eqb x.0 c.args.t.0) in
+    kept_less c.args.tree.now c.self.inside.readers.items c.drop_reader.new.readers.items c.self.inside.versions.items
+    c.settle_version.new.versions.items c.self.invariant.readers_ascend
+    (subst (λ (o : Object). is_lawful c.args.tree.now o ≡ true) (sym c.self.view_is) c.requires.lawful)
+    stays stays c.drop_reader.ensures.readers c.settle_version.ensures.versions
+
 pub invariant_of-self : goal.invariant_of-self
-invariant_of-self c = (kept_less c.args.tree.now c.self.inside.readers.items c.drop_reader.new.readers.items c.self.inside.versions.items c.settle_version.new.versions.items c.self.invariant.readers_ascend (subst (λ (o : Object). is_lawful c.args.tree.now o ≡ true) (sym c.self.view_is) c.requires.lawful) (λ (x : ActionId). not (eqb x.0 c.args.t.0)) (λ (x : ActionId). not (eqb x.0 c.args.t.0)) c.drop_reader.ensures.readers c.settle_version.ensures.versions).order
+invariant_of-self c = (kept c).order
 
 pub returns-clause-lawful : goal.returns-clause-lawful
-returns-clause-lawful c = (kept_less c.args.tree.now c.self.inside.readers.items c.drop_reader.new.readers.items c.self.inside.versions.items c.settle_version.new.versions.items c.self.invariant.readers_ascend (subst (λ (o : Object). is_lawful c.args.tree.now o ≡ true) (sym c.self.view_is) c.requires.lawful) (λ (x : ActionId). not (eqb x.0 c.args.t.0)) (λ (x : ActionId). not (eqb x.0 c.args.t.0)) c.drop_reader.ensures.readers c.settle_version.ensures.versions).lawful
+returns-clause-lawful c = (kept c).lawful

@@ -1,3 +1,4 @@
+-- An empty list has nothing twice.
 use Rattle.std.specs.List.{IsDistinct}
 use Rattle.argus_objects.proofs.holdings.Holdings.of.Goals as goal
 
