@@ -35,10 +35,11 @@ turns() {
 
 run_copies() {
     for size in $sizes; do
-        for work in duplicate nested; do
+        for work in duplicate made nested; do
             ours "$work:$size" "$(turns "$size")"
             rust "$work:$size" "$(turns "$size")"
         done
+        rust "bare:$size" "$(turns "$size")"
         rust "clone:$size" "$(turns "$size")"
         ours "copy_store:$size" "$(turns "$size")"
     done
@@ -65,7 +66,7 @@ ratio() {
 
 print_copies() {
     printf '%-18s %12s %12s %7s\n' kind 'ns each' 'in Rust' ratio
-    for work in duplicate nested; do
+    for work in made duplicate nested; do
         for size in $sizes; do
             mine=$figures/ours-$work:$size
             theirs=$figures/rust-$work:$size
@@ -73,11 +74,17 @@ print_copies() {
                 "$(ratio "$mine" "$theirs")"
         done
     done
+    print_duplicate bare "values with no handle of an allocator in Rust"
+    print_duplicate clone "derived Clone in Rust"
+}
+
+# print_duplicate KIND WORDS: the copy of an array beside another one in Rust
+print_duplicate() {
     for size in $sizes; do
         mine=$figures/ours-duplicate:$size
-        theirs=$figures/rust-clone:$size
-        printf '%-18s %12s %12s %7s   derived Clone in Rust\n' "duplicate:$size" "$(median "$mine")" \
-            "$(median "$theirs")" "$(ratio "$mine" "$theirs")"
+        theirs=$figures/rust-$1:$size
+        printf '%-18s %12s %12s %7s   %s\n' "duplicate:$size" "$(median "$mine")" \
+            "$(median "$theirs")" "$(ratio "$mine" "$theirs")" "$2"
     done
 }
 

@@ -8,3 +8,4 @@ pub mod Walks
 pub mod Links
 pub mod Walked
 pub mod Accepted
+pub mod Parents

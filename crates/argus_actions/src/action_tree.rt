@@ -1,6 +1,6 @@
 //! `ActionTree`: the actions that were begun.
 
-ghost use Rattle.std.specs.Prelude.{◌≡◌, ℕ, ◌<◌, ◌+◌, ◌-◌, [], ◌∷◌, None, Some, OnOk, OnErr, IfOk, MatchOption};
+ghost use Rattle.std.specs.Prelude.{◌≡◌, ℕ, ◌<◌, ◌+◌, ◌-◌, true, [], ◌∷◌, None, Some, OnOk, OnErr, IfOk, MatchOption};
 ghost use Rattle.std.specs.Result.{result_err};
 ghost use Rattle.argus_actions.specs.declared.origin.Origin.TheVariants.{Top, Sub, Nested};
 ghost use Rattle.argus_actions.specs.declared.status.Status.TheVariants.{Live};
@@ -158,6 +158,15 @@ impl ActionTree {
         ensures { result ≡ is_ancestor self.now x.0 y.0 }
     {
         (y.0 as usize) < self.nodes.len() && climbs(self.nodes.as_slice(), x.0, y.0)
+    }
+
+    /// A law for proofs; it does nothing. The parent of an action is one of its ancestors, since an
+    /// action is begun under one that was begun before.
+    pub fn parent_is_ancestor(&self, parent: ActionId, a: ActionId)
+        requires { parent_of self.now a.0 ≡ Some parent }
+        ensures { is_ancestor self.now parent.0 a.0 ≡ true }
+    {
+        let _ = self.nodes.len();
     }
 
     /// Why a topaction can't be begun now: `TooMany`. Want of memory is not foreseen.

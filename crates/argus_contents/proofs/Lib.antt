@@ -4,3 +4,4 @@ pub mod Levels
 pub mod Places
 pub mod Refit
 pub mod Types
+pub mod Crossing

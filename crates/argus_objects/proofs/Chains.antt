@@ -1,11 +1,11 @@
 -- Chains of holders, and who is related to them.
-use Rattle.std.proofs.Common.{◌≡◌, ◌≢◌, ℕ, ◌+◌, ◌<◌, ◌≤◌, Bool, true, false, not, cond, eqb, ltb, ◌&&◌, ◌||◌, List, [], ◌∷◌, ◌++◌, map, filter, reverse, length, subst, refl, sym, ◌∙◌, ap, arith, inl, inr}
+use Rattle.std.proofs.Common.{◌≡◌, ◌≢◌, ℕ, ◌+◌, ◌<◌, ◌≤◌, Bool, true, not, cond, eqb, ◌||◌, List, [], ◌∷◌, map, filter, length, Some, subst, refl, sym, ◌∙◌, ap, arith, inl, inr}
 use Rattle.std.specs.List.{list_all}
-use Rattle.std.proofs.lemmas.Bool.{eq-eqb, ne_eqb, eqb-true, eqb-false, lt-ltb, cases_eq, cases_Bool, and_parts, and_from, or_left, or_right, or_cases, not-true, not_from_false, false≢true}
+use Rattle.std.proofs.lemmas.Bool.{eq-eqb, ne_eqb, eqb-false, cases_eq, cases_Bool, and_parts, and_from, or_left, or_right, or_cases, not-true, not_from_false}
 use Rattle.argus_actions.specs.declared.action_id.ActionId.{ActionId}
 use Rattle.argus_actions.specs.Tree.{Tree, is_ancestor, parent_of}
-use Rattle.argus_objects.specs.Rules.{all_above, is_strictly_above, is_chain, are_related, is_related, IsParent}
-use Rattle.argus_objects.proofs.Above.{above_le, above_self, above_trans, above_linear, above_up}
+use Rattle.argus_objects.specs.Rules.{is_strictly_above, is_chain, are_related}
+use Rattle.argus_objects.proofs.Above.{above_le, above_self, above_trans, above_up}
 
 pub all_imp : {X : Type 0} (p q : X → Bool) → ((x : X) → p x ≡ true → q x ≡ true) → (xs : List X) → list_all p xs ≡ true → list_all q xs ≡ true
 all_imp p q h [] all = refl
@@ -93,6 +93,11 @@ renamed_same s p x e = ap (λ b. cond b p x) (eq-eqb x.0 s.0 e)
 
 pub renamed_other : (s p x : ActionId) → x.0 ≢ s.0 → renamed s p x ≡ x
 renamed_other s p x ne = ap (λ b. cond b p x) (ne_eqb x.0 s.0 ne)
+
+-- this is the parent of s, which makes it an ancestor of s
+pub record IsParent (tree : Tree) (parent s : ActionId) : Type 0 where
+  pub linked : parent_of tree s.0 ≡ Some parent
+  pub above : is_ancestor tree parent.0 s.0 ≡ true
 
 module _ (t : Tree) (s p : ActionId) (is : IsParent t p s) where
   up : (x : ActionId) → is_ancestor t x.0 s.0 ≡ true → x.0 ≢ s.0 → is_ancestor t x.0 p.0 ≡ true

@@ -1,8 +1,7 @@
 -- What a change leaves of the versions, where it succeeds and where it finds no memory.
-use Rattle.std.proofs.Common.{◌≡◌, ◌≢◌, ℕ, ◌+◌, ◌<◌, Bool, true, false, cond, eqb, ltb, List, [], ◌∷◌, ◌++◌, length, take, get_or, set, Option, Some, None, refl, sym, ◌∙◌, ap, subst, arith}
+use Rattle.std.proofs.Common.{◌≡◌, ℕ, ◌+◌, ◌<◌, Bool, true, false, cond, List, [], ◌∷◌, length, take, get_or, set, Option, refl, sym, ◌∙◌, ap, arith}
 use Rattle.std.specs.Prelude.{is_ok, IfOk, OnOk, OnErr, Result, Ok, Err}
-use Rattle.std.specs.List.{list_all}
-use Rattle.std.proofs.lemmas.Bool.{cond-true, cond-false, and_parts, false≢true}
+use Rattle.std.proofs.lemmas.Bool.{cond-true, and_parts, false≢true}
 use Rattle.std.proofs.lemmas.List.{take_all, take_more}
 use Rattle.argus_actions.specs.declared.action_id.ActionId.{ActionId}
 use Rattle.argus_actions.specs.Tree.{Tree, is_ancestor}

@@ -1,16 +1,16 @@
 -- Each change of a cell keeps it lawful.
-use Rattle.std.proofs.Common.{◌≡◌, ◌≢◌, ℕ, ◌<◌, ◌≤◌, Bool, true, false, not, cond, eqb, ltb, leb, ◌&&◌, ◌||◌, List, [], ◌∷◌, ◌++◌, map, filter, reverse, length, Option, subst, refl, sym, ◌∙◌, ap, arith, inl, inr}
-use Rattle.std.specs.List.{list_all, list_any}
-use Rattle.std.proofs.lemmas.Bool.{eq-eqb, ne_eqb, eqb-true, eqb-false, cases_eq, cases_Bool, and_parts, and_from, or_left, or_right, or_parts, not-true, false≢true}
+use Rattle.std.proofs.Common.{◌≡◌, ◌≢◌, Bool, true, false, not, cond, eqb, ◌&&◌, ◌||◌, List, [], ◌∷◌, map, filter, reverse, Option, subst, refl, sym, ◌∙◌, ap, inl, inr}
+use Rattle.std.specs.List.{list_all}
+use Rattle.std.proofs.lemmas.Bool.{eqb-true, eqb-false, cases_Bool, and_parts, and_from, or_left, or_right, or_parts, not-true, false≢true}
 use Rattle.std.proofs.lemmas.List.{reverse-reverse}
 use Rattle.argus_actions.specs.declared.action_id.ActionId.{ActionId}
 use Rattle.argus_actions.specs.Tree.{Tree, is_ancestor}
 use Rattle.argus_contents.specs.Content.{PlainContent}
 use Rattle.argus_objects.specs.declared.version.Version.{Version}
 use Rattle.argus_objects.specs.Object.{PlainVersion, newest_first, holders, writers}
-use Rattle.argus_objects.specs.Rules.{all_above, are_related, is_ascending, is_chain, is_related, is_strictly_above, IsParent, AreInOrder}
-use Rattle.argus_objects.specs.Moves.{is_reader, has_version, handed, with_reader, without_reader, readers_inherited, with_version, without_version, versions_inherited, readers_discarded, versions_discarded}
-use Rattle.argus_objects.proofs.Chains.{all_imp, all_moved, all_filter, all_filtered, chain_moved, chain_filter, strictly_from, renamed, renamed_same, renamed_other, renamed_strictly, renamed_related}
+use Rattle.argus_objects.specs.Rules.{all_above, are_related, is_ascending, is_chain, is_related, is_strictly_above, AreInOrder}
+use Rattle.argus_objects.specs.Moves.{is_reader, has_version, handed, with_reader, without_reader, readers_inherited, with_version, without_version, versions_inherited}
+use Rattle.argus_objects.proofs.Chains.{IsParent, all_imp, all_moved, all_filter, all_filtered, chain_moved, chain_filter, strictly_from, renamed, renamed_same, renamed_other, renamed_strictly, renamed_related}
 use Rattle.argus_objects.proofs.Ascending.{chain_ascends, ascending_filter}
 use Rattle.argus_objects.proofs.InOrder.{all_with, ascending_with, ascending_inherited}
 use Rattle.argus_objects.proofs.Stacks.{holders_newest, holders_filter, holders_handed}

@@ -1,4 +1,3 @@
-pub mod ContentCode
 pub mod Object
 pub mod Rules
 pub mod Moves

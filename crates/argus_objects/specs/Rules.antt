@@ -1,8 +1,8 @@
 -- The lock rules (Moss, Nested Transactions, 1981; Argus Reference Manual, MIT/LCS/TR-400, 1987), and what is so of each object.
-use Rattle.std.specs.Prelude.{◌≡◌, Bool, true, not, ◌&&◌, ◌||◌, ◌==◌, nat_lt, nat_le, if◌then◌else◌, List, [], ◌∷◌, Option, Some}
+use Rattle.std.specs.Prelude.{◌≡◌, Bool, true, not, ◌&&◌, ◌||◌, ◌==◌, nat_lt, nat_le, if◌then◌else◌, List, [], ◌∷◌, Option}
 use Rattle.std.specs.List.{list_all}
 use Rattle.argus_actions.specs.declared.action_id.ActionId.{ActionId}
-use Rattle.argus_actions.specs.Tree.{Tree, is_ancestor, parent_of}
+use Rattle.argus_actions.specs.Tree.{Tree, is_ancestor}
 use Rattle.argus_contents.specs.Content.{PlainContent}
 use Rattle.argus_objects.specs.declared.version.Version.{Version}
 use Rattle.argus_objects.specs.Object.{Object, PlainVersion, holders, writers}
@@ -44,11 +44,6 @@ is_lawful tree object = is_chain tree (holders object.versions) && list_all (is_
 abbrev pub seen_by : Tree → ActionId → Option PlainContent → List PlainVersion → Option PlainContent
 seen_by tree a base [] = base
 seen_by tree a base (v ∷ older) = if is_ancestor tree v.holder.0 a.0 then v.content else seen_by tree a base older
-
--- this is the parent of s, which makes it an ancestor of s
-pub record IsParent (tree : Tree) (parent s : ActionId) : Type 0 where
-  pub linked : parent_of tree s.0 ≡ Some parent
-  pub above : is_ancestor tree parent.0 s.0 ≡ true
 
 -- each number is below all that follow
 abbrev pub is_ascending : List ActionId → Bool

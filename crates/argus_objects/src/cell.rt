@@ -1,13 +1,14 @@
 //! `Cell`: one object, with its base, its readers and its versions.
 
-ghost use Rattle.std.specs.Prelude.{◌≡◌, ◌<◌, true, [], None, IfOk, OnErr, OnOk};
+ghost use Rattle.std.specs.Prelude.{◌≡◌, ◌<◌, true, [], None, Some, IfOk, OnErr, OnOk};
 ghost use Rattle.std.specs.Option.{unwrap_or};
 ghost use Rattle.argus_actions.specs.Refusals.{commit_refusal};
+ghost use Rattle.argus_actions.specs.Tree.{parent_of};
 ghost use Rattle.argus_contents.specs.Answer.{plain_answer};
 ghost use Rattle.argus_contents.specs.Change.{plain_change};
 ghost use Rattle.argus_contents.specs.Content.{KeepsLimits, plain_option};
 ghost use Rattle.argus_objects.specs.Object.{newest_first, SameLocks};
-ghost use Rattle.argus_objects.specs.Rules.{is_lawful, IsParent, may_read, may_write, seen_by};
+ghost use Rattle.argus_objects.specs.Rules.{is_lawful, may_read, may_write, seen_by};
 ghost use Rattle.argus_objects.specs.Moves.{changed, readers_discarded, readers_inherited, version_of, versions_discarded, versions_inherited, with_reader, with_version, without_reader, without_version};
 
 use crate::changing::{change_version, content_on_top};
@@ -28,6 +29,14 @@ use std::marker::Model;
 /// Contracts see these three, and for how many more grants there is room. Readers stand in
 /// increasing number, versions from ancestor to descendant. Only `reserve_grant` and
 /// `grant_change` take memory.
+///
+/// ```text
+/// let mut cell = Cell::new(heap, None);
+/// cell.reserve_grant()?;
+/// cell.grant_write(&tree, sub, Some(content));    // the subaction has a version
+/// cell.inherit(&tree, sub, top);                  // its parent has it; then tree.commit(sub)
+/// cell.settle_top(&tree, top);                    // it is the base; then tree.commit(top)
+/// ```
 #[derive(Drop)]
 pub struct Cell {
     base: Option<Content>,
@@ -186,13 +195,14 @@ impl Cell {
     /// Call it before the tree commits `s`.
     pub fn inherit(&mut self, tree: &ActionTree, s: ActionId, parent: ActionId)
         requires lawful { is_lawful tree.now self.old ≡ true }
-        requires parent { IsParent tree.now parent s }
+        requires parent { parent_of tree.now s.0 ≡ Some parent }
         requires free { commit_refusal tree.now s.0 ≡ None }
         ensures base { self.new.base ≡ self.old.base }
         ensures readers { self.new.readers ≡ readers_inherited s parent self.old.readers }
         ensures versions { self.new.versions ≡ versions_inherited s parent self.old.versions }
         ensures lawful { is_lawful tree.now self.new ≡ true }
     {
+        tree.parent_is_ancestor(parent, s);
         inherit_reader(&mut self.readers, s, parent);
         inherit_version(&mut self.versions, s, parent);
     }

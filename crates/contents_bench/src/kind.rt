@@ -28,7 +28,7 @@ impl Kind {
     {
         let number = turn as i64;
         match self.work {
-            Work::Duplicate | Work::Nested => Change::Touch,
+            Work::Duplicate | Work::Made | Work::Nested => Change::Touch,
             Work::CopyStore | Work::Store => {
                 Change::Store(1 + self.size as i64 / 2, Value::Int(number))
             }

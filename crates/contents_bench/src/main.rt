@@ -18,6 +18,7 @@ contents_bench KIND N: does a piece of work N times, and prints what each took
 
 KIND is WORK:SIZE, where SIZE, at most 65535, is a number of items or fields:
   duplicate:SIZE   a copy of an array of integers, made and dropped
+  made:SIZE        the same until the copy is made
   nested:SIZE      a copy of a record of an integer, a sequence of integers, a text and
                    a tagged value, made and dropped
   copy_store:SIZE  alter by a store: a copy with one item replaced, made and dropped

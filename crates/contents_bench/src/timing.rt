@@ -8,7 +8,7 @@ use crate::samples::sample;
 use crate::work::Work;
 use argus_contents::{Change, Content, Heap, OutOfMemory, alter, alter_in_place};
 use std::alloc::Global;
-use std::time::CpuClock;
+use std::time::{CpuClock, Duration};
 
 /// The nanoseconds of processor time that each of so many turns of the work took.
 //
@@ -21,10 +21,36 @@ pub(crate) fn nanos_each(
 ) -> anyhow::Result<f64> {
     let heap = Heap::new(alloc)?;
     let mut content = sample(heap, kind)?;
-    let before = rt.process_cpu_time()?;
-    repeat(heap, &mut content, kind, turns)?;
-    let taken = rt.process_cpu_time()?.saturating_sub(before);
+    let taken = match kind.work {
+        Work::Made => time_copies(rt, heap, &content, turns)?,
+        _ => {
+            let before = rt.process_cpu_time()?;
+            repeat(heap, &mut content, kind, turns)?;
+            rt.process_cpu_time()?.saturating_sub(before)
+        }
+    };
     Ok(taken.as_secs_f64() * 1e9 / turns as f64)
+}
+
+// What so many copies take until each is made. The clock stands while they are dropped.
+fn time_copies(
+    rt: &impl CpuClock,
+    heap: Heap,
+    content: &Option<Content>,
+    turns: u32,
+) -> anyhow::Result<Duration> {
+    let mut taken = Duration::ZERO;
+    let Some(content) = content else {
+        return Ok(taken);
+    };
+    for _ in 0..turns {
+        let before = rt.process_cpu_time()?;
+        let copy = content.duplicate(heap)?;
+        let after = rt.process_cpu_time()?;
+        taken = taken.saturating_add(after.saturating_sub(before));
+        drop(copy);
+    }
+    Ok(taken)
 }
 
 fn repeat(
@@ -37,7 +63,7 @@ fn repeat(
 {
     for turn in 0..turns {
         match kind.work {
-            Work::Duplicate | Work::Nested => duplicate(heap, content)?,
+            Work::Duplicate | Work::Made | Work::Nested => duplicate(heap, content)?,
             Work::CopyStore => change_copy(heap, content, &kind.change(turn))?,
             _ => change_in_place(content, kind.change(turn))?,
         }

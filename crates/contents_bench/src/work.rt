@@ -12,6 +12,7 @@ use std::str::FromStr;
 #[derive(Clone, Copy)]
 pub(crate) enum Work {
     Duplicate,
+    Made,
     Nested,
     CopyStore,
     Store,
@@ -27,6 +28,7 @@ impl FromStr for Work {
     fn from_str(name: &str) -> Result<Work, KindError> {
         match name {
             "duplicate" => Ok(Work::Duplicate),
+            "made" => Ok(Work::Made),
             "nested" => Ok(Work::Nested),
             "copy_store" => Ok(Work::CopyStore),
             "store" => Ok(Work::Store),
@@ -43,6 +45,7 @@ impl fmt::Display for Work {
     fn fmt<W: fmt::Write>(&self, f: &mut fmt::Formatter<W>) -> fmt::Result {
         f.write_str(match self {
             Work::Duplicate => "duplicate",
+            Work::Made => "made",
             Work::Nested => "nested",
             Work::CopyStore => "copy_store",
             Work::Store => "store",

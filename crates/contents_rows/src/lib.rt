@@ -11,3 +11,5 @@ mod memory;
 mod names;
 #[cfg(test)]
 mod queries;
+#[cfg(test)]
+mod threads;

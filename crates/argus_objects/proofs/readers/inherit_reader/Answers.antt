@@ -1,4 +1,4 @@
-use Rattle.std.proofs.Common.{◌<◌, length, not, eqb, sym, ◌∙◌, ap, subst, arith}
+use Rattle.std.proofs.Common.{◌<◌, length, not, eqb, sym, ◌∙◌, ap, arith}
 use Rattle.argus_actions.specs.declared.action_id.ActionId.{ActionId}
 use Rattle.argus_objects.specs.Moves.{is_reader, without_reader}
 use Rattle.argus_objects.proofs.InOrder.{fewer_readers}

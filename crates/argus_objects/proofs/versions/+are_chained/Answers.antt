@@ -1,4 +1,4 @@
-use Rattle.std.proofs.Common.{◌≡◌, ◌&&◌, sym, ◌∙◌, ap, rules}
+use Rattle.std.proofs.Common.{◌&&◌, sym, ◌∙◌, ap, rules}
 use Rattle.argus_objects.specs.Object.{holders, newest_first}
 use Rattle.argus_objects.specs.Rules.{is_chain}
 use Rattle.argus_objects.proofs.Stacks.{chain_push}

@@ -1,10 +1,10 @@
-use Rattle.std.proofs.Common.{◌≡◌, List, ◌++◌, map, length, take, drop, reverse, eqb, cond, true, false, sym, ◌∙◌, ap, arith}
+use Rattle.std.proofs.Common.{◌≡◌, List, ◌++◌, map, length, take, drop, reverse, eqb, true, false, sym, ◌∙◌, ap, arith}
 use Rattle.std.specs.List.{list_any}
 use Rattle.std.proofs.lemmas.Bool.{cond-true, cond-false}
 use Rattle.std.proofs.lemmas.List.{drop_all, take_all, append-nil}
 use Rattle.argus_objects.specs.declared.version.Version.{Version}
-use Rattle.argus_objects.specs.Object.{plain_version, newest_first, PlainVersion}
-use Rattle.argus_objects.specs.Moves.{handed, has_version, without_version}
+use Rattle.argus_objects.specs.Object.{plain_version, newest_first}
+use Rattle.argus_objects.specs.Moves.{handed, has_version}
 use Rattle.argus_objects.proofs.Stacks.{has_newest, map_reverse}
 use Rattle.argus_objects.proofs.versions.inherit_version.Goals as goal
 

@@ -1,9 +1,9 @@
-use Rattle.std.proofs.Common.{◌≡◌, ◌<◌, ℕ, ◌+◌, ◌-◌, ◌++◌, length, take, drop, get_or, false, sym, ◌∙◌, refl, ap, subst, arith, Some, zero, suc}
+use Rattle.std.proofs.Common.{◌≡◌, ℕ, ◌+◌, ◌-◌, ◌++◌, take, drop, get_or, sym, ◌∙◌, refl, ap, arith, Some, suc}
 use Rattle.std.proofs.lemmas.List.{drop_all}
 use Rattle.argus_contents.specs.Content.{plain_option}
 use Rattle.argus_objects.specs.declared.version.Version.{Version}
 use Rattle.argus_objects.specs.Object.{newest_first}
-use Rattle.argus_objects.specs.Moves.{has_version, version_of, without_version}
+use Rattle.argus_objects.specs.Moves.{has_version}
 use Rattle.argus_objects.proofs.InOrder.{any_default}
 use Rattle.argus_objects.proofs.Stacks.{version_here, removed_here, none_more, version_of_none, without_none}
 use Rattle.argus_objects.proofs.versions.take_version.Goals as goal

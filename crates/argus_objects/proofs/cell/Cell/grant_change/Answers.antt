@@ -1,9 +1,8 @@
-use Rattle.std.proofs.Common.{◌≡◌, ◌&&◌, true, cond, refl, sym, ◌∙◌, ap, subst}
+use Rattle.std.proofs.Common.{◌≡◌, true, cond, refl, sym, ◌∙◌, ap, subst}
 use Rattle.std.specs.Prelude.{is_ok, OnOk, OnErr, IfOk}
 use Rattle.std.proofs.lemmas.Bool.{and_parts}
 use Rattle.argus_actions.specs.declared.action_id.ActionId.{ActionId}
-use Rattle.argus_actions.specs.Tree.{Tree, is_ancestor}
-use Rattle.argus_contents.specs.declared.answer.Answer.{Answer}
+use Rattle.argus_actions.specs.Tree.{is_ancestor}
 use Rattle.argus_contents.specs.Answer.{plain_answer}
 use Rattle.argus_contents.specs.Change.{plain_change, result as outcome_of}
 use Rattle.argus_contents.specs.Content.{KeepsLimits, plain_option}

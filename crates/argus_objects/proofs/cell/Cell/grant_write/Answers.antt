@@ -1,10 +1,10 @@
-use Rattle.std.proofs.Common.{◌≡◌, ◌&&◌, true, not, eqb, refl, sym, ◌∙◌, ap, subst}
+use Rattle.std.proofs.Common.{◌≡◌, true, refl, sym, ◌∙◌, subst}
 use Rattle.argus_actions.specs.declared.action_id.ActionId.{ActionId}
-use Rattle.argus_actions.specs.Tree.{Tree, is_ancestor}
+use Rattle.argus_actions.specs.Tree.{is_ancestor}
 use Rattle.argus_contents.specs.Content.{plain_option}
 use Rattle.argus_objects.specs.Object.{Object, holders, newest_first, writers}
-use Rattle.argus_objects.specs.Rules.{is_lawful, may_read, may_write, all_above}
-use Rattle.argus_objects.proofs.Lawful.{kept_read, kept_write, kept_inherit, kept_less}
+use Rattle.argus_objects.specs.Rules.{is_lawful, may_write, all_above}
+use Rattle.argus_objects.proofs.Lawful.{kept_write}
 use Rattle.argus_objects.proofs.cell.Cell.grant_write.Goals as goal
 use Rattle.std.proofs.lemmas.Bool.{and_parts}
 use Rattle.argus_objects.proofs.Ascending.{above_up_to}
