@@ -13,7 +13,7 @@ use crate::owner::Owner;
 use argus_actions::ActionId;
 use argus_entries::{Call, Entry, Reply};
 
-/// Who answers for what the action did. None where it hasn't begun.
+/// Who answers for what the action did. None where it hasn't begun since the opening.
 ///
 /// The journal has to be legal, as a guardian's is. The entries from the action's begin on are gone
 /// through; this is for audits. It takes no memory.
