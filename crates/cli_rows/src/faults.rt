@@ -71,6 +71,7 @@ const CUTS: &[(&str, u32, FaultKind)] = &[
     ("enter", 2, FaultKind::BadWord),
     ("topaction\n", 2, FaultKind::Unclosed),
     ("create acct {5", 3, FaultKind::BadValue),
+    ("create acct {5}\n", 2, FaultKind::Unclosed),
     ("set acct balance", 4, FaultKind::BadWord),
     ("get acct balanc", 5, FaultKind::UnknownName),
 ];
