@@ -1,6 +1,6 @@
 //! What the objects of a script hold once it has run.
 
-ghost use Rattle.std.specs.Prelude.{◌≡◌, ◌≤◌, ◌<◌, ◌^◌, length, fold, IfOk, OnOk};
+ghost use Rattle.std.specs.Prelude.{◌≡◌, ◌<◌, ◌^◌, length, fold, IfOk, OnOk};
 ghost use Rattle.std.specs.List.{All};
 ghost use Rattle.argus_contents.specs.Change.{CreatesWithin, plain_change};
 ghost use Rattle.argus_cli.specs.Doing.{AllKeep, IsKept, plain_bases, plain_works};

@@ -1,10 +1,9 @@
 //! The number of a field.
 
 ghost use Rattle.std.specs.Prelude.{◌≡◌};
-ghost use Rattle.std.specs.Option.{option_and_then};
 ghost use Rattle.argus_contents.specs.Shape.{names_of};
 ghost use Rattle.argus_contents.specs.Ty.{plain_fields};
-ghost use Rattle.argus_cli.specs.Fields.{as_byte, field_of, place_from};
+ghost use Rattle.argus_cli.specs.Fields.{field_of, place_from};
 
 use argus_contents::{Name, Ty};
 

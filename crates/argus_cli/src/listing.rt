@@ -1,6 +1,6 @@
 //! The listing of bases: a line for each object, with its name and what it holds.
 
-ghost use Rattle.std.specs.Prelude.{◌≡◌, ◌++◌, length, IfOk, OnOk, string_bytes};
+ghost use Rattle.std.specs.Prelude.{◌≡◌, ◌++◌, IfOk, OnOk, string_bytes};
 ghost use Rattle.argus_contents.specs.Content.{plain_option};
 ghost use Rattle.argus_cli.specs.Doing.{plain_bases};
 ghost use Rattle.argus_cli.specs.Listing.{base_line, listing};

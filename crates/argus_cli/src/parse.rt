@@ -1,6 +1,6 @@
 //! `parse`: the script that bytes spell.
 
-ghost use Rattle.std.specs.Prelude.{◌≡◌, ◌≤◌, length, ◌∷◌, [], None, IfOk, IfErr, OnOk};
+ghost use Rattle.std.specs.Prelude.{◌≡◌, ◌≤◌, length, None, IfOk, IfErr, OnOk};
 ghost use Rattle.argus_cli.specs.Fault.{IsFaultOf, NoFault};
 ghost use Rattle.argus_cli.specs.Lines.{lines_of};
 ghost use Rattle.argus_cli.specs.Parsed.{IsUnclosedAt, OnScriptFault};

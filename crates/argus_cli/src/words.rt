@@ -1,7 +1,6 @@
 //! Words of a line: the first one, and what is behind it.
 
 ghost use Rattle.std.specs.Prelude.{◌≡◌, ◌<◌, ◌≤◌, length, take, drop, slice_index};
-ghost use Rattle.std.specs.Str.{IsUtf8};
 ghost use Rattle.argus_cli.specs.Lines.{behind_blanks, behind_word, others, word};
 
 use crate::cut::may_part_words;
