@@ -1,7 +1,9 @@
 -- When a journal is legal, and what it says of each object.
+use Rattle.std.specs.Coded.{Coded-set, Unit-prop, ×_prop}
 use Rattle.std.specs.Prelude.{List, Option, [], map, ℕ, ◌+◌, ◌∷◌, ◌≡◌}
 use Rattle.argus_contents.specs.Content.{PlainContent}
 use Rattle.argus_entries.specs.Entry.{PlainEntry}
+use Rattle.argus_entries.specs.EntryCode.{reply_coded}
 use Rattle.argus_model.specs.Contents.{base, sees}
 use Rattle.argus_model.specs.Effects.{effects}
 use Rattle.argus_model.specs.Holders.{readers, writers}
@@ -15,6 +17,11 @@ use Rattle.argus_journal.specs.Opening.{Opening, opened}
 abbrev pub Legal : Opening → List PlainEntry → Type 0
 Legal s [] = Unit {0}
 Legal s (e ∷ older) = (e.reply ≡ answer s older e.call) × Legal s older
+
+-- a journal is legal in one way at most, so that the fact can stand in a type
+pub Legal-prop : (s : Opening) (j : List PlainEntry) → IsProp (Legal s j)
+Legal-prop s [] = Unit-prop
+Legal-prop s (e ∷ older) = ×_prop (Coded-set reply_coded e.reply (answer s older e.call)) (Legal-prop s older)
 
 -- who holds the object for reading, and for writing, as the history numbers them
 abbrev pub readers_of : Opening → List PlainEntry → ℕ → List ℕ

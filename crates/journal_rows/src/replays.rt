@@ -1,10 +1,11 @@
 //! Owners and contents of journals worked out. That each reply is the right one is a condition of the
 //! makers of these journals, so it is proved.
 
+use crate::kept::{nothing_said, owner_in, say};
 use crate::rows::{Said, Step, journal_of, prepared_then};
 use argus_actions::ActionId;
 use argus_contents::{Content, ObjId, Value};
-use argus_entries::Refusal;
+use argus_entries::{Call, Entry, Refusal, Reply};
 use argus_journal::{Owner, owner_of, replay_base, replay_for};
 use argus_memory::Heap;
 use std::test::Fail;
@@ -185,5 +186,18 @@ fn what_is_refused_leaves_no_trace(rt: HostRuntime) -> Result<(), Fail> {
     assert_eq!(rt; owner_of(&journal, A3), Some(Owner::Held(A3)));
     assert_eq!(rt; number_in(&replay_for(heap, &journal, A3, O0)?), Some(0));
     assert!(rt; replay_for(heap, &journal, A3, ObjId(9))?.is_none());
+    Ok(())
+}
+
+#[test]
+fn a_journal_that_is_kept_legal(rt: HostRuntime) -> Result<(), Fail> {
+    let mut kept = nothing_said(Heap::new(rt.alloc())?);
+    assert_eq!(rt; owner_in(&kept, A0), None);
+    let begin = Entry {
+        call: Call::BeginTop,
+        reply: Reply::Begun(A0),
+    };
+    say(&mut kept, begin)?;
+    assert_eq!(rt; owner_in(&kept, A0), Some(Owner::Held(A0)));
     Ok(())
 }

@@ -1,0 +1,157 @@
+-- Codes of queries, changes and answers: numbers, values and contents that give them back.
+use Rattle.std.proofs.Common.{ap, sym, ◌∙◌}
+use Rattle.std.specs.Coded.{Coded, code_by, coded_bool, coded_option, coded_ℕ, coded_ℤ, coded×}
+use Rattle.std.specs.Prelude.{Bool, None, Option, Some, false, if◌then◌else◌, pos, refl, ℕ, ℤ, ◌==◌, ◌≡◌}
+use Rattle.argus_contents.specs.Answer.{PlainAnswer, body, done, flag, num, signal, val}
+use Rattle.argus_contents.specs.Change.{PlainChange, addh, addl, change_tag, create, reml, remh, set_field, set_low, store, touch, trim}
+use Rattle.argus_contents.specs.Content.{PlainContent}
+use Rattle.argus_contents.specs.ContentCode.{content_coded, seen, value_back, value_code}
+use Rattle.argus_contents.specs.Value.{PlainValue, null}
+use Rattle.argus_contents.specs.declared.query.Query.{Query}
+use Rattle.argus_contents.specs.declared.query.Query.TheVariants.{Bottom, Fetch, Field, High, IsTag, Low, Size, TagValue, Top, Whole}
+use Rattle.argus_contents.specs.declared.signal.Signal.{Signal}
+use Rattle.argus_contents.specs.declared.signal.Signal.TheVariants.{Absent, Bounds, Exists, Limits, NegativeSize, WrongTag}
+
+pub value_injective : (v w : PlainValue) → value_code v ≡ value_code w → v ≡ w
+value_injective v w e = sym (value_back v) ∙ (ap (λ g. (seen g).0) e ∙ value_back w)
+
+abbrev pub value_coded : Coded PlainValue
+value_coded = record { code = value_code; inj = value_injective }
+
+-- a kind, with a number and an index
+abbrev pub query_parts : Query → ℕ × (ℕ × ℤ)
+query_parts Whole = (0, (0, pos 0))
+query_parts (Field i) = (1, (i, pos 0))
+query_parts Low = (2, (0, pos 0))
+query_parts High = (3, (0, pos 0))
+query_parts Size = (4, (0, pos 0))
+query_parts (Fetch i) = (5, (0, i))
+query_parts Bottom = (6, (0, pos 0))
+query_parts Top = (7, (0, pos 0))
+query_parts (IsTag t) = (8, (t, pos 0))
+query_parts (TagValue t) = (9, (t, pos 0))
+
+abbrev pub query_from : ℕ × (ℕ × ℤ) → Query
+query_from p =
+    if p.0 == 0 then Whole else (if p.0 == 1 then Field p.1.0 else (if p.0 == 2 then Low else (if p.0 == 3 then High else
+    (if p.0 == 4 then Size else (if p.0 == 5 then Fetch p.1.1 else (if p.0 == 6 then Bottom else (if p.0 == 7 then Top else
+    (if p.0 == 8 then IsTag p.1.0 else TagValue p.1.0))))))))
+
+pub query_back : (q : Query) → query_from (query_parts q) ≡ q
+query_back Whole = refl
+query_back (Field i) = refl
+query_back Low = refl
+query_back High = refl
+query_back Size = refl
+query_back (Fetch i) = refl
+query_back Bottom = refl
+query_back Top = refl
+query_back (IsTag t) = refl
+query_back (TagValue t) = refl
+
+abbrev pub query_coded : Coded Query
+query_coded = code_by (ℕ × (ℕ × ℤ)) (coded× coded_ℕ (coded× coded_ℕ coded_ℤ)) query_parts query_from query_back
+
+-- a kind, with a number, two indices, a content and a value
+abbrev pub ChangeParts : Type 0
+ChangeParts = ℕ × (ℕ × ((ℤ × ℤ) × (Option PlainContent × PlainValue)))
+
+abbrev pub change_parts : PlainChange → ChangeParts
+change_parts (create c) = (0, (0, ((pos 0, pos 0), (Some c, null))))
+change_parts (set_field i v) = (1, (i, ((pos 0, pos 0), (None, v))))
+change_parts (store i v) = (2, (0, ((i, pos 0), (None, v))))
+change_parts (addh v) = (3, (0, ((pos 0, pos 0), (None, v))))
+change_parts (addl v) = (4, (0, ((pos 0, pos 0), (None, v))))
+change_parts remh = (5, (0, ((pos 0, pos 0), (None, null))))
+change_parts reml = (6, (0, ((pos 0, pos 0), (None, null))))
+change_parts (set_low i) = (7, (0, ((i, pos 0), (None, null))))
+change_parts (trim i n) = (8, (0, ((i, n), (None, null))))
+change_parts (change_tag t v) = (9, (t, ((pos 0, pos 0), (None, v))))
+change_parts touch = (10, (0, ((pos 0, pos 0), (None, null))))
+
+abbrev pub create_from : Option PlainContent → PlainChange
+create_from None = touch
+create_from (Some c) = create c
+
+abbrev pub change_from : ChangeParts → PlainChange
+change_from p =
+    if p.0 == 0 then create_from p.1.1.1.0 else (if p.0 == 1 then set_field p.1.0 p.1.1.1.1 else
+    (if p.0 == 2 then store p.1.1.0.0 p.1.1.1.1 else (if p.0 == 3 then addh p.1.1.1.1 else (if p.0 == 4 then addl p.1.1.1.1 else
+    (if p.0 == 5 then remh else (if p.0 == 6 then reml else (if p.0 == 7 then set_low p.1.1.0.0 else
+    (if p.0 == 8 then trim p.1.1.0.0 p.1.1.0.1 else (if p.0 == 9 then change_tag p.1.0 p.1.1.1.1 else touch)))))))))
+
+pub change_back : (c : PlainChange) → change_from (change_parts c) ≡ c
+change_back (create c) = refl
+change_back (set_field i v) = refl
+change_back (store i v) = refl
+change_back (addh v) = refl
+change_back (addl v) = refl
+change_back remh = refl
+change_back reml = refl
+change_back (set_low i) = refl
+change_back (trim i n) = refl
+change_back (change_tag t v) = refl
+change_back touch = refl
+
+abbrev pub change_coded : Coded PlainChange
+change_coded =
+    code_by ChangeParts (coded× coded_ℕ (coded× coded_ℕ (coded× (coded× coded_ℤ coded_ℤ) (coded× (coded_option content_coded) value_coded))))
+    change_parts change_from change_back
+
+abbrev pub signal_number : Signal → ℕ
+signal_number Absent = 0
+signal_number Exists = 1
+signal_number Bounds = 2
+signal_number WrongTag = 3
+signal_number NegativeSize = 4
+signal_number Limits = 5
+
+abbrev pub signal_from : ℕ → Signal
+signal_from n =
+    if n == 0 then Absent else (if n == 1 then Exists else (if n == 2 then Bounds else (if n == 3 then WrongTag else
+    (if n == 4 then NegativeSize else Limits))))
+
+pub signal_back : (s : Signal) → signal_from (signal_number s) ≡ s
+signal_back Absent = refl
+signal_back Exists = refl
+signal_back Bounds = refl
+signal_back WrongTag = refl
+signal_back NegativeSize = refl
+signal_back Limits = refl
+
+abbrev pub signal_coded : Coded Signal
+signal_coded = code_by ℕ coded_ℕ signal_number signal_from signal_back
+
+-- a kind, with a number, a truth, a value, a content and a signal
+abbrev pub AnswerParts : Type 0
+AnswerParts = ℕ × (ℤ × (Bool × (PlainValue × (Option PlainContent × Signal))))
+
+abbrev pub answer_parts : PlainAnswer → AnswerParts
+answer_parts done = (0, (pos 0, (false, (null, (None, Absent)))))
+answer_parts (val v) = (1, (pos 0, (false, (v, (None, Absent)))))
+answer_parts (num n) = (2, (n, (false, (null, (None, Absent)))))
+answer_parts (flag b) = (3, (pos 0, (b, (null, (None, Absent)))))
+answer_parts (body c) = (4, (pos 0, (false, (null, (Some c, Absent)))))
+answer_parts (signal s) = (5, (pos 0, (false, (null, (None, s)))))
+
+abbrev pub body_from : Option PlainContent → PlainAnswer
+body_from None = done
+body_from (Some c) = body c
+
+abbrev pub answer_from : AnswerParts → PlainAnswer
+answer_from p =
+    if p.0 == 0 then done else (if p.0 == 1 then val p.1.1.1.0 else (if p.0 == 2 then num p.1.0 else
+    (if p.0 == 3 then flag p.1.1.0 else (if p.0 == 4 then body_from p.1.1.1.1.0 else signal p.1.1.1.1.1))))
+
+pub answer_back : (a : PlainAnswer) → answer_from (answer_parts a) ≡ a
+answer_back done = refl
+answer_back (val v) = refl
+answer_back (num n) = refl
+answer_back (flag b) = refl
+answer_back (body c) = refl
+answer_back (signal s) = refl
+
+abbrev pub answer_coded : Coded PlainAnswer
+answer_coded =
+    code_by AnswerParts (coded× coded_ℕ (coded× coded_ℤ (coded× coded_bool (coded× value_coded (coded× (coded_option content_coded) signal_coded)))))
+    answer_parts answer_from answer_back
