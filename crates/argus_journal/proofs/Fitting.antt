@@ -17,6 +17,7 @@ use Rattle.argus_contents.specs.Typing.{all_typed, each_typed, is_typed, is_type
 use Rattle.argus_contents.specs.Value as value
 use Rattle.argus_contents.specs.Value.{PlainValue, PlainValues, listed}
 use Rattle.argus_contents.specs.declared.limits.TheConstants.{MAX_BOUND, MAX_ITEMS, MIN_BOUND}
+use Rattle.argus_contents.proofs.Fitted.{within_keeps}
 use Rattle.argus_contents.proofs.Kept.{array_keeps}
 use Rattle.argus_journal.specs.Opening.{fits_shape}
 
@@ -150,29 +151,11 @@ array_typed (change_tag k v) t n low vs h e = e
 
 -- an array within the limits keeps them
 
-not_below : (a b : ℤ) → not (int_lt a b) ≡ true → b ≤ℤ a
-not_below a b e = grind (arith, ints)
-
 below_not : (a b : ℤ) → b ≤ℤ a → not (int_lt a b) ≡ true
 below_not a b e = grind (arith, ints)
 
-at_most : (m n : ℕ) → nat_le m n ≡ true → m ≤ n
-at_most m n e = grind (arith, nat_tests)
-
 most_at : (m n : ℕ) → m ≤ n → nat_le m n ≡ true
 most_at m n e = grind (arith, nat_tests)
-
-pub within_keeps : (low : ℤ) (size : ℕ) → is_within low size ≡ true → KeepsBounds low size
-within_keeps low size e =
-    let a = not (int_lt low MIN_BOUND) in
-    let b = not (int_lt MAX_BOUND low) in
-    let c = not (int_lt MAX_BOUND (high_of low size)) in
-    let d = nat_le size MAX_ITEMS in
-    let k = and_parts (a && b) (c && d) e in
-    let l = and_parts a b k.0 in
-    let m = and_parts c d k.1 in
-    let top = not_below MAX_BOUND (high_of low size) m.0 in
-    record { from = not_below low MIN_BOUND l.0; to = not_below MAX_BOUND low l.1; high = omega (arith, ints); items = at_most size MAX_ITEMS m.1 }
 
 pub keeps_within : (low : ℤ) (size : ℕ) → KeepsBounds low size → is_within low size ≡ true
 keeps_within low size k =

@@ -28,7 +28,8 @@ use Rattle.argus_journal.specs.Told.{counts_with, model_owner, replay_next, repl
 use Rattle.argus_journal.specs.declared.owner.Owner.{Owner}
 use Rattle.argus_journal.specs.declared.owner.Owner.TheVariants.{Base, Gone, Held}
 use Rattle.argus_journal.proofs.Contents.{content_fits}
-use Rattle.argus_journal.proofs.Fitting.{nothing, within_keeps}
+use Rattle.argus_contents.proofs.Fitted.{within_keeps}
+use Rattle.argus_journal.proofs.Fitting.{nothing}
 use Rattle.argus_journal.proofs.Newest.{newest_append}
 use Rattle.argus_journal.proofs.Told.{above_told, owner_told}
 

@@ -3,11 +3,13 @@ use denote.RattleType.{RattleType}
 use denote.Param.Send.{IsSend, IsSync, Frees}
 use Rattle.std.proofs.Crossing.{send, sync, frees}
 use Rattle.std.proofs.boxed.Box.TheSendSync as box
+use Rattle.std.proofs.sync.Arc.TheSendSync as shared
 use Rattle.std.proofs.string.String.TheSendSync as text
 use Rattle.std.proofs.vec.Vec.TheSendSync as list
 use Rattle.std.proofs.collections.VecDeque.TheSendSync as queue
 use Rattle.std.specs.contracts.alloc.Global.{the_row as global}
 use Rattle.std.specs.contracts.boxed.Box.{the_row as box_row}
+use Rattle.std.specs.contracts.sync.Arc.{the_row as shared_row}
 use Rattle.std.specs.contracts.string.String.{the_row as text_row}
 use Rattle.std.specs.contracts.vec.Vec.{the_row as list_row}
 use Rattle.std.specs.contracts.collections.VecDeque.{the_row as queue_row}
@@ -53,10 +55,16 @@ module _ (T : RattleType) where
   pub box_syncs : IsSync T → IsSync (box_row T heap rests)
   box_syncs s = box.the_sync T heap rests s heap_syncs
 
+  pub shared_sends : IsSend T → IsSync T → IsSend (shared_row T heap rests)
+  shared_sends s y = shared.the_send T heap rests s heap_sends y heap_syncs heap_frees
+
+  pub shared_syncs : IsSend T → IsSync T → IsSync (shared_row T heap rests)
+  shared_syncs s y = shared.the_sync T heap rests s heap_sends y heap_syncs heap_frees
+
 pub text_sends : IsSend (text_row heap rests)
 text_sends = text.the_send heap rests heap_sends heap_frees
 
 pub text_syncs : IsSync (text_row heap rests)
 text_syncs = text.the_sync heap rests heap_syncs
 
-pub ruleset crosses = (heap_sends, heap_syncs, heap_frees, list_sends, list_syncs, queue_sends, queue_syncs, box_sends, box_syncs, text_sends, text_syncs)
+pub ruleset crosses = (heap_sends, heap_syncs, heap_frees, list_sends, list_syncs, queue_sends, queue_syncs, box_sends, box_syncs, shared_sends, shared_syncs, text_sends, text_syncs)
