@@ -70,7 +70,7 @@ report() {
     printf '%-8s %10s %12s %12s %12s\n' "$1" "$(wc -l < "$script")" "$(wc -c < "$script")" "$(least "$script-open")" "$(least "$script")"
 }
 
-"$top/argus" --help > /dev/null
+"$top/argus" --prove
 printf '%-8s %10s %12s %12s %12s\n' script lines bytes 'parse (ms)' 'all (ms)'
 for count in 50000 100000; do
     report lines "$count"

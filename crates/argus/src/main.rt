@@ -18,18 +18,18 @@ use std::rt::Env;
 use std::{env, io};
 
 fn main(rt: HostRuntime) -> ExitCode {
-    let Ok(words) = words(&rt) else {
-        return failed(&rt, CliFault::Memory);
+    let Ok(words) = words_given(&rt) else {
+        return end_with_fault(&rt, CliFault::Memory);
     };
     match options(rt.alloc(), words) {
-        Ok(options) => ran(&rt, rt.alloc(), rt.stdin(), rt.stdout(), options),
-        Err(NoOptions::Usage { status, text }) => shown(&rt, status, &text),
-        Err(NoOptions::Memory) => failed(&rt, CliFault::Memory),
+        Ok(options) => run_script(&rt, rt.alloc(), rt.stdin(), rt.stdout(), options),
+        Err(NoOptions::Usage { status, text }) => show_usage(&rt, status, &text),
+        Err(NoOptions::OutOfMemory) => end_with_fault(&rt, CliFault::Memory),
     }
 }
 
 // The words behind the program's name.
-fn words(rt: &(impl Env + AllocGlobal)) -> io::Result<Vec<String>> {
+fn words_given(rt: &(impl Env + AllocGlobal)) -> io::Result<Vec<String>> {
     let mut words = Vec::new(rt.alloc());
     for word in env::args(rt)?.skip(1) {
         words.push(word)?;
@@ -38,7 +38,7 @@ fn words(rt: &(impl Env + AllocGlobal)) -> io::Result<Vec<String>> {
 }
 
 // Runs the script that the reader has, and lists to the writer.
-fn ran<R: Read + Drop, W: Write + Drop>(
+fn run_script<R: Read + Drop, W: Write + Drop>(
     rt: &impl Eprint,
     alloc: Global,
     reader: R,
@@ -46,7 +46,7 @@ fn ran<R: Read + Drop, W: Write + Drop>(
     options: Options,
 ) -> ExitCode {
     let Ok(heap) = Heap::new(alloc) else {
-        return failed(rt, CliFault::Memory);
+        return end_with_fault(rt, CliFault::Memory);
     };
     match run(
         heap,
@@ -55,12 +55,12 @@ fn ran<R: Read + Drop, W: Write + Drop>(
         options,
     ) {
         Ok(()) => ExitCode::SUCCESS,
-        Err(fault) => failed(rt, fault),
+        Err(fault) => end_with_fault(rt, fault),
     }
 }
 
 // The text of the command line's parser: help goes to standard output, a mistake to standard error.
-fn shown(rt: &(impl Print + Eprint), status: u8, text: &String) -> ExitCode {
+fn show_usage(rt: &(impl Print + Eprint), status: u8, text: &String) -> ExitCode {
     let shown = if status == 0 {
         rt.print(text)
     } else {
@@ -68,12 +68,12 @@ fn shown(rt: &(impl Print + Eprint), status: u8, text: &String) -> ExitCode {
     };
     match shown {
         Ok(()) => ExitCode::from(status),
-        Err(_) => failed(rt, CliFault::Write),
+        Err(_) => end_with_fault(rt, CliFault::Write),
     }
 }
 
 // That standard error can't be written is told by the status alone.
-fn failed(rt: &impl Eprint, fault: CliFault) -> ExitCode {
+fn end_with_fault(rt: &impl Eprint, fault: CliFault) -> ExitCode {
     let _ = rt.eprintln(&fault);
     ExitCode::from(fault.status())
 }

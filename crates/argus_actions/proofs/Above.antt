@@ -1,5 +1,5 @@
 -- Who is above whom, in any list of rows.
-use Rattle.std.proofs.Common.{◌≡◌, ◌≢◌, ℕ, ◌+◌, ◌<◌, ◌≤◌, Bool, true, false, eqb, ◌||◌, List, [], ◌∷◌, length, Some, subst, refl, sym, ◌∙◌, ap, arith, inl, inr, ◌⊎◌}
+use Rattle.std.proofs.Common.{◌≡◌, ◌≢◌, ℕ, ◌+◌, ◌<◌, ◌≤◌, Bool, true, false, eqb, ◌||◌, List, [], ◌∷◌, length, Some, None, subst, refl, sym, ◌∙◌, ap, arith, inl, inr, ◌⊎◌}
 use Rattle.std.proofs.lemmas.Bool.{eq-eqb, ne_eqb, cases_eq, or_left, or_right, false≢true}
 use Rattle.std.specs.Option.{option_and_then}
 use Rattle.argus_actions.specs.declared.action_id.ActionId.{ActionId}
@@ -22,7 +22,7 @@ or_second true b e h = absurd (false≢true (sym e))
 or_second false b e h = h
 
 -- above the newest row: it is that one, or above its parent
-ways : (n : ℕ) (r : Row) (older : List Row) (x y : ℕ) → y ≡ n + length older → is_above n (r ∷ older) x y ≡ true
+pub ways : (n : ℕ) (r : Row) (older : List Row) (x y : ℕ) → y ≡ n + length older → is_above n (r ∷ older) x y ≡ true
     → (x ≡ y) ⊎ ((p : ℕ) × ((r.origin ≡ Sub p) × (is_above n older x p ≡ true)))
 ways n r older x y newest up =
     let here : (eqb x y || at_parent false r.origin (is_above n older x)) ≡ true = sym (is_above_newest n r older x y newest) ∙ up in
@@ -49,10 +49,28 @@ above_le n (r ∷ older) x y up =
     ]
 
 -- what holds of the older rows holds with one row more
-lift : (n : ℕ) (r : Row) (older : List Row) (x y : ℕ) → is_above n older x y ≡ true → is_above n (r ∷ older) x y ≡ true
+pub lift : (n : ℕ) (r : Row) (older : List Row) (x y : ℕ) → is_above n older x y ≡ true → is_above n (r ∷ older) x y ≡ true
 lift n r older x y up =
     let h : (x ≤ y) × (y < n + length older) = above_le n older x y up in
     is_above_older n r older x y (λ e. omega arith) ∙ up
+
+-- an action with no parent has no ancestor but itself
+pub above_top : (n : ℕ) (rows : List Row) (x y : ℕ) → option_and_then (λ (row : Row). parent_in row.origin) (numbered n rows y) ≡ None → is_above n rows x y ≡ true → x ≡ y
+above_top n [] x y top up = absurd (false≢true up)
+above_top n (r ∷ older) x y top up =
+    elim (cases_eq y (n + length older)) [
+      | inl e ↦ elim (ways n r older x y e up) [
+        | inl same ↦ same
+        | inr via ↦ absurd (sub_none via.0 r.origin via.1.0 (sym (ap (option_and_then (λ (row : Row). parent_in row.origin)) (numbered_newest n r older y e)) ∙ top))
+      ]
+      | inr ne ↦ above_top n older x y (sym (ap (option_and_then (λ (row : Row). parent_in row.origin)) (numbered_older n r older y ne)) ∙ top) (sym (is_above_older n r older x y ne) ∙ up)
+    ]
+  where
+    sub_none : (p : ℕ) (o : Origin) → o ≡ Sub p → parent_in o ≡ None → ⊥
+    sub_none p o is none = some_none (ap parent_in (sym is) ∙ none)
+      where
+        some_none : {x : ActionId} → Some x ≡ None → ⊥
+        some_none e = cc
 
 -- an ancestor is its own ancestor
 pub above_self : (n : ℕ) (rows : List Row) (x y : ℕ) → is_above n rows x y ≡ true → is_above n rows x x ≡ true

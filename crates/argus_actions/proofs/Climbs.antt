@@ -1,5 +1,5 @@
 -- The walk up to an ancestor.
-use Rattle.std.proofs.Common.{◌≡◌, ℕ, ◌+◌, ◌<◌, ◌≤◌, Bool, true, false, eqb, ◌||◌, List, length, get_or, subst, refl, ◌∙◌, ap, arith}
+use Rattle.std.proofs.Common.{◌≡◌, ℕ, ◌+◌, ◌<◌, ◌≤◌, true, false, eqb, ◌||◌, List, length, get_or, subst, refl, ◌∙◌, ap, arith, ◌⊎◌, inl, inr}
 use Rattle.std.proofs.lemmas.Bool.{eq-eqb, ne_eqb}
 use Rattle.argus_actions.specs.declared.node.Node.{Node}
 use Rattle.argus_actions.specs.declared.origin.Origin.{Origin}
@@ -9,11 +9,6 @@ use Rattle.argus_actions.specs.Rows.{is_above}
 use Rattle.argus_actions.specs.Nodes.{shown, rows_of, ComesBetween, AreLinked}
 use Rattle.argus_actions.proofs.RowsLemmas.{linked_at, is_above_step}
 use Rattle.argus_actions.proofs.NodesLemmas.{row_at}
-
-not_sub : (o : Origin) (up : ℕ → Bool) → ((p : ℕ) → o ≡ Sub p → ⊥) → at_parent false o up ≡ false
-not_sub Top up other = refl
-not_sub (Sub p) up other = absurd (other p refl)
-not_sub (Nested c) up other = refl
 
 -- the action of a node was begun under an older one
 pub came_between : (n : ℕ) (nodes : List Node) (a k : ℕ) (d : Node) → AreLinked n (rows_of nodes) → a ≡ n + k → k < length nodes → ComesBetween n a (get_or nodes k d).origin
@@ -31,10 +26,15 @@ module _ (n : ℕ) (nodes : List Node) (x y k : ℕ) (d : Node) (linked : AreLin
       ∙ ap (λ b. b || at_parent false (get_or nodes k d).origin (is_above n (rows_of nodes) x)) (ne_eqb x y (λ same. omega arith))
       ∙ ap (λ (o : Origin). at_parent false o (is_above n (rows_of nodes) x)) is
 
-  pub climbed_out : x < y → ((p : ℕ) → (get_or nodes k d).origin ≡ Sub p → ⊥) → is_above n (rows_of nodes) x y ≡ false
-  climbed_out less other = step
+  out : (o : Origin) → at_parent false o (is_above n (rows_of nodes) x) ≡ false → (get_or nodes k d).origin ≡ o → x < y → is_above n (rows_of nodes) x y ≡ false
+  out o none is less = step
       ∙ ap (λ b. b || at_parent false (get_or nodes k d).origin (is_above n (rows_of nodes) x)) (ne_eqb x y (λ same. omega arith))
-      ∙ not_sub (get_or nodes k d).origin (is_above n (rows_of nodes) x) other
+      ∙ ap (λ (o : Origin). at_parent false o (is_above n (rows_of nodes) x)) is
+      ∙ none
+
+  pub climbed_out : x < y → ((get_or nodes k d).origin ≡ Top) ⊎ ((c : ℕ) × ((get_or nodes k d).origin ≡ Nested c)) → is_above n (rows_of nodes) x y ≡ false
+  climbed_out less (inl is) = out Top refl is less
+  climbed_out less (inr is) = out (Nested is.0) refl is.1 less
 
   pub parent_before : (p : ℕ) → (get_or nodes k d).origin ≡ Sub p → (n ≤ p) × (p < y)
   parent_before p is = let P : Origin → Type 0 = ComesBetween n y in subst P is (came_between n nodes y k d linked e below)

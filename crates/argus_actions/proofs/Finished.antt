@@ -4,11 +4,11 @@ use Rattle.std.proofs.lemmas.Bool.{eq-eqb, ne_eqb, cases_eq, and_right}
 use Rattle.std.proofs.lemmas.List.{get_or-set_same, get_or-set_other, get_or_default, length-set}
 use Rattle.argus_actions.specs.declared.node.Node.{Node}
 use Rattle.argus_actions.specs.declared.status.Status.{Status}
-use Rattle.argus_actions.specs.Row.{Row, under_of, comes_from, is_live, with_status}
+use Rattle.argus_actions.specs.Row.{Row, under_of, is_sub_of, comes_from, is_live, with_status}
 use Rattle.argus_actions.specs.Rows.{numbered, mark}
 use Rattle.argus_actions.specs.Nodes.{shown, rows_of, AreNodes, IsNode, link_to, live_count}
 use Rattle.argus_actions.proofs.RowsLemmas.{eqb_comm}
-use Rattle.argus_actions.proofs.Marks.{at_parent_same, length-mark, AreLinked-mark, depth_at-mark, newest_below-mark, live_count-mark, one}
+use Rattle.argus_actions.proofs.Marks.{at_parent_same, length-mark, AreLinked-mark, depth_at-mark, newest_where-mark, each_under, live_count-mark, one}
 use Rattle.argus_actions.proofs.NodesLemmas.{some_node, row_at, rows_of-marked}
 
 -- the node of a number, once the action `ended`, whose node was `last`, has ended with a status
@@ -17,6 +17,8 @@ finished s ended last a node = record {
   origin = node.origin;
   newest_sub = node.newest_sub;
   older_sub = node.older_sub;
+  newest_child = node.newest_child;
+  older_child = node.older_child;
   live_children = node.live_children - one (comes_from a last.origin && is_live last.status);
   status = cond (eqb a ended) s node.status;
   depth = node.depth;
@@ -45,8 +47,10 @@ module _ (n : ℕ) (nodes new : List Node) (ended i : ℕ) (s : Status) (e : end
         let less : live_count (mark n (λ a. eqb a ended) s (rows_of nodes)) a + one (comes_from a (get_or nodes i some_node).origin && is_live (get_or nodes i some_node).status) ≡ live_count (rows_of nodes) a
         = live_count-mark n s (rows_of nodes) a ended (shown (get_or nodes i some_node)) over last in
         rw (each a k d at in_old, finished_rows) (record {
-          newest = was.newest ∙ rw same_long (ap link_to (sym (newest_below-mark n (λ a. eqb a ended) s (rows_of nodes) a (n + length (rows_of nodes)))));
-          older = was.older ∙ ap link_to (at_parent_same None (get_or nodes k d).origin _ _ (λ p. sym (newest_below-mark n (λ a. eqb a ended) s (rows_of nodes) p a)));
+          newest = was.newest ∙ rw same_long (ap link_to (sym (newest_where-mark (is_sub_of a) n (λ a. eqb a ended) s (rows_of nodes) (n + length (rows_of nodes)))));
+          older = was.older ∙ ap link_to (at_parent_same None (get_or nodes k d).origin _ _ (λ p. sym (newest_where-mark (is_sub_of p) n (λ a. eqb a ended) s (rows_of nodes) a)));
+          newest_child = was.newest_child ∙ rw same_long (ap link_to (sym (newest_where-mark (comes_from a) n (λ a. eqb a ended) s (rows_of nodes) (n + length (rows_of nodes)))));
+          older_child = was.older_child ∙ ap link_to (each_under (under_of (get_or nodes k d).origin) _ _ (λ u. sym (newest_where-mark (comes_from u) n (λ a. eqb a ended) s (rows_of nodes) a)));
           children = (let count : (get_or nodes k d).live_children ≡ live_count (rows_of nodes) a = was.children in omega arith);
           depth = was.depth ∙ sym (depth_at-mark n (λ a. eqb a ended) s (rows_of nodes) a);
           shallow = was.shallow;
@@ -71,7 +75,7 @@ with_end s node = record node { status = s }
 
 end_cases : (ends less : Bool) (s : Status) (node : Node)
     → cond ends (with_end s (cond less (one_less node) node)) (cond less (one_less node) node)
-    ≡ (let r : Node = record { origin = node.origin; newest_sub = node.newest_sub; older_sub = node.older_sub; live_children = node.live_children - one (less && true); status = cond ends s node.status; depth = node.depth } in r)
+    ≡ (let r : Node = record { origin = node.origin; newest_sub = node.newest_sub; older_sub = node.older_sub; newest_child = node.newest_child; older_child = node.older_child; live_children = node.live_children - one (less && true); status = cond ends s node.status; depth = node.depth } in r)
 end_cases true true s node = refl
 end_cases true false s node =
     let same : node.live_children ≡ node.live_children - 0 = omega arith in
@@ -81,32 +85,40 @@ end_cases false false s node =
     let same : node.live_children ≡ node.live_children - 0 = omega arith in
     ap (λ (children : ℕ). let r : Node = record node { live_children = children } in r) same
 
--- the action was live, and was begun under another
-pub finished_under : (nodes : List Node) (ended under : ℕ) (s : Status) (e f : Node) → ended < length nodes → under < length nodes
-    → under_of (get_or nodes ended some_node).origin ≡ Some under → is_live (get_or nodes ended some_node).status ≡ true
-    → let less = set nodes under (one_less (get_or nodes under e)) in
-    (a k : ℕ) (d : Node) → a ≡ 0 + k → k < length nodes
-    → get_or (set less ended (with_end s (get_or less ended f))) k d ≡ finished s ended (get_or nodes ended some_node) a (get_or nodes k d)
-finished_under nodes ended under s e f in_ended in_under came live a k d at in_k =
-    let less : List Node = set nodes under (one_less (get_or nodes under e)) in
-    let long : length less ≡ length nodes = length-set nodes under (one_less (get_or nodes under e)) in
-    let same : a ≡ k = omega arith in
-    changed_at (with_end s) less ended k d f (omega arith) (omega arith)
-    ∙ ap (λ node. cond (eqb k ended) (with_end s node) node) (changed_at one_less nodes under k d e in_under in_k)
-    ∙ ap (λ b. cond (eqb k ended) (with_end s (cond b (one_less (get_or nodes k d)) (get_or nodes k d))) (cond b (one_less (get_or nodes k d)) (get_or nodes k d))) (eqb_comm k under)
-    ∙ end_cases (eqb k ended) (eqb under k) s (get_or nodes k d)
-    ∙ rw (same, came, live)
+-- numbers are the same where the places are
+eqb_places : (n a b k i : ℕ) → a ≡ n + k → b ≡ n + i → eqb k i ≡ eqb a b
+eqb_places n a b k i at_a at_b =
+    elim (cases_eq k i) [
+      | inl e ↦ eq-eqb k i e ∙ sym (eq-eqb a b (omega arith))
+      | inr ne ↦ ne_eqb k i ne ∙ sym (ne_eqb a b (λ e. ne (omega arith)))
+    ]
 
--- it was not live, or was begun under no other
-pub finished_alone : (nodes : List Node) (ended : ℕ) (s : Status) (f : Node) → ended < length nodes
-    → (under_of (get_or nodes ended some_node).origin ≡ None) ⊎ (is_live (get_or nodes ended some_node).status ≡ false)
-    → (a k : ℕ) (d : Node) → a ≡ 0 + k → k < length nodes
-    → get_or (set nodes ended (with_end s (get_or nodes ended f))) k d ≡ finished s ended (get_or nodes ended some_node) a (get_or nodes k d)
-finished_alone nodes ended s f in_ended last a k d at in_k =
-    let same : a ≡ k = omega arith in
-    changed_at (with_end s) nodes ended k d f in_ended in_k
-    ∙ end_cases (eqb k ended) false s (get_or nodes k d)
-    ∙ (elim last [
-      | inl top ↦ rw (same, top)
-      | inr over ↦ rw (same, over, and_right (comes_from k (get_or nodes ended some_node).origin) false refl)
-    ])
+module _ (n : ℕ) (nodes : List Node) (ended i : ℕ) (s : Status) (f : Node) (at_i : ended ≡ n + i) (in_ended : i < length nodes) where
+  -- the action was live, and was begun under another
+  pub finished_under : (under j : ℕ) (e : Node) → under ≡ n + j → j < length nodes
+      → under_of (get_or nodes i some_node).origin ≡ Some under → is_live (get_or nodes i some_node).status ≡ true
+      → let less = set nodes j (one_less (get_or nodes j e)) in
+      (a k : ℕ) (d : Node) → a ≡ n + k → k < length nodes
+      → get_or (set less i (with_end s (get_or less i f))) k d ≡ finished s ended (get_or nodes i some_node) a (get_or nodes k d)
+  finished_under under j e at_j in_under came live a k d at in_k =
+      let less : List Node = set nodes j (one_less (get_or nodes j e)) in
+      let long : length less ≡ length nodes = length-set nodes j (one_less (get_or nodes j e)) in
+      changed_at (with_end s) less i k d f (omega arith) (omega arith)
+      ∙ ap (λ node. cond (eqb k i) (with_end s node) node) (changed_at one_less nodes j k d e in_under in_k)
+      ∙ ap (λ b. cond (eqb k i) (with_end s (cond b (one_less (get_or nodes k d)) (get_or nodes k d))) (cond b (one_less (get_or nodes k d)) (get_or nodes k d))) (eqb_comm k j ∙ eqb_places n under a j k at_j at)
+      ∙ ap (λ b. cond b (with_end s (cond (eqb under a) (one_less (get_or nodes k d)) (get_or nodes k d))) (cond (eqb under a) (one_less (get_or nodes k d)) (get_or nodes k d))) (eqb_places n a ended k i at at_i)
+      ∙ end_cases (eqb a ended) (eqb under a) s (get_or nodes k d)
+      ∙ rw (came, live)
+
+  -- it was not live, or was begun under no other
+  pub finished_alone : (under_of (get_or nodes i some_node).origin ≡ None) ⊎ (is_live (get_or nodes i some_node).status ≡ false)
+      → (a k : ℕ) (d : Node) → a ≡ n + k → k < length nodes
+      → get_or (set nodes i (with_end s (get_or nodes i f))) k d ≡ finished s ended (get_or nodes i some_node) a (get_or nodes k d)
+  finished_alone last a k d at in_k =
+      changed_at (with_end s) nodes i k d f in_ended in_k
+      ∙ ap (λ b. cond b (with_end s (get_or nodes k d)) (get_or nodes k d)) (eqb_places n a ended k i at at_i)
+      ∙ end_cases (eqb a ended) false s (get_or nodes k d)
+      ∙ (elim last [
+        | inl top ↦ rw top
+        | inr over ↦ rw (over, and_right (comes_from a (get_or nodes i some_node).origin) false refl)
+      ])

@@ -4,9 +4,14 @@ pub mod NodesLemmas
 pub mod Climbs
 pub mod Finished
 pub mod Begun
+pub mod Newest
 pub mod Walks
 pub mod Links
 pub mod Walked
+pub mod Ancestry
+pub mod Siblings
 pub mod Accepted
 pub mod Parents
 pub mod Above
+pub mod InStep
+pub mod Crossing

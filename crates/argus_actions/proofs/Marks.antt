@@ -1,12 +1,13 @@
 -- Rows whose statuses have changed.
-use Rattle.std.proofs.Common.{◌≡◌, ℕ, suc, ◌+◌, ◌<◌, ◌≤◌, Bool, true, false, cond, eqb, ltb, ◌||◌, ◌&&◌, List, [], ◌∷◌, length, Some, refl, sym, ◌∙◌, ap, arith, inl, inr}
+use Rattle.std.proofs.Common.{◌≡◌, ℕ, suc, ◌+◌, ◌<◌, ◌≤◌, Bool, true, false, cond, eqb, ltb, ◌||◌, ◌&&◌, List, [], ◌∷◌, length, Option, Some, None, refl, sym, ◌∙◌, ap, arith, inl, inr}
 use Rattle.std.proofs.Math.Bool.{and-false}
+use Rattle.std.specs.Option.{option_and_then}
 use Rattle.std.proofs.lemmas.Bool.{eq-eqb, ne_eqb, cases_eq, cases_Bool}
 use Rattle.argus_actions.specs.declared.origin.Origin.{Origin}
 use Rattle.argus_actions.specs.declared.origin.Origin.TheVariants.{Top, Sub, Nested}
 use Rattle.argus_actions.specs.declared.status.Status.{Status}
 use Rattle.argus_actions.specs.Row.{Row, at_parent, comes_from, is_live, with_status}
-use Rattle.argus_actions.specs.Rows.{numbered, is_above, depth_at, mark, newest_below}
+use Rattle.argus_actions.specs.Rows.{numbered, is_above, depth_at, mark, newest_where}
 use Rattle.argus_actions.specs.Nodes.{AreLinked, live_count}
 use Rattle.argus_actions.proofs.RowsLemmas.{some_row, none_some, numbered_newest, numbered_older}
 
@@ -34,6 +35,15 @@ numbered-mark n which s (r ∷ older) a row at =
           ∙ numbered-mark n which s older a row (sym (numbered_older n r older a ne) ∙ at)
     ]
 
+pub numbered-mark_none : (n : ℕ) (which : ℕ → Bool) (s : Status) (rows : List Row) (a : ℕ) → numbered n rows a ≡ None → numbered n (mark n which s rows) a ≡ None
+numbered-mark_none n which s [] a none = refl
+numbered-mark_none n which s (r ∷ older) a none =
+    elim (cases_eq a (n + length older)) [
+      | inl e ↦ absurd (none_some r (sym none ∙ numbered_newest n r older a e))
+      | inr ne ↦ numbered_older n (cond (which (n + length older)) (with_status s r) r) (mark n which s older) a (λ e. ne (e ∙ ap (λ k. n + k) (length-mark n which s older)))
+          ∙ numbered-mark_none n which s older a (sym (numbered_older n r older a ne) ∙ none)
+    ]
+
 -- what is so of the parent
 pub at_parent_same : {X : Type 0} (none : X) (o : Origin) (f g : ℕ → X) → ((p : ℕ) → f p ≡ g p) → at_parent none o f ≡ at_parent none o g
 at_parent_same none Top f g same = refl
@@ -58,11 +68,17 @@ depth_at-mark n which s (r ∷ older) y =
       | inr e ↦ rw e (depth_at-mark n which s older y)
     ])
 
-pub newest_below-mark : (n : ℕ) (which : ℕ → Bool) (s : Status) (rows : List Row) (p bound : ℕ) → newest_below n (mark n which s rows) p bound ≡ newest_below n rows p bound
-newest_below-mark n which s [] p bound = refl
-newest_below-mark n which s (r ∷ older) p bound =
+pub newest_where-mark : (test : Origin → Bool) (n : ℕ) (which : ℕ → Bool) (s : Status) (rows : List Row) (bound : ℕ)
+    → newest_where test n (mark n which s rows) bound ≡ newest_where test n rows bound
+newest_where-mark test n which s [] bound = refl
+newest_where-mark test n which s (r ∷ older) bound =
     rw (length-mark n which s older, origin_marked (which (n + length older)) s r)
-    (ap (λ o. cond (ltb (n + length older) bound && at_parent false r.origin (λ q. eqb q p)) (Some (n + length older)) o) (newest_below-mark n which s older p bound))
+    (ap (λ o. cond (ltb (n + length older) bound && test r.origin) (Some (n + length older)) o) (newest_where-mark test n which s older bound))
+
+-- what is so of each under which an action may have been begun
+pub each_under : {X : Type 0} (o : Option ℕ) (f g : ℕ → Option X) → ((u : ℕ) → f u ≡ g u) → option_and_then f o ≡ option_and_then g o
+each_under None f g same = refl
+each_under (Some u) f g same = same u
 
 pub AreLinked-mark : (n : ℕ) (which : ℕ → Bool) (s : Status) (rows : List Row) → AreLinked n rows → AreLinked n (mark n which s rows)
 AreLinked-mark n which s [] linked = tt

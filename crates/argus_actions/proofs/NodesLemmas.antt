@@ -47,7 +47,7 @@ rows_of-push nodes node = ap (map shown) (reverse-append nodes (node ∷ []))
 
 -- a node to read past the end with
 abbrev pub some_node : Node
-some_node = record { origin = Top; newest_sub = 0; older_sub = 0; live_children = 0; status = Live; depth = 0 }
+some_node = record { origin = Top; newest_sub = 0; older_sub = 0; newest_child = 0; older_child = 0; live_children = 0; status = Live; depth = 0 }
 
 -- nodes show these rows where each does
 rows_are : (n : ℕ) (new : List Node) (rows : List Row) → length new ≡ length rows
@@ -80,15 +80,14 @@ rows_of-same n nodes new long each =
     let k_old : k < length nodes = omega arith in
     ap Some (each k some_node k_old) ∙ sym (row_at n nodes a k some_node e k_old))
 
--- the action under which a live one was begun has a live child
-pub under_is_there : (nodes : List Node) (a under : ℕ) (d : Node) → AreNodes 0 nodes → a < length nodes → under_of (get_or nodes a d).origin ≡ Some under
-    → under < length nodes
-under_is_there nodes a under d kept in_a is =
-    let row : numbered 0 (rows_of nodes) a ≡ Some (shown (get_or nodes a d)) = row_at 0 nodes a a d (omega arith) in_a in
-    let between = linked_at 0 (rows_of nodes) a (shown (get_or nodes a d)) kept.linked row in
-    let P : Option ℕ → Type 0 = λ o. IfSome o (λ u. (0 ≤ u) × (u < a)) in
-    let found : (0 ≤ under) × (under < a) = subst P is between in
-    omega (arith, found.1)
+-- the action under which one was begun has a node
+pub under_is_there : (n : ℕ) (nodes : List Node) (a i under : ℕ) (d : Node) → AreNodes n nodes → a ≡ n + i → i < length nodes → under_of (get_or nodes i d).origin ≡ Some under
+    → (n ≤ under) × (under < a)
+under_is_there n nodes a i under d kept at in_a is =
+    let row : numbered n (rows_of nodes) a ≡ Some (shown (get_or nodes i d)) = row_at n nodes a i d at in_a in
+    let between = linked_at n (rows_of nodes) a (shown (get_or nodes i d)) kept.linked row in
+    let P : Option ℕ → Type 0 = λ o. IfSome o (λ u. (n ≤ u) × (u < a)) in
+    subst P is between
 
 -- a live child counts
 live_counts : (n : ℕ) (rows : List Row) (a under : ℕ) (row : Row) → numbered n rows a ≡ Some row → comes_from under row.origin ≡ true → is_live row.status ≡ true → 0 < live_count rows under
@@ -103,11 +102,11 @@ live_counts n (r ∷ older) a under row at came live =
           omega arith
     ]
 
-pub under_has_live : (nodes : List Node) (a under : ℕ) (d e : Node) → AreNodes 0 nodes → a < length nodes → under_of (get_or nodes a d).origin ≡ Some under → is_live (get_or nodes a d).status ≡ true
-    → 1 ≤ (get_or nodes under e).live_children
-under_has_live nodes a under d e kept in_a is live =
-    let in_under : under < length nodes = under_is_there nodes a under d kept in_a is in
-    let came : comes_from under (get_or nodes a d).origin ≡ true = rw is (eq-eqb under under refl) in
-    let counted : 0 < live_count (rows_of nodes) under = live_counts 0 (rows_of nodes) a under (shown (get_or nodes a d)) (row_at 0 nodes a a d (omega arith) in_a) came live in
-    let count : (get_or nodes under e).live_children ≡ live_count (rows_of nodes) under = (kept.each under under e (omega arith) in_under).children in
+pub under_has_live : (n : ℕ) (nodes : List Node) (a i under j : ℕ) (d e : Node) → AreNodes n nodes → a ≡ n + i → i < length nodes → under ≡ n + j
+    → under_of (get_or nodes i d).origin ≡ Some under → is_live (get_or nodes i d).status ≡ true → 1 ≤ (get_or nodes j e).live_children
+under_has_live n nodes a i under j d e kept at in_a at_under is live =
+    let there = under_is_there n nodes a i under d kept at in_a is in
+    let came : comes_from under (get_or nodes i d).origin ≡ true = rw is (eq-eqb under under refl) in
+    let counted : 0 < live_count (rows_of nodes) under = live_counts n (rows_of nodes) a under (shown (get_or nodes i d)) (row_at n nodes a i d at in_a) came live in
+    let count : (get_or nodes j e).live_children ≡ live_count (rows_of nodes) under = (kept.each under j e at_under (omega (arith, there.1))).children in
     omega arith

@@ -12,7 +12,7 @@ use Rattle.argus_actions.specs.Nodes.{ComesBetween, AreLinked}
 use Rattle.argus_actions.proofs.RowsLemmas.{linked_at, begun_before, is_above_newest, is_above_older, is_above_step}
 
 -- an action that was begun is its own ancestor
-is_above_self : (n : ℕ) (rows : List Row) (x : ℕ) → n ≤ x → x < n + length rows → is_above n rows x x ≡ true
+pub is_above_self : (n : ℕ) (rows : List Row) (x : ℕ) → n ≤ x → x < n + length rows → is_above n rows x x ≡ true
 is_above_self n [] x low below = absurd (omega arith)
 is_above_self n (r ∷ older) x low below =
     elim (cases_eq x (n + length older)) [

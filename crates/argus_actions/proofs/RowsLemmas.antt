@@ -1,6 +1,6 @@
 -- Rows by number, and the ancestors of an action.
 use Rattle.std.proofs.Common.{◌≡◌, ◌≢◌, ℕ, ◌+◌, ◌<◌, ◌≤◌, false, eqb, ◌||◌, List, [], ◌∷◌, length, Some, None, subst, refl, sym, ◌∙◌, ap, arith, inl, inr}
-use Rattle.std.proofs.lemmas.Bool.{eq-eqb, ne_eqb, cond-true, cond-false, cases_eq}
+use Rattle.std.proofs.lemmas.Bool.{eq-eqb, ne_eqb, cond-true, cond-false, cases_eq, cases_lt}
 use Rattle.argus_actions.specs.declared.origin.Origin.{Origin}
 use Rattle.argus_actions.specs.declared.origin.Origin.TheVariants.{Top, Sub, Nested}
 use Rattle.argus_actions.specs.Row.{Row, at_parent}
@@ -27,9 +27,29 @@ numbered_past n (row ∷ older) a past = numbered_older n row older a (λ e. ome
 pub none_some : (r : Row) → None ≡ Some r → ⊥
 none_some r e = cc
 
+pub numbered_low : (n : ℕ) (rows : List Row) (a : ℕ) → a < n → numbered n rows a ≡ None
+numbered_low n [] a low = refl
+numbered_low n (row ∷ older) a low = numbered_older n row older a (λ e. omega arith) ∙ numbered_low n older a low
+
 -- a row that is there has a number before the next
 pub begun_before : (n : ℕ) (rows : List Row) (a : ℕ) (row : Row) → numbered n rows a ≡ Some row → n + length rows ≤ a → ⊥
 begun_before n rows a row at past = none_some row (sym (numbered_past n rows a past) ∙ at)
+
+-- a row has a number from the first on, and before the next
+pub row_begun : (n : ℕ) (rows : List Row) (a : ℕ) (row : Row) → numbered n rows a ≡ Some row → (n ≤ a) × (a < n + length rows)
+row_begun n rows a row at = (
+  elim (cases_lt a n) [ inl low ↦ absurd (none_some row (sym (numbered_low n rows a low) ∙ at)) | inr held ↦ held ],
+  elim (cases_lt a (n + length rows)) [ inl less ↦ less | inr past ↦ absurd (begun_before n rows a row at past) ],
+)
+
+-- and each such number has a row
+pub row_there : (n : ℕ) (rows : List Row) (a : ℕ) → n ≤ a → a < n + length rows → (row : Row) × (numbered n rows a ≡ Some row)
+row_there n [] a low below = absurd (omega arith)
+row_there n (r ∷ older) a low below =
+    elim (cases_eq a (n + length older)) [
+      | inl e ↦ (r, numbered_newest n r older a e)
+      | inr ne ↦ let found : (row : Row) × (numbered n older a ≡ Some row) = row_there n older a low (omega arith) in (found.0, numbered_older n r older a ne ∙ found.1)
+    ]
 
 -- two lists of rows with the same row at each number
 pub same_numbered : (n : ℕ) (xs ys : List Row) → length xs ≡ length ys → ((a : ℕ) → n ≤ a → a < n + length xs → numbered n xs a ≡ numbered n ys a) → xs ≡ ys
@@ -126,3 +146,7 @@ is_above_newer n (r ∷ older) x y linked newer =
 pub is_above_past : (n : ℕ) (rows : List Row) (x y : ℕ) → n + length rows ≤ y → is_above n rows x y ≡ false
 is_above_past n [] x y past = refl
 is_above_past n (r ∷ older) x y past = is_above_older n r older x y (λ e. omega arith) ∙ is_above_past n older x y (omega arith)
+
+pub is_above_low : (n : ℕ) (rows : List Row) (x y : ℕ) → y < n → is_above n rows x y ≡ false
+is_above_low n [] x y low = refl
+is_above_low n (r ∷ older) x y low = is_above_older n r older x y (λ e. omega arith) ∙ is_above_low n older x y low

@@ -33,6 +33,15 @@ module _ (n : ℕ) (row : Row) (older : List Row) (a bound x : ℕ) where
   via_older : x ≢ n + length older → is_via n (row ∷ older) a bound x ≡ is_via n older a bound x
   via_older ne = rw (ne_eqb x (n + length older) ne)
 
+-- a number without a row is below no action
+pub via_unbegun : (n : ℕ) (rows : List Row) (a bound x : ℕ) → n + length rows ≤ x → is_via n rows a bound x ≡ false
+via_unbegun n [] a bound x past = refl
+via_unbegun n (row ∷ older) a bound x past = via_older n row older a bound x (λ e. omega arith) ∙ via_unbegun n older a bound x (omega arith)
+
+pub via_low : (n : ℕ) (rows : List Row) (a bound x : ℕ) → x < n → is_via n rows a bound x ≡ false
+via_low n [] a bound x low = refl
+via_low n (row ∷ older) a bound x low = via_older n row older a bound x (λ e. omega arith) ∙ via_low n older a bound x low
+
 -- no subaction has a number past the newest
 pub via_past : (n : ℕ) (rows : List Row) (a bound x : ℕ) → n + length rows ≤ bound → x < bound → is_via n rows a bound x ≡ false
 via_past n [] a bound x past below = refl
@@ -50,10 +59,6 @@ via_past n (row ∷ older) a bound x past below =
     by_origin Top each = refl
     by_origin (Sub p) each = each p
     by_origin (Nested c) each = refl
-
-    via_unbegun : (n : ℕ) (rows : List Row) (a bound x : ℕ) → n + length rows ≤ x → is_via n rows a bound x ≡ false
-    via_unbegun n [] a bound x past = refl
-    via_unbegun n (row ∷ older) a bound x past = via_older n row older a bound x (λ e. omega arith) ∙ via_unbegun n older a bound x (omega arith)
 
 -- what is below a is below it by some subaction
 pub above_via : (n : ℕ) (rows : List Row) (a x : ℕ) → AreLinked n rows → n ≤ x → x < n + length rows → is_handled n rows a 0 x ≡ is_above n rows a x
@@ -80,7 +85,7 @@ pub record IsNewestSub (n : ℕ) (rows : List Row) (a bound c : ℕ) : Type 0 wh
   pub newer : a < c
   pub under : (row : Row) → numbered n rows c ≡ Some row → row.origin ≡ Sub a
 
-sub_of : (o : Origin) (a : ℕ) → at_parent false o (λ p. eqb p a) ≡ true → o ≡ Sub a
+pub sub_of : (o : Origin) (a : ℕ) → at_parent false o (λ p. eqb p a) ≡ true → o ≡ Sub a
 sub_of Top a e = absurd (false_true e)
   where
     false_true : false ≡ true → ⊥

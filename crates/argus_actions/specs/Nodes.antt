@@ -1,13 +1,14 @@
 -- What a tree keeps of its actions, oldest first, and what its nodes say beside their rows.
-use Rattle.std.specs.Prelude.{◌≡◌, ℕ, ◌+◌, ◌<◌, ◌≤◌, false, ◌&&◌, ◌==◌, if◌then◌else◌, List, [], ◌∷◌, length, reverse, map, get_or, Option, Some, None, IfSome}
+use Rattle.std.specs.Prelude.{◌≡◌, ℕ, ◌+◌, ◌<◌, ◌≤◌, ◌&&◌, ◌==◌, if◌then◌else◌, List, [], ◌∷◌, length, reverse, map, get_or, Option, Some, None, IfSome}
+use Rattle.std.specs.Option.{option_and_then}
 use Rattle.argus_contents.specs.declared.limits.TheConstants.{MAX_ACTIONS, MAX_ACTION_DEPTH}
 use Rattle.argus_actions.specs.declared.node.TheConstants.{NONE}
 use Rattle.argus_actions.specs.declared.action_id.ActionId.{ActionId}
 use Rattle.argus_actions.specs.declared.node.Node.{Node}
 use Rattle.argus_actions.specs.declared.origin.Origin.{Origin}
 use Rattle.argus_actions.specs.declared.status.Status.TheVariants.{Live}
-use Rattle.argus_actions.specs.Row.{Row, at_parent, under_of, comes_from, is_live}
-use Rattle.argus_actions.specs.Rows.{depth_at, newest_below}
+use Rattle.argus_actions.specs.Row.{Row, at_parent, under_of, is_sub_of, comes_from, is_live}
+use Rattle.argus_actions.specs.Rows.{AreInStep, depth_at, newest_below, newest_child_below}
 use Rattle.argus_actions.specs.Tree.{Tree, row_of}
 
 abbrev pub shown : Node → Row
@@ -44,6 +45,8 @@ live_count (row ∷ older) a = (if comes_from a row.origin && is_live row.status
 pub record IsNode (folded : ℕ) (rows : List Row) (a : ℕ) (node : Node) : Type 0 where
   pub newest : node.newest_sub ≡ link_to (newest_below folded rows a (folded + length rows))
   pub older : node.older_sub ≡ link_to (at_parent None node.origin (λ p. newest_below folded rows p a))
+  pub newest_child : node.newest_child ≡ link_to (newest_child_below folded rows a (folded + length rows))
+  pub older_child : node.older_child ≡ link_to (option_and_then (λ under. newest_child_below folded rows under a) (under_of node.origin))
   pub children : node.live_children ≡ live_count rows a
   pub depth : node.depth ≡ depth_at folded rows a
   pub shallow : node.depth ≤ MAX_ACTION_DEPTH
@@ -54,6 +57,11 @@ pub record AreNodes (folded : ℕ) (nodes : List Node) : Type 0 where
   pub linked : AreLinked folded (rows_of nodes)
   pub each : (a k : ℕ) (d : Node) → a ≡ folded + k → k < length nodes → IsNode folded (rows_of nodes) a (get_or nodes k d)
 
+-- and of the statuses that they show
+pub record AreKept (folded : ℕ) (kept : List Node) : Type 0 where
+  pub nodes : AreNodes folded kept
+  pub in_step : AreInStep folded (rows_of kept)
+
 -- what is found of the action of a number
 abbrev pub IsNodeOf : Tree → ℕ → Option Node → Type 0
 IsNodeOf tree a None = (row_of tree a ≡ None) × (live_count tree.rows a ≡ 0)
@@ -62,10 +70,19 @@ IsNodeOf tree a (Some node) = (row_of tree a ≡ Some (shown node)) × IsNode tr
 -- the node of this number, once an action was begun
 abbrev pub adopted : Origin → ℕ → ℕ → Node → Node
 adopted origin number a node = record node {
-  newest_sub = if at_parent false origin (λ p. p == a) then number else node.newest_sub;
+  newest_sub = if is_sub_of a origin then number else node.newest_sub;
+  newest_child = if comes_from a origin then number else node.newest_child;
   live_children = node.live_children + (if comes_from a origin then 1 else 0);
 }
 
 -- the node of an action that was just begun
-abbrev pub fresh : Origin → ℕ → ℕ → Node
-fresh origin older depth = record { origin = origin; newest_sub = NONE; older_sub = older; live_children = 0; status = Live; depth = depth }
+abbrev pub fresh : Origin → ℕ → ℕ → ℕ → Node
+fresh origin older child depth =
+    record { origin = origin; newest_sub = NONE; older_sub = older; newest_child = NONE; older_child = child; live_children = 0; status = Live; depth = depth }
+
+-- the links of an action that is begun next, to the one that was begun before it under the same parent, and under the same parent or creator
+abbrev pub older_sub_link : ℕ → List Row → Origin → ℕ
+older_sub_link folded rows origin = link_to (at_parent None origin (λ p. newest_below folded rows p (folded + length rows)))
+
+abbrev pub older_child_link : ℕ → List Row → Origin → ℕ
+older_child_link folded rows origin = link_to (option_and_then (λ under. newest_child_below folded rows under (folded + length rows)) (under_of origin))

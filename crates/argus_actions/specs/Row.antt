@@ -1,10 +1,10 @@
 -- A row: what contracts see of one action.
-use Rattle.std.specs.Prelude.{ℕ, Bool, true, false, ◌==◌, Option, Some, None}
+use Rattle.std.specs.Prelude.{ℕ, Bool, true, false, not, ◌==◌, Option, Some, None}
 use Rattle.std.specs.Option.{option_map_or}
 use Rattle.argus_actions.specs.declared.origin.Origin.{Origin}
 use Rattle.argus_actions.specs.declared.origin.Origin.TheVariants.{Top, Sub, Nested}
 use Rattle.argus_actions.specs.declared.status.Status.{Status}
-use Rattle.argus_actions.specs.declared.status.Status.TheVariants.{Live, Committed, Aborted}
+use Rattle.argus_actions.specs.declared.status.Status.TheVariants.{Live, Committed, Aborted, Folded}
 
 -- how the action was begun, and what has become of it
 pub record Row : Type 0 where
@@ -23,6 +23,10 @@ under_of Top = None
 under_of (Sub parent) = Some parent
 under_of (Nested creator) = Some creator
 
+-- it was begun under this action, as its subaction
+abbrev pub is_sub_of : ℕ → Origin → Bool
+is_sub_of a origin = at_parent false origin (λ parent. parent == a)
+
 -- it was begun under this action, as its subaction or as its nested topaction
 abbrev pub comes_from : ℕ → Origin → Bool
 comes_from a origin = option_map_or (λ under. under == a) (under_of origin) false
@@ -31,6 +35,17 @@ abbrev pub is_live : Status → Bool
 is_live Live = true
 is_live Committed = false
 is_live Aborted = false
+is_live Folded = false
+
+-- what may have become of a subaction, by what has become of its parent: it ends no later, and is aborted with it
+abbrev pub may_follow : Status → Status → Bool
+may_follow Live sub = true
+may_follow Committed sub = not (is_live sub)
+may_follow Aborted Aborted = true
+may_follow Aborted Live = false
+may_follow Aborted Committed = false
+may_follow Aborted Folded = false
+may_follow Folded sub = false
 
 abbrev pub with_status : Status → Row → Row
 with_status status row = record { origin = row.origin; status = status }

@@ -1,33 +1,28 @@
-//! `ActionError`: why a call of the tree was refused.
+//! `ActionError`: why no action was begun.
 
+ghost use Rattle.std.specs.Prelude.{◌≡◌};
+ghost use Rattle.argus_actions.specs.declared.action_error.ActionError.TheVariants.{Refused};
+
+use crate::action_refusal::ActionRefusal;
 use thiserror::Error;
 
-/// Why a call was refused. The first that applies is answered, in this order; the tree is as before.
-///
-/// | Refusal | When | Calls |
-/// |---|---|---|
-/// | `NoAction` | the action was not begun | all that name one |
-/// | `Over` | it has committed or aborted | all that name one |
-/// | `ChildrenLive` | it has a live subaction or a live nested topaction | `commit` |
-/// | `TooDeep` | the parent has 64 ancestors, itself among them | `begin_sub` |
-/// | `TooMany` | 1,000,000 actions were begun | `begin_top`, `begin_sub`, `begin_nested` |
-/// | `OutOfMemory` | an allocation was refused | `begin_top`, `begin_sub`, `begin_nested` |
+/// Why no action was begun; the tree is as before. `OutOfMemory` comes only where nothing refuses the call.
 ///
 /// ```text
-/// assert_eq!(rt; tree.commit(ActionId(70)), Err(ActionError::NoAction));
+/// assert_eq!(rt; tree.begin_sub(ActionId(70)), Err(ActionError::Refused(ActionRefusal::NoAction)));
 /// ```
 #[derive(Clone, Copy, Debug, PartialEq, Eq, Error)]
 pub enum ActionError {
-    #[error("no such action was begun")]
-    NoAction,
-    #[error("the action is over")]
-    Over,
-    #[error("the action has a live child")]
-    ChildrenLive,
-    #[error("the action would have too many ancestors")]
-    TooDeep,
-    #[error("too many actions were begun")]
-    TooMany,
+    #[error("{0}")]
+    Refused(ActionRefusal),
     #[error("out of memory")]
     OutOfMemory,
+}
+
+impl From<ActionRefusal> for ActionError {
+    ghost from_gives = { λ refusal e. e ≡ Refused refusal };
+
+    fn from(refusal: ActionRefusal) -> ActionError {
+        ActionError::Refused(refusal)
+    }
 }

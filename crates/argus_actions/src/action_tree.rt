@@ -1,22 +1,23 @@
 //! `ActionTree`: the actions that were begun.
 
-ghost use Rattle.std.specs.Prelude.{◌≡◌, ℕ, ◌<◌, ◌+◌, ◌-◌, true, [], ◌∷◌, None, Some, OnOk, OnErr, IfOk, MatchOption};
+ghost use Rattle.std.specs.Prelude.{◌≡◌, ℕ, ◌<◌, ◌≤◌, ◌+◌, ◌-◌, true, [], ◌∷◌, None, Some, OnOk, OnErr, IfOk, MatchOption};
 ghost use Rattle.std.specs.Option.{option_and_then};
 ghost use Rattle.std.specs.Result.{result_err};
 ghost use Rattle.argus_actions.specs.declared.origin.Origin.TheVariants.{Top, Sub, Nested};
 ghost use Rattle.argus_actions.specs.declared.status.Status.TheVariants.{Live};
 ghost use Rattle.argus_actions.specs.Row.{at_parent};
-ghost use Rattle.argus_actions.specs.Rows.{depth_at};
-ghost use Rattle.argus_actions.specs.Tree.{Tree, next, status_of, parent_of, creator_of, newest_sub_of, older_sub_of, is_ancestor, has_live_child, depth_of, SameActions, after_begin, after_commit, after_abort};
-ghost use Rattle.argus_actions.specs.Nodes.{IsNodeOf, ComesBetween, link_end};
-ghost use Rattle.argus_actions.specs.Refusals.{begin_top_refusal, begin_sub_refusal, begin_nested_refusal, commit_refusal, abort_refusal, IsRefusedBy};
+ghost use Rattle.argus_actions.specs.Rows.{depth_at, under_at, is_live_at, is_sub_at, is_child_of, AreInStep};
+ghost use Rattle.argus_actions.specs.Tree.{Tree, next, status_of, parent_of, creator_of, newest_sub_of, older_sub_of, newest_child_of, older_sibling_of, is_ancestor, has_live_child, depth_of, IsGreatestBelow, SameActions, after_begin, after_commit, after_abort, after_abort_others};
+ghost use Rattle.argus_actions.specs.Nodes.{IsNodeOf, AreLinked, ComesBetween, link_end};
+ghost use Rattle.argus_actions.specs.Refusals.{begin_top_refusal, begin_sub_refusal, begin_nested_refusal, commit_refusal, abort_refusal, abort_others_refusal, IsRefusedBy};
 
 use crate::action_error::ActionError;
 use crate::action_id::ActionId;
+use crate::action_refusal::ActionRefusal;
 use crate::node::{NONE, Node};
 use crate::origin::Origin;
 use crate::status::Status;
-use crate::walk::{abort_under, climbs, finish, push_begun};
+use crate::walk::{abort_siblings, abort_under, climbs, finish, push_begun};
 use argus_contents::limits::{MAX_ACTION_DEPTH, MAX_ACTIONS};
 use argus_memory::{Heap, OutOfMemory};
 use std::marker::Model;
@@ -36,6 +37,8 @@ use std::marker::Model;
 /// ```
 #[derive(Drop)]
 pub struct ActionTree {
+    // The number of the first action that has a node; those below are folded.
+    first: u32,
     nodes: Vec<Node, Heap>,
 }
 
@@ -46,11 +49,11 @@ impl Model for ActionTree {
 
     ghost Value = { Tree };
 
-    ghost use Rattle.argus_actions.specs.Nodes.{rows_of, AreNodes};
+    ghost use Rattle.argus_actions.specs.Nodes.{rows_of, AreKept};
 
-    ghost view = { λ t. record { folded = 0; rows = rows_of t.nodes.items; room = vec_capacity t.nodes - vec_len t.nodes } };
+    ghost view = { λ t. record { folded = t.first; rows = rows_of t.nodes.items; room = vec_capacity t.nodes - vec_len t.nodes } };
 
-    ghost invariant = { λ t. AreNodes 0 t.nodes.items };
+    ghost invariant = { λ t. AreKept t.first t.nodes.items };
 }
 
 // The action that a link leads to.
@@ -70,48 +73,63 @@ impl ActionTree {
         ensures rows { result.rows ≡ [] }
         ensures folded { result.folded ≡ 0 }
     {
+        ActionTree::starting_at(heap, 0)
+    }
+
+    /// A tree whose actions begin with this number, at most 1,000,000: those below are folded, and
+    /// no other was begun. It takes no memory.
+    pub fn starting_at(heap: Heap, first: u32) -> Self
+        requires { first ≤ MAX_ACTIONS }
+        ensures rows { result.rows ≡ [] }
+        ensures folded { result.folded ≡ first }
+    {
         ActionTree {
+            first,
             nodes: Vec::new(heap),
         }
     }
 
-    /// How many actions were begun, which is the number of the next one.
+    /// How many actions were begun, folded ones among them, which is the number of the next one.
     pub fn len(&self) -> u32
         ensures { result ≡ next self.now }
     {
-        self.nodes.len() as u32
+        self.first + self.nodes.len() as u32
     }
 
     /// What has become of an action; None where it was not begun.
     pub fn status(&self, a: ActionId) -> Option<Status>
         ensures { result ≡ status_of self.now a.0 }
     {
+        if a.0 < self.first {
+            return Some(Status::Folded);
+        }
         self.node(a).map(|node| node.status)
     }
 
-    /// The parent of a subaction; None for all others.
+    /// The parent of a subaction; None for all others, and for a folded one.
     pub fn parent(&self, a: ActionId) -> Option<ActionId>
         ensures { result ≡ parent_of self.now a.0 }
     {
         match self.node(a)?.origin {
             Origin::Sub(parent) => Some(ActionId(parent)),
-            _ => None,
+            Origin::Top | Origin::Nested(_) => None,
         }
     }
 
-    /// The creator of a nested topaction; None for all others.
+    /// The creator of a nested topaction; None for all others, and for a folded one.
     pub fn creator(&self, a: ActionId) -> Option<ActionId>
         ensures { result ≡ creator_of self.now a.0 }
     {
         match self.node(a)?.origin {
             Origin::Nested(creator) => Some(ActionId(creator)),
-            _ => None,
+            Origin::Top | Origin::Sub(_) => None,
         }
     }
 
     /// The subaction that was begun last under the action, whatever has become of it; None where it has none.
     ///
-    /// With `older_sub` it leads to every action that an abort of this one ends, and to no other.
+    /// With `older_sub` it leads to every subaction of this one, and to no other; over theirs, and so
+    /// on, to every action that an abort of this one ends beside itself.
     pub fn newest_sub(&self, a: ActionId) -> Option<ActionId>
         ensures { result ≡ newest_sub_of self.now a.0 }
     {
@@ -125,14 +143,34 @@ impl ActionTree {
         linked(self.node(a)?.older_sub)
     }
 
-    /// The number of the action's ancestors, itself among them: 1 to 64. None where it was not begun.
+    /// The action that was begun last under this one, as its subaction or as its nested topaction;
+    /// None where there is none.
+    ///
+    /// With `older_sibling` it leads to every action that was begun under this one, and so from
+    /// the parent or creator of an action to all its siblings.
+    pub fn newest_child(&self, a: ActionId) -> Option<ActionId>
+        ensures { result ≡ newest_child_of self.now a.0 }
+    {
+        linked(self.node(a)?.newest_child)
+    }
+
+    /// The action of the same parent or creator that was begun next before this one; None where it
+    /// is the first, and for a topaction that isn't nested.
+    pub fn older_sibling(&self, a: ActionId) -> Option<ActionId>
+        ensures { result ≡ older_sibling_of self.now a.0 }
+    {
+        linked(self.node(a)?.older_child)
+    }
+
+    /// The number of the action's ancestors, itself among them: 1 to 64. None where it was not begun, or is folded.
     pub fn depth(&self, a: ActionId) -> Option<u32>
         ensures { result ≡ depth_of self.now a.0 }
     {
         self.node(a).map(|node| u32::from(node.depth))
     }
 
-    /// Whether a live subaction has the action as its parent, or a live nested topaction as its creator.
+    /// Whether a live subaction has the action as its parent, or a live nested topaction as its
+    /// creator; false where it was not begun or is folded.
     pub fn has_live_child(&self, a: ActionId) -> bool
         ensures { result ≡ has_live_child self.now a.0 }
     {
@@ -142,13 +180,16 @@ impl ActionTree {
         }
     }
 
-    /// Whether `x` is an ancestor of `y`; false where either was not begun.
+    /// Whether `x` is an ancestor of `y`; false where either was not begun or is folded.
     ///
     /// An action is its own ancestor; the other ancestors of a subaction are those of its parent.
     pub fn is_ancestor(&self, x: ActionId, y: ActionId) -> bool
         ensures { result ≡ is_ancestor self.now x.0 y.0 }
     {
-        (y.0 as usize) < self.nodes.len() && climbs(self.nodes.as_slice(), x.0, y.0)
+        if y.0 < self.first {
+            return false;
+        }
+        y.0 < self.len() && climbs(self.nodes.as_slice(), self.first, x.0, y.0)
     }
 
     /// A law for proofs; it does nothing. The parent of an action is one of its ancestors, since an
@@ -160,31 +201,70 @@ impl ActionTree {
         let _ = self.nodes.len();
     }
 
+    /// A law for proofs; it does nothing. An ancestor of a live action is live.
+    pub fn ancestor_is_live(&self, x: ActionId, a: ActionId)
+        requires above { is_ancestor self.now x.0 a.0 ≡ true }
+        requires live { status_of self.now a.0 ≡ Some Live }
+        ensures { status_of self.now x.0 ≡ Some Live }
+    {
+        let _ = self.nodes.len();
+    }
+
+    /// A law for proofs; it does nothing. Each action was begun under an older one, if under any,
+    /// and a subaction is over no later than its parent.
+    pub fn rows_are_sound(&self)
+        ensures linked { AreLinked self.now.folded self.now.rows }
+        ensures in_step { AreInStep self.now.folded self.now.rows }
+    {
+        let _ = self.nodes.len();
+    }
+
+    /// A law for proofs; it does nothing. From `newest_sub` on, `older_sub` leads to every
+    /// subaction of an action, and to no other.
+    pub fn subs_in_turn(&self, a: ActionId)
+        ensures newest { IsGreatestBelow (next self.now) (is_sub_at self.now.folded self.now.rows a.0) (newest_sub_of self.now a.0) }
+        ensures older { (x : ℕ) → is_sub_at self.now.folded self.now.rows a.0 x ≡ true
+            → IsGreatestBelow x (is_sub_at self.now.folded self.now.rows a.0) (older_sub_of self.now x) }
+    {
+        let _ = self.nodes.len();
+    }
+
+    /// A law for proofs; it does nothing. From `newest_child` on, `older_sibling` leads to every
+    /// action that was begun under this one, and to no other.
+    pub fn children_in_turn(&self, a: ActionId)
+        ensures newest { IsGreatestBelow (next self.now) (is_child_of self.now.folded self.now.rows a.0) (newest_child_of self.now a.0) }
+        ensures older { (x : ℕ) → is_child_of self.now.folded self.now.rows a.0 x ≡ true
+            → IsGreatestBelow x (is_child_of self.now.folded self.now.rows a.0) (older_sibling_of self.now x) }
+    {
+        let _ = self.nodes.len();
+    }
+
     /// Why a topaction can't be begun now: `TooMany`. Want of memory is not foreseen.
-    pub fn begin_top_refusal(&self) -> Option<ActionError>
+    pub fn begin_top_refusal(&self) -> Option<ActionRefusal>
         ensures { result ≡ begin_top_refusal self.now }
     {
         if self.len() < MAX_ACTIONS {
             None
         } else {
-            Some(ActionError::TooMany)
+            Some(ActionRefusal::TooMany)
         }
     }
 
     /// Why a subaction of this parent can't be begun now: `NoAction`, `Over`, `TooDeep` or `TooMany`.
-    pub fn begin_sub_refusal(&self, parent: ActionId) -> Option<ActionError>
+    pub fn begin_sub_refusal(&self, parent: ActionId) -> Option<ActionRefusal>
         ensures { result ≡ begin_sub_refusal self.now parent.0 }
     {
-        match self.node(parent) {
-            None => Some(ActionError::NoAction),
-            Some(node) if !node.status.is_live() => Some(ActionError::Over),
-            Some(node) if u32::from(node.depth) >= MAX_ACTION_DEPTH => Some(ActionError::TooDeep),
-            Some(_) => self.begin_top_refusal(),
+        if let Some(refusal) = self.abort_refusal(parent) {
+            return Some(refusal);
+        }
+        match self.depth(parent) {
+            Some(depth) if depth >= MAX_ACTION_DEPTH => Some(ActionRefusal::TooDeep),
+            _ => self.begin_top_refusal(),
         }
     }
 
     /// Why a nested topaction of this creator can't be begun now: `NoAction`, `Over` or `TooMany`.
-    pub fn begin_nested_refusal(&self, creator: ActionId) -> Option<ActionError>
+    pub fn begin_nested_refusal(&self, creator: ActionId) -> Option<ActionRefusal>
         ensures { result ≡ begin_nested_refusal self.now creator.0 }
     {
         match self.abort_refusal(creator) {
@@ -194,23 +274,35 @@ impl ActionTree {
     }
 
     /// Why the action can't commit now: `NoAction`, `Over` or `ChildrenLive`.
-    pub fn commit_refusal(&self, a: ActionId) -> Option<ActionError>
+    pub fn commit_refusal(&self, a: ActionId) -> Option<ActionRefusal>
         ensures { result ≡ commit_refusal self.now a.0 }
     {
         match self.abort_refusal(a) {
-            None if self.has_live_child(a) => Some(ActionError::ChildrenLive),
+            None if self.has_live_child(a) => Some(ActionRefusal::ChildrenLive),
             refusal => refusal,
         }
     }
 
     /// Why the action can't be aborted now: `NoAction` or `Over`.
-    pub fn abort_refusal(&self, a: ActionId) -> Option<ActionError>
+    pub fn abort_refusal(&self, a: ActionId) -> Option<ActionRefusal>
         ensures { result ≡ abort_refusal self.now a.0 }
     {
         match self.status(a) {
-            None => Some(ActionError::NoAction),
+            None => Some(ActionRefusal::NoAction),
             Some(Status::Live) => None,
-            Some(Status::Committed | Status::Aborted) => Some(ActionError::Over),
+            Some(Status::Committed | Status::Aborted | Status::Folded) => {
+                Some(ActionRefusal::Over)
+            },
+        }
+    }
+
+    /// Why the action can't end its siblings now: `NoAction`, `Over`, `ChildrenLive` or `NoSiblings`.
+    pub fn abort_others_refusal(&self, a: ActionId) -> Option<ActionRefusal>
+        ensures { result ≡ abort_others_refusal self.now a.0 }
+    {
+        match self.commit_refusal(a) {
+            None if self.under(a).is_none() => Some(ActionRefusal::NoSiblings),
+            refusal => refusal,
         }
     }
 
@@ -238,7 +330,7 @@ impl ActionTree {
         ensures err { OnErr result (self.new ≡ self.old) }
     {
         if let Some(refusal) = self.begin_top_refusal() {
-            return Err(refusal);
+            return Err(ActionError::Refused(refusal));
         }
         match self.reserve() {
             Ok(()) => Ok(self.begin_top_reserved()),
@@ -257,7 +349,7 @@ impl ActionTree {
         ensures err { OnErr result (self.new ≡ self.old) }
     {
         if let Some(refusal) = self.begin_sub_refusal(parent) {
-            return Err(refusal);
+            return Err(ActionError::Refused(refusal));
         }
         match self.reserve() {
             Ok(()) => Ok(self.begin_sub_reserved(parent)),
@@ -276,7 +368,7 @@ impl ActionTree {
         ensures err { OnErr result (self.new ≡ self.old) }
     {
         if let Some(refusal) = self.begin_nested_refusal(creator) {
-            return Err(refusal);
+            return Err(ActionError::Refused(refusal));
         }
         match self.reserve() {
             Ok(()) => Ok(self.begin_nested_reserved(creator)),
@@ -317,7 +409,7 @@ impl ActionTree {
     /// Commits an action. A subaction's commit is relative to its parent.
     ///
     /// Refusals: `NoAction`, `Over`, then `ChildrenLive`.
-    pub fn commit(&mut self, a: ActionId) -> Result<(), ActionError>
+    pub fn commit(&mut self, a: ActionId) -> Result<(), ActionRefusal>
         ensures refused { result_err result ≡ commit_refusal self.old a.0 }
         ensures ok { OnOk result (self.new ≡ after_commit self.old a.0) }
         ensures err { OnErr result (self.new ≡ self.old) }
@@ -336,14 +428,19 @@ impl ActionTree {
         requires { commit_refusal self.old a.0 ≡ None }
         ensures { self.new ≡ after_commit self.old a.0 }
     {
-        finish(self.nodes.as_mut_slice(), a.0, Status::Committed);
+        finish(
+            self.nodes.as_mut_slice(),
+            self.first,
+            a.0,
+            Status::Committed,
+        );
     }
 
     /// Aborts an action with all its subactions, theirs, and so on, whether they have committed or
     /// not. Nested topactions that were begun under any of them go on.
     ///
     /// Refusals: `NoAction`, then `Over`.
-    pub fn abort(&mut self, a: ActionId) -> Result<(), ActionError>
+    pub fn abort(&mut self, a: ActionId) -> Result<(), ActionRefusal>
         ensures refused { result_err result ≡ abort_refusal self.old a.0 }
         ensures ok { OnOk result (self.new ≡ after_abort self.old a.0) }
         ensures err { OnErr result (self.new ≡ self.old) }
@@ -362,16 +459,57 @@ impl ActionTree {
         requires { abort_refusal self.old a.0 ≡ None }
         ensures { self.new ≡ after_abort self.old a.0 }
     {
-        abort_under(self.nodes.as_mut_slice(), a.0);
+        abort_under(self.nodes.as_mut_slice(), self.first, a.0);
     }
 
-    // The node of an action; None where it was not begun.
+    /// Aborts all live siblings of an action, each with its subactions, theirs, and so on. A
+    /// sibling is another action with the same parent or creator, of either kind. Committed siblings
+    /// and those begun later are untouched, and nested topactions begun under a sibling go on.
+    ///
+    /// Refusals: `NoAction`, `Over`, `ChildrenLive`, then `NoSiblings`.
+    pub fn abort_others(&mut self, a: ActionId) -> Result<(), ActionRefusal>
+        ensures refused { result_err result ≡ abort_others_refusal self.old a.0 }
+        ensures ok { OnOk result (self.new ≡ after_abort_others self.old a.0) }
+        ensures err { OnErr result (self.new ≡ self.old) }
+    {
+        match self.abort_others_refusal(a) {
+            Some(refusal) => Err(refusal),
+            None => {
+                self.abort_others_ready(a);
+                Ok(())
+            }
+        }
+    }
+
+    /// Aborts all live siblings of an action, as `abort_others` does where nothing refuses it.
+    pub fn abort_others_ready(&mut self, a: ActionId)
+        requires { abort_others_refusal self.old a.0 ≡ None }
+        ensures { self.new ≡ after_abort_others self.old a.0 }
+    {
+        if let Some(under) = self.under(a) {
+            abort_siblings(self.nodes.as_mut_slice(), self.first, a.0, under);
+        }
+    }
+
+    // The parent or creator of an action.
+    fn under(&self, a: ActionId) -> Option<u32>
+        ensures { result ≡ under_at self.now.folded self.now.rows a.0 }
+    {
+        self.node(a)?.origin.under()
+    }
+
+    // The node of an action; None where it was not begun, or is folded.
     fn node(&self, a: ActionId) -> Option<Node>
         ensures node { IsNodeOf self.now a.0 result }
         ensures newest { option_and_then (λ node. link_end node.newest_sub) result ≡ newest_sub_of self.now a.0 }
         ensures older { option_and_then (λ node. link_end node.older_sub) result ≡ older_sub_of self.now a.0 }
+        ensures newest_child { option_and_then (λ node. link_end node.newest_child) result ≡ newest_child_of self.now a.0 }
+        ensures older_child { option_and_then (λ node. link_end node.older_child) result ≡ older_sibling_of self.now a.0 }
     {
-        let at = a.0 as usize;
+        if a.0 < self.first {
+            return None;
+        }
+        let at = (a.0 - self.first) as usize;
         if at < self.nodes.len() {
             Some(self.nodes[at])
         } else {
@@ -384,10 +522,11 @@ impl ActionTree {
         requires room { 0 < self.old.room }
         requires few { next self.old < MAX_ACTIONS }
         requires between { ComesBetween self.old.folded (next self.old) origin }
+        requires live { at_parent true origin (is_live_at self.old.folded self.old.rows) ≡ true }
         requires shallow { at_parent 0 origin (depth_at self.old.folded self.old.rows) < MAX_ACTION_DEPTH }
         ensures number { result.0 ≡ next self.old }
         ensures tree { self.new ≡ after_begin self.old origin }
     {
-        ActionId(push_begun(&mut self.nodes, origin))
+        ActionId(push_begun(&mut self.nodes, self.first, origin))
     }
 }

@@ -8,6 +8,7 @@
 
 mod action_error;
 mod action_id;
+mod action_refusal;
 mod action_tree;
 mod node;
 mod origin;
@@ -16,5 +17,6 @@ mod walk;
 
 pub use action_error::ActionError;
 pub use action_id::ActionId;
+pub use action_refusal::ActionRefusal;
 pub use action_tree::ActionTree;
 pub use status::Status;

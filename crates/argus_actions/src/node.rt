@@ -14,6 +14,10 @@ pub(crate) struct Node {
     pub(crate) newest_sub: u32,
     /// The subaction of the same parent that was begun before it.
     pub(crate) older_sub: u32,
+    /// Its newest subaction or nested topaction; from there `older_child` leads to all others.
+    pub(crate) newest_child: u32,
+    /// The action of the same parent or creator that was begun before it.
+    pub(crate) older_child: u32,
     /// How many of its subactions and nested topactions are live.
     pub(crate) live_children: u32,
     pub(crate) status: Status,
@@ -21,5 +25,5 @@ pub(crate) struct Node {
     pub(crate) depth: u8,
 }
 
-// A million nodes are 24 megabytes.
-const _: () = prove!(size_of::<Node>() == 24);
+// A million nodes are 32 megabytes.
+const _: () = prove!(size_of::<Node>() == 32);

@@ -10,6 +10,7 @@ ghost use Rattle.argus_actions.specs.Row.{is_live};
 /// | `Live` | it was begun |
 /// | `Committed` | it committed, and none of its ancestors has aborted |
 /// | `Aborted` | it or an ancestor of it aborted, whether it had committed or not |
+/// | `Folded` | the tree was made, in which the numbers begin above its own |
 ///
 /// ```text
 /// let a = tree.begin_top()?;
@@ -21,6 +22,7 @@ pub enum Status {
     Live,
     Committed,
     Aborted,
+    Folded,
 }
 
 impl Status {
@@ -30,7 +32,7 @@ impl Status {
     {
         match self {
             Status::Live => true,
-            Status::Committed | Status::Aborted => false,
+            Status::Committed | Status::Aborted | Status::Folded => false,
         }
     }
 }

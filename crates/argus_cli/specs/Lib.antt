@@ -11,4 +11,5 @@ pub mod Reading
 pub mod Said
 pub mod Script
 pub mod Status
+pub mod Watched
 pub mod Work

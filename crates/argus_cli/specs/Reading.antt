@@ -63,4 +63,4 @@ so_far parts block = text_of (plain_parts parts) ++ block_text block
 -- P holds of the kind of a fault; want of memory says nothing
 abbrev pub OnKind : LineError → (FaultKind → Type 0) → Type 0
 OnKind (error.Fault k) P = P k
-OnKind error.Memory P = Unit {0}
+OnKind error.OutOfMemory P = Unit {0}

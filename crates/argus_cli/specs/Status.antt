@@ -15,4 +15,4 @@ status_of fault.Write = 5
 -- the status is that of a mistake in the command line, or of help
 abbrev pub EndsWith0Or2 : NoOptions → Type 0
 EndsWith0Or2 (no.Usage status text) = (status ≡ 0) ⊎ (status ≡ 2)
-EndsWith0Or2 no.Memory = Unit {0}
+EndsWith0Or2 no.OutOfMemory = Unit {0}

@@ -12,7 +12,7 @@ use std::alloc::{AllocError, Global};
 /// What the words behind the program's name ask for. Without any, the bases are listed.
 ///
 /// `Usage` has the text with which the program ends and its status: 2 where the words are no command
-/// line of this program, 0 for `--help`. `Memory` may come in place of any answer.
+/// line of this program, 0 for `--help`. `OutOfMemory` may come in place of any answer.
 ///
 /// ```text
 /// let options = options(rt.alloc(), words)?;       // of `argus --list bases`
@@ -54,11 +54,11 @@ fn usage(alloc: Global, error: &Error) -> NoOptions
     ensures { EndsWith0Or2 result }
 {
     if let ErrorKind::OutOfMemory = error.kind() {
-        return NoOptions::Memory;
+        return NoOptions::OutOfMemory;
     }
     let status = if error.use_stderr() { 2 } else { 0 };
     match format!(in alloc; "{error}") {
         Ok(text) => NoOptions::Usage { status, text },
-        Err(_) => NoOptions::Memory,
+        Err(_) => NoOptions::OutOfMemory,
     }
 }

@@ -13,7 +13,7 @@ pub(crate) fn field_number(fields: &[(Name, Ty)], name: &str) -> Option<u8>
 {
     match field_place(fields, name) {
         Some(place) if place < 256 => Some(place as u8),
-        _ => None,
+        Some(_) | None => None,
     }
 }
 

@@ -2,9 +2,10 @@
 
 ghost use Rattle.std.specs.Prelude.{◌≡◌, true, false, IfOk, IfErr};
 ghost use Rattle.argus_cli.specs.Ran.{ReadUpTo};
-ghost use Rattle.argus_cli.specs.declared.input_fault.InputFault.TheVariants as InputFault;
+ghost use Rattle.argus_cli.specs.Watched.{has_failed, inner_of};
+ghost use Rattle.argus_cli.specs.declared.input_error.InputError.TheVariants as InputError;
 
-use crate::input_fault::InputFault;
+use crate::input_error::InputError;
 use crate::watched::Watched;
 use argus_memory::Heap;
 use std::io::Read;
@@ -17,21 +18,22 @@ pub(crate) fn read_up_to<R: Read + Drop>(
     heap: Heap,
     reader: &mut Watched<R>,
     limit: usize,
-) -> Result<Vec<u8, Heap>, InputFault>
-    requires { reader.old.failed ≡ false }
-    ensures read { IfOk result (λ bytes. ReadUpTo limit (R.remaining reader.old.inner) (R.remaining reader.new.inner) bytes.items) }
-    ensures failed { IfErr result (λ e. e ≡ InputFault.Read → reader.new.failed ≡ true) }
+) -> Result<Vec<u8, Heap>, InputError>
+    requires { has_failed reader.old ≡ false }
+    ensures read { IfOk result (λ bytes. ReadUpTo limit (R.remaining (inner_of reader.old))
+        (R.remaining (inner_of reader.new)) bytes.items) }
+    ensures failed { IfErr result (λ e. e ≡ InputError.Read → has_failed reader.new ≡ true) }
 {
     let mut all = Vec::new(heap);
     let mut chunk = [0u8; CHUNK];
     while all.len() < limit {
         let size = CHUNK.min(limit - all.len());
         match reader.read_once(&mut chunk[..size]) {
-            None => return Err(InputFault::Read),
+            None => return Err(InputError::Read),
             Some(0) => return Ok(all),
             Some(n) => {
                 if all.extend_from_slice(&chunk[..n]).is_err() {
-                    return Err(InputFault::Memory);
+                    return Err(InputError::OutOfMemory);
                 }
             }
         }

@@ -13,7 +13,7 @@ mod deed;
 mod fault_kind;
 mod fields;
 mod input;
-mod input_fault;
+mod input_error;
 pub mod limits;
 mod line;
 mod line_error;

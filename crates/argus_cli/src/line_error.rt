@@ -8,38 +8,38 @@ use std::alloc::{AllocError, AllocFailed};
 #[derive(Clone, Copy)]
 pub(crate) enum LineError {
     Fault(FaultKind),
-    Memory,
+    OutOfMemory,
 }
 
 impl From<OutOfMemory> for LineError {
     ghost use Rattle.std.specs.Prelude.{◌≡◌};
-    ghost use Rattle.argus_cli.specs.declared.line_error.LineError.TheVariants.{Memory};
+    ghost use Rattle.argus_cli.specs.declared.line_error.LineError.TheVariants.{OutOfMemory};
 
-    ghost from_gives = { λ _ e. e ≡ Memory };
+    ghost from_gives = { λ _ e. e ≡ OutOfMemory };
 
     fn from(_refused: OutOfMemory) -> LineError {
-        LineError::Memory
+        LineError::OutOfMemory
     }
 }
 
 impl From<AllocError> for LineError {
     ghost use Rattle.std.specs.Prelude.{◌≡◌};
-    ghost use Rattle.argus_cli.specs.declared.line_error.LineError.TheVariants.{Memory};
+    ghost use Rattle.argus_cli.specs.declared.line_error.LineError.TheVariants.{OutOfMemory};
 
-    ghost from_gives = { λ _ e. e ≡ Memory };
+    ghost from_gives = { λ _ e. e ≡ OutOfMemory };
 
     fn from(_refused: AllocError) -> LineError {
-        LineError::Memory
+        LineError::OutOfMemory
     }
 }
 
 impl<T: Drop> From<AllocFailed<T>> for LineError {
     ghost use Rattle.std.specs.Prelude.{◌≡◌};
-    ghost use Rattle.argus_cli.specs.declared.line_error.LineError.TheVariants.{Memory};
+    ghost use Rattle.argus_cli.specs.declared.line_error.LineError.TheVariants.{OutOfMemory};
 
-    ghost from_gives = { λ _ e. e ≡ Memory };
+    ghost from_gives = { λ _ e. e ≡ OutOfMemory };
 
     fn from(_refused: AllocFailed<T>) -> LineError {
-        LineError::Memory
+        LineError::OutOfMemory
     }
 }

@@ -8,7 +8,7 @@ use std::alloc::AllocError;
 /// match options(rt.alloc(), words) {
 ///     Ok(options) => ..,
 ///     Err(NoOptions::Usage { status, text }) => ..,     // of `argus --workers 9`: 2, and what clap says
-///     Err(NoOptions::Memory) => ..,
+///     Err(NoOptions::OutOfMemory) => ..,
 /// }
 /// ```
 #[derive(Debug, Drop)]
@@ -17,16 +17,16 @@ pub enum NoOptions {
     /// `--help`.
     Usage { status: u8, text: String },
     /// There was no memory to read the command line.
-    Memory,
+    OutOfMemory,
 }
 
 impl From<AllocError> for NoOptions {
     ghost use Rattle.std.specs.Prelude.{◌≡◌};
-    ghost use Rattle.argus_cli.specs.declared.no_options.NoOptions.TheVariants.{Memory};
+    ghost use Rattle.argus_cli.specs.declared.no_options.NoOptions.TheVariants.{OutOfMemory};
 
-    ghost from_gives = { λ _ e. e ≡ Memory };
+    ghost from_gives = { λ _ e. e ≡ OutOfMemory };
 
     fn from(_refused: AllocError) -> NoOptions {
-        NoOptions::Memory
+        NoOptions::OutOfMemory
     }
 }

@@ -2,6 +2,7 @@
 
 ghost use Rattle.std.specs.Prelude.{◌≡◌, ◌≤◌, ℕ, length, take, true, false, OnOk, OnErr};
 ghost use Rattle.std.specs.Io.KnownBytes.{Appends};
+ghost use Rattle.argus_cli.specs.Watched.{has_failed, inner_of};
 
 use crate::watched::Watched;
 use std::io::Write;
@@ -15,10 +16,13 @@ pub(crate) fn write_whole<W: Write + Drop>(
     writer: &mut Watched<W>,
     bytes: &[u8],
 ) -> Result<(), NotWritten>
-    requires { writer.old.failed ≡ false }
-    ensures ok { OnOk result (Appends (W.contents writer.old.inner) (W.contents writer.new.inner) bytes.now) }
-    ensures cut { OnErr result ((n : ℕ) × (n ≤ length bytes.now) × Appends (W.contents writer.old.inner) (W.contents writer.new.inner) (take n bytes.now)) }
-    ensures failed { OnErr result (writer.new.failed ≡ true) }
+    requires { has_failed writer.old ≡ false }
+    ensures ok { OnOk result (Appends (W.contents (inner_of writer.old))
+        (W.contents (inner_of writer.new)) bytes.now) }
+    ensures cut { OnErr result ((n : ℕ) × (n ≤ length bytes.now)
+        × Appends (W.contents (inner_of writer.old)) (W.contents (inner_of writer.new))
+        (take n bytes.now)) }
+    ensures failed { OnErr result (has_failed writer.new ≡ true) }
 {
     let mut at = 0;
     while at < bytes.len() {

@@ -33,7 +33,7 @@ pub(crate) fn parse(heap: Heap, bytes: &[u8]) -> Result<Script<'_>, ParseError>
         let (line, others) = rest.split_at(first_line_len(rest));
         match reading.take(heap, lines, before, line) {
             Ok(()) => {}
-            Err(LineError::Memory) => return Err(ParseError::Memory),
+            Err(LineError::OutOfMemory) => return Err(ParseError::Memory),
             Err(LineError::Fault(kind)) => return Err(fault_at(lines + 1, kind)),
         }
         lines += 1;

@@ -87,7 +87,7 @@ impl<'a> Reading<'a> {
     /// A block begins at the line with this number.
     fn enter(&mut self, heap: Heap, number: u32) -> Result<(), LineError>
         requires { self.old.block ≡ None }
-        ensures fault { IfErr result (λ e. e ≡ LineError.Memory) }
+        ensures fault { IfErr result (λ e. e ≡ LineError.OutOfMemory) }
         ensures same { OnOk result ((self.new.objects ≡ self.old.objects) × (self.new.parts ≡ self.old.parts)) }
         ensures block { OnOk result ((opened self.new.block ≡ number ∷ []) × (block_text self.new.block ≡ command.enter ∷ [])) }
     {
@@ -110,7 +110,7 @@ impl<'a> Reading<'a> {
         match read_content(heap, text) {
             Ok(content) => self.step(Step::Create(name, content)),
             Err(ReadError::Fault(_)) => Err(LineError::Fault(FaultKind::BadValue)),
-            Err(ReadError::Memory) => Err(LineError::Memory),
+            Err(ReadError::Memory) => Err(LineError::OutOfMemory),
         }
     }
 
@@ -132,14 +132,14 @@ impl<'a> Reading<'a> {
         match read_value(heap, text) {
             Ok(value) => self.step(Step::Set(name, field, value)),
             Err(ReadError::Fault(_)) => Err(LineError::Fault(FaultKind::BadValue)),
-            Err(ReadError::Memory) => Err(LineError::Memory),
+            Err(ReadError::Memory) => Err(LineError::OutOfMemory),
         }
     }
 
     /// One more step of the open block.
     fn step(&mut self, step: Step<'a>) -> Result<(), LineError>
         requires { IsSome self.old.block }
-        ensures fault { IfErr result (λ e. e ≡ LineError.Memory) }
+        ensures fault { IfErr result (λ e. e ≡ LineError.OutOfMemory) }
         ensures same { OnOk result ((self.new.objects ≡ self.old.objects) × (self.new.parts ≡ self.old.parts)) }
         ensures opened { OnOk result (opened self.new.block ≡ opened self.old.block) }
         ensures text { OnOk result (block_text self.new.block ≡ block_text self.old.block ++ step_text (plain_step step.entry) ∷ []) }
@@ -155,7 +155,7 @@ impl<'a> Reading<'a> {
     /// The open block ends.
     fn close(&mut self) -> Result<(), LineError>
         requires { IsSome self.old.block }
-        ensures fault { IfErr result (λ e. e ≡ LineError.Memory) }
+        ensures fault { IfErr result (λ e. e ≡ LineError.OutOfMemory) }
         ensures same { OnOk result (self.new.objects ≡ self.old.objects) }
         ensures block { OnOk result (self.new.block ≡ None) }
         ensures text { OnOk result (text_of (plain_parts self.new.parts.items) ≡ so_far self.old.parts.items self.old.block ++ command.«end» ∷ []) }
@@ -244,7 +244,8 @@ fn begins_declare(text: &[u8]) -> bool
     let word = &text[..word_len(text)];
     match verb_in(word) {
         Verb::Declare => true,
-        _ => false,
+        Verb::Enter | Verb::Create | Verb::Get | Verb::Set => false,
+        Verb::Leave | Verb::Abort | Verb::End | Verb::Other => false,
     }
 }
 
@@ -253,7 +254,9 @@ fn is_bad(line: &Line<'_>) -> bool
 {
     match line {
         Line::Bad => true,
-        _ => false,
+        Line::Nothing | Line::Declare(_, _) | Line::Enter | Line::Create(_, _) => false,
+        Line::Get(_, _) | Line::Set(_, _, _) => false,
+        Line::Leave | Line::AbortLeave | Line::End => false,
     }
 }
 
@@ -272,7 +275,8 @@ fn may_stand_at_top(line: &Line<'_>) -> bool
 {
     match line {
         Line::Nothing | Line::Bad | Line::Declare(_, _) | Line::Enter => true,
-        _ => false,
+        Line::Create(_, _) | Line::Get(_, _) | Line::Set(_, _, _) => false,
+        Line::Leave | Line::AbortLeave | Line::End => false,
     }
 }
 
@@ -281,7 +285,8 @@ fn may_stand_in_block(line: &Line<'_>) -> bool
 {
     match line {
         Line::Declare(_, _) | Line::Enter => false,
-        _ => true,
+        Line::Nothing | Line::Bad | Line::Create(_, _) | Line::Get(_, _) => true,
+        Line::Set(_, _, _) | Line::Leave | Line::AbortLeave | Line::End => true,
     }
 }
 
@@ -300,7 +305,8 @@ fn name_fault<'a>(objects: &Objects<'a>, line: &Line<'a>) -> Option<FaultKind>
         },
         Line::Get(name, field) => field_fault(objects, name, field),
         Line::Set(name, field, _) => field_fault(objects, name, field),
-        _ => None,
+        Line::Nothing | Line::Bad | Line::Enter => None,
+        Line::Leave | Line::AbortLeave | Line::End => None,
     }
 }
 
@@ -315,6 +321,6 @@ fn field_fault<'a>(objects: &Objects<'a>, name: &'a str, field: &str) -> Option<
             Some(_) => None,
             None => Some(FaultKind::UnknownName),
         },
-        _ => Some(FaultKind::BadType),
+        ShapeView::Arr(_) | ShapeView::Var(_) => Some(FaultKind::BadType),
     }
 }

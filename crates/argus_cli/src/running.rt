@@ -2,11 +2,12 @@
 
 ghost use Rattle.std.specs.Prelude.{◌≡◌, ◌+◌, false, IfOk, IfErr, OnOk, string_bytes};
 ghost use Rattle.argus_cli.specs.Ran.{Failed, IsListingFault, Lists, Ran};
+ghost use Rattle.argus_cli.specs.Watched.{has_failed, inner_of};
 
 use crate::bases::bases_after;
 use crate::cli_fault::CliFault;
 use crate::input::read_up_to;
-use crate::input_fault::InputFault;
+use crate::input_error::InputError;
 use crate::limits::MAX_SCRIPT_BYTES;
 use crate::listing::list_bases;
 use crate::output::write_whole;
@@ -43,15 +44,21 @@ pub fn run<R: Read + Drop, W: Write + Drop>(
     writer: &mut Watched<W>,
     options: Options,
 ) -> Result<(), CliFault>
-    requires reader { reader.old.failed ≡ false }
-    requires writer { writer.old.failed ≡ false }
-    ensures ran { OnOk result (Ran (MAX_SCRIPT_BYTES + 1) (R.remaining reader.old.inner) (R.remaining reader.new.inner) (W.contents writer.old.inner) (W.contents writer.new.inner)) }
-    ensures failed { IfErr result (λ e. Failed e (MAX_SCRIPT_BYTES + 1) (R.remaining reader.old.inner) (R.remaining reader.new.inner) reader.new.failed (W.contents writer.old.inner) (W.contents writer.new.inner) writer.new.failed) }
+    requires reader { has_failed reader.old ≡ false }
+    requires writer { has_failed writer.old ≡ false }
+    ensures ran { OnOk result (Ran (MAX_SCRIPT_BYTES + 1)
+        (R.remaining (inner_of reader.old)) (R.remaining (inner_of reader.new))
+        (W.contents (inner_of writer.old)) (W.contents (inner_of writer.new))) }
+    ensures failed { IfErr result (λ e. Failed e (MAX_SCRIPT_BYTES + 1)
+        (R.remaining (inner_of reader.old)) (R.remaining (inner_of reader.new))
+        (has_failed reader.new)
+        (W.contents (inner_of writer.old)) (W.contents (inner_of writer.new))
+        (has_failed writer.new)) }
 {
     let bytes = match read_up_to(heap, reader, MAX_SCRIPT_BYTES + 1) {
         Ok(bytes) => bytes,
-        Err(InputFault::Read) => return Err(CliFault::Read),
-        Err(InputFault::Memory) => return Err(CliFault::Memory),
+        Err(InputError::Read) => return Err(CliFault::Read),
+        Err(InputError::OutOfMemory) => return Err(CliFault::Memory),
     };
     let text = match options.listing {
         Listing::Bases => listing_of_bases(heap, bytes.as_slice())?,

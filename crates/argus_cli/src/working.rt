@@ -111,6 +111,6 @@ fn number_in_shape(shape: &Shape, field: &str) -> Option<u8>
 {
     match shape.view() {
         ShapeView::Rec(fields) => field_number(fields, field),
-        _ => None,
+        ShapeView::Arr(_) | ShapeView::Var(_) => None,
     }
 }

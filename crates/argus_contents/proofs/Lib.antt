@@ -6,3 +6,4 @@ pub mod Places
 pub mod Refit
 pub mod Types
 pub mod Crossing
+pub mod Lists

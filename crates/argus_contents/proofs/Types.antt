@@ -11,7 +11,7 @@ use Rattle.argus_contents.specs.declared.name.Name.{Name}
 use Rattle.argus_contents.specs.declared.ty.Ty.{Ty}
 use Rattle.argus_contents.specs.declared.value.Value.{Value}
 
-and_false : (b : Bool) → (b && false) ≡ false
+pub and_false : (b : Bool) → (b && false) ≡ false
 and_false true = refl
 and_false false = refl
 

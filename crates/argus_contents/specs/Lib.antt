@@ -13,3 +13,5 @@ pub mod ShapeView
 pub mod Ty
 pub mod Typing
 pub mod Value
+pub mod Same
+pub mod Decided

@@ -1,5 +1,10 @@
 //! `Answer`: what an operation answers.
 
+ghost use Rattle.std.specs.Prelude.{◌≡◌, ◌↔◌, true};
+ghost use Rattle.argus_contents.specs.Answer.{plain_answer};
+ghost use Rattle.argus_contents.specs.Decided.{said_equivalence, answer_decided};
+ghost use Rattle.argus_contents.specs.Same.{same_answer};
+
 use crate::content::Content;
 use crate::signal::Signal;
 use crate::value::Value;
@@ -13,7 +18,7 @@ use crate::value::Value;
 ///     ..
 /// }
 /// ```
-#[derive(Debug, Drop, PartialEq)]
+#[derive(Debug, Drop)]
 pub enum Answer {
     /// The change was made.
     Done,
@@ -27,4 +32,31 @@ pub enum Answer {
     Body(Content),
     /// Nothing was changed, for this reason.
     Signal(Signal),
+}
+
+impl PartialEq for Answer {
+    ghost eq = { λ a b. same_answer (plain_answer a) (plain_answer b) };
+
+    ghost laws = { said_equivalence plain_answer same_answer answer_decided };
+
+    /// Whether both say the same. It takes no memory.
+    fn eq(&self, other: &Answer) -> bool
+        ensures { (result ≡ true) ↔ (plain_answer self.now ≡ plain_answer other.now) }
+    {
+        is_same(self, other)
+    }
+}
+
+fn is_same(a: &Answer, b: &Answer) -> bool
+    ensures { result ≡ same_answer (plain_answer a.now) (plain_answer b.now) }
+{
+    match (a, b) {
+        (Answer::Done, Answer::Done) => true,
+        (Answer::Val(a), Answer::Val(b)) => a == b,
+        (Answer::Num(a), Answer::Num(b)) => a == b,
+        (Answer::Flag(a), Answer::Flag(b)) => a == b,
+        (Answer::Body(a), Answer::Body(b)) => a == b,
+        (Answer::Signal(a), Answer::Signal(b)) => a == b,
+        _ => false,
+    }
 }

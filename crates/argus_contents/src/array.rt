@@ -2,8 +2,9 @@
 
 ghost use Rattle.std.specs.Prelude.{◌≡◌, ◌≤◌, ◌-◌, Some, length, take, drop, slice_get, IfOk, OnErr};
 ghost use Rattle.argus_contents.specs.Answer.{plain_answer, value_or};
-ghost use Rattle.argus_contents.specs.Change.{addh, addl, Leaves, plain_change, reml, set_low, store, trim};
+ghost use Rattle.argus_contents.specs.Change.{addh, addl, is_full_high, is_full_low, is_out_of_limits, Leaves, plain_change, reml, set_low, store, trim};
 ghost use Rattle.argus_contents.specs.Content.{KeepsBounds};
+ghost use Rattle.argus_contents.specs.declared.limits.TheConstants.{MAX_ITEMS};
 ghost use Rattle.argus_contents.specs.Value.{plain_value, plain_list};
 
 use crate::answer::Answer;
@@ -39,6 +40,29 @@ pub(crate) fn alter_array(
     }
 }
 
+/// Whether no value can be added at the high end.
+pub(crate) fn is_full_high(low: i64, size: usize) -> bool
+    requires { KeepsBounds low size }
+    ensures { result ≡ is_full_high low size }
+{
+    size >= MAX_ITEMS || low + size as i64 > MAX_BOUND
+}
+
+/// Whether no value can be added at the low end.
+pub(crate) fn is_full_low(low: i64, size: usize) -> bool
+    ensures { result ≡ is_full_low low size }
+{
+    size >= MAX_ITEMS || low == MIN_BOUND
+}
+
+/// Whether no array of so many items may begin at this bound.
+pub(crate) fn is_out_of_limits(bound: i64, size: usize) -> bool
+    requires { size ≤ MAX_ITEMS }
+    ensures { result ≡ is_out_of_limits bound size }
+{
+    bound < MIN_BOUND || bound > MAX_BOUND || bound + size as i64 - 1 > MAX_BOUND
+}
+
 fn store_item(low: i64, items: &mut VecDeque<Value, Heap>, index: i64, value: Value) -> Answer
     requires { KeepsBounds low (length items.old.items) }
     ensures { Leaves (store index (plain_value value)) low items.old.items low items.new.items result }
@@ -61,7 +85,7 @@ fn add_high(
     ensures ok { IfOk result (λ answer. Leaves (addh (plain_value value)) low items.old.items low items.new.items answer) }
     ensures err { OnErr result (items.new.items ≡ items.old.items) }
 {
-    if items.len() >= MAX_ITEMS || low + items.len() as i64 > MAX_BOUND {
+    if is_full_high(low, items.len()) {
         return Ok(Answer::Signal(Signal::Limits));
     }
     items.push_back(value)?;
@@ -78,7 +102,7 @@ fn add_low(
     ensures err_low { OnErr result (low.new ≡ low.old) }
     ensures err_items { OnErr result (items.new.items ≡ items.old.items) }
 {
-    if items.len() >= MAX_ITEMS || *low == MIN_BOUND {
+    if is_full_low(*low, items.len()) {
         return Ok(Answer::Signal(Signal::Limits));
     }
     items.push_front(value)?;
@@ -119,8 +143,7 @@ fn move_low(low: &mut i64, items: &VecDeque<Value, Heap>, bound: i64) -> Answer
     requires { KeepsBounds low.old (length items.now.items) }
     ensures { Leaves (set_low bound) low.old items.now.items low.new items.now.items result }
 {
-    let size = items.len() as i64;
-    if bound < MIN_BOUND || bound > MAX_BOUND || bound + size - 1 > MAX_BOUND {
+    if is_out_of_limits(bound, items.len()) {
         return Answer::Signal(Signal::Limits);
     }
     *low = bound;

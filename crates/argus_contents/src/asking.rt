@@ -107,7 +107,12 @@ pub(crate) fn place_in(low: i64, size: usize, index: i64) -> Option<usize>
     }
 }
 
-fn value_or_signal(heap: Heap, value: Option<&Value>, signal: Signal) -> Result<Answer, OutOfMemory>
+/// A copy of the value, or the signal where there is none.
+pub(crate) fn value_or_signal(
+    heap: Heap,
+    value: Option<&Value>,
+    signal: Signal,
+) -> Result<Answer, OutOfMemory>
     ensures { IfOk result (λ answer. plain_answer answer ≡ value_or signal (plain_found value.entry)) }
 {
     match value {

@@ -1,7 +1,9 @@
 //! `Change`: an operation that changes a content.
 
-ghost use Rattle.std.specs.Prelude.{◌≡◌, IfOk};
+ghost use Rattle.std.specs.Prelude.{◌≡◌, ◌↔◌, true, IfOk};
 ghost use Rattle.argus_contents.specs.Change.{plain_change};
+ghost use Rattle.argus_contents.specs.Decided.{said_equivalence, change_decided};
+ghost use Rattle.argus_contents.specs.Same.{same_change};
 
 use crate::content::Content;
 use crate::value::Value;
@@ -34,7 +36,7 @@ use argus_memory::{Heap, OutOfMemory};
 /// ```text
 /// let answer = alter_in_place(&mut content, Change::Addh(Value::Int(5)))?;
 /// ```
-#[derive(Debug, Drop, PartialEq)]
+#[derive(Debug, Drop)]
 pub enum Change {
     Create(Content),
     SetField(u8, Value),
@@ -67,5 +69,37 @@ impl Change {
             Change::ChangeTag(tag, value) => Ok(Change::ChangeTag(*tag, value.duplicate(heap)?)),
             Change::Touch => Ok(Change::Touch),
         }
+    }
+}
+
+impl PartialEq for Change {
+    ghost eq = { λ a b. same_change (plain_change a) (plain_change b) };
+
+    ghost laws = { said_equivalence plain_change same_change change_decided };
+
+    /// Whether both say the same. It takes no memory.
+    fn eq(&self, other: &Change) -> bool
+        ensures { (result ≡ true) ↔ (plain_change self.now ≡ plain_change other.now) }
+    {
+        is_same(self, other)
+    }
+}
+
+fn is_same(a: &Change, b: &Change) -> bool
+    ensures { result ≡ same_change (plain_change a.now) (plain_change b.now) }
+{
+    match (a, b) {
+        (Change::Create(a), Change::Create(b)) => a == b,
+        (Change::SetField(i, a), Change::SetField(j, b)) => i == j && a == b,
+        (Change::Store(i, a), Change::Store(j, b)) => i == j && a == b,
+        (Change::Addh(a), Change::Addh(b)) => a == b,
+        (Change::Addl(a), Change::Addl(b)) => a == b,
+        (Change::Remh, Change::Remh) => true,
+        (Change::Reml, Change::Reml) => true,
+        (Change::SetLow(i), Change::SetLow(j)) => i == j,
+        (Change::Trim(i, m), Change::Trim(j, n)) => i == j && m == n,
+        (Change::ChangeTag(t, a), Change::ChangeTag(u, b)) => t == u && a == b,
+        (Change::Touch, Change::Touch) => true,
+        _ => false,
     }
 }

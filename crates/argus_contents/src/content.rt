@@ -1,10 +1,12 @@
 //! `Content`: what an atomic object holds.
 
-ghost use Rattle.std.specs.Prelude.{◌≡◌, IfOk};
+ghost use Rattle.std.specs.Prelude.{◌≡◌, ◌↔◌, true, IfOk};
 ghost use Rattle.argus_contents.specs.Content.{plain_content, plain_option};
-ghost use Rattle.argus_contents.specs.Value.{plain_list};
+ghost use Rattle.argus_contents.specs.Decided.{said_equivalence, content_decided};
+ghost use Rattle.argus_contents.specs.Same.{same_content, same_values};
+ghost use Rattle.argus_contents.specs.Value.{plain_list, listed};
 
-use crate::value::{Value, append_copies, duplicate_all};
+use crate::value::{self, Value, append_copies, duplicate_all};
 use argus_memory::{Heap, OutOfMemory};
 use std::collections::VecDeque;
 
@@ -20,7 +22,7 @@ use std::collections::VecDeque;
 /// let empty = Content::Arr { low: 1, items: VecDeque::new(heap) };
 /// let two = Content::Arr { low: 1, items: VecDeque::from_vec(items) };
 /// ```
-#[derive(Debug, Drop, PartialEq)]
+#[derive(Debug, Drop)]
 pub enum Content {
     /// A value for each name of the record's shape, in order.
     Rec(Vec<Value, Heap>),
@@ -56,6 +58,49 @@ impl Content {
             }),
         }
     }
+}
+
+impl PartialEq for Content {
+    ghost eq = { λ a b. same_content (plain_content a) (plain_content b) };
+
+    ghost laws = { said_equivalence plain_content same_content content_decided };
+
+    /// Whether both say the same. It takes no memory.
+    fn eq(&self, other: &Content) -> bool
+        ensures { (result ≡ true) ↔ (plain_content self.now ≡ plain_content other.now) }
+    {
+        is_same(self, other)
+    }
+}
+
+fn is_same(a: &Content, b: &Content) -> bool
+    ensures { result ≡ same_content (plain_content a.now) (plain_content b.now) }
+{
+    match (a, b) {
+        (Content::Rec(fields), Content::Rec(others)) => value::are_same(fields, others),
+        (
+            Content::Arr { low, items },
+            Content::Arr {
+                low: bound,
+                items: others,
+            },
+        ) => { low == bound && have_same_items(items, others) }
+        (
+            Content::Var { tag, value },
+            Content::Var {
+                tag: other_tag,
+                value: other,
+            },
+        ) => { tag == other_tag && value == other }
+        _ => false,
+    }
+}
+
+// Queues of the same items may be split at different places.
+fn have_same_items(a: &VecDeque<Value, Heap>, b: &VecDeque<Value, Heap>) -> bool
+    ensures { result ≡ same_values (listed (plain_list a.now.items)) (listed (plain_list b.now.items)) }
+{
+    a == b
 }
 
 fn duplicate_items(

@@ -3,6 +3,7 @@
 
 mod altering;
 mod answer;
+mod answering;
 mod array;
 mod asking;
 mod change;
@@ -25,6 +26,7 @@ mod value;
 
 pub use altering::{alter, alter_copy, alter_in_place};
 pub use answer::Answer;
+pub use answering::change_answer;
 pub use argus_memory::{Heap, OutOfMemory};
 pub use asking::ask;
 pub use change::Change;

@@ -1,6 +1,9 @@
 //! `Name`: a name of a field or a tag.
 
-ghost use Rattle.std.specs.Prelude.{◌≡◌, ◌↔◌, false, IfOk, IsErrOf};
+ghost use lib.Pointwise.{pointwise};
+ghost use Rattle.std.proofs.Common.{rules};
+ghost use Rattle.std.specs.Cmp.Rules.{comparing};
+ghost use Rattle.std.specs.Prelude.{◌≡◌, ◌↔◌, true, false, nat_eq, IfOk, IsErrOf};
 ghost use Rattle.std.specs.List.{list_all};
 ghost use Rattle.argus_contents.specs.Name.{is_name, is_name_byte};
 
@@ -65,6 +68,19 @@ impl Name {
         Ok(Name {
             text: String::from_str(heap, text.as_str())?,
         })
+    }
+}
+
+impl PartialEq for Name {
+    ghost eq = { λ a b. pointwise nat_eq a b };
+
+    ghost laws = { Prim.search (comparing, rules) };
+
+    /// Whether both have the same bytes. It takes no memory.
+    fn eq(&self, other: &Name) -> bool
+        ensures { (result ≡ true) ↔ (self.now ≡ other.now) }
+    {
+        self.as_str() == other.as_str()
     }
 }
 

@@ -1,8 +1,11 @@
 //! `Shape`: what an object was declared to hold.
 
-ghost use Rattle.std.specs.Prelude.{◌≡◌, IfOk};
+ghost use Rattle.std.specs.Prelude.{◌≡◌, ◌↔◌, true, IfOk};
 ghost use Rattle.std.specs.Result.{result_err};
+ghost use Rattle.argus_contents.specs.Decided.{said_equivalence, shape_decided};
+ghost use Rattle.argus_contents.specs.Same.{same_shape};
 ghost use Rattle.argus_contents.specs.Shape.{arr, fault_of, rec, var};
+ghost use Rattle.argus_contents.specs.ShapeKind.{plain_kind};
 ghost use Rattle.argus_contents.specs.ShapeView.{plain_view};
 ghost use Rattle.argus_contents.specs.Ty.{plain_fields, plain_ty};
 
@@ -11,7 +14,7 @@ use crate::shape_fault::ShapeFault;
 use crate::shape_kind::ShapeKind;
 use crate::shape_view::ShapeView;
 use crate::shaping::fault_in;
-use crate::ty::{Ty, duplicate_fields};
+use crate::ty::{self, Ty, duplicate_fields};
 use argus_memory::{Heap, OutOfMemory};
 use std::marker::Model;
 
@@ -103,5 +106,29 @@ impl Shape {
             ShapeKind::Var(tags) => ShapeKind::Var(duplicate_fields(heap, tags)?),
         };
         Ok(Shape { kind })
+    }
+}
+
+impl PartialEq for Shape {
+    ghost eq = { λ a b. same_shape a b };
+
+    ghost laws = { said_equivalence (λ shape. shape) same_shape shape_decided };
+
+    /// Whether both say the same: names by their bytes. It takes no memory.
+    fn eq(&self, other: &Shape) -> bool
+        ensures { (result ≡ true) ↔ (self.now ≡ other.now) }
+    {
+        is_same(&self.kind, &other.kind)
+    }
+}
+
+fn is_same(a: &ShapeKind, b: &ShapeKind) -> bool
+    ensures { result ≡ same_shape (plain_kind a.now) (plain_kind b.now) }
+{
+    match (a, b) {
+        (ShapeKind::Rec(a), ShapeKind::Rec(b)) => ty::are_same(a, b),
+        (ShapeKind::Arr(a), ShapeKind::Arr(b)) => ty::is_same(a, b),
+        (ShapeKind::Var(a), ShapeKind::Var(b)) => ty::are_same(a, b),
+        _ => false,
     }
 }

@@ -1,6 +1,8 @@
 //! `Ty`: the type of a value.
 
-ghost use Rattle.std.specs.Prelude.{◌≡◌, IfOk};
+ghost use Rattle.std.specs.Prelude.{◌≡◌, ◌↔◌, true, IfOk};
+ghost use Rattle.argus_contents.specs.Decided.{said_equivalence, ty_decided};
+ghost use Rattle.argus_contents.specs.Same.{same_fields, same_ty};
 ghost use Rattle.argus_contents.specs.Ty.{plain_ty, plain_fields};
 
 use crate::name::Name;
@@ -38,6 +40,54 @@ impl Ty {
     {
         duplicate_ty(heap, self)
     }
+}
+
+impl PartialEq for Ty {
+    ghost eq = { λ a b. same_ty (plain_ty a) (plain_ty b) };
+
+    ghost laws = { said_equivalence plain_ty same_ty ty_decided };
+
+    /// Whether both say the same: names by their bytes. It takes no memory.
+    fn eq(&self, other: &Ty) -> bool
+        ensures { (result ≡ true) ↔ (plain_ty self.now ≡ plain_ty other.now) }
+    {
+        is_same(self, other)
+    }
+}
+
+#[cycle(same)]
+pub(crate) fn is_same(a: &Ty, b: &Ty) -> bool
+    ensures { result ≡ same_ty (plain_ty a.now) (plain_ty b.now) }
+{
+    match (a, b) {
+        (Ty::Null, Ty::Null) => true,
+        (Ty::Bool, Ty::Bool) => true,
+        (Ty::Int, Ty::Int) => true,
+        (Ty::Text, Ty::Text) => true,
+        (Ty::Atomic, Ty::Atomic) => true,
+        (Ty::Sequence(a), Ty::Sequence(b)) => is_same(a, b),
+        (Ty::Fields(a), Ty::Fields(b)) => are_same(a, b),
+        (Ty::Choice(a), Ty::Choice(b)) => are_same(a, b),
+        _ => false,
+    }
+}
+
+/// Whether these names and types say the same, one by one.
+#[cycle(same)]
+pub(crate) fn are_same(a: &[(Name, Ty)], b: &[(Name, Ty)]) -> bool
+    ensures { result ≡ same_fields (plain_fields a.now) (plain_fields b.now) }
+{
+    if a.len() != b.len() {
+        return false;
+    }
+    for i in 0..a.len() {
+        let (name, ty) = &a[i];
+        let (other_name, other_ty) = &b[i];
+        if name != other_name || !is_same(ty, other_ty) {
+            return false;
+        }
+    }
+    true
 }
 
 #[cycle(duplicate)]

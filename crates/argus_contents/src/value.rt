@@ -1,7 +1,9 @@
 //! `Value`: an immutable value, as it stands in a record, an array or a variant.
 
-ghost use Rattle.std.specs.Prelude.{◌≡◌, ◌++◌, IfOk, OnOk};
-ghost use Rattle.argus_contents.specs.Value.{plain_value, plain_list};
+ghost use Rattle.std.specs.Prelude.{◌≡◌, ◌↔◌, true, ◌++◌, IfOk, OnOk};
+ghost use Rattle.argus_contents.specs.Same.{same_value, same_values};
+ghost use Rattle.argus_contents.specs.Value.{plain_value, plain_list, listed};
+ghost use Rattle.argus_contents.specs.Decided.{said_equivalence, value_decided};
 
 use crate::obj_id::ObjId;
 use argus_memory::{Heap, OutOfMemory};
@@ -27,7 +29,7 @@ use argus_memory::{Heap, OutOfMemory};
 /// fields.push(Value::Text(String::from_str(heap, "five")?))?;
 /// let pair = Value::Fields(fields);
 /// ```
-#[derive(Debug, Drop, PartialEq)]
+#[derive(Debug, Drop)]
 pub enum Value {
     Null,
     Bool(bool),
@@ -49,6 +51,52 @@ impl Value {
     {
         duplicate_value(heap, self)
     }
+}
+
+impl PartialEq for Value {
+    ghost eq = { λ a b. same_value (plain_value a) (plain_value b) };
+
+    ghost laws = { said_equivalence plain_value same_value value_decided };
+
+    /// Whether both say the same; texts by their bytes. It takes no memory.
+    fn eq(&self, other: &Value) -> bool
+        ensures { (result ≡ true) ↔ (plain_value self.now ≡ plain_value other.now) }
+    {
+        is_same(self, other)
+    }
+}
+
+#[cycle(same)]
+fn is_same(a: &Value, b: &Value) -> bool
+    ensures { result ≡ same_value (plain_value a.now) (plain_value b.now) }
+{
+    match (a, b) {
+        (Value::Null, Value::Null) => true,
+        (Value::Bool(a), Value::Bool(b)) => a == b,
+        (Value::Int(a), Value::Int(b)) => a == b,
+        (Value::Text(a), Value::Text(b)) => a.as_str() == b.as_str(),
+        (Value::Atomic(a), Value::Atomic(b)) => a.0 == b.0,
+        (Value::Sequence(a), Value::Sequence(b)) => are_same(a, b),
+        (Value::Fields(a), Value::Fields(b)) => are_same(a, b),
+        (Value::Choice(tag, a), Value::Choice(other_tag, b)) => tag == other_tag && is_same(a, b),
+        _ => false,
+    }
+}
+
+/// Whether these values say the same, one by one.
+#[cycle(same)]
+pub(crate) fn are_same(a: &[Value], b: &[Value]) -> bool
+    ensures { result ≡ same_values (listed (plain_list a.now)) (listed (plain_list b.now)) }
+{
+    if a.len() != b.len() {
+        return false;
+    }
+    for i in 0..a.len() {
+        if !is_same(&a[i], &b[i]) {
+            return false;
+        }
+    }
+    true
 }
 
 #[cycle(duplicate)]

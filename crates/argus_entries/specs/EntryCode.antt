@@ -7,12 +7,12 @@ use Rattle.argus_contents.specs.Shape.{PlainShape}
 use Rattle.argus_contents.specs.ShapeCode.{shape_coded}
 use Rattle.argus_contents.specs.declared.query.Query.{Query}
 use Rattle.argus_contents.specs.declared.query.Query.TheVariants.{Whole}
-use Rattle.argus_entries.specs.Call.{PlainCall, abort, alter, ask, begin_nested, begin_sub, begin_top, commit, declare, test_read, test_write}
+use Rattle.argus_entries.specs.Call.{PlainCall, abort, abort_others, alter, ask, begin_nested, begin_sub, begin_top, commit, declare, test_read, test_write}
 use Rattle.argus_entries.specs.Entry.{PlainEntry}
 use Rattle.argus_entries.specs.OperationCode.{answer_coded, change_coded, query_coded}
 use Rattle.argus_entries.specs.Reply.{PlainReply, answered, begun, object, refused}
 use Rattle.argus_entries.specs.declared.refusal.Refusal.{Refusal}
-use Rattle.argus_entries.specs.declared.refusal.Refusal.TheVariants.{Conflict, IllTyped, NoAction, NoObject, Over, Suspended, TooDeep, TooMany}
+use Rattle.argus_entries.specs.declared.refusal.Refusal.TheVariants.{Conflict, IllTyped, NoAction, NoObject, NoSiblings, Over, Suspended, TooDeep, TooMany}
 
 abbrev pub refusal_number : Refusal → ℕ
 refusal_number NoAction = 1
@@ -23,11 +23,12 @@ refusal_number IllTyped = 5
 refusal_number Conflict = 6
 refusal_number TooDeep = 7
 refusal_number TooMany = 8
+refusal_number NoSiblings = 9
 
 abbrev pub refusal_from : ℕ → Refusal
 refusal_from n =
     if n == 1 then NoAction else (if n == 2 then Over else (if n == 3 then Suspended else (if n == 4 then NoObject else
-    (if n == 5 then IllTyped else (if n == 6 then Conflict else (if n == 7 then TooDeep else TooMany))))))
+    (if n == 5 then IllTyped else (if n == 6 then Conflict else (if n == 7 then TooDeep else (if n == 8 then TooMany else NoSiblings)))))))
 
 pub refusal_back : (r : Refusal) → refusal_from (refusal_number r) ≡ r
 refusal_back NoAction = refl
@@ -38,6 +39,7 @@ refusal_back IllTyped = refl
 refusal_back Conflict = refl
 refusal_back TooDeep = refl
 refusal_back TooMany = refl
+refusal_back NoSiblings = refl
 
 abbrev pub refusal_coded : Coded Refusal
 refusal_coded = code_by ℕ coded_ℕ refusal_number refusal_from refusal_back
@@ -75,10 +77,11 @@ call_parts (begin_sub p) = (2, ((p, 0), (None, (Whole, touch))))
 call_parts (begin_nested c) = (3, ((c, 0), (None, (Whole, touch))))
 call_parts (commit a) = (4, ((a, 0), (None, (Whole, touch))))
 call_parts (abort a) = (5, ((a, 0), (None, (Whole, touch))))
-call_parts (ask a o q) = (6, ((a, o), (None, (q, touch))))
-call_parts (alter a o c) = (7, ((a, o), (None, (Whole, c))))
-call_parts (test_read a o) = (8, ((a, o), (None, (Whole, touch))))
-call_parts (test_write a o) = (9, ((a, o), (None, (Whole, touch))))
+call_parts (abort_others a) = (6, ((a, 0), (None, (Whole, touch))))
+call_parts (ask a o q) = (7, ((a, o), (None, (q, touch))))
+call_parts (alter a o c) = (8, ((a, o), (None, (Whole, c))))
+call_parts (test_read a o) = (9, ((a, o), (None, (Whole, touch))))
+call_parts (test_write a o) = (10, ((a, o), (None, (Whole, touch))))
 
 abbrev pub declare_from : Option PlainShape → PlainCall
 declare_from None = begin_top
@@ -88,8 +91,9 @@ abbrev pub call_from : CallParts → PlainCall
 call_from p =
     if p.0 == 0 then declare_from p.1.1.0 else (if p.0 == 1 then begin_top else (if p.0 == 2 then begin_sub p.1.0.0 else
     (if p.0 == 3 then begin_nested p.1.0.0 else (if p.0 == 4 then commit p.1.0.0 else (if p.0 == 5 then abort p.1.0.0 else
-    (if p.0 == 6 then ask p.1.0.0 p.1.0.1 p.1.1.1.0 else (if p.0 == 7 then alter p.1.0.0 p.1.0.1 p.1.1.1.1 else
-    (if p.0 == 8 then test_read p.1.0.0 p.1.0.1 else test_write p.1.0.0 p.1.0.1))))))))
+    (if p.0 == 6 then abort_others p.1.0.0 else (if p.0 == 7 then ask p.1.0.0 p.1.0.1 p.1.1.1.0 else
+    (if p.0 == 8 then alter p.1.0.0 p.1.0.1 p.1.1.1.1 else (if p.0 == 9 then test_read p.1.0.0 p.1.0.1 else
+    test_write p.1.0.0 p.1.0.1)))))))))
 
 pub call_back : (c : PlainCall) → call_from (call_parts c) ≡ c
 call_back (declare s) = refl
@@ -98,6 +102,7 @@ call_back (begin_sub p) = refl
 call_back (begin_nested c) = refl
 call_back (commit a) = refl
 call_back (abort a) = refl
+call_back (abort_others a) = refl
 call_back (ask a o q) = refl
 call_back (alter a o c) = refl
 call_back (test_read a o) = refl

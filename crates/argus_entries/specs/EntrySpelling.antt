@@ -7,12 +7,12 @@ use Rattle.argus_contents.specs.declared.signal.Signal.TheVariants.{Absent, Boun
 use Rattle.argus_texts.specs.ContentSpelling.{content_spelling}
 use Rattle.argus_texts.specs.ShapeSpelling.{shape_spelling}
 use Rattle.argus_texts.specs.Spelling.{spelling}
-use Rattle.argus_entries.specs.Call.{PlainCall, abort, alter, ask, begin_nested, begin_sub, begin_top, commit, declare, test_read, test_write}
+use Rattle.argus_entries.specs.Call.{PlainCall, abort, abort_others, alter, ask, begin_nested, begin_sub, begin_top, commit, declare, test_read, test_write}
 use Rattle.argus_entries.specs.Entry.{PlainEntry}
 use Rattle.argus_entries.specs.OperationSpelling.{change_spelling, query_spelling}
 use Rattle.argus_entries.specs.Reply.{PlainReply, answered, begun, object, refused}
 use Rattle.argus_entries.specs.declared.refusal.Refusal.{Refusal}
-use Rattle.argus_entries.specs.declared.refusal.Refusal.TheVariants.{Conflict, IllTyped, NoAction, NoObject, Over, Suspended, TooDeep, TooMany}
+use Rattle.argus_entries.specs.declared.refusal.Refusal.TheVariants.{Conflict, IllTyped, NoAction, NoObject, NoSiblings, Over, Suspended, TooDeep, TooMany}
 
 -- a word that ends with `a`, the number of an action, and an object
 abbrev pub place_spelling : List ℕ → ℕ → ℕ → List ℕ
@@ -25,6 +25,7 @@ call_spelling (begin_sub parent) = codes "begin_sub a" ++ decimal parent
 call_spelling (begin_nested creator) = codes "begin_nested a" ++ decimal creator
 call_spelling (commit a) = codes "commit a" ++ decimal a
 call_spelling (abort a) = codes "abort a" ++ decimal a
+call_spelling (abort_others a) = codes "abort_others a" ++ decimal a
 call_spelling (ask a o query) = place_spelling (codes "ask a") a o ++ codes " " ++ query_spelling query
 call_spelling (alter a o change) = place_spelling (codes "alter a") a o ++ codes " " ++ change_spelling change
 call_spelling (test_read a o) = place_spelling (codes "test_read a") a o
@@ -57,6 +58,7 @@ refusal_name IllTyped = codes "IllTyped"
 refusal_name Conflict = codes "Conflict"
 refusal_name TooDeep = codes "TooDeep"
 refusal_name TooMany = codes "TooMany"
+refusal_name NoSiblings = codes "NoSiblings"
 
 abbrev pub reply_spelling : PlainReply → List ℕ
 reply_spelling (object o) = codes "o" ++ decimal o

@@ -5,3 +5,6 @@ pub mod OperationSpelling
 pub mod EntrySpelling
 pub mod OperationCode
 pub mod EntryCode
+pub mod Same
+pub mod Decided
+pub mod Laws

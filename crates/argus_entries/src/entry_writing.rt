@@ -1,10 +1,12 @@
 //! `write_entry`: the line of an entry.
 
 ghost use Rattle.std.specs.Prelude.{◌≡◌, ◌++◌, OnErr, OnOk, string_bytes};
+ghost use Rattle.argus_contents.specs.Answer.{plain_answer};
 ghost use Rattle.argus_entries.specs.Call.{plain_call};
 ghost use Rattle.argus_entries.specs.Entry.{plain_entry};
-ghost use Rattle.argus_entries.specs.EntrySpelling.{call_spelling, entry_spelling, place_spelling};
-ghost use Rattle.argus_entries.specs.EntrySpelling.{refusal_name, reply_spelling, signal_spelling};
+ghost use Rattle.argus_entries.specs.EntrySpelling.{answer_spelling, call_spelling, entry_spelling};
+ghost use Rattle.argus_entries.specs.EntrySpelling.{place_spelling, refusal_name, reply_spelling};
+ghost use Rattle.argus_entries.specs.EntrySpelling.{signal_spelling};
 ghost use Rattle.argus_entries.specs.Reply.{plain_reply};
 ghost use Rattle.argus_texts.specs.Grown.{Grew};
 
@@ -17,7 +19,7 @@ use crate::operation_writing::{append_change, append_query};
 use crate::refusal::Refusal;
 use crate::reply::Reply;
 use argus_actions::ActionId;
-use argus_contents::{ObjId, Signal};
+use argus_contents::{Answer, ObjId, Signal};
 use argus_memory::{Heap, OutOfMemory};
 
 /// Appends the line of the entry with this number, without a line end: the number, the call, an arrow
@@ -63,6 +65,7 @@ fn append_call(call: &Call, out: &mut String<Heap>) -> Result<(), OutOfMemory>
         Call::BeginNested(creator) => append_number("begin_nested a", u64::from(creator.0), out),
         Call::Commit(a) => append_number("commit a", u64::from(a.0), out),
         Call::Abort(a) => append_number("abort a", u64::from(a.0), out),
+        Call::AbortOthers(a) => append_number("abort_others a", u64::from(a.0), out),
         Call::Ask(a, o, query) => {
             append_place("ask a", *a, *o, out)?;
             append(" ", out)?;
@@ -100,17 +103,27 @@ fn append_reply(reply: &Reply, out: &mut String<Heap>) -> Result<(), OutOfMemory
     match reply {
         Reply::Object(o) => append_number("o", u64::from(o.0), out),
         Reply::Begun(a) => append_number("a", u64::from(a.0), out),
-        Reply::Done => append("done", out),
-        Reply::Val(value) => append_value("val ", value, out),
-        Reply::Num(number) => append_int("num ", *number, out),
-        Reply::Flag(true) => append("flag true", out),
-        Reply::Flag(false) => append("flag false", out),
-        Reply::Body(content) => append_content("body ", content, out),
-        Reply::Signal(signal) => append(signal_text(*signal), out),
+        Reply::Answered(answer) => append_answer(answer, out),
         Reply::Refused(refusal) => {
             append("refused ", out)?;
             append(refusal_text(*refusal), out)
         }
+    }
+}
+
+fn append_answer(answer: &Answer, out: &mut String<Heap>) -> Result<(), OutOfMemory>
+    ensures grew { Grew (string_bytes out.old) (string_bytes out.new) }
+    ensures written { OnOk result (string_bytes out.new
+        ≡ string_bytes out.old ++ answer_spelling (plain_answer answer.now)) }
+{
+    match answer {
+        Answer::Done => append("done", out),
+        Answer::Val(value) => append_value("val ", value, out),
+        Answer::Num(number) => append_int("num ", *number, out),
+        Answer::Flag(true) => append("flag true", out),
+        Answer::Flag(false) => append("flag false", out),
+        Answer::Body(content) => append_content("body ", content, out),
+        Answer::Signal(signal) => append(signal_text(*signal), out),
     }
 }
 
@@ -139,5 +152,6 @@ fn refusal_text(refusal: Refusal) -> &'static str
         Refusal::Conflict => "Conflict",
         Refusal::TooDeep => "TooDeep",
         Refusal::TooMany => "TooMany",
+        Refusal::NoSiblings => "NoSiblings",
     }
 }

@@ -5,6 +5,7 @@ mod appending;
 mod call;
 mod entry;
 mod entry_writing;
+pub mod laws;
 mod operation_writing;
 mod refusal;
 mod reply;

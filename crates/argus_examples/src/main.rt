@@ -16,23 +16,23 @@ fn main(rt: HostRuntime) -> anyhow::Result<()> {
     let heap = Heap::new(rt.alloc())?;
     for name in EXAMPLES {
         println!(rt; "argus < examples/{name}")?;
-        told(&rt, heap, fs::open(&rt, name)?)?;
+        tell_run(&rt, heap, fs::open(&rt, name)?)?;
     }
     println!(rt; "argus < .")?;
-    told(&rt, heap, fs::open(&rt, ".")?)?;
+    tell_run(&rt, heap, fs::open(&rt, ".")?)?;
     println!(rt; "argus --list stacks")?;
-    println!(rt; "status {}", refusal(rt.alloc())?)?;
+    println!(rt; "status {}", usage_status(rt.alloc())?)?;
     Ok(())
 }
 
 // Tells the listing of the script that the reader has, and the status.
-fn told<R: Read + Drop>(rt: &impl Print, heap: Heap, reader: R) -> anyhow::Result<()> {
+fn tell_run<R: Read + Drop>(rt: &impl Print, heap: Heap, reader: R) -> anyhow::Result<()> {
     let mut writer = Watched::new(Vec::new(heap));
     let asked = Options {
         listing: Listing::Bases,
     };
     let result = run(heap, &mut Watched::new(reader), &mut writer, asked);
-    rt.print(from_utf8(&writer.inner)?)?;
+    rt.print(from_utf8(writer.get_ref())?)?;
     match result {
         Ok(()) => rt.println("status 0")?,
         Err(fault) => rt.println(format_args!("status {}: {fault}", fault.status()))?,
@@ -41,13 +41,13 @@ fn told<R: Read + Drop>(rt: &impl Print, heap: Heap, reader: R) -> anyhow::Resul
 }
 
 // The status with which a command line ends that asks for no listing of this program.
-fn refusal(alloc: Global) -> anyhow::Result<u8> {
+fn usage_status(alloc: Global) -> anyhow::Result<u8> {
     let words = vec![in alloc;
         String::from_str(alloc, "--list")?,
         String::from_str(alloc, "stacks")?,
     ]?;
     match options(alloc, words) {
         Err(NoOptions::Usage { status, text: _ }) => Ok(status),
-        _ => Ok(0),
+        Ok(_) | Err(NoOptions::OutOfMemory) => Ok(0),
     }
 }

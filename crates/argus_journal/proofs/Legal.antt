@@ -4,7 +4,7 @@ use Rattle.std.specs.Prelude.{length, nat_lt, not, ◌&&◌, ◌==◌, ◌||◌}
 use Rattle.std.proofs.lemmas.Bool.{not-true}
 use Rattle.argus_contents.specs.Answer.{flag}
 use Rattle.argus_contents.specs.Shape.{PlainShape}
-use Rattle.argus_entries.specs.Call.{PlainCall, abort, alter, ask, begin_nested, begin_sub, begin_top, commit, declare, test_read, test_write}
+use Rattle.argus_entries.specs.Call.{PlainCall, abort, abort_others, alter, ask, begin_nested, begin_sub, begin_top, commit, declare, test_read, test_write}
 use Rattle.argus_entries.specs.Entry.{PlainEntry}
 use Rattle.argus_entries.specs.Reply.{PlainReply, answered, refused}
 use Rattle.argus_entries.specs.declared.refusal.Refusal.{Refusal}
@@ -14,6 +14,7 @@ use Rattle.argus_model.specs.History.{History, next_action, ◌▹◌}
 use Rattle.argus_model.specs.Holders.{may_read, may_write}
 use Rattle.argus_model.specs.Lawful.{Lawful}
 use Rattle.argus_model.specs.Status.{has_live_child, is_live}
+use Rattle.argus_model.proofs.Live.{siblings_live}
 use Rattle.argus_journal.specs.Answers.{granted, if_declared, if_free, if_live, if_room, if_shallow, or_refused, refusal, suits_change, suits_query, unless}
 use Rattle.argus_journal.specs.Entries.{entries}
 use Rattle.argus_journal.specs.Events.{event_of, history, with_event}
@@ -22,11 +23,13 @@ use Rattle.argus_journal.specs.Objects.{shapes}
 use Rattle.argus_journal.specs.Opening.{Opening, opened}
 
 -- where nothing is refused, the test holds and the rest refuses nothing
-pub unless_none : (test : Bool) (why : Refusal) (rest : Option Refusal) → unless test why rest ≡ None → (test ≡ true) × (rest ≡ None)
+pub unless_none : (test : Bool) (why : Refusal) (rest : Option Refusal) → unless test why rest ≡ None
+    → (test ≡ true) × (rest ≡ None)
 unless_none true why rest e = (refl, e)
 unless_none false why rest e = absurd (cc)
 
-pub live_none : (h : History PlainEntry) (a : ℕ) (rest : Option Refusal) → if_live h a rest ≡ None → (is_live h (a + 1) ≡ true) × (rest ≡ None)
+pub live_none : (h : History PlainEntry) (a : ℕ) (rest : Option Refusal) → if_live h a rest ≡ None
+    → (is_live h (a + 1) ≡ true) × (rest ≡ None)
 live_none h a rest e =
     unless_none (is_live h (a + 1)) Over rest
     (unless_none (nat_lt (a + 1) (next_action h)) NoAction (unless (is_live h (a + 1)) Over rest) e).1
@@ -47,7 +50,8 @@ pub record Fits (test free : Bool) : Type 0 where
   pub suits : test ≡ true
   pub lock : free ≡ true
 
-pub access_none : (shapes : List PlainShape) (o : ℕ) (test lock : Bool) → if_declared shapes o (unless test IllTyped (unless lock Conflict None)) ≡ None → Fits test lock
+pub access_none : (shapes : List PlainShape) (o : ℕ) (test lock : Bool)
+    → if_declared shapes o (unless test IllTyped (unless lock Conflict None)) ≡ None → Fits test lock
 access_none shapes o test lock e =
     let k = unless_none (nat_lt o (length shapes)) NoObject (unless test IllTyped (unless lock Conflict None)) e in
     let m = unless_none test IllTyped (unless lock Conflict None) k.1 in
@@ -55,33 +59,40 @@ access_none shapes o test lock e =
 
 -- the history after one more entry of this call and reply
 abbrev pub then_event : PlainCall → PlainReply → History PlainEntry → History PlainEntry
-then_event c r h = with_event (event_of c r (record { call = c; reply = r })) h
+then_event c r h = with_event (event_of h c r (record { call = c; reply = r })) h
 
 -- a refused call is no event
-pub refused_is_none : (c : PlainCall) (why : Refusal) (e : PlainEntry) → event_of c (refused why) e ≡ None
-refused_is_none (declare shape) why e = refl
-refused_is_none begin_top why e = refl
-refused_is_none (begin_sub p) why e = refl
-refused_is_none (begin_nested p) why e = refl
-refused_is_none (commit a) why e = refl
-refused_is_none (abort a) why e = refl
-refused_is_none (ask a o q) why e = refl
-refused_is_none (alter a o x) why e = refl
-refused_is_none (test_read a o) why e = refl
-refused_is_none (test_write a o) why e = refl
+pub refused_is_none : (h : History PlainEntry) (c : PlainCall) (why : Refusal) (e : PlainEntry)
+    → event_of h c (refused why) e ≡ None
+refused_is_none h (declare shape) why e = refl
+refused_is_none h begin_top why e = refl
+refused_is_none h (begin_sub p) why e = refl
+refused_is_none h (begin_nested p) why e = refl
+refused_is_none h (commit a) why e = refl
+refused_is_none h (abort a) why e = refl
+refused_is_none h (abort_others a) why e = refl
+refused_is_none h (ask a o q) why e = refl
+refused_is_none h (alter a o x) why e = refl
+refused_is_none h (test_read a o) why e = refl
+refused_is_none h (test_write a o) why e = refl
 
 -- a test is an event where it says yes
-pub tested : (P : History PlainEntry → Type 0) (h : History PlainEntry) (a o : ℕ) (t : Bool) (c : PlainCall) → ((x : Bool) (e : PlainEntry) → event_of c (answered (flag x)) e ≡ cond x (Some (Accessed (a + 1) o e)) None) → (t ≡ true → P (Accessed (a + 1) o (record { call = c; reply = answered (flag true) }) ▹ h)) → P h → P (then_event c (answered (flag t)) h)
-tested P h a o true c ev holds w = subst (λ x. P (with_event x h)) (sym (ev true (record { call = c; reply = answered (flag true) }))) (holds refl)
-tested P h a o false c ev holds w = subst (λ x. P (with_event x h)) (sym (ev false (record { call = c; reply = answered (flag false) }))) w
+pub tested : (P : History PlainEntry → Type 0) (h : History PlainEntry) (a o : ℕ) (t : Bool) (c : PlainCall)
+    → ((x : Bool) (e : PlainEntry) → event_of h c (answered (flag x)) e ≡ cond x (Some (Accessed (a + 1) o e)) None)
+    → (t ≡ true → P (Accessed (a + 1) o (record { call = c; reply = answered (flag true) }) ▹ h)) → P h
+    → P (then_event c (answered (flag t)) h)
+tested P h a o true c ev holds w =
+    subst (λ x. P (with_event x h)) (sym (ev true (record { call = c; reply = answered (flag true) }))) (holds refl)
+tested P h a o false c ev holds w =
+    subst (λ x. P (with_event x h)) (sym (ev false (record { call = c; reply = answered (flag false) }))) w
 
-pub test_read_event : (a o : ℕ) (x : Bool) (e : PlainEntry) → event_of (test_read a o) (answered (flag x)) e ≡ cond x (Some (Accessed (a + 1) o e)) None
-test_read_event a o true e = refl
-test_read_event a o false e = refl
+pub test_read_event : (h : History PlainEntry) (a o : ℕ) (x : Bool) (e : PlainEntry)
+    → event_of h (test_read a o) (answered (flag x)) e ≡ cond x (Some (Accessed (a + 1) o e)) None
+test_read_event h a o x e = refl
 
-pub test_write_event : (a o : ℕ) (x : Bool) (e : PlainEntry) → event_of (test_write a o) (answered (flag x)) e ≡ cond x (Some (Accessed (a + 1) o e)) None
-test_write_event a o true e = refl
-test_write_event a o false e = refl
+pub test_write_event : (h : History PlainEntry) (a o : ℕ) (x : Bool) (e : PlainEntry)
+    → event_of h (test_write a o) (answered (flag x)) e ≡ cond x (Some (Accessed (a + 1) o e)) None
+test_write_event h a o x e = refl
 
 abbrev IsLawful : Opening → History PlainEntry → Type 0
 IsLawful s h = Lawful entries (opened s) h
@@ -94,14 +105,17 @@ and_all : (a : Bool) → a ≡ true → (a && true) ≡ true
 and_all true e = refl
 and_all false e = e
 
-granted_step : (s : Opening) (h : History PlainEntry) (objects : List PlainShape) (c : PlainCall) → IsLawful s h → refusal h objects c ≡ None → IsLawful s (then_event c (granted s h objects c) h)
+granted_step : (s : Opening) (h : History PlainEntry) (objects : List PlainShape) (c : PlainCall) → IsLawful s h
+    → refusal h objects c ≡ None → IsLawful s (then_event c (granted s h objects c) h)
 granted_step s h objects (declare shape) w e = w
 granted_step s h objects begin_top w e = (refl, w)
 granted_step s h objects (begin_sub p) w e =
     (or_live (p + 1 == 0) (is_live h (p + 1)) (live_none h p (if_shallow h p) e).0, w)
-granted_step s h objects (begin_nested c) w e = (or_live (c + 1 == 0) (is_live h (c + 1)) (live_none h c (if_room h) e).0, w)
+granted_step s h objects (begin_nested c) w e =
+    (or_live (c + 1 == 0) (is_live h (c + 1)) (live_none h c (if_room h) e).0, w)
 granted_step s h objects (commit a) w e = let k = free_none h a None e in ((k.live, k.childless), w)
 granted_step s h objects (abort a) w e = (and_all (is_live h (a + 1)) (live_none h a None e).0, w)
+granted_step s h objects (abort_others a) w e = (siblings_live h (a + 1), w)
 granted_step s h objects (ask a o q) w e =
     let test = suits_query objects o q in
     let lock = may_read entries h (a + 1) o in
@@ -114,18 +128,25 @@ granted_step s h objects (alter a o x) w e =
     ((k.live, k.childless, (access_none objects o test lock k.none).lock, refl), w)
 granted_step s h objects (test_read a o) w e =
     let k = free_none h a (if_declared objects o None) e in
-    tested (IsLawful s) h a o (may_read entries h (a + 1) o) (test_read a o) (test_read_event a o) (λ m. ((k.live, k.childless, m, refl), w)) w
+    tested (IsLawful s) h a o (may_read entries h (a + 1) o) (test_read a o) (test_read_event h a o)
+    (λ m. ((k.live, k.childless, m, refl), w)) w
 granted_step s h objects (test_write a o) w e =
     let k = free_none h a (if_declared objects o None) e in
-    tested (IsLawful s) h a o (may_write entries h (a + 1) o) (test_write a o) (test_write_event a o) (λ m. ((k.live, k.childless, m, refl), w)) w
+    tested (IsLawful s) h a o (may_write entries h (a + 1) o) (test_write a o) (test_write_event h a o)
+    (λ m. ((k.live, k.childless, m, refl), w)) w
 
-answered_step : (s : Opening) (h : History PlainEntry) (objects : List PlainShape) (c : PlainCall) (why : Option Refusal) → refusal h objects c ≡ why → IsLawful s h → IsLawful s (then_event c (or_refused why (granted s h objects c)) h)
+answered_step : (s : Opening) (h : History PlainEntry) (objects : List PlainShape) (c : PlainCall)
+    (why : Option Refusal) → refusal h objects c ≡ why → IsLawful s h
+    → IsLawful s (then_event c (or_refused why (granted s h objects c)) h)
 answered_step s h objects c None e w = granted_step s h objects c w e
-answered_step s h objects c (Some why) e w = subst (λ x. IsLawful s (with_event x h)) (sym (refused_is_none c why (record { call = c; reply = refused why }))) w
+answered_step s h objects c (Some why) e w =
+    subst (λ x. IsLawful s (with_event x h)) (sym (refused_is_none h c why (record { call = c; reply = refused why })))
+    w
 
 -- a legal journal tells a lawful history
 pub lawful : (s : Opening) (j : List PlainEntry) → Legal s j → Lawful entries (opened s) (history s j)
 lawful s [] l = refl
 lawful s (e ∷ older) l =
     subst (λ r. IsLawful s (then_event e.call r (history s older))) (sym l.0)
-    (answered_step s (history s older) (shapes s older) e.call (refusal (history s older) (shapes s older) e.call) refl (lawful s older l.1))
+    (answered_step s (history s older) (shapes s older) e.call (refusal (history s older) (shapes s older) e.call) refl
+    (lawful s older l.1))

@@ -1,10 +1,15 @@
+pub mod Shifted
 pub mod Legal
+pub mod Rules
 pub mod Fitting
 pub mod References
 pub mod Contents
-pub mod Growth
+pub mod Serial
 pub mod NextEntry
+pub mod Kin
 pub mod Told
 pub mod Newest
 pub mod Replay
-pub mod Limits
+pub mod Within
+pub mod Folded
+pub mod Crossing

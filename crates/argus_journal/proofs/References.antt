@@ -1,6 +1,9 @@
--- Each reference in a content that fits names a declared object.
-use Rattle.std.proofs.Common.{Bool, List, None, Option, Some, [], length, nat_lt, refl, true, ℕ, ◌++◌, ◌∷◌, ◌≡◌}
+-- Where references occur in a content, and that each names a declared object where the content fits.
+use Rattle.std.proofs.Common.{Bool, List, None, Option, Some, [], ap, arith, false, inl, inr, length, nat_lt, refl, sym, true, ℕ, ⊎_elim, ◌++◌, ◌<◌, ◌∙◌, ◌∷◌, ◌≡◌}
+use Rattle.std.proofs.lemmas.Bool.{eq-eqb, eqb-true, or_cases}
+use Rattle.std.proofs.lemmas.Bool.Decides.{nat_tests}
 use Rattle.std.specs.List.{list_all}
+use Rattle.std.specs.Prelude.{◌==◌, ◌||◌}
 use Rattle.std.proofs.lemmas.Bool.{and_from, and_parts}
 use Rattle.argus_contents.specs.Content.{PlainContent, arr, rec, var}
 use Rattle.argus_contents.specs.Fitting.{is_fitting, is_within}
@@ -12,7 +15,9 @@ use Rattle.argus_contents.specs.Typing.{all_typed, each_typed, is_typed, ty_at}
 use Rattle.argus_contents.specs.Value as value
 use Rattle.argus_contents.specs.Value.{PlainValue, PlainValues, listed}
 use Rattle.argus_journal.specs.Opening.{fits_shape}
-use Rattle.argus_journal.specs.References.{all_references, references, references_in}
+use Rattle.argus_model.specs.Numbers.{contains}
+use Rattle.argus_model.proofs.Numbers.{every_at, joined, joined_cases, joined_left}
+use Rattle.argus_journal.specs.References.{IsPart, IsPartOfOne, OccursIn, all_references, references, references_in}
 use Rattle.argus_journal.proofs.Fitting.{at_type, nothing}
 
 abbrev Named : ℕ → List ℕ → Type 0
@@ -24,7 +29,8 @@ both_named n (x ∷ xs) ys h k =
     let p = and_parts (nat_lt x n) (list_all (λ o. nat_lt o n) xs) h in
     and_from (nat_lt x n) (list_all (λ o. nat_lt o n) (xs ++ ys)) p.0 (both_named n xs ys p.1 k)
 
-of_type : (t : Option PlainTy) (test : PlainTy → Bool) (P : Type 0) → ((x : PlainTy) → test x ≡ true → P) → at_type test t ≡ true → P
+of_type : (t : Option PlainTy) (test : PlainTy → Bool) (P : Type 0) → ((x : PlainTy) → test x ≡ true → P)
+    → at_type test t ≡ true → P
 of_type None test P f e = nothing e
 of_type (Some x) test P f e = f x e
 
@@ -33,7 +39,8 @@ mutual
   value_named (value.atomic o) ty.atomic n e = and_from (nat_lt o n) true e refl
   value_named (value.sequence vs) (ty.sequence x) n e = all_named vs x n e
   value_named (value.fields vs) (ty.fields fs) n e = each_named vs fs n e
-  value_named (value.choice k v) (ty.choice fs) n e = of_type (ty_at fs k) (λ x. is_typed x n v) (Named n (references v)) (λ x h. value_named v x n h) e
+  value_named (value.choice k v) (ty.choice fs) n e =
+      of_type (ty_at fs k) (λ x. is_typed x n v) (Named n (references v)) (λ x h. value_named v x n h) e
   value_named value.null t n e = refl
   value_named (value.bool b) t n e = refl
   value_named (value.int i) t n e = refl
@@ -55,12 +62,98 @@ mutual
 
 fitting_named : (s : PlainShape) (n : ℕ) (c : PlainContent) → is_fitting s n c ≡ true → Named n (references_in (Some c))
 fitting_named (shape.rec fs) n (rec vs) e = each_named (listed vs) fs n e
-fitting_named (shape.arr t) n (arr low vs) e = all_named (listed vs) t n (and_parts (is_within low (length vs)) (all_typed t n (listed vs)) e).1
-fitting_named (shape.var fs) n (var k v) e = of_type (ty_at fs k) (λ x. is_typed x n v) (Named n (references v)) (λ x h. value_named v x n h) e
+fitting_named (shape.arr t) n (arr low vs) e =
+    all_named (listed vs) t n (and_parts (is_within low (length vs)) (all_typed t n (listed vs)) e).1
+fitting_named (shape.var fs) n (var k v) e =
+    of_type (ty_at fs k) (λ x. is_typed x n v) (Named n (references v)) (λ x h. value_named v x n h) e
 fitting_named _ n _ e = nothing e
 
 -- each reference in a content that fits names one of the n declared objects
-pub fits_named : (s : Option PlainShape) (n : ℕ) (c : Option PlainContent) → fits_shape s n c ≡ true → Named n (references_in c)
+pub fits_named : (s : Option PlainShape) (n : ℕ) (c : Option PlainContent) → fits_shape s n c ≡ true
+    → Named n (references_in c)
 fits_named s n None e = refl
 fits_named None n (Some c) e = nothing e
 fits_named (Some s) n (Some c) e = fitting_named s n c e
+
+-- a reference is listed exactly where it occurs
+
+abbrev is_reference : PlainValue → Bool
+is_reference (value.atomic o) = true
+is_reference value.null = false
+is_reference (value.bool b) = false
+is_reference (value.int i) = false
+is_reference (value.text t) = false
+is_reference (value.sequence vs) = false
+is_reference (value.fields vs) = false
+is_reference (value.choice t v) = false
+
+abbrev named : PlainValue → ℕ
+named (value.atomic o) = o
+named _ = 0
+
+-- a reference is no value of another kind
+other : {A : Type 0} (r : ℕ) (v : PlainValue) → is_reference v ≡ false → value.atomic r ≡ v → A
+other r v n e = nothing (sym n ∙ sym (ap is_reference e))
+
+one_listed : (r o : ℕ) → contains (o ∷ []) r ≡ true → r ≡ o
+one_listed r o m = ⊎_elim (λ k. eqb-true r o k) (λ k. nothing k) (or_cases (r == o) false m)
+
+one_is : (r o : ℕ) → r ≡ o → contains (o ∷ []) r ≡ true
+one_is r o e = ap (λ b. b || false) (eq-eqb r o e)
+
+mutual
+  listed_occurs : (v : PlainValue) (r : ℕ) → contains (references v) r ≡ true → IsPart (value.atomic r) v
+  listed_occurs (value.atomic o) r m = ap value.atomic (one_listed r o m)
+  listed_occurs (value.sequence vs) r m = inr (some_occurs vs r m)
+  listed_occurs (value.fields vs) r m = inr (some_occurs vs r m)
+  listed_occurs (value.choice t v) r m = inr (listed_occurs v r m)
+  listed_occurs value.null r m = nothing m
+  listed_occurs (value.bool b) r m = nothing m
+  listed_occurs (value.int i) r m = nothing m
+  listed_occurs (value.text t) r m = nothing m
+
+  some_occurs : (vs : PlainValues) (r : ℕ) → contains (all_references vs) r ≡ true → IsPartOfOne (value.atomic r) vs
+  some_occurs value.none r m = nothing m
+  some_occurs (value.more v vs) r m =
+      ⊎_elim (λ k. inl (listed_occurs v r k)) (λ k. inr (some_occurs vs r k))
+      (joined_cases (references v) (all_references vs) r m)
+
+mutual
+  occurs_listed : (v : PlainValue) (r : ℕ) → IsPart (value.atomic r) v → contains (references v) r ≡ true
+  occurs_listed (value.atomic o) r e = one_is r o (ap named e)
+  occurs_listed (value.sequence vs) r e = ⊎_elim (λ k. other r (value.sequence vs) refl k) (λ k. some_listed vs r k) e
+  occurs_listed (value.fields vs) r e = ⊎_elim (λ k. other r (value.fields vs) refl k) (λ k. some_listed vs r k) e
+  occurs_listed (value.choice t v) r e = ⊎_elim (λ k. other r (value.choice t v) refl k) (λ k. occurs_listed v r k) e
+  occurs_listed value.null r e = other r value.null refl e
+  occurs_listed (value.bool b) r e = other r (value.bool b) refl e
+  occurs_listed (value.int i) r e = other r (value.int i) refl e
+  occurs_listed (value.text t) r e = other r (value.text t) refl e
+
+  some_listed : (vs : PlainValues) (r : ℕ) → IsPartOfOne (value.atomic r) vs → contains (all_references vs) r ≡ true
+  some_listed value.none r e = absurd e
+  some_listed (value.more v vs) r e =
+      ⊎_elim
+      (λ k. joined_left (references v) (all_references vs) r (occurs_listed v r k))
+      (λ k. joined (references v) (all_references vs) r (some_listed vs r k))
+      e
+
+pub listed_in : (c : Option PlainContent) (r : ℕ) → contains (references_in c) r ≡ true → OccursIn r c
+listed_in None r m = nothing m
+listed_in (Some (rec vs)) r m = some_occurs (listed vs) r m
+listed_in (Some (arr low vs)) r m = some_occurs (listed vs) r m
+listed_in (Some (var t v)) r m = listed_occurs v r m
+
+pub occurring_in : (c : Option PlainContent) (r : ℕ) → OccursIn r c → contains (references_in c) r ≡ true
+occurring_in None r e = absurd e
+occurring_in (Some (rec vs)) r e = some_listed (listed vs) r e
+occurring_in (Some (arr low vs)) r e = some_listed (listed vs) r e
+occurring_in (Some (var t v)) r e = occurs_listed v r e
+
+-- so what occurs in a content that fits is declared
+pub occurring_below : (s : Option PlainShape) (n r : ℕ) (c : Option PlainContent) → fits_shape s n c ≡ true
+    → OccursIn r c → r < n
+occurring_below s n r c e o =
+    below r n (every_at (λ k. nat_lt k n) (references_in c) r (fits_named s n c e) (occurring_in c r o))
+  where
+    below : (m n : ℕ) → nat_lt m n ≡ true → m < n
+    below m n e = grind (arith, nat_tests)

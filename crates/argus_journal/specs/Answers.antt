@@ -1,5 +1,5 @@
 -- What a call is answered after a journal: the first refusal that applies, or else what it asked for.
-use Rattle.std.specs.Prelude.{Bool, List, None, Option, Some, false, length, nat_lt, not, slice_get, true, ℕ, ◌+◌, ◌-◌}
+use Rattle.std.specs.Prelude.{Bool, List, None, Option, Some, false, length, nat_lt, not, slice_get, true, ℕ, ◌-◌, ◌==◌}
 use Rattle.argus_contents.specs.Answer.{done, flag}
 use Rattle.argus_contents.specs.Change.{PlainChange, result}
 use Rattle.argus_contents.specs.Content.{PlainContent}
@@ -8,18 +8,19 @@ use Rattle.argus_contents.specs.Query.{reply}
 use Rattle.argus_contents.specs.Shape.{PlainShape}
 use Rattle.argus_contents.specs.declared.query.Query.{Query}
 use Rattle.argus_contents.specs.declared.limits.TheConstants.{MAX_ACTIONS, MAX_ACTION_DEPTH, MAX_OBJECTS}
-use Rattle.argus_entries.specs.Call.{PlainCall, abort, alter, ask, begin_nested, begin_sub, begin_top, commit, declare, test_read, test_write}
+use Rattle.argus_entries.specs.Call.{PlainCall, abort, abort_others, alter, ask, begin_nested, begin_sub, begin_top, commit, declare, test_read, test_write}
 use Rattle.argus_entries.specs.Entry.{PlainEntry}
 use Rattle.argus_entries.specs.Reply.{PlainReply, answered, begun, object, refused}
 use Rattle.argus_entries.specs.declared.refusal.Refusal.{Refusal}
-use Rattle.argus_entries.specs.declared.refusal.Refusal.TheVariants.{Conflict, IllTyped, NoAction, NoObject, Over, Suspended, TooDeep, TooMany}
-use Rattle.argus_model.specs.Ancestors.{lineage}
+use Rattle.argus_entries.specs.declared.refusal.Refusal.TheVariants.{Conflict, IllTyped, NoAction, NoObject, NoSiblings, Over, Suspended, TooDeep, TooMany}
+use Rattle.argus_model.specs.Ancestors.{creator, lineage}
 use Rattle.argus_model.specs.Contents.{sees}
 use Rattle.argus_model.specs.History.{History, next_action}
 use Rattle.argus_model.specs.Holders.{may_read, may_write}
 use Rattle.argus_model.specs.Status.{has_live_child, is_live}
 use Rattle.argus_journal.specs.Entries.{entries}
 use Rattle.argus_journal.specs.Events.{history}
+use Rattle.argus_journal.specs.Numbering.{in_history, in_program}
 use Rattle.argus_journal.specs.Objects.{shapes}
 use Rattle.argus_journal.specs.Opening.{Opening, opened}
 
@@ -30,11 +31,11 @@ unless false why rest = Some why
 
 -- the action has begun, and is live
 abbrev pub if_live : History PlainEntry → ℕ → Option Refusal → Option Refusal
-if_live h a rest = unless (nat_lt (a + 1) (next_action h)) NoAction (unless (is_live h (a + 1)) Over rest)
+if_live h a rest = unless (nat_lt (in_history a) (next_action h)) NoAction (unless (is_live h (in_history a)) Over rest)
 
 -- and it has no live child
 abbrev pub if_free : History PlainEntry → ℕ → Option Refusal → Option Refusal
-if_free h a rest = if_live h a (unless (not (has_live_child h (a + 1))) Suspended rest)
+if_free h a rest = if_live h a (unless (not (has_live_child h (in_history a))) Suspended rest)
 
 -- there is such an object
 abbrev pub if_declared : List PlainShape → ℕ → Option Refusal → Option Refusal
@@ -53,17 +54,21 @@ suits_query shapes o query = suits (λ shape. query_suits shape query) (slice_ge
 abbrev pub suits_change : List PlainShape → ℕ → PlainChange → Bool
 suits_change shapes o change = suits (λ shape. change_suits shape (length shapes) change) (slice_get shapes o)
 
+-- an action began it: its parent or its creator
+abbrev pub if_created : History PlainEntry → ℕ → Option Refusal
+if_created h a = unless (not (creator h (in_history a) == 0)) NoSiblings None
+
 -- how many ancestors an action has, itself among them
 abbrev pub depth : History PlainEntry → ℕ → ℕ
-depth h a = length (lineage h a) - 1
+depth h a = length (lineage h (in_history a)) - 1
 
 -- one more action may begin
 abbrev pub if_room : History PlainEntry → Option Refusal
-if_room h = unless (nat_lt (next_action h - 1) MAX_ACTIONS) TooMany None
+if_room h = unless (nat_lt (in_program (next_action h)) MAX_ACTIONS) TooMany None
 
 -- the parent may have subactions, and one more action may begin
 abbrev pub if_shallow : History PlainEntry → ℕ → Option Refusal
-if_shallow h parent = unless (nat_lt (depth h (parent + 1)) MAX_ACTION_DEPTH) TooDeep (if_room h)
+if_shallow h parent = unless (nat_lt (depth h parent) MAX_ACTION_DEPTH) TooDeep (if_room h)
 
 -- the first refusal that applies, where these objects are declared (Argus Reference Manual 1987, locking rules)
 abbrev pub refusal : History PlainEntry → List PlainShape → PlainCall → Option Refusal
@@ -73,34 +78,37 @@ refusal h shapes (begin_sub parent) = if_live h parent (if_shallow h parent)
 refusal h shapes (begin_nested creator) = if_live h creator (if_room h)
 refusal h shapes (commit a) = if_free h a None
 refusal h shapes (abort a) = if_live h a None
+refusal h shapes (abort_others a) = if_free h a (if_created h a)
 refusal h shapes (ask a o query) =
     if_free h a (if_declared shapes o
     (unless (suits_query shapes o query) IllTyped
-    (unless (may_read entries h (a + 1) o) Conflict None)))
+    (unless (may_read entries h (in_history a) o) Conflict None)))
 refusal h shapes (alter a o change) =
     if_free h a (if_declared shapes o
     (unless (suits_change shapes o change) IllTyped
-    (unless (may_write entries h (a + 1) o) Conflict None)))
+    (unless (may_write entries h (in_history a) o) Conflict None)))
 refusal h shapes (test_read a o) = if_free h a (if_declared shapes o None)
 refusal h shapes (test_write a o) = if_free h a (if_declared shapes o None)
 
 -- what the action sees in the object
 abbrev pub seen : Opening → History PlainEntry → ℕ → ℕ → Option PlainContent
-seen s h a o = sees entries (opened s) h (a + 1) o
+seen s h a o = sees entries (opened s) h (in_history a) o
 
 -- the reply where no refusal applies: the next number, an answer, or whether the lock is granted
 abbrev pub granted : Opening → History PlainEntry → List PlainShape → PlainCall → PlainReply
 granted s h shapes (declare shape) = object (length shapes)
-granted s h shapes begin_top = begun (next_action h - 1)
-granted s h shapes (begin_sub parent) = begun (next_action h - 1)
-granted s h shapes (begin_nested creator) = begun (next_action h - 1)
+granted s h shapes begin_top = begun (in_program (next_action h))
+granted s h shapes (begin_sub parent) = begun (in_program (next_action h))
+granted s h shapes (begin_nested creator) = begun (in_program (next_action h))
 granted s h shapes (commit a) = answered done
 granted s h shapes (abort a) = answered done
+granted s h shapes (abort_others a) = answered done
 granted s h shapes (ask a o query) = answered (reply query (seen s h a o))
 granted s h shapes (alter a o change) = answered (result change (seen s h a o)).1
-granted s h shapes (test_read a o) = answered (flag (may_read entries h (a + 1) o))
-granted s h shapes (test_write a o) = answered (flag (may_write entries h (a + 1) o))
+granted s h shapes (test_read a o) = answered (flag (may_read entries h (in_history a) o))
+granted s h shapes (test_write a o) = answered (flag (may_write entries h (in_history a) o))
 
+-- the refusal, if there is one, or else the reply
 abbrev pub or_refused : Option Refusal → PlainReply → PlainReply
 or_refused None reply = reply
 or_refused (Some why) reply = refused why

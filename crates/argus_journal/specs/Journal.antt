@@ -2,26 +2,46 @@
 use Rattle.std.specs.Prelude.{List, None, Option, Some, if◌then◌else◌, map, nat_lt, reverse, slice_get, vec_len, ℕ, ◌-◌}
 use Rattle.std.specs.Borrow.{Bor}
 use Rattle.std.specs.Vec.{vec_capacity}
+use Rattle.argus_actions.specs.declared.action_id.ActionId.{ActionId}
+use Rattle.argus_contents.specs.Content.{PlainContent, plain_option}
+use Rattle.argus_contents.specs.Shape.{PlainShape}
+use Rattle.argus_contents.specs.declared.content.Content.{Content}
+use Rattle.argus_contents.specs.declared.shape.Shape.{Shape}
 use Rattle.argus_entries.specs.Entry.{PlainEntry, plain_entry}
 use Rattle.argus_entries.specs.declared.entry.Entry.{Entry}
+use Rattle.argus_journal.specs.Legal.{Legal, Legal-prop}
 use Rattle.argus_journal.specs.Opening.{Opening, opening_with}
 use Rattle.argus_journal.specs.declared.journal.Journal.{Journal}
 
+-- where the journal begins
 abbrev pub opening_of : Journal → Opening
 opening_of j = opening_with j.objects.items j.first_action j.first_entry
+
+-- what an object of the opening says that was looked for
+abbrev pub plain_opened : Option (Bor Shape × Bor (Option Content)) → Option (PlainShape × Option PlainContent)
+plain_opened None = None
+plain_opened (Some object) = Some (object.0.now, plain_option object.1.now)
 
 -- what entries say, the newest first
 abbrev pub newest_first : List Entry → List PlainEntry
 newest_first entries = reverse (map plain_entry entries)
 
+-- the entries since then, the newest first
 abbrev pub entries_of : Journal → List PlainEntry
 entries_of j = newest_first j.entries.items
+
+-- each reply is the answer of the entries before it
+abbrev pub IsLegal : Journal → Type 0
+IsLegal j = Legal (opening_of j) (entries_of j)
+
+pub IsLegal-prop : (j : Journal) → IsProp (IsLegal j)
+IsLegal-prop j = Legal-prop (opening_of j) (entries_of j)
 
 -- for how many more entries there is room
 abbrev pub room_of : Journal → ℕ
 room_of j = vec_capacity j.entries - vec_len j.entries
 
--- the entry of a number, where the journal holds it: the first of those that it holds has the number of the opening's first entry
+-- the entry of a number, where the journal holds it; the first has the number of the opening's first entry
 abbrev pub entry_at : Opening → List PlainEntry → ℕ → Option PlainEntry
 entry_at s j at = if nat_lt at s.first_entry then None else slice_get (reverse j) (at - s.first_entry)
 
@@ -29,3 +49,8 @@ entry_at s j at = if nat_lt at s.first_entry then None else slice_get (reverse j
 abbrev pub plain_found : Option (Bor Entry) → Option PlainEntry
 plain_found None = None
 plain_found (Some entry) = Some (plain_entry entry.now)
+
+-- the number of an action, if there is one
+abbrev pub number_of : Option ActionId → Option ℕ
+number_of None = None
+number_of (Some a) = Some a.0

@@ -1,13 +1,15 @@
 -- Where a journal begins.
 use Rattle.std.specs.List.{list_all}
 use Rattle.std.specs.Option.{option_and_then}
-use Rattle.std.specs.Prelude.{Bool, List, None, Option, Some, [], false, length, map, slice_get, true, ℕ}
+use Rattle.std.specs.Prelude.{Bool, List, None, Option, Some, [], false, length, map, slice_get, true, ℕ, ◌≤◌}
 use Rattle.argus_contents.specs.Content.{PlainContent, plain_option}
 use Rattle.argus_contents.specs.Fitting.{is_fitting}
 use Rattle.argus_contents.specs.Shape.{PlainShape}
 use Rattle.argus_contents.specs.declared.content.Content.{Content}
 use Rattle.argus_contents.specs.declared.shape.Shape.{Shape}
+use Rattle.argus_contents.specs.declared.limits.TheConstants.{MAX_ACTIONS, MAX_OBJECTS}
 use Rattle.argus_model.specs.History as model
+use Rattle.argus_journal.specs.declared.limits.TheConstants.{MAX_FIRST_ENTRY}
 
 -- what went before is folded: the objects stay with shape and content, the actions and entries are forgotten
 pub record Opening : Type 0 where
@@ -40,10 +42,20 @@ fits_shape (Some shape) n (Some c) = is_fitting shape n c
 abbrev pub is_sound : Opening → Bool
 is_sound s = list_all (λ object. fits_shape (Some object.0) (length s.objects) object.1) s.objects
 
+-- it names no more objects, actions and entries than there may be
+pub record KeepsNumbers (s : Opening) : Type 0 where
+  pub objects : length s.objects ≤ MAX_OBJECTS
+  pub actions : s.first_action ≤ MAX_ACTIONS
+  pub entries : s.first_entry ≤ MAX_FIRST_ENTRY
+
 -- what an object with its content says
 abbrev pub plain_object : Shape × Option Content → PlainShape × Option PlainContent
 plain_object object = (object.0, plain_option object.1)
 
+-- an opening of these parts
+abbrev pub opening_at : List (PlainShape × Option PlainContent) → ℕ → ℕ → Opening
+opening_at objects first_action first_entry = record { objects = objects; first_action = first_action; first_entry = first_entry }
+
 -- the opening with these objects
 abbrev pub opening_with : List (Shape × Option Content) → ℕ → ℕ → Opening
-opening_with objects first_action first_entry = record { objects = map plain_object objects; first_action = first_action; first_entry = first_entry }
+opening_with objects first_action first_entry = opening_at (map plain_object objects) first_action first_entry

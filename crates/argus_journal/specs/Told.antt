@@ -1,90 +1,154 @@
 -- What the numbers in a journal's entries tell, newest first. Of a legal journal it is what its history says.
-use Rattle.std.specs.Prelude.{◌+◌, ◌&&◌, Bool, List, None, Option, Some, [], false, if◌then◌else◌, true, ℕ, ◌==◌, ◌||◌, ◌∷◌}
+use Rattle.std.specs.Prelude.{◌&&◌, Bool, List, None, Option, Some, [], false, if◌then◌else◌, nat_lt, not, true, ℕ, ◌==◌, ◌||◌, ◌∷◌}
 use Rattle.argus_actions.specs.declared.action_id.ActionId.{ActionId}
-use Rattle.argus_contents.specs.Answer.{flag}
 use Rattle.argus_contents.specs.Content.{PlainContent}
-use Rattle.argus_entries.specs.Call.{PlainCall, abort, alter, begin_sub, commit, test_write}
+use Rattle.argus_entries.specs.Call.{PlainCall, abort, abort_others, alter, ask, begin_nested, begin_sub, begin_top, commit, declare, test_read, test_write}
 use Rattle.argus_entries.specs.Entry.{PlainEntry}
-use Rattle.argus_entries.specs.Reply.{PlainReply, answered, begun}
-use Rattle.argus_model.specs.Owner as model
+use Rattle.argus_entries.specs.Reply.{PlainReply, answered, begun, object, refused}
 use Rattle.argus_journal.specs.Entries.{left_by}
+use Rattle.argus_journal.specs.Events.{is_answered, says_yes}
 use Rattle.argus_journal.specs.Opening.{Opening, content_in}
 use Rattle.argus_journal.specs.declared.owner.Owner.{Owner}
-use Rattle.argus_journal.specs.declared.owner.Owner.TheVariants.{Base, Gone, Held}
+use Rattle.argus_journal.specs.declared.owner.Owner.TheVariants.{Base, Folded, Gone, Held}
 
 -- the reply begins this action
 abbrev pub begins : PlainReply → ℕ → Bool
 begins (begun n) a = n == a
-begins _ a = false
+begins (object o) a = false
+begins (answered x) a = false
+begins (refused why) a = false
 
-abbrev pub is_answered : PlainReply → Bool
-is_answered (answered x) = true
-is_answered _ = false
+-- the parent of the action that the call begins; a topaction, nested or not, has none
+abbrev pub parent_by : PlainCall → Option ℕ
+parent_by (begin_sub parent) = Some parent
+parent_by begin_top = None
+parent_by (begin_nested creator) = None
+parent_by (declare shape) = None
+parent_by (commit a) = None
+parent_by (abort a) = None
+parent_by (abort_others a) = None
+parent_by (ask a o query) = None
+parent_by (alter a o change) = None
+parent_by (test_read a o) = None
+parent_by (test_write a o) = None
 
--- what is so of the parent of the action that the call begins; a topaction, nested or not, has none
-abbrev pub at_parent : {X : Type 0} → X → PlainCall → (ℕ → X) → X
-at_parent none (begin_sub parent) up = up parent
-at_parent none _ up = none
+-- who begins an action by the call: its parent or its creator
+abbrev pub creator_by : PlainCall → Option ℕ
+creator_by (begin_sub parent) = Some parent
+creator_by (begin_nested creator) = Some creator
+creator_by begin_top = None
+creator_by (declare shape) = None
+creator_by (commit a) = None
+creator_by (abort a) = None
+creator_by (abort_others a) = None
+creator_by (ask a o query) = None
+creator_by (alter a o change) = None
+creator_by (test_read a o) = None
+creator_by (test_write a o) = None
+
+-- what is so of the parent of the action that the call begins
+abbrev pub at_parent : {X : Type 0} → X → Option ℕ → (ℕ → X) → X
+at_parent none None up = none
+at_parent none (Some parent) up = up parent
 
 -- x is a, or above its parent
 abbrev pub told_above : List PlainEntry → ℕ → ℕ → Bool
 told_above [] x a = x == a
-told_above (e ∷ older) x a = if begins e.reply a then (x == a || at_parent false e.call (told_above older x)) else told_above older x a
+told_above (e ∷ older) x a =
+    if begins e.reply a then
+    (x == a || at_parent false (parent_by e.call) (told_above older x)) else told_above older x a
+
+-- the parent of an action; none of a topaction, and of one that hasn't begun
+abbrev pub told_parent : List PlainEntry → ℕ → Option ℕ
+told_parent [] a = None
+told_parent (e ∷ older) a = if begins e.reply a then parent_by e.call else told_parent older a
+
+-- who began an action
+abbrev pub told_creator : List PlainEntry → ℕ → Option ℕ
+told_creator [] a = None
+told_creator (e ∷ older) a = if begins e.reply a then creator_by e.call else told_creator older a
+
+-- the number is this one
+abbrev pub is_the : Option ℕ → ℕ → Bool
+is_the None c = false
+is_the (Some x) c = x == c
+
+-- c began x and x isn't b, or c began one above it that isn't b
+abbrev pub told_beside : List PlainEntry → ℕ → ℕ → ℕ → Bool
+told_beside [] c b x = false
+told_beside (e ∷ older) c b x =
+    if begins e.reply x
+    then ((not (x == b) && is_the (creator_by e.call) c) || at_parent false (parent_by e.call) (told_beside older c b))
+    else told_beside older c b x
 
 -- who is next to answer for what a committed action did
-abbrev pub passed_to : PlainCall → Owner
-passed_to call = at_parent Base call (λ parent. Held (record { 0 = parent }))
+abbrev pub heir : Option ℕ → Owner
+heir None = Base
+heir (Some parent) = Held (record { 0 = parent })
 
-abbrev pub told_parent : List PlainEntry → ℕ → Owner
-told_parent [] a = Base
-told_parent (e ∷ older) a = if begins e.reply a then passed_to e.call else told_parent older a
+-- x, or nobody once it is over
+abbrev pub gone_if : Bool → ActionId → Owner
+gone_if over x = if over then Gone else Held x
 
 -- the owner x of some work, after this call was answered
 abbrev pub owner_then : PlainCall → List PlainEntry → ActionId → Owner
-owner_then (commit b) older x = if b == x.0 then told_parent older b else Held x
-owner_then (abort b) older x = if told_above older b x.0 then Gone else Held x
-owner_then _ older x = Held x
+owner_then (commit b) older x = if b == x.0 then heir (told_parent older b) else Held x
+owner_then (abort b) older x = gone_if (told_above older b x.0) x
+owner_then (abort_others b) older x =
+    gone_if (at_parent false (told_creator older b) (λ c. told_beside older c b x.0)) x
+owner_then (declare shape) older x = Held x
+owner_then begin_top older x = Held x
+owner_then (begin_sub parent) older x = Held x
+owner_then (begin_nested creator) older x = Held x
+owner_then (ask a o query) older x = Held x
+owner_then (alter a o change) older x = Held x
+owner_then (test_read a o) older x = Held x
+owner_then (test_write a o) older x = Held x
 
 -- the owner of what a did, after one more entry
 abbrev pub owner_next : PlainEntry → List PlainEntry → Option Owner → Option Owner
+owner_next e older None = None
+owner_next e older (Some Folded) = Some Folded
+owner_next e older (Some Gone) = Some Gone
+owner_next e older (Some Base) = Some Base
 owner_next e older (Some (Held x)) = Some (if is_answered e.reply then owner_then e.call older x else Held x)
-owner_next e older owner = owner
 
--- who answers for what an action did; none where it hasn't begun
-abbrev pub told_owner : List PlainEntry → ℕ → Option Owner
-told_owner [] a = None
-told_owner (e ∷ older) a = if begins e.reply a then Some (Held (record { 0 = a })) else owner_next e older (told_owner older a)
+-- who answers for what an action did, where the first action has this number; none where it hasn't begun
+abbrev pub told_owner : ℕ → List PlainEntry → ℕ → Option Owner
+told_owner first [] a = if nat_lt a first then Some Folded else None
+told_owner first (e ∷ older) a =
+    if begins e.reply a then Some (Held (record { 0 = a })) else owner_next e older (told_owner first older a)
 
--- what has this owner counts for the reader: it is there for good, or the reader is the action that holds it or stands under it
+-- what has this owner counts for the reader: it is there for good, or held by the reader or one above it
 abbrev pub counts_with : List PlainEntry → Option ActionId → Option Owner → Bool
+counts_with j reader None = false
+counts_with j reader (Some Folded) = false
+counts_with j reader (Some Gone) = false
 counts_with j reader (Some Base) = true
+counts_with j None (Some (Held x)) = false
 counts_with j (Some h) (Some (Held x)) = told_above j x.0 h.0
-counts_with j reader owner = false
 
 -- what the action did counts
-abbrev pub told_counts : List PlainEntry → Option ActionId → ℕ → Bool
-told_counts j reader a = counts_with j reader (told_owner j a)
-
--- a test is answered yes
-abbrev pub says_yes : PlainReply → Bool
-says_yes (answered (flag truth)) = truth
-says_yes _ = false
+abbrev pub told_counts : ℕ → List PlainEntry → Option ActionId → ℕ → Bool
+told_counts first j reader a = counts_with j reader (told_owner first j a)
 
 -- the action that writes the object by a call of this reply
 abbrev pub writer_by : PlainCall → PlainReply → ℕ → Option ActionId
 writer_by (alter a i change) reply o = if i == o && is_answered reply then Some (record { 0 = a }) else None
 writer_by (test_write a i) reply o = if i == o && says_yes reply then Some (record { 0 = a }) else None
-writer_by _ reply o = None
-
--- an owner, none of an action that hasn't begun, in the words of the history
-abbrev pub model_owner : Option Owner → model.Owner
-model_owner None = model.Folded
-model_owner (Some Gone) = model.Gone
-model_owner (Some Base) = model.Base
-model_owner (Some (Held x)) = model.Held (x.0 + 1)
+writer_by (declare shape) reply o = None
+writer_by begin_top reply o = None
+writer_by (begin_sub parent) reply o = None
+writer_by (begin_nested creator) reply o = None
+writer_by (commit a) reply o = None
+writer_by (abort a) reply o = None
+writer_by (abort_others a) reply o = None
+writer_by (ask a i query) reply o = None
+writer_by (test_read a i) reply o = None
 
 -- what f leaves of the content, where there is a writer and it counts
-abbrev pub written_if : (ℕ → Bool) → (Option PlainContent → Option PlainContent) → Option ActionId → Option PlainContent → Option PlainContent
+abbrev pub written_if : (ℕ → Bool) → (Option PlainContent → Option PlainContent) → Option ActionId → Option PlainContent
+    → Option PlainContent
 written_if counts f None c = c
 written_if counts f (Some a) c = if counts a.0 then f c else c
 
@@ -95,4 +159,4 @@ replay_next counts e o c = written_if counts (left_by e.call) (writer_by e.call 
 -- from the opening on, what each write to the object leaves, in order, where its action counts by the whole journal
 abbrev pub replayed : Opening → List PlainEntry → Option ActionId → ℕ → List PlainEntry → Option PlainContent
 replayed s j reader o [] = content_in s.objects o
-replayed s j reader o (e ∷ older) = replay_next (told_counts j reader) e o (replayed s j reader o older)
+replayed s j reader o (e ∷ older) = replay_next (told_counts s.first_action j reader) e o (replayed s j reader o older)

@@ -1,5 +1,5 @@
 -- Journals worked out: calls, each with the answer of the entries before it.
-use Rattle.std.specs.Prelude.{List, [], codes, pos, suc, zero, ℕ, ◌+◌, ◌∷◌}
+use Rattle.std.specs.Prelude.{List, Option, Some, [], codes, pos, suc, zero, ℕ, ◌+◌, ◌∷◌}
 use Rattle.argus_contents.specs.Change.{PlainChange, addh, change_tag, create, remh, set_field}
 use Rattle.argus_contents.specs.Content.{PlainContent, arr, rec, var}
 use Rattle.argus_contents.specs.Shape as shape
@@ -13,6 +13,8 @@ use Rattle.argus_entries.specs.Entry.{PlainEntry}
 use Rattle.argus_entries.specs.Reply.{PlainReply}
 use Rattle.argus_journal.specs.Answers.{answer}
 use Rattle.argus_journal.specs.Opening.{Opening, empty}
+use Rattle.argus_journal.specs.declared.owner.Owner.{Owner}
+use Rattle.argus_journal.specs.declared.owner.Owner.TheVariants.{Held}
 
 -- the journal, with each of these calls and its answer after it
 abbrev pub then_calls : Opening → List PlainEntry → List PlainCall → List PlainEntry
@@ -28,6 +30,10 @@ abbrev pub replies : Opening → List PlainEntry → List PlainCall → List Pla
 replies s j [] = []
 replies s j (call ∷ calls) = answer s j call ∷ replies s (record { call = call; reply = answer s j call } ∷ j) calls
 
+-- the action that answers for some work
+abbrev pub held : ℕ → Option Owner
+held a = Some (Held (record { 0 = a }))
+
 -- a record of one number, its shape, and the change of the number
 abbrev pub number_shape : PlainShape
 number_shape = shape.rec (ty.more (codes "n") ty.int ty.none)
@@ -40,7 +46,8 @@ set_to n = set_field 0 (value.int (pos n))
 
 -- objects 0 and 1 hold 0: topaction 0 has created them
 abbrev pub prepared : List PlainCall
-prepared = declare number_shape ∷ declare number_shape ∷ begin_top ∷ alter 0 0 (create (holding 0)) ∷ alter 0 1 (create (holding 0)) ∷ commit 0 ∷ []
+prepared = declare number_shape ∷ declare number_shape ∷ begin_top ∷ alter 0 0 (create (holding 0)) ∷ alter 0 1
+    (create (holding 0)) ∷ commit 0 ∷ []
 
 -- topaction 1 and its subaction 2 each set object 0
 abbrev pub sub_writes : List PlainCall
@@ -48,23 +55,31 @@ sub_writes = begin_top ∷ alter 1 0 (set_to 1) ∷ begin_sub 1 ∷ alter 2 0 (s
 
 -- subactions 2 and 3 of topaction 1 read object 0; 2 waits for 3 to commit before it may write
 abbrev pub two_read : List PlainCall
-two_read = begin_top ∷ begin_sub 1 ∷ begin_sub 1 ∷ ask 2 0 (Field 0) ∷ ask 3 0 (Field 0) ∷ alter 2 0 (set_to 1) ∷ commit 3 ∷ []
+two_read = begin_top ∷ begin_sub 1 ∷ begin_sub 1 ∷ ask 2 0 (Field 0) ∷ ask 3 0 (Field 0) ∷ alter 2 0
+    (set_to 1) ∷ commit 3 ∷ []
 
 -- topaction 1 sets object 0 and begins the nested topaction 2, which can't read it, sets object 1 and commits; 1 is aborted
 abbrev pub nested_outlives : List PlainCall
-nested_outlives = begin_top ∷ alter 1 0 (set_to 9) ∷ begin_nested 1 ∷ ask 2 0 (Field 0) ∷ alter 2 1 (set_to 8) ∷ commit 2 ∷ abort 1 ∷ []
+nested_outlives =
+    begin_top ∷ alter 1 0 (set_to 9) ∷ begin_nested 1 ∷ ask 2 0 (Field 0) ∷ alter 2 1
+    (set_to 8) ∷ commit 2 ∷ abort 1 ∷ []
 
 -- topaction 1 is suspended by its subaction 2, and aborted; then calls that name what is over, not begun or not declared
 abbrev pub refused_in_turn : List PlainCall
-refused_in_turn = begin_top ∷ begin_sub 1 ∷ ask 1 0 (Field 0) ∷ commit 1 ∷ abort 1 ∷ ask 2 9 (Field 0) ∷ ask 7 0 (Field 0) ∷ begin_top ∷ ask 3 9 (Field 0) ∷ []
+refused_in_turn =
+    begin_top ∷ begin_sub 1 ∷ ask 1 0 (Field 0) ∷ commit 1 ∷ abort 1 ∷ ask 2 9 (Field 0) ∷ ask 7 0
+    (Field 0) ∷ begin_top ∷ ask 3 9 (Field 0) ∷ []
 
 -- topaction 2 removes an item of the empty array 2, and has the write lock though it was only signalled
 abbrev pub signal_holds : List PlainCall
 signal_holds =
-    declare (shape.arr ty.int) ∷ begin_top ∷ alter 1 2 (create (arr (pos 1) [])) ∷ commit 1 ∷ begin_top ∷ alter 2 2 remh ∷ []
+    declare (shape.arr ty.int) ∷ begin_top ∷ alter 1 2
+    (create (arr (pos 1) [])) ∷ commit 1 ∷ begin_top ∷ alter 2 2 remh ∷ []
 
 abbrev pub signal_ends : List PlainCall
-signal_ends = begin_top ∷ alter 3 2 (addh (value.int (pos 5))) ∷ abort 2 ∷ alter 3 2 (addh (value.int (pos 5))) ∷ ask 3 2 High ∷ []
+signal_ends =
+    begin_top ∷ alter 3 2 (addh (value.int (pos 5))) ∷ abort 2 ∷ alter 3 2
+    (addh (value.int (pos 5))) ∷ ask 3 2 High ∷ []
 
 -- topaction 1 makes a variant, and topaction 2 changes its tag, at first with a value of another type
 abbrev pub tag_changes : List PlainCall
@@ -84,7 +99,8 @@ tests_no = begin_top ∷ begin_top ∷ ask 1 0 (Field 0) ∷ test_write 2 0 ∷ 
 
 -- topaction 1, which began first, commits after topaction 2 and has read what 2 left
 abbrev pub turns : List PlainCall
-turns = begin_top ∷ begin_top ∷ alter 1 0 (set_to 1) ∷ alter 2 1 (set_to 2) ∷ commit 2 ∷ ask 1 1 (Field 0) ∷ commit 1 ∷ []
+turns = begin_top ∷ begin_top ∷ alter 1 0 (set_to 1) ∷ alter 2 1 (set_to 2) ∷ commit 2 ∷ ask 1 1
+    (Field 0) ∷ commit 1 ∷ []
 
 -- subaction 2 of topaction 1 sets object 0: its parent, its sibling 3 and its nested topaction 4 all have to wait
 abbrev pub all_wait : List PlainCall
@@ -96,7 +112,8 @@ all_wait =
 abbrev pub reference_waits : List PlainCall
 reference_waits =
     declare (shape.rec (ty.more (codes "r") ty.atomic ty.none)) ∷ begin_top
-    ∷ alter 1 2 (create (rec (value.atomic 3 ∷ []))) ∷ declare number_shape ∷ alter 1 2 (create (rec (value.atomic 3 ∷ []))) ∷ []
+    ∷ alter 1 2 (create (rec (value.atomic 3 ∷ []))) ∷ declare number_shape ∷ alter 1 2
+    (create (rec (value.atomic 3 ∷ []))) ∷ []
 
 -- n subactions one under another, from action a down
 abbrev pub chain : ℕ → ℕ → List PlainCall

@@ -1,9 +1,15 @@
-//! `Journal`: the calls that were made, and what they were answered.
+//! `Journal`: the calls of a guardian in order, with what they were answered.
 
-ghost use Rattle.std.specs.Prelude.{◌≡◌, ◌<◌, ◌≤◌, ◌+◌, true, [], ◌∷◌, length, map, slice_get, IfOk, OnOk};
+ghost use Rattle.std.specs.Prelude.{◌≡◌, ◌<◌, ◌≤◌, ◌+◌, [], ◌∷◌, length, map, slice_get, true};
+ghost use Rattle.std.specs.Prelude.{IfOk, OnOk};
 ghost use Rattle.argus_contents.specs.Content.{plain_option};
+ghost use Rattle.argus_contents.specs.declared.limits.TheConstants.{MAX_ACTIONS, MAX_OBJECTS};
 ghost use Rattle.argus_entries.specs.Entry.{plain_entry};
-ghost use Rattle.argus_journal.specs.Opening.{content_in, empty, is_sound, opening_with};
+ghost use Rattle.argus_journal.specs.Folding.{fold, next_entry_number};
+ghost use Rattle.argus_journal.specs.Legal.{Legal};
+ghost use Rattle.argus_journal.specs.Opening.{KeepsNumbers, content_in, empty, is_sound};
+ghost use Rattle.argus_journal.specs.Opening.{opening_with};
+ghost use Rattle.argus_journal.specs.declared.limits.TheConstants.{MAX_FIRST_ENTRY};
 
 use argus_contents::{Content, ObjId, Shape};
 use argus_entries::Entry;
@@ -27,30 +33,84 @@ pub struct Journal {
     first_action: u32,
     first_entry: u64,
     entries: Vec<Entry, Heap>,
-    ghost numbered: { first_entry ≤ 9223372036854775807 },
+    ghost few_objects: { length objects.items ≤ MAX_OBJECTS },
+    ghost few_actions: { first_action ≤ MAX_ACTIONS },
+    ghost numbered: { first_entry ≤ MAX_FIRST_ENTRY },
     ghost sound: { is_sound (opening_with objects.items first_action first_entry) ≡ true },
 }
 
 impl Journal {
-    ghost use Rattle.argus_journal.specs.Journal.{entries_of, entry_at, opening_of, plain_found, room_of};
+    ghost use Rattle.argus_journal.specs.Journal.{entries_of, entry_at, opening_of, plain_found};
+    ghost use Rattle.argus_journal.specs.Journal.{plain_opened, room_of};
 
     /// A journal with no entry, of no object and no action. It takes no memory.
     pub fn new(heap: Heap) -> Journal
         ensures opening { opening_of result ≡ empty }
         ensures entries { entries_of result ≡ [] }
     {
+        Journal::starting_at(heap, Vec::new(heap), 0, 0)
+    }
+
+    /// A journal with no entry that goes on where another ended: with these objects, in the order
+    /// of their numbers, and so many actions and entries before it. It takes no memory.
+    ///
+    /// At most `MAX_OBJECTS` objects, at most `MAX_ACTIONS` actions, at most `MAX_FIRST_ENTRY`
+    /// entries; each content fits its shape, where all these objects are declared.
+    pub fn starting_at(
+        heap: Heap,
+        objects: Vec<(Shape, Option<Content>), Heap>,
+        first_action: u32,
+        first_entry: u64,
+    ) -> Journal
+        requires few_objects { length objects.items ≤ MAX_OBJECTS }
+        requires few_actions { first_action ≤ MAX_ACTIONS }
+        requires numbered { first_entry ≤ MAX_FIRST_ENTRY }
+        requires sound { is_sound (opening_with objects.items first_action first_entry) ≡ true }
+        ensures opening { opening_of result ≡ opening_with objects.items first_action first_entry }
+        ensures entries { entries_of result ≡ [] }
+    {
         Journal {
-            objects: Vec::new(heap),
-            first_action: 0,
-            first_entry: 0,
+            objects,
+            first_action,
+            first_entry,
             entries: Vec::new(heap),
         }
     }
 
-    /// Makes room for one more entry. After `OutOfMemory` the journal is as before.
+    /// The number of the first entry: how many went before the opening.
+    pub fn first_entry(&self) -> u64
+        ensures first { result ≡ (opening_of self.now).first_entry }
+        ensures limits { KeepsNumbers (opening_of self.now) }
+    {
+        self.first_entry
+    }
+
+    /// The number of the first action: how many were begun before the opening.
+    pub fn first_action(&self) -> u32
+        ensures first { result ≡ (opening_of self.now).first_action }
+        ensures limits { KeepsNumbers (opening_of self.now) }
+    {
+        self.first_action
+    }
+
+    /// What the opening says of an object: its shape, and its content if there is one. None where
+    /// the opening hasn't the object. Each content there fits its shape.
+    pub fn opening(&self, o: ObjId) -> Option<(&Shape, &Option<Content>)>
+        ensures object { plain_opened result ≡ slice_get (opening_of self.now).objects o.0 }
+        ensures sound { is_sound (opening_of self.now) ≡ true }
+    {
+        match self.objects.get(o.0 as usize) {
+            Some((shape, content)) => Some((shape, content)),
+            None => None,
+        }
+    }
+
+    /// Makes room for one more entry. The room that was there stays, and after `OutOfMemory` all is
+    /// as before.
     pub fn reserve(&mut self) -> Result<(), OutOfMemory>
         ensures opening { opening_of self.new ≡ opening_of self.old }
         ensures entries { entries_of self.new ≡ entries_of self.old }
+        ensures room { room_of self.old ≤ room_of self.new }
         ensures ok { OnOk result (0 < room_of self.new) }
     {
         self.entries.reserve(1)?;
@@ -67,9 +127,30 @@ impl Journal {
         self.entries.push_reserved(entry);
     }
 
+    /// Folds the entries into the opening: these are the objects of its fold, with what is in them
+    /// for good, and the number of the next action. It takes no memory, and the room stays.
+    ///
+    /// The journal has to be legal, and the number of its next entry at most `MAX_FIRST_ENTRY`.
+    pub fn fold(&mut self, objects: Vec<(Shape, Option<Content>), Heap>, first_action: u32)
+        requires legal { Legal (opening_of self.old) (entries_of self.old) }
+        requires numbered { next_entry_number (opening_of self.old) (entries_of self.old)
+            ≤ MAX_FIRST_ENTRY }
+        requires is_fold { let s = opening_of self.old in let j = entries_of self.old in
+            opening_with objects.items first_action (next_entry_number s j) ≡ fold s j }
+        ensures opening { opening_of self.new ≡ fold (opening_of self.old) (entries_of self.old) }
+        ensures entries { entries_of self.new ≡ [] }
+        ensures room { room_of self.old ≤ room_of self.new }
+    {
+        let first_entry = self.len();
+        self.entries.clear();
+        self.objects = objects;
+        self.first_action = first_action;
+        self.first_entry = first_entry;
+    }
+
     /// The number of the next entry: how many went before the opening, and how many came since.
     pub fn len(&self) -> u64
-        ensures { result ≡ (opening_of self.now).first_entry + length (entries_of self.now) }
+        ensures { result ≡ next_entry_number (opening_of self.now) (entries_of self.now) }
     {
         self.first_entry + self.entries.len() as u64
     }

@@ -12,6 +12,8 @@ use argus_actions::ActionId;
 /// ```
 #[derive(Clone, Copy, Debug, PartialEq, Eq)]
 pub enum Owner {
+    /// The action was begun before the opening: what it did for good is in the contents there.
+    Folded,
     /// Nobody: the action was aborted, or an ancestor of it was.
     Gone,
     /// What it did is there for good.

@@ -1,34 +1,43 @@
 //! `owner_of`: who answers for what an action did.
 
-ghost use Rattle.std.specs.Prelude.{◌≡◌, Some, if◌then◌else◌};
+ghost use Rattle.std.specs.Prelude.{◌≡◌, Some, false, if◌then◌else◌, ℕ};
 ghost use Rattle.argus_entries.specs.Call.{plain_call};
 ghost use Rattle.argus_entries.specs.Entry.{plain_entry};
 ghost use Rattle.argus_entries.specs.Reply.{plain_reply};
+ghost use Rattle.argus_journal.specs.Events as events;
 ghost use Rattle.argus_journal.specs.Journal.{entries_of, newest_first, opening_of};
-ghost use Rattle.argus_journal.specs.Legal.{Legal, owner_in};
+ghost use Rattle.argus_journal.specs.Legal.{Legal};
 ghost use Rattle.argus_journal.specs.Told as told;
+ghost use Rattle.argus_journal.specs.Words.{owner_in};
 
 use crate::journal::Journal;
+use crate::kinship::{begins, creator_of, is_above, is_beside, parent_of};
 use crate::owner::Owner;
 use argus_actions::ActionId;
 use argus_entries::{Call, Entry, Reply};
 
-/// Who answers for what the action did. None where it hasn't begun since the opening.
+/// Who answers for what the action did. None where it hasn't begun, `Folded` where it was begun
+/// before the opening.
 ///
 /// The journal has to be legal, as a guardian's is. The entries from the action's begin on are gone
 /// through; this is for audits. It takes no memory.
 pub fn owner_of(journal: &Journal, a: ActionId) -> Option<Owner>
     requires { Legal (opening_of journal.now) (entries_of journal.now) }
-    ensures { told.model_owner result ≡ owner_in (opening_of journal.now) (entries_of journal.now) a.0 }
+    ensures { result ≡ owner_in (opening_of journal.now) (entries_of journal.now) a.0 }
 {
-    owner_among(journal.entries(), a)
+    owner_among(journal.first_action(), journal.entries(), a)
 }
 
-/// Who answers for what the action did, as the entries tell.
-pub(crate) fn owner_among(entries: &[Entry], a: ActionId) -> Option<Owner>
-    ensures { result ≡ told.told_owner (newest_first entries.now) a.0 }
+/// Who answers for what the action did, as the entries tell, where the first action has this
+/// number.
+pub(crate) fn owner_among(first: u32, entries: &[Entry], a: ActionId) -> Option<Owner>
+    ensures { result ≡ told.told_owner first (newest_first entries.now) a.0 }
 {
-    let mut owner = None;
+    let mut owner = if a.0 < first {
+        Some(Owner::Folded)
+    } else {
+        None
+    };
     for i in 0..entries.len() {
         owner = owner_after(&entries[..i], &entries[i], a, owner);
     }
@@ -50,7 +59,7 @@ fn owner_after(older: &[Entry], entry: &Entry, a: ActionId, owner: Option<Owner>
                 owner
             }
         }
-        _ => owner,
+        Some(Owner::Folded) | Some(Owner::Gone) | Some(Owner::Base) | None => owner,
     }
 }
 
@@ -65,77 +74,49 @@ fn owner_then(older: &[Entry], call: &Call, x: ActionId) -> Owner
                 Owner::Held(x)
             }
         }
-        Call::Abort(b) => {
-            if is_above(older, *b, x) {
-                Owner::Gone
-            } else {
-                Owner::Held(x)
-            }
+        Call::Abort(b) => gone_if(is_above(older, *b, x), x),
+        Call::AbortOthers(b) => gone_if(has_sibling_above(older, *b, x), x),
+        Call::Declare(_) | Call::BeginTop | Call::BeginSub(_) | Call::BeginNested(_) => {
+            Owner::Held(x)
         }
-        _ => Owner::Held(x),
+        Call::Ask(_, _, _) | Call::Alter(_, _, _) => Owner::Held(x),
+        Call::TestRead(_, _) | Call::TestWrite(_, _) => Owner::Held(x),
     }
 }
 
-fn begins(reply: &Reply, a: ActionId) -> bool
-    ensures { result ≡ told.begins (plain_reply reply.now) a.0 }
+fn gone_if(over: bool, x: ActionId) -> Owner
+    ensures { result ≡ told.gone_if over x }
 {
-    match reply {
-        Reply::Begun(n) => n.0 == a.0,
-        _ => false,
-    }
-}
-
-pub(crate) fn is_answered(reply: &Reply) -> bool
-    ensures { result ≡ told.is_answered (plain_reply reply.now) }
-{
-    match reply {
-        Reply::Object(_) => false,
-        Reply::Begun(_) => false,
-        Reply::Refused(_) => false,
-        _ => true,
-    }
+    if over { Owner::Gone } else { Owner::Held(x) }
 }
 
 // Who is next to answer for what the action did, once it commits.
 fn heir_of(entries: &[Entry], a: ActionId) -> Owner
-    ensures { result ≡ told.told_parent (newest_first entries.now) a.0 }
+    ensures { result ≡ told.heir (told.told_parent (newest_first entries.now) a.0) }
 {
-    let mut rest = entries;
-    while let Some((entry, older)) = rest.split_last() {
-        if begins(&entry.reply, a) {
-            return heir_by(&entry.call);
-        }
-        rest = older;
-    }
-    Owner::Base
-}
-
-fn heir_by(call: &Call) -> Owner
-    ensures { result ≡ told.passed_to (plain_call call.now) }
-{
-    match call {
-        Call::BeginSub(parent) => Owner::Held(*parent),
-        _ => Owner::Base,
+    match parent_of(entries, a) {
+        Some(parent) => Owner::Held(parent),
+        None => Owner::Base,
     }
 }
 
-/// Whether `x` is `a` or an ancestor of it, as the entries tell.
-pub(crate) fn is_above(entries: &[Entry], x: ActionId, a: ActionId) -> bool
-    ensures { result ≡ told.told_above (newest_first entries.now) x.0 a.0 }
+// Whether x, or an ancestor of it, is a sibling of b.
+fn has_sibling_above(entries: &[Entry], b: ActionId, x: ActionId) -> bool
+    ensures { let older = newest_first entries.now in
+        result ≡ told.at_parent false (told.told_creator older b.0)
+        (λ c. told.told_beside older c b.0 x.0) }
 {
-    let mut at = a;
-    let mut rest = entries;
-    while let Some((entry, older)) = rest.split_last() {
-        if begins(&entry.reply, at) {
-            if at.0 == x.0 {
-                return true;
-            }
-            match &entry.call {
-                Call::BeginSub(parent) => at = *parent,
-                _ => return false,
-            }
-        }
-        rest = older;
+    match creator_of(entries, b) {
+        Some(creator) => is_beside(entries, creator, b, x),
+        None => false,
     }
-    x.0 == at.0
+}
+
+pub(crate) fn is_answered(reply: &Reply) -> bool
+    ensures { result ≡ events.is_answered (plain_reply reply.now) }
+{
+    match reply {
+        Reply::Answered(_) => true,
+        Reply::Object(_) | Reply::Begun(_) | Reply::Refused(_) => false,
+    }
 }

@@ -1,25 +1,28 @@
 //! `replay_for` and `replay_base`: what the entries leave in an object.
 
-ghost use Rattle.std.specs.Prelude.{◌≡◌, IfOk, OnOk, OnErr};
+ghost use Rattle.std.specs.Prelude.{◌≡◌, IfOk, None, OnOk, Some, if◌then◌else◌};
 ghost use Rattle.argus_contents.specs.Content.{KeepsLimits, plain_option};
 ghost use Rattle.argus_entries.specs.Entry.{plain_entry};
 ghost use Rattle.argus_entries.specs.Reply.{plain_reply};
+ghost use Rattle.argus_contents.specs.Answer.{plain_answer};
 ghost use Rattle.argus_journal.specs.Entries.{left_by};
+ghost use Rattle.argus_journal.specs.Events as events;
 ghost use Rattle.argus_journal.specs.Journal.{entries_of, newest_first, opening_of};
-ghost use Rattle.argus_journal.specs.Legal.{Legal, base_of, seen_by};
-ghost use Rattle.argus_journal.specs.Told as told;
+ghost use Rattle.argus_journal.specs.Legal.{Legal};
 ghost use Rattle.argus_journal.specs.Told.{replayed, replay_next, told_counts, writer_by};
+ghost use Rattle.argus_journal.specs.Words.{base_of, seen_by};
 
 use crate::journal::Journal;
+use crate::kinship::is_above;
 use crate::owner::Owner;
-use crate::owning::{is_above, is_answered, owner_among};
+use crate::owning::{is_answered, owner_among};
 use argus_actions::ActionId;
-use argus_contents::{Content, ObjId, alter_in_place};
+use argus_contents::{Answer, Content, ObjId, alter_in_place};
 use argus_entries::{Call, Entry, Reply};
 use argus_memory::{Heap, OutOfMemory};
 
-/// What the action sees in the object: what was written for good, and what was written by those whose
-/// owner is the action or an ancestor of it. Absent where the object isn't declared.
+/// What the action sees in the object: what was written for good, and what was written by those
+/// whose owner is the action or an ancestor of it. Absent where the object isn't declared.
 ///
 /// The journal has to be legal, as a guardian's is. All entries are gone through, for each write of
 /// the object once more; this is for audits.
@@ -57,18 +60,21 @@ fn replay(
 ) -> Result<Option<Content>, OutOfMemory>
     requires { Legal (opening_of journal.now) (entries_of journal.now) }
     ensures { let j = entries_of journal.now in
-        IfOk result (λ content. plain_option content ≡ replayed (opening_of journal.now) j reader o.0 j) }
+        IfOk result (λ content. plain_option content
+        ≡ replayed (opening_of journal.now) j reader o.0 j) }
 {
     let mut content = journal.opening_content(heap, o)?;
+    let first = journal.first_action();
     let entries = journal.entries();
     for entry in entries {
-        replay_entry(heap, entries, entry, reader, o, &mut content)?;
+        replay_entry(heap, first, entries, entry, reader, o, &mut content)?;
     }
     Ok(content)
 }
 
 fn replay_entry(
     heap: Heap,
+    first: u32,
     entries: &[Entry],
     entry: &Entry,
     reader: Option<ActionId>,
@@ -76,14 +82,14 @@ fn replay_entry(
     content: &mut Option<Content>,
 ) -> Result<(), OutOfMemory>
     requires { KeepsLimits (plain_option content.old) }
-    ensures { let counts = told_counts (newest_first entries.now) reader in
+    ensures { let counts = told_counts first (newest_first entries.now) reader in
         OnOk result (plain_option content.new
         ≡ replay_next counts (plain_entry entry.now) o.0 (plain_option content.old)) }
 {
     match writer_of(entry, o) {
         None => Ok(()),
         Some(a) => {
-            if counts(entries, reader, a) {
+            if counts(first, entries, reader, a) {
                 write(heap, entry, content)
             } else {
                 Ok(())
@@ -97,32 +103,50 @@ fn writer_of(entry: &Entry, o: ObjId) -> Option<ActionId>
     ensures { result ≡ writer_by (plain_entry entry.now).call (plain_entry entry.now).reply o.0 }
 {
     match &entry.call {
-        Call::Alter(a, i, _) if i.0 == o.0 && is_answered(&entry.reply) => Some(*a),
-        Call::TestWrite(a, i) if i.0 == o.0 && says_yes(&entry.reply) => Some(*a),
-        _ => None,
+        Call::Alter(a, i, _) => action_if(i.0 == o.0 && is_answered(&entry.reply), *a),
+        Call::TestWrite(a, i) => action_if(i.0 == o.0 && says_yes(&entry.reply), *a),
+        Call::Declare(_) | Call::BeginTop | Call::BeginSub(_) | Call::BeginNested(_) => None,
+        Call::Commit(_) | Call::Abort(_) | Call::AbortOthers(_) => None,
+        Call::Ask(_, _, _) | Call::TestRead(_, _) => None,
     }
 }
 
+fn action_if(does: bool, a: ActionId) -> Option<ActionId>
+    ensures { result ≡ (if does then Some a else None) }
+{
+    if does { Some(a) } else { None }
+}
+
 fn says_yes(reply: &Reply) -> bool
-    ensures { result ≡ told.says_yes (plain_reply reply.now) }
+    ensures { result ≡ events.says_yes (plain_reply reply.now) }
 {
     match reply {
-        Reply::Flag(truth) => *truth,
-        _ => false,
+        Reply::Answered(answer) => truth_of(answer),
+        Reply::Object(_) | Reply::Begun(_) | Reply::Refused(_) => false,
+    }
+}
+
+fn truth_of(answer: &Answer) -> bool
+    ensures { result ≡ events.truth_of (plain_answer answer.now) }
+{
+    match answer {
+        Answer::Flag(truth) => *truth,
+        Answer::Done | Answer::Val(_) | Answer::Num(_) => false,
+        Answer::Body(_) | Answer::Signal(_) => false,
     }
 }
 
 // Whether what the action did counts for the reader.
-fn counts(entries: &[Entry], reader: Option<ActionId>, a: ActionId) -> bool
-    ensures { result ≡ told_counts (newest_first entries.now) reader a.0 }
+fn counts(first: u32, entries: &[Entry], reader: Option<ActionId>, a: ActionId) -> bool
+    ensures { result ≡ told_counts first (newest_first entries.now) reader a.0 }
 {
-    match owner_among(entries, a) {
+    match owner_among(first, entries, a) {
         Some(Owner::Base) => true,
         Some(Owner::Held(x)) => match reader {
             Some(h) => is_above(entries, x, h),
             None => false,
         },
-        _ => false,
+        Some(Owner::Folded) | Some(Owner::Gone) | None => false,
     }
 }
 
@@ -137,6 +161,9 @@ fn write(heap: Heap, entry: &Entry, content: &mut Option<Content>) -> Result<(),
             let _ = alter_in_place(content, change.duplicate(heap)?)?;
             Ok(())
         }
-        _ => Ok(()),
+        Call::TestWrite(_, _) => Ok(()),
+        Call::Declare(_) | Call::BeginTop | Call::BeginSub(_) | Call::BeginNested(_) => Ok(()),
+        Call::Commit(_) | Call::Abort(_) | Call::AbortOthers(_) => Ok(()),
+        Call::Ask(_, _, _) | Call::TestRead(_, _) => Ok(()),
     }
 }

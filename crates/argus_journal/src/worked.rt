@@ -1,23 +1,27 @@
 //! Journals worked out. Each has two records of a number, objects 0 and 1, which topaction 0 has
-//! created with 0 in them. In lists of holders and of versions the action a is a + 1, as in the
-//! history.
+//! created with 0 in them.
 ghost use Rattle.std.specs.Prelude.{◌≡◌, true, false, Some, [], ◌∷◌, ◌++◌, codes, map, pos};
 ghost use Rattle.argus_contents.specs.Answer.{body, done, flag, num, signal, val};
 ghost use Rattle.argus_contents.specs.Content.{arr, var};
 ghost use Rattle.argus_contents.specs.Value.{int, text};
 ghost use Rattle.argus_contents.specs.declared.query.Query.TheVariants.{Field, High};
 ghost use Rattle.argus_contents.specs.declared.signal.Signal.TheVariants.{Bounds, WrongTag};
-ghost use Rattle.argus_entries.specs.Call.{abort, alter, ask, begin_top, commit, test_read, test_write};
+ghost use Rattle.argus_entries.specs.Call.{abort, alter, ask, begin_top, commit, test_read};
+ghost use Rattle.argus_entries.specs.Call.{test_write};
 ghost use Rattle.argus_entries.specs.Reply.{answered, begun, object, refused};
-ghost use Rattle.argus_entries.specs.declared.refusal.Refusal.TheVariants.{Conflict, IllTyped, NoAction, NoObject};
-ghost use Rattle.argus_entries.specs.declared.refusal.Refusal.TheVariants.{Over, Suspended, TooDeep, TooMany};
-ghost use Rattle.argus_model.specs.Owner.{Base, Gone, Held};
-ghost use Rattle.argus_model.specs.Work.{committed_topactions};
-ghost use Rattle.argus_journal.specs.Events.{history};
+ghost use Rattle.argus_entries.specs.declared.refusal.Refusal.TheVariants.{Conflict, IllTyped};
+ghost use Rattle.argus_entries.specs.declared.refusal.Refusal.TheVariants.{NoAction, NoObject};
+ghost use Rattle.argus_entries.specs.declared.refusal.Refusal.TheVariants.{Over, Suspended};
+ghost use Rattle.argus_entries.specs.declared.refusal.Refusal.TheVariants.{TooDeep, TooMany};
+ghost use Rattle.argus_journal.specs.declared.owner.Owner.TheVariants.{Base, Gone};
 ghost use Rattle.argus_journal.specs.Opening.{empty};
-ghost use Rattle.argus_journal.specs.Legal.{base_of, effects_of, owner_in, readers_of, versions_of, writers_of};
-ghost use Rattle.argus_journal.specs.Worked.{chain, full, holding, journal, prepared, replies, set_to};
-ghost use Rattle.argus_journal.specs.Worked.{all_wait, nested_outlives, reference_waits, refused_in_turn};
+ghost use Rattle.argus_journal.specs.Words.{base_of, committed_in, effects_of, owner_in};
+ghost use Rattle.argus_journal.specs.Words.{readers_of};
+ghost use Rattle.argus_journal.specs.Words.{versions_of, writers_of};
+ghost use Rattle.argus_journal.specs.Worked.{chain, full, held, holding, journal, prepared};
+ghost use Rattle.argus_journal.specs.Worked.{replies, set_to};
+ghost use Rattle.argus_journal.specs.Worked.{all_wait, nested_outlives, reference_waits};
+ghost use Rattle.argus_journal.specs.Worked.{refused_in_turn};
 ghost use Rattle.argus_journal.specs.Worked.{signal_ends, signal_holds, sub_writes, tag_changed};
 ghost use Rattle.argus_journal.specs.Worked.{tag_changes, tag_refused, tests_no, turns, two_read};
 
@@ -28,9 +32,9 @@ pub fn a_subaction_aborts()
     ensures replies { replies empty (journal prepared) sub_writes
         ≡ begun 1 ∷ answered done ∷ begun 2 ∷ answered done ∷ [] }
     ensures versions { versions_of empty (journal (prepared ++ sub_writes)) 0
-        ≡ (2, Some (holding 1)) ∷ (3, Some (holding 2)) ∷ [] }
+        ≡ (1, Some (holding 1)) ∷ (2, Some (holding 2)) ∷ [] }
     ensures owners { map (owner_in empty (journal (prepared ++ sub_writes))) (0 ∷ 2 ∷ [])
-        ≡ Base ∷ Held 3 ∷ [] }
+        ≡ Some Base ∷ held 2 ∷ [] }
     ensures before { base_of empty (journal (prepared ++ sub_writes)) 0 ≡ Some (holding 0) }
     ensures then { let ends = abort 2 ∷ ask 1 0 (Field 0) ∷ commit 1 ∷ [] in
         replies empty (journal (prepared ++ sub_writes)) ends
@@ -39,16 +43,17 @@ pub fn a_subaction_aborts()
         base_of empty (journal (prepared ++ sub_writes ++ ends)) 0 ≡ Some (holding 1) }
 {}
 
-/// A subaction's commit hands its version to its parent, and goes with it when the parent is aborted.
+/// A subaction's commit hands its version to its parent, and goes with it when the parent is
+/// aborted.
 pub fn a_subaction_commits()
     ensures handed_up { versions_of empty (journal (prepared ++ sub_writes ++ commit 2 ∷ [])) 0
-        ≡ (2, Some (holding 2)) ∷ [] }
-    ensures owner { owner_in empty (journal (prepared ++ sub_writes ++ commit 2 ∷ [])) 2 ≡ Held 2 }
+        ≡ (1, Some (holding 2)) ∷ [] }
+    ensures owner { owner_in empty (journal (prepared ++ sub_writes ++ commit 2 ∷ [])) 2 ≡ held 1 }
     ensures over { let ends = commit 2 ∷ abort 1 ∷ commit 2 ∷ [] in
         replies empty (journal (prepared ++ sub_writes)) ends
         ≡ answered done ∷ answered done ∷ refused Over ∷ [] }
     ensures undone { let ends = commit 2 ∷ abort 1 ∷ [] in
-        owner_in empty (journal (prepared ++ sub_writes ++ ends)) 2 ≡ Gone }
+        owner_in empty (journal (prepared ++ sub_writes ++ ends)) 2 ≡ Some Gone }
     ensures base { let ends = commit 2 ∷ abort 1 ∷ [] in
         base_of empty (journal (prepared ++ sub_writes ++ ends)) 0 ≡ Some (holding 0) }
     ensures free { let ends = commit 2 ∷ abort 1 ∷ [] in
@@ -61,11 +66,11 @@ pub fn readers_are_handed_up()
     ensures replies { replies empty (journal prepared) two_read
         ≡ begun 1 ∷ begun 2 ∷ begun 3 ∷ answered (val (int (pos 0))) ∷ answered (val (int (pos 0)))
         ∷ refused Conflict ∷ answered done ∷ [] }
-    ensures readers { readers_of empty (journal (prepared ++ two_read)) 0 ≡ 2 ∷ 3 ∷ [] }
+    ensures readers { readers_of empty (journal (prepared ++ two_read)) 0 ≡ 1 ∷ 2 ∷ [] }
     ensures then { answered done ∷ []
         ≡ replies empty (journal (prepared ++ two_read)) (alter 2 0 (set_to 1) ∷ []) }
     ensures versions { versions_of empty (journal (prepared ++ two_read ++ alter 2 0 (set_to 1) ∷ [])) 0
-        ≡ (3, Some (holding 1)) ∷ [] }
+        ≡ (2, Some (holding 1)) ∷ [] }
 {}
 
 /// A nested topaction has no privilege from its creator, and its effect stays when that is aborted.
@@ -89,7 +94,7 @@ pub fn a_signal_keeps_its_lock()
     ensures replies { replies empty (journal prepared) signal_holds
         ≡ object 2 ∷ begun 1 ∷ answered done ∷ answered done ∷ begun 2 ∷ answered (signal Bounds) ∷ [] }
     ensures versions { versions_of empty (journal (prepared ++ signal_holds)) 2
-        ≡ (3, Some (arr (pos 1) [])) ∷ [] }
+        ≡ (2, Some (arr (pos 1) [])) ∷ [] }
     ensures then { replies empty (journal (prepared ++ signal_holds)) signal_ends
         ≡ begun 3 ∷ refused Conflict ∷ answered done ∷ answered done ∷ answered (num (pos 1)) ∷ [] }
 {}
@@ -99,7 +104,7 @@ pub fn a_signal_keeps_its_lock()
 pub fn what_suits_no_shape_is_refused()
     ensures replies { replies empty (journal prepared) tag_changes
         ≡ object 2 ∷ begun 1 ∷ answered done ∷ answered (signal WrongTag) ∷ answered (flag false) ∷ [] }
-    ensures reader { readers_of empty (journal (prepared ++ tag_changes)) 2 ≡ 2 ∷ [] }
+    ensures reader { readers_of empty (journal (prepared ++ tag_changes)) 2 ≡ 1 ∷ [] }
     ensures refused { replies empty (journal (prepared ++ tag_changes)) tag_refused
         ≡ answered done ∷ begun 2 ∷ refused IllTyped ∷ [] }
     ensures no_lock { readers_of empty (journal (prepared ++ tag_changes ++ tag_refused)) 2
@@ -119,14 +124,15 @@ pub fn a_reference_waits_for_its_object()
 pub fn tests_take_locks()
     ensures no { replies empty (journal prepared) tests_no
         ≡ begun 1 ∷ begun 2 ∷ answered (val (int (pos 0))) ∷ answered (flag false) ∷ [] }
-    ensures reader { readers_of empty (journal (prepared ++ tests_no)) 0 ≡ 2 ∷ [] }
+    ensures reader { readers_of empty (journal (prepared ++ tests_no)) 0 ≡ 1 ∷ [] }
     ensures none { versions_of empty (journal (prepared ++ tests_no)) 0 ≡ [] }
-    ensures both { readers_of empty (journal (prepared ++ tests_no ++ test_read 2 0 ∷ [])) 0 ≡ 2 ∷ 3 ∷ [] }
+    ensures both { readers_of empty (journal (prepared ++ tests_no ++ test_read 2 0 ∷ [])) 0
+        ≡ 1 ∷ 2 ∷ [] }
     ensures then { let ends = test_read 2 0 ∷ commit 1 ∷ test_write 2 0 ∷ [] in
         replies empty (journal (prepared ++ tests_no)) ends
         ≡ answered (flag true) ∷ answered done ∷ answered (flag true) ∷ [] }
     ensures version { let ends = test_read 2 0 ∷ commit 1 ∷ test_write 2 0 ∷ [] in
-        versions_of empty (journal (prepared ++ tests_no ++ ends)) 0 ≡ (3, Some (holding 0)) ∷ [] }
+        versions_of empty (journal (prepared ++ tests_no ++ ends)) 0 ≡ (2, Some (holding 0)) ∷ [] }
 {}
 
 /// Topactions count in the order of their commits: 1 began first, and commits last.
@@ -134,8 +140,7 @@ pub fn turns_are_taken()
     ensures replies { replies empty (journal prepared) turns
         ≡ begun 1 ∷ begun 2 ∷ answered done ∷ answered done ∷ answered done
         ∷ answered (val (int (pos 2))) ∷ answered done ∷ [] }
-    ensures order { committed_topactions (history empty (journal (prepared ++ turns)))
-        ≡ 2 ∷ 3 ∷ 1 ∷ [] }
+    ensures order { committed_in empty (journal (prepared ++ turns)) ≡ 1 ∷ 2 ∷ 0 ∷ [] }
     ensures bases { map (base_of empty (journal (prepared ++ turns))) (0 ∷ 1 ∷ [])
         ≡ Some (holding 1) ∷ Some (holding 2) ∷ [] }
     ensures effects { effects_of empty (journal (prepared ++ turns))
@@ -153,7 +158,10 @@ pub fn all_others_wait()
 /// The greatest depth is 64, and the number of actions has its limit; what was begun before the
 /// opening is over.
 pub fn limits_are_kept()
-    ensures deep { replies empty (journal (begin_top ∷ chain 0 63)) (chain 63 1) ≡ refused TooDeep ∷ [] }
-    ensures less_deep { replies empty (journal (begin_top ∷ chain 0 62)) (chain 62 1) ≡ begun 63 ∷ [] }
-    ensures many { replies full [] (begin_top ∷ commit 5 ∷ []) ≡ refused TooMany ∷ refused Over ∷ [] }
+    ensures deep { replies empty (journal (begin_top ∷ chain 0 63)) (chain 63 1)
+        ≡ refused TooDeep ∷ [] }
+    ensures less_deep { replies empty (journal (begin_top ∷ chain 0 62)) (chain 62 1)
+        ≡ begun 63 ∷ [] }
+    ensures many { replies full [] (begin_top ∷ commit 5 ∷ [])
+        ≡ refused TooMany ∷ refused Over ∷ [] }
 {}

@@ -24,12 +24,18 @@ next_pos (Committed a ▹ h) = next_pos h
 next_pos (Aborted a ▹ h) = next_pos h
 next_pos (Accessed a o v ▹ h) = next_pos h
 
-pub lineage_cases : {V : Type 0} (h : History V) (from : Origin) (y : ℕ) → ((y ≡ next_action h) × (lineage (Began from ▹ h) y ≡ y ∷ lineage h (parent_of from))) ⊎ ((y ≢ next_action h) × (lineage (Began from ▹ h) y ≡ lineage h y))
+pub lineage_cases : {V : Type 0} (h : History V) (from : Origin) (y : ℕ)
+    → ((y ≡ next_action h) × (lineage (Began from ▹ h) y ≡ y ∷ lineage h (parent_of from)))
+    ⊎ ((y ≢ next_action h) × (lineage (Began from ▹ h) y ≡ lineage h y))
 lineage_cases h from y = grind (arith, nat_tests)
 
 pub ancestor_self : {V : Type 0} (h : History V) (y : ℕ) → is_ancestor h y y ≡ true
-ancestor_self (Opened n) y = ⊎_elim (λ e. subst (λ u. contains (to_base u) u ≡ true) (sym e) (contains_first 0 [])) (λ ne. ap (λ b. contains (cond b (0 ∷ []) (y ∷ 0 ∷ [])) y) (ne_eqb y 0 ne) ∙ contains_first y (0 ∷ [])) (cases_eq y 0)
-ancestor_self (Began from ▹ h) y = let ih = ancestor_self h y in let k = lineage_cases h from y in grind (arith, nat_tests, contains_first)
+ancestor_self (Opened n) y =
+    ⊎_elim (λ e. subst (λ u. contains (to_base u) u ≡ true) (sym e) (contains_first 0 []))
+    (λ ne. ap (λ b. contains (cond b (0 ∷ []) (y ∷ 0 ∷ [])) y) (ne_eqb y 0 ne) ∙ contains_first y (0 ∷ []))
+    (cases_eq y 0)
+ancestor_self (Began from ▹ h) y = let ih = ancestor_self h y in let k = lineage_cases h from y in
+    grind (arith, nat_tests, contains_first)
 ancestor_self (Committed a ▹ h) y = ancestor_self h y
 ancestor_self (Aborted a ▹ h) y = ancestor_self h y
 ancestor_self (Accessed a o v ▹ h) y = ancestor_self h y
@@ -41,17 +47,24 @@ opened_lineage y ne = ap (λ b. cond b (0 ∷ []) (y ∷ 0 ∷ [])) (ne_eqb y 0 
 opened_ancestor : (x y : ℕ) → contains (to_base y) x ≡ true → (x ≡ y) ⊎ ((x ≡ 0) × (y ≢ 0))
 opened_ancestor x y a =
     ⊎_elim
-    (λ e. let m : contains (0 ∷ []) x ≡ true = subst (λ u. contains (to_base u) x ≡ true) e a in inl (grind (arith, nat_tests)))
+    (λ e. let m : contains (0 ∷ []) x ≡ true = subst (λ u. contains (to_base u) x ≡ true) e a in
+    inl (grind (arith, nat_tests)))
     (λ ne. let m : contains (y ∷ 0 ∷ []) x ≡ true = subst (λ t. contains t x ≡ true) (opened_lineage y ne) a in
-    ⊎_elim (λ q. inl (eqb-true x y q)) (λ q. inr (grind (arith, nat_tests), ne)) (or_cases (x == y) (contains (0 ∷ []) x) m))
+    ⊎_elim (λ q. inl (eqb-true x y q)) (λ q. inr (grind (arith, nat_tests), ne))
+    (or_cases (x == y) (contains (0 ∷ []) x) m))
     (cases_eq y 0)
 
-small_step : (n p x y : ℕ) (tp ty t : List ℕ) → p < n → y < n + 1 → ((y ≡ n) × (t ≡ y ∷ tp)) ⊎ ((y ≢ n) × (t ≡ ty)) → (contains tp x ≡ true → x ≤ p) → (y < n → contains ty x ≡ true → x ≤ y) → contains t x ≡ true → x ≤ y
+small_step : (n p x y : ℕ) (tp ty t : List ℕ) → p < n → y < n + 1 → ((y ≡ n) × (t ≡ y ∷ tp)) ⊎ ((y ≢ n) × (t ≡ ty))
+    → (contains tp x ≡ true → x ≤ p) → (y < n → contains ty x ≡ true → x ≤ y) → contains t x ≡ true → x ≤ y
 small_step n p x y tp ty t pn yn k ip iy h = grind (arith, nat_tests)
 
-pub ancestor_le : {V : Type 0} (h : History V) (x y : ℕ) → ParentsAreOlder h → y < next_action h → is_ancestor h x y ≡ true → x ≤ y
+pub ancestor_le : {V : Type 0} (h : History V) (x y : ℕ) → ParentsAreOlder h → y < next_action h
+    → is_ancestor h x y ≡ true → x ≤ y
 ancestor_le (Opened n) x y f l a = ⊎_elim (λ e. omega arith) (λ k. omega (arith, k.0)) (opened_ancestor x y a)
-ancestor_le (Began from ▹ h) x y f l a = small_step (next_action h) (parent_of from) x y (lineage h (parent_of from)) (lineage h y) (lineage (Began from ▹ h) y) f.0 l (lineage_cases h from y) (ancestor_le h x (parent_of from) f.1 f.0) (ancestor_le h x y f.1) a
+ancestor_le (Began from ▹ h) x y f l a =
+    small_step (next_action h) (parent_of from) x y (lineage h (parent_of from)) (lineage h y)
+    (lineage (Began from ▹ h) y) f.0 l (lineage_cases h from y) (ancestor_le h x (parent_of from) f.1 f.0)
+    (ancestor_le h x y f.1) a
 ancestor_le (Committed b ▹ h) x y f l a = ancestor_le h x y f l a
 ancestor_le (Aborted b ▹ h) x y f l a = ancestor_le h x y f l a
 ancestor_le (Accessed b o v ▹ h) x y f l a = ancestor_le h x y f l a
@@ -66,9 +79,19 @@ split_here : (y x : ℕ) (t : List ℕ) → Split t t x
 split_here y x t = record { front = []; is = refl; above = λ z h. grind arith }
 
 split_more : (y x : ℕ) (t tx : List ℕ) → x < y → Split t tx x → Split (y ∷ t) tx x
-split_more y x t tx l s = record { front = y ∷ s.front; is = ap (λ u. y ∷ u) s.is; above = λ z h. ⊎_elim (λ e. let q = eqb-true z y e in omega arith) (λ e. s.above z e) (or_cases (z == y) (contains s.front z) h) }
+split_more y x t tx l s =
+    record {
+      front = y ∷ s.front;
+      is = ap (λ u. y ∷ u) s.is;
+      above =
+          λ z h. ⊎_elim (λ e. let q = eqb-true z y e in omega arith) (λ e. s.above z e)
+          (or_cases (z == y) (contains s.front z) h);
+    }
 
-split_step : (n p x y : ℕ) (tp ty tx t tx' : List ℕ) → p < n → y < n + 1 → x ≢ y → ((y ≡ n) × (t ≡ y ∷ tp)) ⊎ ((y ≢ n) × (t ≡ ty)) → (x ≢ n → tx' ≡ tx) → (contains tp x ≡ true → x ≤ p) → (y < n → contains ty x ≡ true → x ≤ y) → (contains tp x ≡ true → Split tp tx x) → (y < n → contains ty x ≡ true → Split ty tx x) → contains t x ≡ true → Split t tx' x
+split_step : (n p x y : ℕ) (tp ty tx t tx' : List ℕ) → p < n → y < n + 1 → x ≢ y
+    → ((y ≡ n) × (t ≡ y ∷ tp)) ⊎ ((y ≢ n) × (t ≡ ty)) → (x ≢ n → tx' ≡ tx) → (contains tp x ≡ true → x ≤ p)
+    → (y < n → contains ty x ≡ true → x ≤ y) → (contains tp x ≡ true → Split tp tx x)
+    → (y < n → contains ty x ≡ true → Split ty tx x) → contains t x ≡ true → Split t tx' x
 split_step n p x y tp ty tx t tx' pn yn ne (inl k) kx lp ly sp sy a =
     let m : contains (y ∷ tp) x ≡ true = rw k.1 at a in
     let m' : contains tp x ≡ true = grind (arith, nat_tests) in
@@ -82,43 +105,56 @@ split_step n p x y tp ty tx t tx' pn yn ne (inr k) kx lp ly sp sy a =
     let ex : tx' ≡ tx = kx (omega arith) in
     rw (k.1, ex) (sy y' m)
 
-pub lineage_old : {V : Type 0} (h : History V) (from : Origin) (y : ℕ) → y ≢ next_action h → lineage (Began from ▹ h) y ≡ lineage h y
+pub lineage_old : {V : Type 0} (h : History V) (from : Origin) (y : ℕ) → y ≢ next_action h
+    → lineage (Began from ▹ h) y ≡ lineage h y
 lineage_old h from y ne = grind (arith, nat_tests)
 
 split_same : (x y : ℕ) (ty tx : List ℕ) → (tx ≡ ty) → Split ty tx x
 split_same x y ty tx e = rw e (split_here y x ty)
 
-pub split_lineage : {V : Type 0} (h : History V) (x y : ℕ) → ParentsAreOlder h → y < next_action h → is_ancestor h x y ≡ true → Split (lineage h y) (lineage h x) x
+pub split_lineage : {V : Type 0} (h : History V) (x y : ℕ) → ParentsAreOlder h → y < next_action h
+    → is_ancestor h x y ≡ true → Split (lineage h y) (lineage h x) x
 split_lineage (Opened n) x y f l a =
     ⊎_elim
     (λ e. split_same x y (to_base y) (to_base x) (ap to_base e))
-    (λ k. rw (opened_lineage y k.1, k.0) (split_more y 0 (0 ∷ []) (0 ∷ []) (omega (arith, k.1)) (split_here 0 0 (0 ∷ []))))
+    (λ k. rw (opened_lineage y k.1, k.0)
+    (split_more y 0 (0 ∷ []) (0 ∷ []) (omega (arith, k.1)) (split_here 0 0 (0 ∷ []))))
     (opened_ancestor x y a)
 split_lineage (Began from ▹ h) x y f l a =
     ⊎_elim
     (λ e. split_same x y (lineage (Began from ▹ h) y) (lineage (Began from ▹ h) x) (ap (lineage (Began from ▹ h)) e))
-    (λ ne. split_step (next_action h) (parent_of from) x y (lineage h (parent_of from)) (lineage h y) (lineage h x) (lineage (Began from ▹ h) y) (lineage (Began from ▹ h) x) f.0 l ne
-    (lineage_cases h from y) (lineage_old h from x) (ancestor_le h x (parent_of from) f.1 f.0) (ancestor_le h x y f.1) (split_lineage h x (parent_of from) f.1 f.0) (split_lineage h x y f.1) a)
+    (λ ne. split_step (next_action h) (parent_of from) x y (lineage h (parent_of from)) (lineage h y) (lineage h x)
+    (lineage (Began from ▹ h) y) (lineage (Began from ▹ h) x) f.0 l ne
+    (lineage_cases h from y) (lineage_old h from x) (ancestor_le h x (parent_of from) f.1 f.0) (ancestor_le h x y f.1)
+    (split_lineage h x (parent_of from) f.1 f.0) (split_lineage h x y f.1) a)
     (cases_eq x y)
 split_lineage (Committed b ▹ h) x y f l a = split_lineage h x y f l a
 split_lineage (Aborted b ▹ h) x y f l a = split_lineage h x y f l a
 split_lineage (Accessed b o v ▹ h) x y f l a = split_lineage h x y f l a
 
-pub ancestor_trans : {V : Type 0} (h : History V) (x y z : ℕ) → ParentsAreOlder h → z < next_action h → is_ancestor h x y ≡ true → is_ancestor h y z ≡ true → is_ancestor h x z ≡ true
+pub ancestor_trans : {V : Type 0} (h : History V) (x y z : ℕ) → ParentsAreOlder h → z < next_action h
+    → is_ancestor h x y ≡ true → is_ancestor h y z ≡ true → is_ancestor h x z ≡ true
 ancestor_trans h x y z f l a b = let s = split_lineage h y z f l b in rw (s.is) (joined s.front (lineage h y) x a)
 
-pub parent_cases : {V : Type 0} (h : History V) (from : Origin) (y : ℕ) → ((y ≡ next_action h) × (parent (Began from ▹ h) y ≡ (parent_of from))) ⊎ ((y ≢ next_action h) × (parent (Began from ▹ h) y ≡ parent h y))
+pub parent_cases : {V : Type 0} (h : History V) (from : Origin) (y : ℕ)
+    → ((y ≡ next_action h) × (parent (Began from ▹ h) y ≡ (parent_of from)))
+    ⊎ ((y ≢ next_action h) × (parent (Began from ▹ h) y ≡ parent h y))
 parent_cases h from y = grind (arith, nat_tests)
 
 -- the parent is older, and the lineage goes on with its lineage
-parent_step : (n p y q q' : ℕ) (tp ty tq tq' t : List ℕ) → p < n → 0 < y → y < n + 1 → ((y ≡ n) × (t ≡ y ∷ tp)) ⊎ ((y ≢ n) × (t ≡ ty)) → ((y ≡ n) × (q' ≡ p)) ⊎ ((y ≢ n) × (q' ≡ q)) → (q' ≢ n → q' ≡ p → tq' ≡ tp) → (q' ≢ n → q' ≡ q → tq' ≡ tq) → (y < n → (q < y) × (ty ≡ y ∷ tq)) → (q' < y) × (t ≡ y ∷ tq')
+parent_step : (n p y q q' : ℕ) (tp ty tq tq' t : List ℕ) → p < n → 0 < y → y < n + 1
+    → ((y ≡ n) × (t ≡ y ∷ tp)) ⊎ ((y ≢ n) × (t ≡ ty)) → ((y ≡ n) × (q' ≡ p)) ⊎ ((y ≢ n) × (q' ≡ q))
+    → (q' ≢ n → q' ≡ p → tq' ≡ tp) → (q' ≢ n → q' ≡ q → tq' ≡ tq) → (y < n → (q < y) × (ty ≡ y ∷ tq))
+    → (q' < y) × (t ≡ y ∷ tq')
 parent_step n p y q q' tp ty tq tq' t pn y0 yn k kq ep eq ih = (grind arith, grind arith)
 
-pub parent_older : {V : Type 0} (h : History V) (y : ℕ) → ParentsAreOlder h → 0 < y → y < next_action h → (parent h y < y) × (lineage h y ≡ y ∷ lineage h (parent h y))
+pub parent_older : {V : Type 0} (h : History V) (y : ℕ) → ParentsAreOlder h → 0 < y → y < next_action h
+    → (parent h y < y) × (lineage h y ≡ y ∷ lineage h (parent h y))
 parent_older (Opened n) y f y0 l = (y0, opened_lineage y (omega arith))
 parent_older (Began from ▹ h) y f y0 l =
     let q' = parent (Began from ▹ h) y in
-    parent_step (next_action h) (parent_of from) y (parent h y) q' (lineage h (parent_of from)) (lineage h y) (lineage h (parent h y)) (lineage (Began from ▹ h) q') (lineage (Began from ▹ h) y) f.0 y0 l
+    parent_step (next_action h) (parent_of from) y (parent h y) q' (lineage h (parent_of from)) (lineage h y)
+    (lineage h (parent h y)) (lineage (Began from ▹ h) q') (lineage (Began from ▹ h) y) f.0 y0 l
     (lineage_cases h from y) (parent_cases h from y)
     (λ ne e. lineage_old h from q' ne ∙ ap (lineage h) e) (λ ne e. lineage_old h from q' ne ∙ ap (lineage h) e)
     (parent_older h y f.1 y0)
@@ -134,42 +170,75 @@ pub record Child {V : Type 0} (h : History V) (x y : ℕ) : Type 0 where
   pub below : is_ancestor h child y ≡ true
   pub of : parent h child ≡ x
 
-child_at : {V : Type 0} (h : History V) (from : Origin) (x y : ℕ) → y ≡ next_action h → (parent_of from) ≡ x → Child (Began from ▹ h) x y
+child_at : {V : Type 0} (h : History V) (from : Origin) (x y : ℕ) → y ≡ next_action h → (parent_of from) ≡ x
+    → Child (Began from ▹ h) x y
 child_at h from x y e k =
-    record { child = y; real = omega (arith, next_pos h); started = omega arith; below = ancestor_self (Began from ▹ h) y; of = ⊎_elim (λ w. w.1 ∙ k) (λ w. absurd (w.0 e)) (parent_cases h from y) }
+    record {
+      child = y;
+      real = omega (arith, next_pos h);
+      started = omega arith;
+      below =
+          ancestor_self (Began from ▹ h) y;
+      of = ⊎_elim (λ w. w.1 ∙ k) (λ w. absurd (w.0 e)) (parent_cases h from y);
+    }
 
-child_up : {V : Type 0} (h : History V) (from : Origin) (x y z : ℕ) (k : Child h x y) → is_ancestor (Began from ▹ h) k.child z ≡ true → Child (Began from ▹ h) x z
+child_up : {V : Type 0} (h : History V) (from : Origin) (x y z : ℕ) (k : Child h x y)
+    → is_ancestor (Began from ▹ h) k.child z ≡ true → Child (Began from ▹ h) x z
 child_up h from x y z k m =
-    record { child = k.child; real = k.real; started = omega arith; below = m; of = ⊎_elim (λ w. absurd (omega arith)) (λ w. w.1 ∙ k.of) (parent_cases h from k.child) }
+    record {
+      child = k.child;
+      real = k.real;
+      started = omega arith;
+      below = m;
+      of =
+          ⊎_elim (λ w. absurd (omega arith)) (λ w. w.1 ∙ k.of) (parent_cases h from k.child);
+    }
 
-pub ancestor_new : {V : Type 0} (h : History V) (from : Origin) (x y : ℕ) → y ≡ next_action h → is_ancestor h x (parent_of from) ≡ true → is_ancestor (Began from ▹ h) x y ≡ true
+pub ancestor_new : {V : Type 0} (h : History V) (from : Origin) (x y : ℕ) → y ≡ next_action h
+    → is_ancestor h x (parent_of from) ≡ true → is_ancestor (Began from ▹ h) x y ≡ true
 ancestor_new h from x y e a = grind (arith, nat_tests)
 
-pub ancestor_old : {V : Type 0} (h : History V) (from : Origin) (x y : ℕ) → y ≢ next_action h → is_ancestor h x y ≡ true → is_ancestor (Began from ▹ h) x y ≡ true
+pub ancestor_old : {V : Type 0} (h : History V) (from : Origin) (x y : ℕ) → y ≢ next_action h → is_ancestor h x y ≡ true
+    → is_ancestor (Began from ▹ h) x y ≡ true
 ancestor_old h from x y e a = grind (arith, nat_tests)
 
-pub ancestor_new_is : {V : Type 0} (h : History V) (from : Origin) (x y : ℕ) → y ≡ next_action h → x ≢ y → is_ancestor (Began from ▹ h) x y ≡ true → is_ancestor h x (parent_of from) ≡ true
+pub ancestor_new_is : {V : Type 0} (h : History V) (from : Origin) (x y : ℕ) → y ≡ next_action h → x ≢ y
+    → is_ancestor (Began from ▹ h) x y ≡ true → is_ancestor h x (parent_of from) ≡ true
 ancestor_new_is h from x y e ne a = grind (arith, nat_tests)
 
-pub ancestor_old_is : {V : Type 0} (h : History V) (from : Origin) (x y : ℕ) → y ≢ next_action h → is_ancestor (Began from ▹ h) x y ≡ true → is_ancestor h x y ≡ true
+pub ancestor_old_is : {V : Type 0} (h : History V) (from : Origin) (x y : ℕ) → y ≢ next_action h
+    → is_ancestor (Began from ▹ h) x y ≡ true → is_ancestor h x y ≡ true
 ancestor_old_is h from x y e a = grind (arith, nat_tests)
 
-pub child_on_path : {V : Type 0} (h : History V) (x y : ℕ) → ParentsAreOlder h → y < next_action h → x ≢ y → is_ancestor h x y ≡ true → Child h x y
+pub child_on_path : {V : Type 0} (h : History V) (x y : ℕ) → ParentsAreOlder h → y < next_action h → x ≢ y
+    → is_ancestor h x y ≡ true → Child h x y
 child_on_path {V} (Opened n) x y f l ne a =
     ⊎_elim (λ e. absurd (ne e))
-    (λ k. record { child = y; real = omega (arith, k.1); started = l; below = ancestor_self {V = V} (Opened n) y; of = sym k.0 })
+    (λ k. record {
+      child = y;
+      real = omega (arith, k.1);
+      started = l;
+      below = ancestor_self {V = V} (Opened n) y;
+      of =
+          sym k.0;
+    })
     (opened_ancestor x y a)
 child_on_path (Began from ▹ h) x y f l ne a =
     ⊎_elim
     (λ e. ⊎_elim
     (λ k. child_at h from x y e (sym k))
-    (λ k. let w = child_on_path h x (parent_of from) f.1 f.0 k (ancestor_new_is h from x y e ne a) in child_up h from x (parent_of from) y w (ancestor_new h from w.child y e w.below))
+    (λ k. let w = child_on_path h x (parent_of from) f.1 f.0 k (ancestor_new_is h from x y e ne a) in
+    child_up h from x (parent_of from) y w (ancestor_new h from w.child y e w.below))
     (cases_eq x (parent_of from)))
-    (λ e. let w = child_on_path h x y f.1 (omega arith) ne (ancestor_old_is h from x y e a) in child_up h from x y y w (ancestor_old h from w.child y e w.below))
+    (λ e. let w = child_on_path h x y f.1 (omega arith) ne (ancestor_old_is h from x y e a) in
+    child_up h from x y y w (ancestor_old h from w.child y e w.below))
     (cases_eq y (next_action h))
-child_on_path (Committed b ▹ h) x y f l ne a = let w = child_on_path h x y f l ne a in record { child = w.child; real = w.real; started = w.started; below = w.below; of = w.of }
-child_on_path (Aborted b ▹ h) x y f l ne a = let w = child_on_path h x y f l ne a in record { child = w.child; real = w.real; started = w.started; below = w.below; of = w.of }
-child_on_path (Accessed b o v ▹ h) x y f l ne a = let w = child_on_path h x y f l ne a in record { child = w.child; real = w.real; started = w.started; below = w.below; of = w.of }
+child_on_path (Committed b ▹ h) x y f l ne a = let w = child_on_path h x y f l ne a in
+    record { child = w.child; real = w.real; started = w.started; below = w.below; of = w.of }
+child_on_path (Aborted b ▹ h) x y f l ne a = let w = child_on_path h x y f l ne a in
+    record { child = w.child; real = w.real; started = w.started; below = w.below; of = w.of }
+child_on_path (Accessed b o v ▹ h) x y f l ne a = let w = child_on_path h x y f l ne a in
+    record { child = w.child; real = w.real; started = w.started; below = w.below; of = w.of }
 
 -- what is folded is older than what comes
 pub folded_next : {V : Type 0} (h : History V) → folded h < next_action h
@@ -179,5 +248,7 @@ folded_next (Committed a ▹ h) = folded_next h
 folded_next (Aborted a ▹ h) = folded_next h
 folded_next (Accessed a o v ▹ h) = folded_next h
 
-pub under_below : {V : Type 0} (h : History V) (zs : List ℕ) (x y : ℕ) → ParentsAreOlder h → y < next_action h → is_under h zs x ≡ true → is_ancestor h x y ≡ true → is_under h zs y ≡ true
-under_below h zs x y f l u a = let w = any_found (λ z. is_ancestor h z x) zs u in any_from (λ z. is_ancestor h z y) zs w.0 w.1 (ancestor_trans h w.0 x y f l w.2 a)
+pub under_below : {V : Type 0} (h : History V) (zs : List ℕ) (x y : ℕ) → ParentsAreOlder h → y < next_action h
+    → is_under h zs x ≡ true → is_ancestor h x y ≡ true → is_under h zs y ≡ true
+under_below h zs x y f l u a = let w = any_found (λ z. is_ancestor h z x) zs u in
+    any_from (λ z. is_ancestor h z y) zs w.0 w.1 (ancestor_trans h w.0 x y f l w.2 a)

@@ -22,7 +22,8 @@ or_swap true false r = refl
 or_swap false b r = refl
 
 pub eqb_sym : (a b : ℕ) → a == b ≡ b == a
-eqb_sym a b = same_bool (a == b) (b == a) (λ e. eq-eqb b a (sym (eqb-true a b e))) (λ e. eq-eqb a b (sym (eqb-true b a e)))
+eqb_sym a b =
+    same_bool (a == b) (b == a) (λ e. eq-eqb b a (sym (eqb-true a b e))) (λ e. eq-eqb a b (sym (eqb-true b a e)))
 
 pub and_off : (a b c : Bool) → (a && b) ≡ false → (a && (b && c)) ≡ false
 and_off false b c e = refl
@@ -33,7 +34,8 @@ pub and_split : (a b c r : Bool) → ((a && (b && c)) || r) ≡ (((a && b) && c)
 and_split false b c r = refl
 and_split true b c r = refl
 
-pub kinds_apart : (here w t r s : Bool) → ((here && true) && t || (r || s)) ≡ (((here && not w) && t || r) || ((here && w) && t || s))
+pub kinds_apart : (here w t r s : Bool)
+    → ((here && true) && t || (r || s)) ≡ (((here && not w) && t || r) || ((here && w) && t || s))
 kinds_apart false w t r s = refl
 kinds_apart true true t r s = grind arith
 kinds_apart true false t r s = grind arith

@@ -1,11 +1,11 @@
 -- What a commit adds to the effects and to the serial order, and how a history goes on from its fold.
-use Rattle.std.proofs.Common.{[], ap, arith, cond, false, sym, true, ℕ, ⊎_elim, ◌++◌, ◌-◌, ◌∙◌, ◌∷◌, ◌≡◌, ◌≢◌}
+use Rattle.std.proofs.Common.{[], ap, append-nil, arith, cond, false, refl, sym, true, ℕ, ⊎_elim, ◌++◌, ◌-◌, ◌∙◌, ◌∷◌, ◌≡◌, ◌≢◌}
 use Rattle.std.specs.Prelude.{map, ◌==◌}
-use Rattle.std.proofs.lemmas.Bool.{cases_Bool, ne_eqb}
+use Rattle.std.proofs.lemmas.Bool.{cases_Bool, cases_eq, eq-eqb, ne_eqb}
 use Rattle.argus_model.specs.Ancestors.{parent}
 use Rattle.argus_model.specs.Contents.{base, sees}
-use Rattle.argus_model.specs.Effects.{effects, table, written_objects}
-use Rattle.argus_model.specs.Event.{Committed, Event}
+use Rattle.argus_model.specs.Effects.{added_effects, effects, table, written_objects}
+use Rattle.argus_model.specs.Event.{Aborted, Accessed, Began, Committed, Event}
 use Rattle.argus_model.specs.Fold.{fold}
 use Rattle.argus_model.specs.History.{History, Opened, Opening, next_action, ◌▹◌}
 use Rattle.argus_model.specs.Holders.{writers}
@@ -27,8 +27,18 @@ use Rattle.argus_model.proofs.Topactions.{tops_same}
 use Rattle.argus_model.proofs.Work.{work_final}
 
 module _ {V C A : Type 0} (meaning : Meaning V C A) (opening : Opening C) where
+  stays : (h : History V) (e : Event V) → Lawful meaning opening (e ▹ h)
+      → committed_topactions (e ▹ h) ≡ committed_topactions h
+      → effects meaning opening (e ▹ h) ≡ effects meaning opening h ++ []
+  stays h e l same =
+      effects_stay meaning opening h e (lawful_orderly meaning opening h l.1) (lawful_orderly meaning opening (e ▹ h) l)
+      same
+      ∙ sym (append-nil (effects meaning opening h))
+
   pub effect_added : (h : History V) (s : ℕ) → Lawful meaning opening (Committed s ▹ h) → parent h s ≡ 0
-      → effects meaning opening (Committed s ▹ h) ≡ effects meaning opening h ++ map (λ o. (o, sees meaning opening h s o)) (written_objects meaning (work h s)) ∷ []
+      → effects meaning opening (Committed s ▹ h)
+      ≡ effects meaning opening h ++ map (λ o. (o, sees meaning opening h s o))
+      (written_objects meaning (work h s)) ∷ []
   effect_added h s l e =
       let st = lawful_steps meaning opening h l.1 in
       let w = lawful_orderly meaning opening h l.1 in
@@ -36,21 +46,41 @@ module _ {V C A : Type 0} (meaning : Meaning V C A) (opening : Opening C) where
       effects_grow meaning opening h s u e
       ∙ ap (λ m. effects meaning opening h ++ m ∷ [])
       (effect_seen meaning opening h st s u.0 u.1 e
-      ∙ map_agree (λ o. (o, content_after meaning opening.contents o (visible_accesses h s))) (λ o. (o, sees meaning opening h s o)) (written_objects meaning (work h s))
+      ∙ map_agree (λ o. (o, content_after meaning opening.contents o (visible_accesses h s)))
+      (λ o. (o, sees meaning opening h s o)) (written_objects meaning (work h s))
       (λ o. ap (λ c. (o, c)) (sym (sees_is meaning opening h w s o))))
 
-  pub written_are_held : (h : History V) (s o : ℕ) → Lawful meaning opening h → is_live h s ≡ true → contains (written_objects meaning (work h s)) o ≡ contains (writers meaning h o) s
+  pub written_are_held : (h : History V) (s o : ℕ) → Lawful meaning opening h → is_live h s ≡ true
+      → contains (written_objects meaning (work h s)) o ≡ contains (writers meaning h o) s
   written_are_held h s o l k =
       let w = lawful_orderly meaning opening h l in
       let q = live_stands h w s k in
       written_holds meaning h w s o q.1 ∙ sym (contains_holders meaning.writes h w o s q.0)
 
-  pub no_effect : (h : History V) (s : ℕ) → Lawful meaning opening (Committed s ▹ h) → parent h s ≢ 0 → effects meaning opening (Committed s ▹ h) ≡ effects meaning opening h
+  pub no_effect : (h : History V) (s : ℕ) → Lawful meaning opening (Committed s ▹ h) → parent h s ≢ 0
+      → effects meaning opening (Committed s ▹ h) ≡ effects meaning opening h
   no_effect h s l n =
-      effects_stay meaning opening h (Committed s) (lawful_orderly meaning opening h l.1) (lawful_orderly meaning opening (Committed s ▹ h) l)
+      effects_stay meaning opening h (Committed s) (lawful_orderly meaning opening h l.1)
+      (lawful_orderly meaning opening (Committed s ▹ h) l)
       (ap (λ q. cond q (s ∷ committed_topactions h) (committed_topactions h)) (ne_eqb (parent h s) 0 n))
 
-  pub order_added : (h : History V) (s : ℕ) → Lawful meaning opening (Committed s ▹ h) → serial_order (Committed s ▹ h) ≡ cond (parent h s == 0) (work h s ++ serial_order h) (serial_order h)
+  -- the commit of a topaction adds its effect, and nothing else adds one
+  pub effects_step : (h : History V) (e : Event V) → Lawful meaning opening (e ▹ h)
+      → effects meaning opening (e ▹ h) ≡ effects meaning opening h ++ added_effects meaning opening h e
+  effects_step h (Began from) l = stays h (Began from) l refl
+  effects_step h (Aborted zs) l = stays h (Aborted zs) l refl
+  effects_step h (Accessed a o v) l = stays h (Accessed a o v) l refl
+  effects_step h (Committed a) l =
+      let old = effects meaning opening h in
+      let m = map (λ o. (o, sees meaning opening h a o)) (written_objects meaning (work h a)) in
+      ⊎_elim
+      (λ e. effect_added h a l e ∙ sym (ap (λ b. old ++ cond b (m ∷ []) []) (eq-eqb (parent h a) 0 e)))
+      (λ n. no_effect h a l n ∙ sym (append-nil old)
+      ∙ sym (ap (λ b. old ++ cond b (m ∷ []) []) (ne_eqb (parent h a) 0 n)))
+      (cases_eq (parent h a) 0)
+
+  pub order_added : (h : History V) (s : ℕ) → Lawful meaning opening (Committed s ▹ h)
+      → serial_order (Committed s ▹ h) ≡ cond (parent h s == 0) (work h s ++ serial_order h) (serial_order h)
   order_added h s l =
       let g = Committed s ▹ h in
       let w = lawful_orderly meaning opening h l.1 in
@@ -58,21 +88,30 @@ module _ {V C A : Type 0} (meaning : Meaning V C A) (opening : Opening C) where
       let old = tops_same h (Committed s) w u in
       let tops = committed_topactions h in
       let ps = parent_is h (parents_are_older h w) s u.0 u.1 in
-      let own : work g s ≡ work h s = ap (λ q. cond q (work h s ++ work h s) (work h s)) (ne_eqb (parent h s) s (omega (arith, ps.0))) in
+      let own : work g s ≡ work h s =
+      ap (λ q. cond q (work h s ++ work h s) (work h s)) (ne_eqb (parent h s) s (omega (arith, ps.0))) in
       ⊎_elim
-      (λ e. ap (λ b. all_of (work g) (cond b (s ∷ tops) tops)) e ∙ ap (λ es. es ++ all_of (work g) tops) own ∙ ap (λ es. work h s ++ es) old ∙ sym (ap (λ b. cond b (work h s ++ serial_order h) (serial_order h)) e))
-      (λ e. ap (λ b. all_of (work g) (cond b (s ∷ tops) tops)) e ∙ old ∙ sym (ap (λ b. cond b (work h s ++ serial_order h) (serial_order h)) e))
+      (λ e. ap (λ b. all_of (work g) (cond b (s ∷ tops) tops)) e ∙ ap (λ es. es ++ all_of (work g) tops) own
+      ∙ ap (λ es. work h s ++ es) old ∙ sym (ap (λ b. cond b (work h s ++ serial_order h) (serial_order h)) e))
+      (λ e. ap (λ b. all_of (work g) (cond b (s ∷ tops) tops)) e ∙ old
+      ∙ sym (ap (λ b. cond b (work h s ++ serial_order h) (serial_order h)) e))
       (cases_Bool (parent h s == 0))
 
-  pub over_is_final : (h : History V) (e : Event V) (a : ℕ) → Lawful meaning opening (e ▹ h) → is_begun h a ≡ true → is_live h a ≡ false → work (e ▹ h) a ≡ work h a
+  pub over_is_final : (h : History V) (e : Event V) (a : ℕ) → Lawful meaning opening (e ▹ h) → is_begun h a ≡ true
+      → is_live h a ≡ false → work (e ▹ h) a ≡ work h a
   over_is_final h e a l k n =
       let q = is_begun_parts h a k in
       let a0 : a ≢ 0 = λ i. let u = q.0 in omega arith in
-      work_final h e (lawful_orderly meaning opening (e ▹ h) l) a (stands_is_live h (lawful_orderly meaning opening h l.1) a a0 ∙ n)
+      work_final h e (lawful_orderly meaning opening (e ▹ h) l) a
+      (stands_is_live h (lawful_orderly meaning opening h l.1) a a0 ∙ n)
 
   pub fold_numbers : (h : History V) → next_action {V = V} (Opened (next_action h - 1)) ≡ next_action h
   fold_numbers h = let k = next_pos h in omega arith
 
-  pub fold_table : (h : History V) (entries : ℕ) (later : History V) (o : ℕ) → Lawful meaning opening h → Lawful meaning (fold meaning opening h entries) later
-      → table opening.contents (effects meaning opening h ++ effects meaning (fold meaning opening h entries) later) o ≡ base meaning (fold meaning opening h entries) later o
-  fold_table h entries later o l k = table_continues meaning (fold meaning opening h entries) opening.contents (effects meaning opening h) later o (λ x. table_is_base meaning opening h x l) k
+  pub fold_table : (h : History V) (entries : ℕ) (later : History V) (o : ℕ) → Lawful meaning opening h
+      → Lawful meaning (fold meaning opening h entries) later
+      → table opening.contents (effects meaning opening h ++ effects meaning (fold meaning opening h entries) later) o
+      ≡ base meaning (fold meaning opening h entries) later o
+  fold_table h entries later o l k =
+      table_continues meaning (fold meaning opening h entries) opening.contents (effects meaning opening h) later o
+      (λ x. table_is_base meaning opening h x l) k

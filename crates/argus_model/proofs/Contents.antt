@@ -11,29 +11,42 @@ use Rattle.argus_model.specs.WorkSteps.{Replays, accesses_by}
 use Rattle.argus_model.proofs.Work.{has_used_more, touches}
 
 module _ {V C A : Type 0} (meaning : Meaning V C A) (contents : ℕ → C) where
-  pub content_front : (o : ℕ) (es fs gs : List (Access V)) → content_after meaning contents o fs ≡ content_after meaning contents o gs → content_after meaning contents o (es ++ fs) ≡ content_after meaning contents o (es ++ gs)
+  pub content_front : (o : ℕ) (es fs gs : List (Access V))
+      → content_after meaning contents o fs ≡ content_after meaning contents o gs
+      → content_after meaning contents o (es ++ fs) ≡ content_after meaning contents o (es ++ gs)
   content_front o [] fs gs e = e
-  content_front o (x ∷ es) fs gs e = ap (λ c. cond (x.object == o) (meaning.after x.what c) c) (content_front o es fs gs e)
+  content_front o (x ∷ es) fs gs e =
+      ap (λ c. cond (x.object == o) (meaning.after x.what c) c) (content_front o es fs gs e)
 
   -- an access that does not write the object leaves it
-  pub content_stays : (o : ℕ) (x : Access V) (es : List (Access V)) → (x.object == o && (false || meaning.writes x.what)) ≡ false → content_after meaning contents o (x ∷ es) ≡ content_after meaning contents o es
+  pub content_stays : (o : ℕ) (x : Access V) (es : List (Access V))
+      → (x.object == o && (false || meaning.writes x.what)) ≡ false
+      → content_after meaning contents o (x ∷ es) ≡ content_after meaning contents o es
   content_stays o x es n =
       ⊎_elim
       (λ e. ⊎_elim
-      (λ k. absurd (both_ways (x.object == o && (false || meaning.writes x.what)) n (and_from (x.object == o) (false || meaning.writes x.what) e k)))
-      (λ k. ap (λ b. cond b (meaning.after x.what (content_after meaning contents o es)) (content_after meaning contents o es)) e ∙ meaning.reads_keep x.what k (content_after meaning contents o es))
+      (λ k. absurd
+      (both_ways (x.object == o && (false || meaning.writes x.what)) n
+      (and_from (x.object == o) (false || meaning.writes x.what) e k)))
+      (λ k. ap (λ b.
+      cond b (meaning.after x.what (content_after meaning contents o es)) (content_after meaning contents o es)) e
+      ∙ meaning.reads_keep x.what k (content_after meaning contents o es))
       (cases_Bool (meaning.writes x.what)))
-      (λ e. ap (λ b. cond b (meaning.after x.what (content_after meaning contents o es)) (content_after meaning contents o es)) e)
+      (λ e. ap (λ b.
+      cond b (meaning.after x.what (content_after meaning contents o es)) (content_after meaning contents o es)) e)
       (cases_Bool (x.object == o))
 
-  pub content_past : (o : ℕ) (es fs : List (Access V)) → touches meaning.writes es o false ≡ false → content_after meaning contents o (es ++ fs) ≡ content_after meaning contents o fs
+  pub content_past : (o : ℕ) (es fs : List (Access V)) → touches meaning.writes es o false ≡ false
+      → content_after meaning contents o (es ++ fs) ≡ content_after meaning contents o fs
   content_past o [] fs n = refl
   content_past o (x ∷ es) fs n =
       let q = or_parts (x.object == o && (false || meaning.writes x.what)) (touches meaning.writes es o false) n in
       content_stays o x (es ++ fs) q.0 ∙ content_past o es fs q.1
 
   -- which writes to the object are picked decides its content
-  pub accesses_by_agree : (o : ℕ) (t u : ℕ → Bool) (k : History V) → ((a : ℕ) → has_used meaning.writes k a o false ≡ true → t a ≡ u a) → content_after meaning contents o (accesses_by t k) ≡ content_after meaning contents o (accesses_by u k)
+  pub accesses_by_agree : (o : ℕ) (t u : ℕ → Bool) (k : History V)
+      → ((a : ℕ) → has_used meaning.writes k a o false ≡ true → t a ≡ u a)
+      → content_after meaning contents o (accesses_by t k) ≡ content_after meaning contents o (accesses_by u k)
   accesses_by_agree o t u (Opened n) same = refl
   accesses_by_agree o t u (Began from ▹ k) same = accesses_by_agree o t u k same
   accesses_by_agree o t u (Committed s ▹ k) same = accesses_by_agree o t u k same
@@ -43,21 +56,37 @@ module _ {V C A : Type 0} (meaning : Meaning V C A) (contents : ℕ → C) where
       let ih = accesses_by_agree o t u k (λ a m. same a (has_used_more meaning.writes k b o' v a o false m)) in
       let here = o' == o && (false || meaning.writes v) in
       ⊎_elim
-      (λ y. let q : t b ≡ u b = same b (or_left (b == b && here) (has_used meaning.writes k b o false) (and_from (b == b) here (eq-eqb b b refl) y)) in
+      (λ y. let q : t b ≡ u b =
+      same b (or_left (b == b && here) (has_used meaning.writes k b o false)
+      (and_from (b == b) here (eq-eqb b b refl) y)) in
       ⊎_elim
-      (λ m. ap (λ z. content_after meaning contents o (cond z (e ∷ accesses_by t k) (accesses_by t k))) m ∙ ap (λ c. cond (o' == o) (meaning.after v c) c) ih ∙ sym (ap (λ z. content_after meaning contents o (cond z (e ∷ accesses_by u k) (accesses_by u k))) (sym q ∙ m)))
-      (λ m. ap (λ z. content_after meaning contents o (cond z (e ∷ accesses_by t k) (accesses_by t k))) m ∙ ih ∙ sym (ap (λ z. content_after meaning contents o (cond z (e ∷ accesses_by u k) (accesses_by u k))) (sym q ∙ m)))
+      (λ m. ap (λ z. content_after meaning contents o (cond z (e ∷ accesses_by t k) (accesses_by t k))) m
+      ∙ ap (λ c. cond (o' == o) (meaning.after v c) c) ih
+      ∙ sym (ap (λ z. content_after meaning contents o (cond z (e ∷ accesses_by u k) (accesses_by u k)))
+      (sym q ∙ m)))
+      (λ m. ap (λ z. content_after meaning contents o (cond z (e ∷ accesses_by t k) (accesses_by t k))) m ∙ ih
+      ∙ sym (ap (λ z. content_after meaning contents o (cond z (e ∷ accesses_by u k) (accesses_by u k)))
+      (sym q ∙ m)))
       (cases_Bool (t b)))
-      (λ n. let skip : (z : Bool) (es : List (Access V)) → content_after meaning contents o (cond z (e ∷ es) es) ≡ content_after meaning contents o es =
-      λ z es. elim z as (λ z. content_after meaning contents o (cond z (e ∷ es) es) ≡ content_after meaning contents o es) [ true ↦ content_stays o e es n | false ↦ refl ] in
+      (λ n. let skip : (z : Bool) (es : List (Access V))
+      → content_after meaning contents o (cond z (e ∷ es) es) ≡ content_after meaning contents o es =
+      λ z es. elim z
+      as (λ z. content_after meaning contents o (cond z (e ∷ es) es) ≡ content_after meaning contents o es)
+      [ true ↦ content_stays o e es n | false ↦ refl ] in
       skip (t b) (accesses_by t k) ∙ ih ∙ sym (skip (u b) (accesses_by u k)))
       (cases_Bool here)
 
   -- a block that reads only objects that two lists leave alike
-  pub replays_on : (es fs gs : List (Access V)) → ((o : ℕ) → touches meaning.writes es o true ≡ true → content_after meaning contents o fs ≡ content_after meaning contents o gs) → Replays meaning contents (es ++ fs) → Replays meaning contents gs → Replays meaning contents (es ++ gs)
+  pub replays_on : (es fs gs : List (Access V))
+      → ((o : ℕ) → touches meaning.writes es o true ≡ true
+      → content_after meaning contents o fs ≡ content_after meaning contents o gs) → Replays meaning contents (es ++ fs)
+      → Replays meaning contents gs → Replays meaning contents (es ++ gs)
   replays_on [] fs gs same r s = s
   replays_on (x ∷ es) fs gs same r s =
-      let here : touches meaning.writes (x ∷ es) x.object true ≡ true = or_left (x.object == x.object && true) (touches meaning.writes es x.object true) (and_from (x.object == x.object) true (eq-eqb x.object x.object refl) refl) in (
+      let here : touches meaning.writes (x ∷ es) x.object true ≡ true =
+      or_left (x.object == x.object && true) (touches meaning.writes es x.object true)
+      (and_from (x.object == x.object) true (eq-eqb x.object x.object refl) refl) in (
         subst (λ c. Fits meaning x.what c) (content_front x.object es fs gs (same x.object here)) r.0,
-        replays_on es fs gs (λ o m. same o (or_right (x.object == o && true) (touches meaning.writes es o true) m)) r.1 s,
+        replays_on es fs gs (λ o m. same o (or_right (x.object == o && true) (touches meaning.writes es o true) m))
+            r.1 s,
       )

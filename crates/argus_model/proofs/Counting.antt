@@ -23,26 +23,34 @@ use Rattle.argus_model.proofs.Standing.{Orderly, at_some, handed_cases, handed_s
 use Rattle.argus_model.proofs.Topactions.{tops_over}
 
 -- who answers is the base, or begun, and answers for itself
-pub owner_stands : {V : Type 0} (h : History V) → Orderly h → (a x : ℕ) → owner_by_steps h a ≡ Some x → stands h x ≡ true
-owner_stands {V} (Opened n) w a x e = some_at (owner_by_steps {V = V} (Opened n) x) x (⊎_elim (λ k. grind (arith, nat_tests)) (λ k. absurd (grind (arith, nat_tests))) (cases_eq a 0))
+pub owner_stands : {V : Type 0} (h : History V) → Orderly h → (a x : ℕ) → owner_by_steps h a ≡ Some x
+    → stands h x ≡ true
+owner_stands {V} (Opened n) w a x e =
+    some_at (owner_by_steps {V = V} (Opened n) x) x
+    (⊎_elim (λ k. grind (arith, nat_tests)) (λ k. absurd (grind (arith, nat_tests))) (cases_eq a 0))
 owner_stands (Began from ▹ h) w a x e =
     ⊎_elim
     (λ k. let q : a ≡ x = grind arith in stands_new h from x (sym q ∙ k.0))
-    (λ k. let ih = owner_stands h w.1 a x (sym k.1 ∙ e) in let l = stands_begun h x ih in stands_old h from x (λ q. omega arith) ∙ ih)
+    (λ k. let ih = owner_stands h w.1 a x (sym k.1 ∙ e) in let l = stands_begun h x ih in
+    stands_old h from x (λ q. omega arith) ∙ ih)
     (owner_cases h from a)
 owner_stands (Committed s ▹ h) w a x e =
     let f = parents_are_older h w.3 in
     let i = parent_is h f s w.0 w.1 in
     let p = parent h s in
-    let stays : (y : ℕ) → stands h y ≡ true → y ≢ s → stands (Committed s ▹ h) y ≡ true = λ y l n. some_at (owner_by_steps (Committed s ▹ h) y) y (handed_stays s p (owner_by_steps h y) y (at_some (owner_by_steps h y) y l) n) in
+    let stays : (y : ℕ) → stands h y ≡ true → y ≢ s → stands (Committed s ▹ h) y ≡ true =
+    λ y l n. some_at (owner_by_steps (Committed s ▹ h) y) y
+    (handed_stays s p (owner_by_steps h y) y (at_some (owner_by_steps h y) y l) n) in
     ⊎_elim
-    (λ k. subst (λ u. stands (Committed s ▹ h) u ≡ true) (sym k.1) (stays p (stands_upward h w.3 p s w.1 i.1) (λ q. omega (arith, i.0))))
+    (λ k. subst (λ u. stands (Committed s ▹ h) u ≡ true) (sym k.1)
+    (stays p (stands_upward h w.3 p s w.1 i.1) (λ q. omega (arith, i.0))))
     (λ k. stays x (owner_stands h w.3 a x k.0) k.1)
     (handed_cases s p (owner_by_steps h a) x e)
 owner_stands (Aborted z ▹ h) w a x e =
     let k = kept_cases (is_under h z) (owner_by_steps h a) x e in
     let ih = owner_stands h w.1 a x k.0 in
-    some_at (owner_by_steps (Aborted z ▹ h) x) x (kept_stays (is_under h z) (owner_by_steps h x) x (at_some (owner_by_steps h x) x ih) k.1)
+    some_at (owner_by_steps (Aborted z ▹ h) x) x
+    (kept_stays (is_under h z) (owner_by_steps h x) x (at_some (owner_by_steps h x) x ih) k.1)
 owner_stands (Accessed b o v ▹ h) w a x e = owner_stands h w.3 a x e
 
 abbrev is_gone : Owner → Bool
@@ -57,7 +65,9 @@ held_number _ = 0
 pub none_of : (q : Option ℕ) → as_owner q ≡ Gone → q ≡ None
 none_of None e = refl
 none_of (Some x) e =
-    absurd (false≢true (⊎_elim (λ k. sym (ap (λ b. is_gone (cond b Base (Held x))) k)) (λ k. sym (ap (λ b. is_gone (cond b Base (Held x))) k)) (cases_Bool (x == 0)) ∙ ap is_gone e))
+    absurd (false≢true
+    (⊎_elim (λ k. sym (ap (λ b. is_gone (cond b Base (Held x))) k))
+    (λ k. sym (ap (λ b. is_gone (cond b Base (Held x))) k)) (cases_Bool (x == 0)) ∙ ap is_gone e))
 
 pub some_of : (q : Option ℕ) (x : ℕ) → as_owner q ≡ Held x → q ≡ Some x
 some_of None x e = absurd (false≢true (sym (ap is_gone e)))
@@ -80,7 +90,8 @@ as_held x n = ap (λ b. cond b Base (Held x)) (ne_eqb x 0 n)
 
 -- what is begun stays begun
 pub begun_stays : {V : Type 0} (h : History V) (e : Event V) (a : ℕ) → is_begun h a ≡ true → is_begun (e ▹ h) a ≡ true
-begun_stays h (Began from) a k = let q = is_begun_parts h a k in is_begun_from (Began from ▹ h) a q.0 (omega (arith, q.1))
+begun_stays h (Began from) a k = let q = is_begun_parts h a k in
+    is_begun_from (Began from ▹ h) a q.0 (omega (arith, q.1))
 begun_stays h (Committed s) a k = k
 begun_stays h (Aborted z) a k = k
 begun_stays h (Accessed b o v) a k = k
@@ -89,20 +100,25 @@ begun_stays h (Accessed b o v) a k = k
 pub base_spared : {V : Type 0} (h : History V) (z : List ℕ) → Orderly (Aborted z ▹ h) → is_under h z 0 ≡ false
 base_spared h z w = (stands_abort h z 0 (base_stands (Aborted z ▹ h) w)).1
 
-pub none_stays : {V : Type 0} (h : History V) (e : Event V) (a : ℕ) → is_begun h a ≡ true → owner_by_steps h a ≡ None → owner_by_steps (e ▹ h) a ≡ None
-none_stays h (Began from) a k n = let q = is_begun_parts h a k in ⊎_elim (λ c. absurd (omega (arith, q.1, c.0))) (λ c. c.1 ∙ n) (owner_cases h from a)
+pub none_stays : {V : Type 0} (h : History V) (e : Event V) (a : ℕ) → is_begun h a ≡ true → owner_by_steps h a ≡ None
+    → owner_by_steps (e ▹ h) a ≡ None
+none_stays h (Began from) a k n = let q = is_begun_parts h a k in
+    ⊎_elim (λ c. absurd (omega (arith, q.1, c.0))) (λ c. c.1 ∙ n) (owner_cases h from a)
 none_stays h (Committed s) a k n = ap (handed_up s (parent h s)) n
 none_stays h (Aborted z) a k n = ap (unless_lost (is_under h z)) n
 none_stays h (Accessed b o v) a k n = n
 
-pub base_stays : {V : Type 0} (h : History V) (e : Event V) → Orderly (e ▹ h) → (a : ℕ) → owner_by_steps h a ≡ Some 0 → owner_by_steps (e ▹ h) a ≡ Some 0
-base_stays h (Began from) w a b = let l = owned_begun h a 0 b in ⊎_elim (λ c. absurd (omega (arith, c.0))) (λ c. c.1 ∙ b) (owner_cases h from a)
+pub base_stays : {V : Type 0} (h : History V) (e : Event V) → Orderly (e ▹ h) → (a : ℕ) → owner_by_steps h a ≡ Some 0
+    → owner_by_steps (e ▹ h) a ≡ Some 0
+base_stays h (Began from) w a b = let l = owned_begun h a 0 b in
+    ⊎_elim (λ c. absurd (omega (arith, c.0))) (λ c. c.1 ∙ b) (owner_cases h from a)
 base_stays h (Committed s) w a b = handed_stays s (parent h s) (owner_by_steps h a) 0 b (λ q. w.0 (sym q))
 base_stays h (Aborted z) w a b = kept_stays (is_under h z) (owner_by_steps h a) 0 b (base_spared h z w)
 base_stays h (Accessed d o v) w a b = b
 
 -- what stands stood before, or has just begun
-stood : {V : Type 0} (h : History V) (e : Event V) → Orderly (e ▹ h) → (a : ℕ) → a < next_action h → stands (e ▹ h) a ≡ true → stands h a ≡ true
+stood : {V : Type 0} (h : History V) (e : Event V) → Orderly (e ▹ h) → (a : ℕ) → a < next_action h
+    → stands (e ▹ h) a ≡ true → stands h a ≡ true
 stood h (Began from) w a l s = sym (stands_old h from a (λ q. omega arith)) ∙ s
 stood h (Committed b) w a l s = (stands_commit h (parents_are_older h w.3) (stands_upward h w.3) b a w.0 w.1 s).0
 stood h (Aborted z) w a l s = (stands_abort h z a s).0
@@ -114,7 +130,8 @@ orderly_older h (Committed b) w = w.3
 orderly_older h (Aborted z) w = w.1
 orderly_older h (Accessed b o v) w = w.3
 
-pub over_stays : {V : Type 0} (h : History V) (e : Event V) → Orderly (e ▹ h) → (a : ℕ) → is_begun h a ≡ true → is_live h a ≡ false → is_live (e ▹ h) a ≡ false
+pub over_stays : {V : Type 0} (h : History V) (e : Event V) → Orderly (e ▹ h) → (a : ℕ) → is_begun h a ≡ true
+    → is_live h a ≡ false → is_live (e ▹ h) a ≡ false
 over_stays h e w a k n =
     let q = is_begun_parts h a k in
     let a0 : a ≢ 0 = λ i. let u = q.0 in omega arith in
@@ -123,8 +140,10 @@ over_stays h e w a k n =
     both_ways (is_live h a) n (sym (stands_is_live h (orderly_older h e w) a a0) ∙ s))
 
 -- the owner, up the parents
-pub owner_when_doomed : {V : Type 0} (h : History V) → Orderly h → (a : ℕ) → is_begun h a ≡ true → is_doomed h a ≡ true → owner h a ≡ Gone
-owner_when_doomed h w a k d = let q = is_begun_parts h a k in owner_is h w a k ∙ ap as_owner (owner_gone h w a q.0 q.1 d)
+pub owner_when_doomed : {V : Type 0} (h : History V) → Orderly h → (a : ℕ) → is_begun h a ≡ true → is_doomed h a ≡ true
+    → owner h a ≡ Gone
+owner_when_doomed h w a k d = let q = is_begun_parts h a k in
+    owner_is h w a k ∙ ap as_owner (owner_gone h w a q.0 q.1 d)
 
 pub owner_when_live : {V : Type 0} (h : History V) → Orderly h → (a : ℕ) → is_live h a ≡ true → owner h a ≡ Held a
 owner_when_live h w a l =
@@ -132,32 +151,41 @@ owner_when_live h w a l =
     let s = live_stands h w a l in
     owner_is h w a k ∙ ap as_owner (at_some (owner_by_steps h a) a s.1) ∙ as_held a s.0
 
-pub owner_when_committed : {V : Type 0} (h : History V) → Orderly h → (a : ℕ) → is_begun h a ≡ true → has_committed h a ≡ true → parent h a ≢ 0 → owner h a ≡ owner h (parent h a)
+pub owner_when_committed : {V : Type 0} (h : History V) → Orderly h → (a : ℕ) → is_begun h a ≡ true
+    → has_committed h a ≡ true → parent h a ≢ 0 → owner h a ≡ owner h (parent h a)
 owner_when_committed h w a k c n =
     let q = is_begun_parts h a k in
     let p = parent_older h a (parents_are_older h w) (omega (arith, q.0)) q.1 in
     owner_is h w a k ∙ ap as_owner (owner_passed h w a c)
-    ∙ sym (owner_is h w (parent h a) (is_begun_from h (parent h a) (parent_unfolded h w a q.0 q.1 n) (omega (arith, p.0, q.1))))
+    ∙ sym (owner_is h w (parent h a)
+    (is_begun_from h (parent h a) (parent_unfolded h w a q.0 q.1 n) (omega (arith, p.0, q.1))))
 
-pub owner_when_top : {V : Type 0} (h : History V) → Orderly h → (a : ℕ) → is_begun h a ≡ true → has_committed h a ≡ true → parent h a ≡ 0 → owner h a ≡ Base
+pub owner_when_top : {V : Type 0} (h : History V) → Orderly h → (a : ℕ) → is_begun h a ≡ true → has_committed h a ≡ true
+    → parent h a ≡ 0 → owner h a ≡ Base
 owner_when_top h w a k c e =
     owner_is h w a k
     ∙ ap as_owner (owner_passed h w a c ∙ ap (owner_by_steps h) e ∙ at_some (owner_by_steps h 0) 0 (base_stands h w))
 
-pub held_by_live : {V : Type 0} (h : History V) → Orderly h → (a x : ℕ) → is_begun h a ≡ true → owner h a ≡ Held x → (is_live h x ≡ true) × (is_ancestor h x a ≡ true)
+pub held_by_live : {V : Type 0} (h : History V) → Orderly h → (a x : ℕ) → is_begun h a ≡ true → owner h a ≡ Held x
+    → (is_live h x ≡ true) × (is_ancestor h x a ≡ true)
 held_by_live h w a x k e =
     let q = some_of (owner_by_steps h a) x (sym (owner_is h w a k) ∙ e) in
-    let n : x ≢ 0 = λ z. false≢true (ap is_base (sym (ap Held z ∙ refl) ∙ sym e ∙ owner_is h w a k ∙ ap as_owner (q ∙ ap Some z))) in
+    let n : x ≢ 0 =
+    λ z. false≢true
+    (ap is_base (sym (ap Held z ∙ refl) ∙ sym e ∙ owner_is h w a k ∙ ap as_owner (q ∙ ap Some z))) in
     (sym (stands_is_live h w x n) ∙ owner_stands h w a x q, owner_ancestor h w a x q)
 
 -- the committed topactions
-pub tops_are : {V : Type 0} (h : History V) → Orderly h → (t : ℕ) → contains (committed_topactions h) t ≡ (has_committed h t && parent h t == 0)
+pub tops_are : {V : Type 0} (h : History V) → Orderly h → (t : ℕ)
+    → contains (committed_topactions h) t ≡ (has_committed h t && parent h t == 0)
 tops_are (Opened n) w t = refl
 tops_are (Began from ▹ h) w t =
     ⊎_elim
     (λ c. tops_are h w.1 t ∙ ap (λ b. b && parent h t == 0) c ∙ sym (ap (λ b. b && parent (Began from ▹ h) t == 0) c))
     (λ c. let l = committed_begun h w.1 t c in
-    tops_are h w.1 t ∙ ap (λ p. has_committed h t && p == 0) (⊎_elim (λ k. absurd (omega (arith, k.0, l.1))) (λ k. sym k.1) (parent_cases h from t)))
+    tops_are h w.1 t
+    ∙ ap (λ p. has_committed h t && p == 0)
+    (⊎_elim (λ k. absurd (omega (arith, k.0, l.1))) (λ k. sym k.1) (parent_cases h from t)))
     (⊎_elim (λ c. inr c) (λ c. inl c) (cases_Bool (has_committed h t)))
 tops_are (Aborted z ▹ h) w t = tops_are h w.1 t
 tops_are (Accessed a o v ▹ h) w t = tops_are h w.3 t
@@ -167,30 +195,37 @@ tops_are (Committed s ▹ h) w t =
     (λ e. ap (λ b. contains (cond b (s ∷ committed_topactions h) (committed_topactions h)) t) e
     ∙ ap (λ b. (t == s) || b) rest
     ∙ ⊎_elim
-    (λ k. ap (λ b. b || (has_committed h t && parent h t == 0)) (eq-eqb t s k) ∙ sym (ap (λ b. (b || has_committed h t) && parent h t == 0) (eq-eqb s t (sym k)) ∙ subst (λ u. (parent h u == 0) ≡ true) (sym k) e))
-    (λ k. ap (λ b. b || (has_committed h t && parent h t == 0)) (ne_eqb t s k) ∙ sym (ap (λ b. (b || has_committed h t) && parent h t == 0) (ne_eqb s t (λ i. k (sym i)))))
+    (λ k. ap (λ b. b || (has_committed h t && parent h t == 0)) (eq-eqb t s k)
+    ∙ sym (ap (λ b. (b || has_committed h t) && parent h t == 0) (eq-eqb s t (sym k))
+    ∙ subst (λ u. (parent h u == 0) ≡ true) (sym k) e))
+    (λ k. ap (λ b. b || (has_committed h t && parent h t == 0)) (ne_eqb t s k)
+    ∙ sym (ap (λ b. (b || has_committed h t) && parent h t == 0) (ne_eqb s t (λ i. k (sym i)))))
     (cases_eq t s))
     (λ e. ap (λ b. contains (cond b (s ∷ committed_topactions h) (committed_topactions h)) t) e
     ∙ rest
     ∙ ⊎_elim
     (λ k. let z : (parent h t == 0) ≡ false = subst (λ u. (parent h u == 0) ≡ false) (sym k) e in
-    ap (λ b. has_committed h t && b) z ∙ and_none (has_committed h t) ∙ sym (ap (λ b. (s == t || has_committed h t) && b) z ∙ and_none (s == t || has_committed h t)))
+    ap (λ b. has_committed h t && b) z ∙ and_none (has_committed h t)
+    ∙ sym (ap (λ b. (s == t || has_committed h t) && b) z ∙ and_none (s == t || has_committed h t)))
     (λ k. sym (ap (λ b. (b || has_committed h t) && parent h t == 0) (ne_eqb s t (λ i. k (sym i)))))
     (cases_eq t s))
     (cases_Bool (parent h s == 0))
 
-pub tops_stay : {V : Type 0} (h : History V) → Orderly h → (t : ℕ) → contains (committed_topactions h) t ≡ true → owner h t ≡ Base
+pub tops_stay : {V : Type 0} (h : History V) → Orderly h → (t : ℕ) → contains (committed_topactions h) t ≡ true
+    → owner h t ≡ Base
 tops_stay h w t m =
     let q = and_parts (has_committed h t) (parent h t == 0) (sym (tops_are h w t) ∙ m) in
     let c = committed_begun h w t q.0 in
     owner_when_top h w t (is_begun_from h t (committed_unfolded h w t q.0) c.1) q.0 (eqb-true (parent h t) 0 q.1)
 
-pub gone_stays : {V : Type 0} (h : History V) (e : Event V) → Orderly h → Orderly (e ▹ h) → (a : ℕ) → is_begun h a ≡ true → owner h a ≡ Gone → owner (e ▹ h) a ≡ Gone
+pub gone_stays : {V : Type 0} (h : History V) (e : Event V) → Orderly h → Orderly (e ▹ h) → (a : ℕ)
+    → is_begun h a ≡ true → owner h a ≡ Gone → owner (e ▹ h) a ≡ Gone
 gone_stays h e w u a k g =
     owner_is (e ▹ h) u a (begun_stays h e a k)
     ∙ ap as_owner (none_stays h e a k (none_of (owner_by_steps h a) (sym (owner_is h w a k) ∙ g)))
 
-pub good_stays : {V : Type 0} (h : History V) (e : Event V) → Orderly h → Orderly (e ▹ h) → (a : ℕ) → is_begun h a ≡ true → owner h a ≡ Base → owner (e ▹ h) a ≡ Base
+pub good_stays : {V : Type 0} (h : History V) (e : Event V) → Orderly h → Orderly (e ▹ h) → (a : ℕ)
+    → is_begun h a ≡ true → owner h a ≡ Base → owner (e ▹ h) a ≡ Base
 good_stays h e w u a k g =
     owner_is (e ▹ h) u a (begun_stays h e a k)
     ∙ ap as_owner (base_stays h e u a (base_of (owner_by_steps h a) (sym (owner_is h w a k) ∙ g)))
@@ -206,6 +241,10 @@ tops-IsDistinct (Committed s ▹ h) w =
     let tops = committed_topactions h in
     let rest = tops-IsDistinct h w.3 in
     ⊎_elim
-    (λ e. subst (λ b. IsDistinct ◌==◌ (cond b (s ∷ tops) tops)) (sym e) (different s tops (false_from_ne_true (contains tops s) (λ m. both_ways (stands h s) (tops_over h w.3 s m) w.1)), rest))
+    (λ e. subst (λ b. IsDistinct ◌==◌ (cond b (s ∷ tops) tops)) (sym e) (
+      different s tops
+          (false_from_ne_true (contains tops s) (λ m. both_ways (stands h s) (tops_over h w.3 s m) w.1)),
+      rest,
+    ))
     (λ e. subst (λ b. IsDistinct ◌==◌ (cond b (s ∷ tops) tops)) (sym e) rest)
     (cases_Bool (parent h s == 0))

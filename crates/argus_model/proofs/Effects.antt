@@ -29,15 +29,19 @@ map_agree f g [] same = refl
 map_agree f g (x ∷ xs) same = ap (λ u. u ∷ map f xs) (same x) ∙ ap (λ u. g x ∷ u) (map_agree f g xs same)
 
 module _ {C : Type 0} where
-  content_by_is : (f : ℕ → C) (os : List ℕ) (o : ℕ) (c : C) → content_by (map (λ x. (x, f x)) os) o c ≡ cond (contains os o) (f o) c
+  content_by_is : (f : ℕ → C) (os : List ℕ) (o : ℕ) (c : C)
+      → content_by (map (λ x. (x, f x)) os) o c ≡ cond (contains os o) (f o) c
   content_by_is f [] o c = refl
   content_by_is f (x ∷ os) o c =
       ⊎_elim
-      (λ e. ap (λ b. cond b (f x) (content_by (map (λ y. (y, f y)) os) o c)) (eq-eqb x o e) ∙ ap f e ∙ sym (ap (λ b. cond (b || contains os o) (f o) c) (eq-eqb o x (sym e))))
-      (λ ne. ap (λ b. cond b (f x) (content_by (map (λ y. (y, f y)) os) o c)) (ne_eqb x o ne) ∙ content_by_is f os o c ∙ sym (ap (λ b. cond (b || contains os o) (f o) c) (ne_eqb o x (λ q. ne (sym q)))))
+      (λ e. ap (λ b. cond b (f x) (content_by (map (λ y. (y, f y)) os) o c)) (eq-eqb x o e) ∙ ap f e
+      ∙ sym (ap (λ b. cond (b || contains os o) (f o) c) (eq-eqb o x (sym e))))
+      (λ ne. ap (λ b. cond b (f x) (content_by (map (λ y. (y, f y)) os) o c)) (ne_eqb x o ne) ∙ content_by_is f os o c
+      ∙ sym (ap (λ b. cond (b || contains os o) (f o) c) (ne_eqb o x (λ q. ne (sym q)))))
       (cases_eq x o)
 
-  table-more : (s : ℕ → C) (l : List (List (ℕ × C))) (m : List (ℕ × C)) (o : ℕ) → table s (l ++ m ∷ []) o ≡ content_by m o (table s l o)
+  table-more : (s : ℕ → C) (l : List (List (ℕ × C))) (m : List (ℕ × C)) (o : ℕ)
+      → table s (l ++ m ∷ []) o ≡ content_by m o (table s l o)
   table-more s [] m o = refl
   table-more s (k ∷ l) m o = table-more (λ x. content_by k x (s x)) l m o
 
@@ -48,18 +52,22 @@ module _ {C : Type 0} where
 
   pub table_same : (s t : ℕ → C) (l : List (List (ℕ × C))) → ((o : ℕ) → s o ≡ t o) → (o : ℕ) → table s l o ≡ table t l o
   table_same s t [] same o = same o
-  table_same s t (m ∷ l) same o = table_same (λ x. content_by m x (s x)) (λ x. content_by m x (t x)) l (λ x. ap (content_by m x) (same x)) o
+  table_same s t (m ∷ l) same o =
+      table_same (λ x. content_by m x (s x)) (λ x. content_by m x (t x)) l (λ x. ap (content_by m x) (same x)) o
 
 module _ {V C A : Type 0} (meaning : Meaning V C A) where
-  pub contains_written : (es : List (Access V)) (o : ℕ) → contains (written_objects meaning es) o ≡ touches meaning.writes es o false
+  pub contains_written : (es : List (Access V)) (o : ℕ)
+      → contains (written_objects meaning es) o ≡ touches meaning.writes es o false
   contains_written [] o = refl
   contains_written (e ∷ es) o =
       ⊎_elim
       (λ w. ap (λ b. contains (cond b (insert e.object (written_objects meaning es)) (written_objects meaning es)) o) w
       ∙ contains_insert e.object (written_objects meaning es) o
       ∙ ap (λ r. (o == e.object) || r) (contains_written es o)
-      ∙ sym (ap (λ b. b || touches meaning.writes es o false) (ap (λ b. e.object == o && b) w ∙ anded (e.object == o) ∙ eqb_sym e.object o)))
-      (λ w. ap (λ b. contains (cond b (insert e.object (written_objects meaning es)) (written_objects meaning es)) o) w ∙ contains_written es o
+      ∙ sym (ap (λ b. b || touches meaning.writes es o false)
+      (ap (λ b. e.object == o && b) w ∙ anded (e.object == o) ∙ eqb_sym e.object o)))
+      (λ w. ap (λ b. contains (cond b (insert e.object (written_objects meaning es)) (written_objects meaning es)) o) w
+      ∙ contains_written es o
       ∙ sym (ap (λ b. b || touches meaning.writes es o false) (and_right (e.object == o) (meaning.writes e.what) w)))
       (cases_Bool (meaning.writes e.what))
     where
@@ -71,37 +79,50 @@ module _ {V C A : Type 0} (meaning : Meaning V C A) where
   written-IsRising [] = tt
   written-IsRising (e ∷ es) =
       ⊎_elim
-      (λ w. subst (λ b. IsRising (cond b (insert e.object (written_objects meaning es)) (written_objects meaning es))) (sym w) (insert-IsRising e.object (written_objects meaning es) (written-IsRising es)))
-      (λ w. subst (λ b. IsRising (cond b (insert e.object (written_objects meaning es)) (written_objects meaning es))) (sym w) (written-IsRising es))
+      (λ w. subst (λ b. IsRising (cond b (insert e.object (written_objects meaning es)) (written_objects meaning es)))
+      (sym w) (insert-IsRising e.object (written_objects meaning es) (written-IsRising es)))
+      (λ w. subst (λ b. IsRising (cond b (insert e.object (written_objects meaning es)) (written_objects meaning es)))
+      (sym w) (written-IsRising es))
       (cases_Bool (meaning.writes e.what))
 
-  touches_front : (es fs : List (Access V)) (o : ℕ) (all : Bool) → touches meaning.writes es o all ≡ true → touches meaning.writes (es ++ fs) o all ≡ true
+  touches_front : (es fs : List (Access V)) (o : ℕ) (all : Bool) → touches meaning.writes es o all ≡ true
+      → touches meaning.writes (es ++ fs) o all ≡ true
   touches_front [] fs o all m = absurd (false≢true m)
   touches_front (e ∷ es) fs o all m =
       let first = e.object == o && (all || meaning.writes e.what) in
-      ⊎_elim (λ k. or_left first (touches meaning.writes (es ++ fs) o all) k) (λ k. or_right first (touches meaning.writes (es ++ fs) o all) (touches_front es fs o all k)) (or_cases first (touches meaning.writes es o all) m)
+      ⊎_elim (λ k. or_left first (touches meaning.writes (es ++ fs) o all) k)
+      (λ k. or_right first (touches meaning.writes (es ++ fs) o all) (touches_front es fs o all k))
+      (or_cases first (touches meaning.writes es o all) m)
 
-  touches_back : (es fs : List (Access V)) (o : ℕ) (all : Bool) → touches meaning.writes fs o all ≡ true → touches meaning.writes (es ++ fs) o all ≡ true
+  touches_back : (es fs : List (Access V)) (o : ℕ) (all : Bool) → touches meaning.writes fs o all ≡ true
+      → touches meaning.writes (es ++ fs) o all ≡ true
   touches_back [] fs o all m = m
-  touches_back (e ∷ es) fs o all m = or_right (e.object == o && (all || meaning.writes e.what)) (touches meaning.writes (es ++ fs) o all) (touches_back es fs o all m)
+  touches_back (e ∷ es) fs o all m =
+      or_right (e.object == o && (all || meaning.writes e.what)) (touches meaning.writes (es ++ fs) o all)
+      (touches_back es fs o all m)
 
   -- who answers for an access has it in its work
-  work_of_user : (h : History V) → Orderly h → (a y o : ℕ) (all : Bool) → has_used meaning.writes h a o all ≡ true → owner_by_steps h a ≡ Some y → touches meaning.writes (work h y) o all ≡ true
+  work_of_user : (h : History V) → Orderly h → (a y o : ℕ) (all : Bool) → has_used meaning.writes h a o all ≡ true
+      → owner_by_steps h a ≡ Some y → touches meaning.writes (work h y) o all ≡ true
   work_of_user (Opened n) w a y o all u e = absurd (false≢true u)
   work_of_user (Began from ▹ h) w a y o all u e =
-      ⊎_elim (λ k. absurd (let l = has_used_begun meaning.writes h w.1 a o all u in omega (arith, k.0))) (λ k. work_of_user h w.1 a y o all u (sym k.1 ∙ e)) (owner_cases h from a)
+      ⊎_elim (λ k. absurd (let l = has_used_begun meaning.writes h w.1 a o all u in omega (arith, k.0)))
+      (λ k. work_of_user h w.1 a y o all u (sym k.1 ∙ e)) (owner_cases h from a)
   work_of_user (Committed s ▹ h) w a y o all u e =
       let p = parent h s in
       ⊎_elim
       (λ k. subst (λ q. touches meaning.writes (work (Committed s ▹ h) q) o all ≡ true) (sym k.1)
-      (subst (λ b. touches meaning.writes (cond b (work h s ++ work h p) (work h p)) o all ≡ true) (sym (eq-eqb p p refl)) (touches_front (work h s) (work h p) o all (work_of_user h w.3 a s o all u k.0))))
+      (subst (λ b. touches meaning.writes (cond b (work h s ++ work h p) (work h p)) o all ≡ true)
+      (sym (eq-eqb p p refl)) (touches_front (work h s) (work h p) o all (work_of_user h w.3 a s o all u k.0))))
       (λ k. let ih = work_of_user h w.3 a y o all u k.0 in
       ⊎_elim
-      (λ q. subst (λ b. touches meaning.writes (cond b (work h s ++ work h y) (work h y)) o all ≡ true) (sym q) (touches_back (work h s) (work h y) o all ih))
+      (λ q. subst (λ b. touches meaning.writes (cond b (work h s ++ work h y) (work h y)) o all ≡ true) (sym q)
+      (touches_back (work h s) (work h y) o all ih))
       (λ q. subst (λ b. touches meaning.writes (cond b (work h s ++ work h y) (work h y)) o all ≡ true) (sym q) ih)
       (cases_Bool (p == y)))
       (handed_cases s p (owner_by_steps h a) y e)
-  work_of_user (Aborted z ▹ h) w a y o all u e = work_of_user h w.1 a y o all u (kept_cases (is_under h z) (owner_by_steps h a) y e).0
+  work_of_user (Aborted z ▹ h) w a y o all u e =
+      work_of_user h w.1 a y o all u (kept_cases (is_under h z) (owner_by_steps h a) y e).0
   work_of_user (Accessed d o' v ▹ h) w a y o all u e =
       let x : Access V = record { object = o'; what = v } in
       let here = o' == o && (all || meaning.writes v) in
@@ -110,63 +131,78 @@ module _ {V C A : Type 0} (meaning : Meaning V C A) where
       let oy : owner_by_steps h d ≡ Some y = ap (owner_by_steps h) k.0 ∙ e in
       let q : d ≡ y = grind arith in
       subst (λ b. touches meaning.writes (cond b (x ∷ work h y) (work h y)) o all ≡ true) (sym (eq-eqb d y q))
-      (or_left here (touches meaning.writes (work h y) o all) (and_from (o' == o) (all || meaning.writes v) (eq-eqb o' o k.1) k.2)))
+      (or_left here (touches meaning.writes (work h y) o all)
+      (and_from (o' == o) (all || meaning.writes v) (eq-eqb o' o k.1) k.2)))
       (λ k. let ih = work_of_user h w.3 a y o all k e in
       ⊎_elim
-      (λ q. subst (λ b. touches meaning.writes (cond b (x ∷ work h y) (work h y)) o all ≡ true) (sym q) (or_right here (touches meaning.writes (work h y) o all) ih))
+      (λ q. subst (λ b. touches meaning.writes (cond b (x ∷ work h y) (work h y)) o all ≡ true) (sym q)
+      (or_right here (touches meaning.writes (work h y) o all) ih))
       (λ q. subst (λ b. touches meaning.writes (cond b (x ∷ work h y) (work h y)) o all ≡ true) (sym q) ih)
       (cases_Bool (d == y)))
       (has_used_cases meaning.writes h d o' v a o all u)
 
   -- what a live action has written is what it holds for writing
-  pub written_holds : (h : History V) → Orderly h → (y o : ℕ) → stands h y ≡ true → contains (written_objects meaning (work h y)) o ≡ holds meaning.writes h o false y
+  pub written_holds : (h : History V) → Orderly h → (y o : ℕ) → stands h y ≡ true
+      → contains (written_objects meaning (work h y)) o ≡ holds meaning.writes h o false y
   written_holds h w y o l =
       contains_written (work h y) o
       ∙ same_bool (touches meaning.writes (work h y) o false) (holds meaning.writes h o false y)
-      (λ m. let u = user_of meaning.writes h w y o false l m in used_by_from meaning.writes (λ b. is_exactly (owner_by_steps h b) y) o false h u.action u.uses (some_at (owner_by_steps h u.action) y u.owned))
-      (λ m. let q = used_by_found meaning.writes (λ b. is_exactly (owner_by_steps h b) y) o false h m in work_of_user h w q.0 y o false q.1 (at_some (owner_by_steps h q.0) y q.2))
+      (λ m. let u = user_of meaning.writes h w y o false l m in
+      used_by_from meaning.writes (λ b. is_exactly (owner_by_steps h b) y) o false h u.action u.uses
+      (some_at (owner_by_steps h u.action) y u.owned))
+      (λ m. let q = used_by_found meaning.writes (λ b. is_exactly (owner_by_steps h b) y) o false h m in
+      work_of_user h w q.0 y o false q.1 (at_some (owner_by_steps h q.0) y q.2))
 
 module _ {V C A : Type 0} (meaning : Meaning V C A) (opening : Opening C) where
-  effects_of_agree : (f g : ℕ → List (Access V)) (ts : List ℕ) → ((t : ℕ) → contains ts t ≡ true → f t ≡ g t) → effects_of meaning opening.contents f ts ≡ effects_of meaning opening.contents g ts
+  effects_of_agree : (f g : ℕ → List (Access V)) (ts : List ℕ) → ((t : ℕ) → contains ts t ≡ true → f t ≡ g t)
+      → effects_of meaning opening.contents f ts ≡ effects_of meaning opening.contents g ts
   effects_of_agree f g [] same = refl
   effects_of_agree f g (t ∷ ts) same =
       let later = λ (z : ℕ) (m : contains ts z ≡ true). same z (or_right (z == t) (contains ts z) m) in
-      ap (λ es. effect_of meaning opening.contents es (all_of f ts) ∷ effects_of meaning opening.contents f ts) (same t (contains_first t ts))
-      ∙ ap (λ es. effect_of meaning opening.contents (g t) es ∷ effects_of meaning opening.contents f ts) (all_of_agree f g ts later)
+      ap (λ es. effect_of meaning opening.contents es (all_of f ts) ∷ effects_of meaning opening.contents f ts)
+      (same t (contains_first t ts))
+      ∙ ap (λ es. effect_of meaning opening.contents (g t) es ∷ effects_of meaning opening.contents f ts)
+      (all_of_agree f g ts later)
       ∙ ap (λ ms. effect_of meaning opening.contents (g t) (all_of g ts) ∷ ms) (effects_of_agree f g ts later)
 
-  effects_of_same : (h : History V) (e : Event V) → Orderly h → Orderly (e ▹ h) → effects_of meaning opening.contents (work (e ▹ h)) (committed_topactions h) ≡ effects_of meaning opening.contents (work h) (committed_topactions h)
-  effects_of_same h e w w' = effects_of_agree (work (e ▹ h)) (work h) (committed_topactions h) (λ z m. work_final h e w' z (tops_over h w z m))
+  effects_of_same : (h : History V) (e : Event V) → Orderly h → Orderly (e ▹ h)
+      → effects_of meaning opening.contents (work (e ▹ h)) (committed_topactions h)
+      ≡ effects_of meaning opening.contents (work h) (committed_topactions h)
+  effects_of_same h e w w' =
+      effects_of_agree (work (e ▹ h)) (work h) (committed_topactions h) (λ z m. work_final h e w' z (tops_over h w z m))
 
   -- any entry but the commit of a topaction
-  pub effects_stay : (h : History V) (e : Event V) → Orderly h → Orderly (e ▹ h) → committed_topactions (e ▹ h) ≡ committed_topactions h → effects meaning opening (e ▹ h) ≡ effects meaning opening h
-  effects_stay h e w w' same = ap (λ ts. reverse (effects_of meaning opening.contents (work (e ▹ h)) ts)) same ∙ ap reverse (effects_of_same h e w w')
+  pub effects_stay : (h : History V) (e : Event V) → Orderly h → Orderly (e ▹ h)
+      → committed_topactions (e ▹ h) ≡ committed_topactions h
+      → effects meaning opening (e ▹ h) ≡ effects meaning opening h
+  effects_stay h e w w' same =
+      ap (λ ts. reverse (effects_of meaning opening.contents (work (e ▹ h)) ts)) same
+      ∙ ap reverse (effects_of_same h e w w')
 
   -- the commit of a topaction: one more, at the end
-  pub effects_grow : (h : History V) (s : ℕ) → Orderly (Committed s ▹ h) → parent h s ≡ 0 → effects meaning opening (Committed s ▹ h) ≡ effects meaning opening h ++ effect_of meaning opening.contents (work h s) (work h 0) ∷ []
+  pub effects_grow : (h : History V) (s : ℕ) → Orderly (Committed s ▹ h) → parent h s ≡ 0
+      → effects meaning opening (Committed s ▹ h)
+      ≡ effects meaning opening h ++ effect_of meaning opening.contents (work h s) (work h 0) ∷ []
   effects_grow h s w e =
       let g = Committed s ▹ h in
-      let own : work g s ≡ work h s = ap (λ q. cond q (work h s ++ work h s) (work h s)) (ne_eqb (parent h s) s (λ k. w.0 (sym k ∙ e))) in
-      let past : all_of (work g) (committed_topactions h) ≡ work h 0 = all_of_agree (work g) (work h) (committed_topactions h) (λ z m. work_final h (Committed s) w z (tops_over h w.3 z m)) ∙ sym (serial_tops h w.3) in
+      let own : work g s ≡ work h s =
+      ap (λ q. cond q (work h s ++ work h s) (work h s)) (ne_eqb (parent h s) s (λ k. w.0 (sym k ∙ e))) in
+      let past : all_of (work g) (committed_topactions h) ≡ work h 0 =
+      all_of_agree (work g) (work h) (committed_topactions h)
+      (λ z m. work_final h (Committed s) w z (tops_over h w.3 z m)) ∙ sym (serial_tops h w.3) in
       let m = effect_of meaning opening.contents (work g s) (all_of (work g) (committed_topactions h)) in
-      ap (λ q. reverse (effects_of meaning opening.contents (work g) (cond q (s ∷ committed_topactions h) (committed_topactions h)))) (eq-eqb (parent h s) 0 e)
+      ap (λ q. reverse
+      (effects_of meaning opening.contents (work g) (cond q (s ∷ committed_topactions h) (committed_topactions h))))
+      (eq-eqb (parent h s) 0 e)
       ∙ reverse-append (m ∷ []) (effects_of meaning opening.contents (work g) (committed_topactions h))
       ∙ ap (λ ms. reverse ms ++ m ∷ []) (effects_of_same h (Committed s) w.3 w)
-      ∙ ap (λ es. effects meaning opening h ++ effect_of meaning opening.contents es (all_of (work g) (committed_topactions h)) ∷ []) own
+      ∙ ap (λ es. effects meaning opening h ++ effect_of meaning opening.contents es
+      (all_of (work g) (committed_topactions h)) ∷ []) own
       ∙ ap (λ es. effects meaning opening h ++ effect_of meaning opening.contents (work h s) es ∷ []) past
 
-  -- each entry at most adds at the end
-  pub effects_prefix : (h : History V) (e : Event V) → Orderly h → Orderly (e ▹ h) → (more : List (List (ℕ × C))) × (effects meaning opening (e ▹ h) ≡ effects meaning opening h ++ more)
-  effects_prefix h (Began from) w w' = ([], effects_stay h (Began from) w w' refl ∙ sym (append-nil (effects meaning opening h)))
-  effects_prefix h (Aborted zs) w w' = ([], effects_stay h (Aborted zs) w w' refl ∙ sym (append-nil (effects meaning opening h)))
-  effects_prefix h (Accessed a o v) w w' = ([], effects_stay h (Accessed a o v) w w' refl ∙ sym (append-nil (effects meaning opening h)))
-  effects_prefix h (Committed s) w w' =
-      ⊎_elim
-      (λ e. (effect_of meaning opening.contents (work h s) (work h 0) ∷ [], effects_grow h s w' e))
-      (λ ne. ([], effects_stay h (Committed s) w w' (ap (λ q. cond q (s ∷ committed_topactions h) (committed_topactions h)) (ne_eqb (parent h s) 0 ne)) ∙ sym (append-nil (effects meaning opening h))))
-      (cases_eq (parent h s) 0)
-
-  table_effects_of : (done : ℕ → List (Access V)) (ts : List ℕ) (o : ℕ) → table opening.contents (reverse (effects_of meaning opening.contents done ts)) o ≡ content_after meaning opening.contents o (all_of done ts)
+  table_effects_of : (done : ℕ → List (Access V)) (ts : List ℕ) (o : ℕ)
+      → table opening.contents (reverse (effects_of meaning opening.contents done ts)) o
+      ≡ content_after meaning opening.contents o (all_of done ts)
   table_effects_of done [] o = refl
   table_effects_of done (t ∷ ts) o =
       let before = all_of done ts in
@@ -175,31 +211,50 @@ module _ {V C A : Type 0} (meaning : Meaning V C A) (opening : Opening C) where
       ap (λ l. table opening.contents l o) (reverse-append (m ∷ []) ms)
       ∙ table-more opening.contents (reverse ms) m o
       ∙ ap (content_by m o) (table_effects_of done ts o)
-      ∙ content_by_is (λ x. content_after meaning opening.contents x (done t ++ before)) (written_objects meaning (done t)) o (content_after meaning opening.contents o before)
+      ∙ content_by_is (λ x. content_after meaning opening.contents x (done t ++ before))
+      (written_objects meaning (done t)) o (content_after meaning opening.contents o before)
       ∙ ⊎_elim
-      (λ k. ap (λ b. cond b (content_after meaning opening.contents o (done t ++ before)) (content_after meaning opening.contents o before)) k)
-      (λ k. ap (λ b. cond b (content_after meaning opening.contents o (done t ++ before)) (content_after meaning opening.contents o before)) k ∙ sym (content_past meaning opening.contents o (done t) before (sym (contains_written meaning (done t) o) ∙ k)))
+      (λ k. ap (λ b.
+      cond b (content_after meaning opening.contents o (done t ++ before))
+      (content_after meaning opening.contents o before)) k)
+      (λ k. ap (λ b.
+      cond b (content_after meaning opening.contents o (done t ++ before))
+      (content_after meaning opening.contents o before)) k
+      ∙ sym (content_past meaning opening.contents o (done t) before
+      (sym (contains_written meaning (done t) o) ∙ k)))
       (cases_Bool (contains (written_objects meaning (done t)) o))
 
-  pub table_base : (h : History V) → LawfulSteps meaning opening.contents h → (o : ℕ) → table opening.contents (effects meaning opening h) o ≡ content_after meaning opening.contents o (visible_accesses h 0)
+  pub table_base : (h : History V) → LawfulSteps meaning opening.contents h → (o : ℕ)
+      → table opening.contents (effects meaning opening h) o
+      ≡ content_after meaning opening.contents o (visible_accesses h 0)
   table_base h w o =
       table_effects_of (work h) (committed_topactions h) o
-      ∙ ap (content_after meaning opening.contents o) (sym (serial_tops h (orderly meaning opening.contents h w)) ∙ sym (serial_to-base h))
+      ∙ ap (content_after meaning opening.contents o)
+      (sym (serial_tops h (orderly meaning opening.contents h w)) ∙ sym (serial_to-base h))
       ∙ (base_serial meaning opening.contents h w).sees o
 
   -- the new member: what the topaction sees in each object that it holds for writing
-  pub effect_seen : (h : History V) → LawfulSteps meaning opening.contents h → (s : ℕ) → s ≢ 0 → stands h s ≡ true → parent h s ≡ 0
-      → effect_of meaning opening.contents (work h s) (work h 0) ≡ map (λ o. (o, content_after meaning opening.contents o (visible_accesses h s))) (written_objects meaning (work h s))
+  pub effect_seen : (h : History V) → LawfulSteps meaning opening.contents h → (s : ℕ) → s ≢ 0 → stands h s ≡ true
+      → parent h s ≡ 0
+      → effect_of meaning opening.contents (work h s) (work h 0)
+      ≡ map (λ o. (o, content_after meaning opening.contents o (visible_accesses h s)))
+      (written_objects meaning (work h s))
   effect_seen h w s s0 l e =
       let f = parents_are_older h (orderly meaning opening.contents h w) in
       let t = parent_older h s f (omega arith) (stands_begun h s l) in
       let all : serial_order_to h s ≡ work h s ++ work h 0 =
-      ap (all_of (work h)) (t.1 ∙ ap (λ u. s ∷ lineage h u) e ∙ ap (λ u. s ∷ u) (lineage-base h)) ∙ ap (λ u. work h s ++ u) (append-nil (work h 0)) in
-      map_agree (λ o. (o, content_after meaning opening.contents o (work h s ++ work h 0))) (λ o. (o, content_after meaning opening.contents o (visible_accesses h s))) (written_objects meaning (work h s))
-      (λ o. ap (λ c. (o, c)) (sym (ap (content_after meaning opening.contents o) all) ∙ (serials meaning opening.contents h w s l).sees o))
+      ap (all_of (work h)) (t.1 ∙ ap (λ u. s ∷ lineage h u) e ∙ ap (λ u. s ∷ u) (lineage-base h))
+      ∙ ap (λ u. work h s ++ u) (append-nil (work h 0)) in
+      map_agree (λ o. (o, content_after meaning opening.contents o (work h s ++ work h 0)))
+      (λ o. (o, content_after meaning opening.contents o (visible_accesses h s)))
+      (written_objects meaning (work h s))
+      (λ o. ap (λ c. (o, c))
+      (sym (ap (content_after meaning opening.contents o) all) ∙ (serials meaning opening.contents h w s l).sees o))
 
   -- a list of members that makes the opening, then these, makes the base
-  pub table_goes_on : (s : ℕ → C) (l : List (List (ℕ × C))) → ((o : ℕ) → table s l o ≡ opening.contents o) → (h : History V) → LawfulSteps meaning opening.contents h → (o : ℕ) → table s (l ++ effects meaning opening h) o ≡ content_after meaning opening.contents o (visible_accesses h 0)
+  pub table_goes_on : (s : ℕ → C) (l : List (List (ℕ × C))) → ((o : ℕ) → table s l o ≡ opening.contents o)
+      → (h : History V) → LawfulSteps meaning opening.contents h → (o : ℕ)
+      → table s (l ++ effects meaning opening h) o ≡ content_after meaning opening.contents o (visible_accesses h 0)
   table_goes_on s l same h w o =
       table-append s l (effects meaning opening h) o
       ∙ table_same (table s l) opening.contents (effects meaning opening h) same o

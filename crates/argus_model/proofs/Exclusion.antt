@@ -12,7 +12,8 @@ use Rattle.argus_model.proofs.Ancestors.{ParentsAreOlder, ancestor_old, ancestor
 use Rattle.argus_model.proofs.Standing.{Orderly, at_some, handed_cases, kept_cases, owner_begun, owner_cases, parent_is, parents_are_older, stands_begun}
 
 -- an ancestor of s other than s is one of its parent
-pub above_parent : {V : Type 0} (h : History V) → ParentsAreOlder h → (s x : ℕ) → s ≢ 0 → stands h s ≡ true → x ≢ s → is_ancestor h x s ≡ true → is_ancestor h x (parent h s) ≡ true
+pub above_parent : {V : Type 0} (h : History V) → ParentsAreOlder h → (s x : ℕ) → s ≢ 0 → stands h s ≡ true → x ≢ s
+    → is_ancestor h x s ≡ true → is_ancestor h x (parent h s) ≡ true
 above_parent h f s x s0 l ne a =
     let w = parent_older h s f (omega arith) (stands_begun h s l) in
     let m : contains (s ∷ lineage h (parent h s)) x ≡ true = subst (λ t. contains t x ≡ true) w.1 a in
@@ -31,15 +32,19 @@ module _ {V : Type 0} (writes : V → Bool) where
   Guarded (Aborted z ▹ older) = Guarded older
   Guarded (Accessed a o v ▹ older) = (may_by_steps writes older a o (writes v) older ≡ true) × Guarded older
 
-  pub has_used_cases : (h : History V) (b o' : ℕ) (v : V) (y o : ℕ) (all : Bool) → has_used writes (Accessed b o' v ▹ h) y o all ≡ true → ((b ≡ y) × (o' ≡ o) × ((all || writes v) ≡ true)) ⊎ (has_used writes h y o all ≡ true)
+  pub has_used_cases : (h : History V) (b o' : ℕ) (v : V) (y o : ℕ) (all : Bool)
+      → has_used writes (Accessed b o' v ▹ h) y o all ≡ true
+      → ((b ≡ y) × (o' ≡ o) × ((all || writes v) ≡ true)) ⊎ (has_used writes h y o all ≡ true)
   has_used_cases h b o' v y o all e =
       ⊎_elim
-      (λ k. let w = and_parts (b == y) (o' == o && (all || writes v)) k in let u = and_parts (o' == o) (all || writes v) w.1 in
+      (λ k. let w = and_parts (b == y) (o' == o && (all || writes v)) k in let u =
+      and_parts (o' == o) (all || writes v) w.1 in
       inl (eqb-true b y w.0, eqb-true o' o u.0, u.1))
       inr
       (or_cases (b == y && (o' == o && (all || writes v))) (has_used writes h y o all) e)
 
-  pub has_used_all : (h : History V) (y o : ℕ) (all : Bool) → has_used writes h y o false ≡ true → has_used writes h y o all ≡ true
+  pub has_used_all : (h : History V) (y o : ℕ) (all : Bool) → has_used writes h y o false ≡ true
+      → has_used writes h y o all ≡ true
   has_used_all (Opened n) y o all e = absurd (false≢true e)
   has_used_all (Began from ▹ h) y o all e = has_used_all h y o all e
   has_used_all (Committed s ▹ h) y o all e = has_used_all h y o all e
@@ -47,19 +52,25 @@ module _ {V : Type 0} (writes : V → Bool) where
   has_used_all (Accessed b o' v ▹ h) y o all e =
       let head = b == y && (o' == o && (all || writes v)) in
       ⊎_elim
-      (λ k. or_left head (has_used writes h y o all) (and_from (b == y) (o' == o && (all || writes v)) (eq-eqb b y k.0) (and_from (o' == o) (all || writes v) (eq-eqb o' o k.1) (or_right all (writes v) k.2))))
+      (λ k. or_left head (has_used writes h y o all)
+      (and_from (b == y) (o' == o && (all || writes v)) (eq-eqb b y k.0)
+      (and_from (o' == o) (all || writes v) (eq-eqb o' o k.1) (or_right all (writes v) k.2))))
       (λ k. or_right head (has_used writes h y o all) (has_used_all h y o all k))
       (has_used_cases h b o' v y o false e)
 
-  pub has_used_begun : (h : History V) → Orderly h → (y o : ℕ) (all : Bool) → has_used writes h y o all ≡ true → y < next_action h
+  pub has_used_begun : (h : History V) → Orderly h → (y o : ℕ) (all : Bool) → has_used writes h y o all ≡ true
+      → y < next_action h
   has_used_begun (Opened n) w y o all e = absurd (false≢true e)
   has_used_begun (Began from ▹ h) w y o all e = let l = has_used_begun h w.1 y o all e in omega arith
   has_used_begun (Committed s ▹ h) w y o all e = has_used_begun h w.3 y o all e
   has_used_begun (Aborted z ▹ h) w y o all e = has_used_begun h w.1 y o all e
-  has_used_begun (Accessed b o' v ▹ h) w y o all e = ⊎_elim (λ k. subst (λ u. u < next_action h) k.0 (stands_begun h b w.0)) (λ k. has_used_begun h w.3 y o all k) (has_used_cases h b o' v y o all e)
+  has_used_begun (Accessed b o' v ▹ h) w y o all e =
+      ⊎_elim (λ k. subst (λ u. u < next_action h) k.0 (stands_begun h b w.0)) (λ k. has_used_begun h w.3 y o all k)
+      (has_used_cases h b o' v y o all e)
 
   -- each holder that was asked is an ancestor
-  pub may_tells : (h k : History V) (a o b x : ℕ) (all : Bool) → may_by_steps writes h a o all k ≡ true → has_used writes k b o all ≡ true → owner_by_steps h b ≡ Some x → is_ancestor h x a ≡ true
+  pub may_tells : (h k : History V) (a o b x : ℕ) (all : Bool) → may_by_steps writes h a o all k ≡ true
+      → has_used writes k b o all ≡ true → owner_by_steps h b ≡ Some x → is_ancestor h x a ≡ true
   may_tells h (Opened n) a o b x all m u e = absurd (false≢true u)
   may_tells h (Began from ▹ k) a o b x all m u e = may_tells h k a o b x all m u e
   may_tells h (Committed s ▹ k) a o b x all m u e = may_tells h k a o b x all m u e
@@ -76,7 +87,9 @@ module _ {V : Type 0} (writes : V → Bool) where
       (has_used_cases k d o' v b o all u)
 
   -- and it is enough to ask each holder
-  pub may_from : (h k : History V) (a o : ℕ) (all : Bool) → ((b x : ℕ) → has_used writes k b o all ≡ true → owner_by_steps h b ≡ Some x → is_ancestor h x a ≡ true) → may_by_steps writes h a o all k ≡ true
+  pub may_from : (h k : History V) (a o : ℕ) (all : Bool)
+      → ((b x : ℕ) → has_used writes k b o all ≡ true → owner_by_steps h b ≡ Some x → is_ancestor h x a ≡ true)
+      → may_by_steps writes h a o all k ≡ true
   may_from h (Opened n) a o all each = refl
   may_from h (Began from ▹ k) a o all each = may_from h k a o all each
   may_from h (Committed s ▹ k) a o all each = may_from h k a o all each
@@ -84,26 +97,36 @@ module _ {V : Type 0} (writes : V → Bool) where
   may_from h (Accessed d o' v ▹ k) a o all each =
       let here = o' == o && (all || writes v) in
       let t = if_owned (λ w. is_ancestor h w a) (owner_by_steps h d) in
-      let older = λ (b x : ℕ) (u : has_used writes k b o all ≡ true) (e : owner_by_steps h b ≡ Some x). each b x (or_right (d == b && here) (has_used writes k b o all) u) e in
+      let older = λ (b x : ℕ) (u : has_used writes k b o all ≡ true) (e : owner_by_steps h b ≡ Some x).
+      each b x (or_right (d == b && here) (has_used writes k b o all) u) e in
       and_from (cond here t true) (may_by_steps writes h a o all k)
       (⊎_elim
-      (λ y. ap (λ q. cond q t true) y ∙ asked (owner_by_steps h d) refl (or_left (d == d && here) (has_used writes k d o all) (and_from (d == d) here (eq-eqb d d refl) y)))
+      (λ y. ap (λ q. cond q t true) y
+      ∙ asked (owner_by_steps h d) refl
+      (or_left (d == d && here) (has_used writes k d o all) (and_from (d == d) here (eq-eqb d d refl) y)))
       (λ n. ap (λ q. cond q t true) n)
       (cases_Bool here))
       (may_from h k a o all older)
     where
-      asked : (q : Option ℕ) → owner_by_steps h d ≡ q → has_used writes (Accessed d o' v ▹ k) d o all ≡ true → if_owned (λ w. is_ancestor h w a) q ≡ true
+      asked : (q : Option ℕ) → owner_by_steps h d ≡ q → has_used writes (Accessed d o' v ▹ k) d o all ≡ true
+          → if_owned (λ w. is_ancestor h w a) q ≡ true
       asked None e u = refl
       asked (Some x) e u = each d x u e
 
   abbrev pub Exclusive : History V → Type 0
-  Exclusive h = (a b o x y : ℕ) → has_used writes h a o false ≡ true → has_used writes h b o true ≡ true → owner_by_steps h a ≡ Some x → owner_by_steps h b ≡ Some y → Related h x y
+  Exclusive h =
+      (a b o x y : ℕ) → has_used writes h a o false ≡ true → has_used writes h b o true ≡ true
+      → owner_by_steps h a ≡ Some x → owner_by_steps h b ≡ Some y → Related h x y
 
   same_owner : (h : History V) (a b x : ℕ) → a ≡ b → stands h a ≡ true → owner_by_steps h b ≡ Some x → x ≡ a
-  same_owner h a b x e l k = let o = at_some (owner_by_steps h a) a l in let q : owner_by_steps h a ≡ Some x = subst (λ u. owner_by_steps h u ≡ Some x) (sym e) k in grind arith
+  same_owner h a b x e l k = let o = at_some (owner_by_steps h a) a l in let q : owner_by_steps h a ≡ Some x =
+      subst (λ u. owner_by_steps h u ≡ Some x) (sym e) k in grind arith
 
-  handed_related : (h : History V) → Orderly h → (s x y : ℕ) → s ≢ 0 → stands h s ≡ true → y < next_action h → y ≢ s → Related h s y → Related h (parent h s) y
-  handed_related h w s x y s0 l yn ne (inl a) = inl (ancestor_trans h (parent h s) s y (parents_are_older h w) yn (parent_is h (parents_are_older h w) s s0 l).1 a)
+  handed_related : (h : History V) → Orderly h → (s x y : ℕ) → s ≢ 0 → stands h s ≡ true → y < next_action h → y ≢ s
+      → Related h s y → Related h (parent h s) y
+  handed_related h w s x y s0 l yn ne (inl a) =
+      inl (ancestor_trans h (parent h s) s y (parents_are_older h w) yn
+      (parent_is h (parents_are_older h w) s s0 l).1 a)
   handed_related h w s x y s0 l yn ne (inr a) = inr (above_parent h (parents_are_older h w) s y s0 l ne a)
 
   turned : (h : History V) (x y : ℕ) → Related h x y → Related h y x
@@ -114,38 +137,51 @@ module _ {V : Type 0} (writes : V → Bool) where
   exclusion (Opened n) w g a b o x y ua ub ea eb = absurd (false≢true ua)
   exclusion (Began from ▹ h) w g a b o x y ua ub ea eb =
       let f = parents_are_older h w.1 in
-      let old : (d z : ℕ) (all : Bool) → has_used writes h d o all ≡ true → owner_by_steps (Began from ▹ h) d ≡ Some z → owner_by_steps h d ≡ Some z =
-      λ d z all u e. ⊎_elim (λ k. absurd (let l = has_used_begun h w.1 d o all u in omega (arith, k.0))) (λ k. sym k.1 ∙ e) (owner_cases h from d) in
+      let old : (d z : ℕ) (all : Bool) → has_used writes h d o all ≡ true → owner_by_steps (Began from ▹ h) d ≡ Some z
+      → owner_by_steps h d ≡ Some z =
+      λ d z all u e.
+      ⊎_elim (λ k. absurd (let l = has_used_begun h w.1 d o all u in omega (arith, k.0))) (λ k. sym k.1 ∙ e)
+      (owner_cases h from d) in
       let ea' = old a x false ua ea in let eb' = old b y true ub eb in
       let lx = owner_begun h a x f ea' in let ly = owner_begun h b y f eb' in
-      ⊎_elim (λ k. inl (ancestor_old h from x y (omega arith) k)) (λ k. inr (ancestor_old h from y x (omega arith) k)) (exclusion h w.1 g a b o x y ua ub ea' eb')
+      ⊎_elim (λ k. inl (ancestor_old h from x y (omega arith) k)) (λ k. inr (ancestor_old h from y x (omega arith) k))
+      (exclusion h w.1 g a b o x y ua ub ea' eb')
   exclusion (Committed s ▹ h) w g a b o x y ua ub ea eb =
       let f = parents_are_older h w.3 in let p = parent h s in
-      let ih : (x y : ℕ) → owner_by_steps h a ≡ Some x → owner_by_steps h b ≡ Some y → Related h x y = λ x y. exclusion h w.3 g a b o x y ua ub in
+      let ih : (x y : ℕ) → owner_by_steps h a ≡ Some x → owner_by_steps h b ≡ Some y → Related h x y =
+      λ x y. exclusion h w.3 g a b o x y ua ub in
       ⊎_elim
       (λ k. ⊎_elim
       (λ m. inl (subst (λ q. is_ancestor h x q ≡ true) (k.1 ∙ sym m.1) (ancestor_self h x)))
-      (λ m. subst (λ q. Related h q y) (sym k.1) (handed_related h w.3 s x y w.0 w.1 (owner_begun h b y f m.0) m.1 (ih s y k.0 m.0)))
+      (λ m. subst (λ q. Related h q y) (sym k.1)
+      (handed_related h w.3 s x y w.0 w.1 (owner_begun h b y f m.0) m.1 (ih s y k.0 m.0)))
       (handed_cases s p (owner_by_steps h b) y eb))
       (λ k. ⊎_elim
-      (λ m. turned h y x (subst (λ q. Related h q x) (sym m.1) (handed_related h w.3 s x x w.0 w.1 (owner_begun h a x f k.0) k.1 (turned h x s (ih x s k.0 m.0)))))
+      (λ m. turned h y x
+      (subst (λ q. Related h q x) (sym m.1)
+      (handed_related h w.3 s x x w.0 w.1 (owner_begun h a x f k.0) k.1 (turned h x s (ih x s k.0 m.0)))))
       (λ m. ih x y k.0 m.0)
       (handed_cases s p (owner_by_steps h b) y eb))
       (handed_cases s p (owner_by_steps h a) x ea)
   exclusion (Aborted z ▹ h) w g a b o x y ua ub ea eb =
-      exclusion h w.1 g a b o x y ua ub (kept_cases (is_under h z) (owner_by_steps h a) x ea).0 (kept_cases (is_under h z) (owner_by_steps h b) y eb).0
+      exclusion h w.1 g a b o x y ua ub (kept_cases (is_under h z) (owner_by_steps h a) x ea).0
+      (kept_cases (is_under h z) (owner_by_steps h b) y eb).0
   exclusion (Accessed d o' v ▹ h) w g a b o x y ua ub ea eb =
       ⊎_elim
       (λ k. let xd = same_owner h d a x k.0 w.0 ea in
       let wv : writes v ≡ true = k.2 in
       ⊎_elim
-      (λ m. let yd = same_owner h d b y m.0 w.0 eb in inl (subst (λ q. is_ancestor h x q ≡ true) (xd ∙ sym yd) (ancestor_self h x)))
-      (λ m. let u : has_used writes h b o' (writes v) ≡ true = subst (λ q. has_used writes h b q (writes v) ≡ true) (sym k.1) (subst (λ q. has_used writes h b o q ≡ true) (sym wv) m) in
+      (λ m. let yd = same_owner h d b y m.0 w.0 eb in
+      inl (subst (λ q. is_ancestor h x q ≡ true) (xd ∙ sym yd) (ancestor_self h x)))
+      (λ m. let u : has_used writes h b o' (writes v) ≡ true =
+      subst (λ q. has_used writes h b q (writes v) ≡ true) (sym k.1)
+      (subst (λ q. has_used writes h b o q ≡ true) (sym wv) m) in
       inr (subst (λ q. is_ancestor h y q ≡ true) (sym xd) (may_tells h h d o' b y (writes v) g.0 u eb)))
       (has_used_cases h d o' v b o true ub))
       (λ k. ⊎_elim
       (λ m. let yd = same_owner h d b y m.0 w.0 eb in
-      let u : has_used writes h a o' (writes v) ≡ true = subst (λ q. has_used writes h a q (writes v) ≡ true) (sym m.1) (has_used_all h a o (writes v) k) in
+      let u : has_used writes h a o' (writes v) ≡ true =
+      subst (λ q. has_used writes h a q (writes v) ≡ true) (sym m.1) (has_used_all h a o (writes v) k) in
       inl (subst (λ q. is_ancestor h x q ≡ true) (sym yd) (may_tells h h d o' a x (writes v) g.0 u ea)))
       (λ m. exclusion h w.3 g.1 a b o x y k m ea eb)
       (has_used_cases h d o' v b o true ub))

@@ -20,11 +20,13 @@ and_apart : (here a c r : Bool) → ((here && (a && c)) || (r && c)) ≡ (((here
 and_apart true a c r = grind arith
 and_apart false a c r = grind arith
 
-at_handed_parent : (s p : ℕ) (q : Option ℕ) → p ≢ s → is_exactly (handed_up s p q) p ≡ (is_exactly q s || is_exactly q p)
+at_handed_parent : (s p : ℕ) (q : Option ℕ) → p ≢ s
+    → is_exactly (handed_up s p q) p ≡ (is_exactly q s || is_exactly q p)
 at_handed_parent s p None ne = refl
 at_handed_parent s p (Some y) ne =
     ⊎_elim
-    (λ e. ap (λ o. is_exactly o p) (handed_from s p (Some y) (ap Some e)) ∙ eq-eqb p p refl ∙ sym (ap (λ b. b || (y == p)) (eq-eqb y s e)))
+    (λ e. ap (λ o. is_exactly o p) (handed_from s p (Some y) (ap Some e)) ∙ eq-eqb p p refl
+    ∙ sym (ap (λ b. b || (y == p)) (eq-eqb y s e)))
     (λ n. ap (λ o. is_exactly o p) (handed_stays s p (Some y) y refl n) ∙ sym (ap (λ b. b || (y == p)) (ne_eqb y s n)))
     (cases_eq y s)
 
@@ -32,11 +34,13 @@ at_handed_other : (s p x : ℕ) (q : Option ℕ) → x ≢ s → x ≢ p → is_
 at_handed_other s p x None ns np = refl
 at_handed_other s p x (Some y) ns np =
     ⊎_elim
-    (λ e. ap (λ o. is_exactly o x) (handed_from s p (Some y) (ap Some e)) ∙ ne_eqb p x (λ k. np (sym k)) ∙ sym (ne_eqb y x (λ k. ns (sym k ∙ e))))
+    (λ e. ap (λ o. is_exactly o x) (handed_from s p (Some y) (ap Some e)) ∙ ne_eqb p x (λ k. np (sym k))
+    ∙ sym (ne_eqb y x (λ k. ns (sym k ∙ e))))
     (λ n. ap (λ o. is_exactly o x) (handed_stays s p (Some y) y refl n))
     (cases_eq y s)
 
-at_kept : (lost : ℕ → Bool) (x : ℕ) (q : Option ℕ) → is_exactly (unless_lost lost q) x ≡ (is_exactly q x && not (lost x))
+at_kept : (lost : ℕ → Bool) (x : ℕ) (q : Option ℕ)
+    → is_exactly (unless_lost lost q) x ≡ (is_exactly q x && not (lost x))
 at_kept lost x None = refl
 at_kept lost x (Some y) =
     ⊎_elim
@@ -46,7 +50,8 @@ at_kept lost x (Some y) =
     (cases_eq y x)
 
 module _ {V : Type 0} (writes : V → Bool) where
-  pub used_by_agree : (t u : ℕ → Bool) (o : ℕ) (all : Bool) (k : History V) → ((b : ℕ) → has_used writes k b o all ≡ true → t b ≡ u b) → used_by writes t o all k ≡ used_by writes u o all k
+  pub used_by_agree : (t u : ℕ → Bool) (o : ℕ) (all : Bool) (k : History V)
+      → ((b : ℕ) → has_used writes k b o all ≡ true → t b ≡ u b) → used_by writes t o all k ≡ used_by writes u o all k
   used_by_agree t u o all (Opened n) same = refl
   used_by_agree t u o all (Began from ▹ k) same = used_by_agree t u o all k same
   used_by_agree t u o all (Committed a ▹ k) same = used_by_agree t u o all k same
@@ -56,20 +61,25 @@ module _ {V : Type 0} (writes : V → Bool) where
       let rest = used_by_agree t u o all k (λ a m. same a (or_right (b == a && here) (has_used writes k a o all) m)) in
       ap (λ r. (here && t b) || r) rest
       ∙ ⊎_elim
-      (λ y. ap (λ q. (here && q) || used_by writes u o all k) (same b (or_left (b == b && here) (has_used writes k b o all) (and_from (b == b) here (eq-eqb b b refl) y))))
-      (λ n. ap (λ q. (q && t b) || used_by writes u o all k) n ∙ sym (ap (λ q. (q && u b) || used_by writes u o all k) n))
+      (λ y. ap (λ q. (here && q) || used_by writes u o all k)
+      (same b (or_left (b == b && here) (has_used writes k b o all) (and_from (b == b) here (eq-eqb b b refl) y))))
+      (λ n. ap (λ q. (q && t b) || used_by writes u o all k) n
+      ∙ sym (ap (λ q. (q && u b) || used_by writes u o all k) n))
       (cases_Bool here)
 
-  used_by_or : (t u : ℕ → Bool) (o : ℕ) (all : Bool) (k : History V) → used_by writes (λ b. t b || u b) o all k ≡ (used_by writes t o all k || used_by writes u o all k)
+  used_by_or : (t u : ℕ → Bool) (o : ℕ) (all : Bool) (k : History V)
+      → used_by writes (λ b. t b || u b) o all k ≡ (used_by writes t o all k || used_by writes u o all k)
   used_by_or t u o all (Opened n) = refl
   used_by_or t u o all (Began from ▹ k) = used_by_or t u o all k
   used_by_or t u o all (Committed a ▹ k) = used_by_or t u o all k
   used_by_or t u o all (Aborted a ▹ k) = used_by_or t u o all k
   used_by_or t u o all (Accessed b o' v ▹ k) =
       let here = o' == o && (all || writes v) in
-      ap (λ r. (here && (t b || u b)) || r) (used_by_or t u o all k) ∙ or_apart here (t b) (u b) (used_by writes t o all k) (used_by writes u o all k)
+      ap (λ r. (here && (t b || u b)) || r) (used_by_or t u o all k)
+      ∙ or_apart here (t b) (u b) (used_by writes t o all k) (used_by writes u o all k)
 
-  used_by_and : (t : ℕ → Bool) (c : Bool) (o : ℕ) (all : Bool) (k : History V) → used_by writes (λ b. t b && c) o all k ≡ (used_by writes t o all k && c)
+  used_by_and : (t : ℕ → Bool) (c : Bool) (o : ℕ) (all : Bool) (k : History V)
+      → used_by writes (λ b. t b && c) o all k ≡ (used_by writes t o all k && c)
   used_by_and t c o all (Opened n) = refl
   used_by_and t c o all (Began from ▹ k) = used_by_and t c o all k
   used_by_and t c o all (Committed a ▹ k) = used_by_and t c o all k
@@ -79,31 +89,49 @@ module _ {V : Type 0} (writes : V → Bool) where
       ap (λ r. (here && (t b && c)) || r) (used_by_and t c o all k) ∙ and_apart here (t b) c (used_by writes t o all k)
 
   -- one more step
-  pub holds_begin : (h : History V) (from : Origin) (o : ℕ) (all : Bool) (x : ℕ) → Orderly h → holds writes (Began from ▹ h) o all x ≡ holds writes h o all x
+  pub holds_begin : (h : History V) (from : Origin) (o : ℕ) (all : Bool) (x : ℕ) → Orderly h
+      → holds writes (Began from ▹ h) o all x ≡ holds writes h o all x
   holds_begin h from o all x w =
-      used_by_agree (λ b. is_exactly (owner_by_steps (Began from ▹ h) b) x) (λ b. is_exactly (owner_by_steps h b) x) o all h
-      (λ b u. ⊎_elim (λ k. absurd (let l = has_used_begun writes h w b o all u in omega (arith, k.0))) (λ k. ap (λ q. is_exactly q x) k.1) (owner_cases h from b))
+      used_by_agree (λ b. is_exactly (owner_by_steps (Began from ▹ h) b) x) (λ b. is_exactly (owner_by_steps h b) x)
+      o all h
+      (λ b u. ⊎_elim (λ k. absurd (let l = has_used_begun writes h w b o all u in omega (arith, k.0)))
+      (λ k. ap (λ q. is_exactly q x) k.1) (owner_cases h from b))
 
-  pub holds_access : (h : History V) (a o' : ℕ) (v : V) (o : ℕ) (all : Bool) (x : ℕ) → stands h a ≡ true → holds writes (Accessed a o' v ▹ h) o all x ≡ (((o' == o && (all || writes v)) && (a == x)) || holds writes h o all x)
-  holds_access h a o' v o all x l = ap (λ q. ((o' == o && (all || writes v)) && is_exactly q x) || holds writes h o all x) (at_some (owner_by_steps h a) a l)
+  pub holds_access : (h : History V) (a o' : ℕ) (v : V) (o : ℕ) (all : Bool) (x : ℕ) → stands h a ≡ true
+      → holds writes (Accessed a o' v ▹ h) o all x
+      ≡ (((o' == o && (all || writes v)) && (a == x)) || holds writes h o all x)
+  holds_access h a o' v o all x l =
+      ap (λ q. ((o' == o && (all || writes v)) && is_exactly q x) || holds writes h o all x)
+      (at_some (owner_by_steps h a) a l)
 
-  pub holds_commit_parent : (h : History V) (s o : ℕ) (all : Bool) → parent h s ≢ s → holds writes (Committed s ▹ h) o all (parent h s) ≡ (holds writes h o all s || holds writes h o all (parent h s))
+  pub holds_commit_parent : (h : History V) (s o : ℕ) (all : Bool) → parent h s ≢ s
+      → holds writes (Committed s ▹ h) o all (parent h s)
+      ≡ (holds writes h o all s || holds writes h o all (parent h s))
   holds_commit_parent h s o all ne =
       let p = parent h s in
-      used_by_agree (λ b. is_exactly (handed_up s p (owner_by_steps h b)) p) (λ b. is_exactly (owner_by_steps h b) s || is_exactly (owner_by_steps h b) p) o all h (λ b u. at_handed_parent s p (owner_by_steps h b) ne)
+      used_by_agree (λ b. is_exactly (handed_up s p (owner_by_steps h b)) p)
+      (λ b. is_exactly (owner_by_steps h b) s || is_exactly (owner_by_steps h b) p) o all h
+      (λ b u. at_handed_parent s p (owner_by_steps h b) ne)
       ∙ used_by_or (λ b. is_exactly (owner_by_steps h b) s) (λ b. is_exactly (owner_by_steps h b) p) o all h
 
-  pub holds_commit_other : (h : History V) (s o : ℕ) (all : Bool) (x : ℕ) → x ≢ s → x ≢ parent h s → holds writes (Committed s ▹ h) o all x ≡ holds writes h o all x
+  pub holds_commit_other : (h : History V) (s o : ℕ) (all : Bool) (x : ℕ) → x ≢ s → x ≢ parent h s
+      → holds writes (Committed s ▹ h) o all x ≡ holds writes h o all x
   holds_commit_other h s o all x ns np =
-      used_by_agree (λ b. is_exactly (handed_up s (parent h s) (owner_by_steps h b)) x) (λ b. is_exactly (owner_by_steps h b) x) o all h (λ b u. at_handed_other s (parent h s) x (owner_by_steps h b) ns np)
+      used_by_agree (λ b. is_exactly (handed_up s (parent h s) (owner_by_steps h b)) x)
+      (λ b. is_exactly (owner_by_steps h b) x) o all h
+      (λ b u. at_handed_other s (parent h s) x (owner_by_steps h b) ns np)
 
-  pub holds_abort : (h : History V) (z : List ℕ) (o : ℕ) (all : Bool) (x : ℕ) → holds writes (Aborted z ▹ h) o all x ≡ (holds writes h o all x && not (is_under h z x))
+  pub holds_abort : (h : History V) (z : List ℕ) (o : ℕ) (all : Bool) (x : ℕ)
+      → holds writes (Aborted z ▹ h) o all x ≡ (holds writes h o all x && not (is_under h z x))
   holds_abort h z o all x =
-      used_by_agree (λ b. is_exactly (unless_lost (is_under h z) (owner_by_steps h b)) x) (λ b. is_exactly (owner_by_steps h b) x && not (is_under h z x)) o all h (λ b u. at_kept (is_under h z) x (owner_by_steps h b))
+      used_by_agree (λ b. is_exactly (unless_lost (is_under h z) (owner_by_steps h b)) x)
+      (λ b. is_exactly (owner_by_steps h b) x && not (is_under h z x)) o all h
+      (λ b u. at_kept (is_under h z) x (owner_by_steps h b))
       ∙ used_by_and (λ b. is_exactly (owner_by_steps h b) x) (not (is_under h z x)) o all h
 
   -- a holder is the owner of a user
-  pub used_by_found : (t : ℕ → Bool) (o : ℕ) (all : Bool) (k : History V) → used_by writes t o all k ≡ true → (b : ℕ) × (has_used writes k b o all ≡ true) × (t b ≡ true)
+  pub used_by_found : (t : ℕ → Bool) (o : ℕ) (all : Bool) (k : History V) → used_by writes t o all k ≡ true
+      → (b : ℕ) × (has_used writes k b o all ≡ true) × (t b ≡ true)
   used_by_found t o all (Opened n) m = absurd (false≢true m)
   used_by_found t o all (Began from ▹ k) m = used_by_found t o all k m
   used_by_found t o all (Committed a ▹ k) m = used_by_found t o all k m
@@ -111,11 +139,14 @@ module _ {V : Type 0} (writes : V → Bool) where
   used_by_found t o all (Accessed b o' v ▹ k) m =
       let here = o' == o && (all || writes v) in
       ⊎_elim
-      (λ e. let q = and_parts here (t b) e in (b, or_left (b == b && here) (has_used writes k b o all) (and_from (b == b) here (eq-eqb b b refl) q.0), q.1))
-      (λ e. let q = used_by_found t o all k e in (q.0, or_right (b == q.0 && here) (has_used writes k q.0 o all) q.1, q.2))
+      (λ e. let q = and_parts here (t b) e in
+      (b, or_left (b == b && here) (has_used writes k b o all) (and_from (b == b) here (eq-eqb b b refl) q.0), q.1))
+      (λ e. let q = used_by_found t o all k e in
+      (q.0, or_right (b == q.0 && here) (has_used writes k q.0 o all) q.1, q.2))
       (or_cases (here && t b) (used_by writes t o all k) m)
 
-  pub used_by_from : (t : ℕ → Bool) (o : ℕ) (all : Bool) (k : History V) (b : ℕ) → has_used writes k b o all ≡ true → t b ≡ true → used_by writes t o all k ≡ true
+  pub used_by_from : (t : ℕ → Bool) (o : ℕ) (all : Bool) (k : History V) (b : ℕ) → has_used writes k b o all ≡ true
+      → t b ≡ true → used_by writes t o all k ≡ true
   used_by_from t o all (Opened n) b u m = absurd (false≢true u)
   used_by_from t o all (Began from ▹ k) b u m = used_by_from t o all k b u m
   used_by_from t o all (Committed a ▹ k) b u m = used_by_from t o all k b u m
@@ -123,21 +154,31 @@ module _ {V : Type 0} (writes : V → Bool) where
   used_by_from t o all (Accessed d o' v ▹ k) b u m =
       let here = o' == o && (all || writes v) in
       ⊎_elim
-      (λ e. or_left (here && t d) (used_by writes t o all k) (and_from here (t d) (and_from (o' == o) (all || writes v) (eq-eqb o' o e.1) e.2) (ap t e.0 ∙ m)))
+      (λ e. or_left (here && t d) (used_by writes t o all k)
+      (and_from here (t d) (and_from (o' == o) (all || writes v) (eq-eqb o' o e.1) e.2) (ap t e.0 ∙ m)))
       (λ e. or_right (here && t d) (used_by writes t o all k) (used_by_from t o all k b e m))
       (has_used_cases writes k d o' v b o all u)
 
   -- the locks ask each holder, and no one else
-  pub may_asks : (h : History V) (a o : ℕ) (all : Bool) → may_by_steps writes h a o all h ≡ true → (x : ℕ) → holds writes h o all x ≡ true → is_ancestor h x a ≡ true
-  may_asks h a o all m x k = let q = used_by_found (λ b. is_exactly (owner_by_steps h b) x) o all h k in may_tells writes h h a o q.0 x all m q.1 (at_some (owner_by_steps h q.0) x q.2)
+  pub may_asks : (h : History V) (a o : ℕ) (all : Bool) → may_by_steps writes h a o all h ≡ true → (x : ℕ)
+      → holds writes h o all x ≡ true → is_ancestor h x a ≡ true
+  may_asks h a o all m x k = let q = used_by_found (λ b. is_exactly (owner_by_steps h b) x) o all h k in
+      may_tells writes h h a o q.0 x all m q.1 (at_some (owner_by_steps h q.0) x q.2)
 
-  pub may_if : (h : History V) (a o : ℕ) (all : Bool) → ((x : ℕ) → holds writes h o all x ≡ true → is_ancestor h x a ≡ true) → may_by_steps writes h a o all h ≡ true
-  may_if h a o all each = may_from writes h h a o all (λ b x u e. each x (used_by_from (λ d. is_exactly (owner_by_steps h d) x) o all h b u (some_at (owner_by_steps h b) x e)))
+  pub may_if : (h : History V) (a o : ℕ) (all : Bool)
+      → ((x : ℕ) → holds writes h o all x ≡ true → is_ancestor h x a ≡ true) → may_by_steps writes h a o all h ≡ true
+  may_if h a o all each =
+      may_from writes h h a o all
+      (λ b x u e. each x
+      (used_by_from (λ d. is_exactly (owner_by_steps h d) x) o all h b u (some_at (owner_by_steps h b) x e)))
 
   -- of a write holder and any other, one is an ancestor of the other
-  pub exclusive : (h : History V) → Orderly h → Guarded writes h → (o x y : ℕ) → holds writes h o true x ≡ true → holds writes h o false y ≡ true → (is_ancestor h x y || is_ancestor h y x) ≡ true
+  pub exclusive : (h : History V) → Orderly h → Guarded writes h → (o x y : ℕ) → holds writes h o true x ≡ true
+      → holds writes h o false y ≡ true → (is_ancestor h x y || is_ancestor h y x) ≡ true
   exclusive h w g o x y hx hy =
       let a = used_by_found (λ b. is_exactly (owner_by_steps h b) x) o true h hx in
       let b = used_by_found (λ b. is_exactly (owner_by_steps h b) y) o false h hy in
-      ⊎_elim (λ k. or_right (is_ancestor h x y) (is_ancestor h y x) k) (λ k. or_left (is_ancestor h x y) (is_ancestor h y x) k)
-      (exclusion writes h w g b.0 a.0 o y x b.1 a.1 (at_some (owner_by_steps h b.0) y b.2) (at_some (owner_by_steps h a.0) x a.2))
+      ⊎_elim (λ k. or_right (is_ancestor h x y) (is_ancestor h y x) k)
+      (λ k. or_left (is_ancestor h x y) (is_ancestor h y x) k)
+      (exclusion writes h w g b.0 a.0 o y x b.1 a.1 (at_some (owner_by_steps h b.0) y b.2)
+      (at_some (owner_by_steps h a.0) x a.2))

@@ -20,32 +20,47 @@ use Rattle.argus_model.proofs.Serial.{base_stands, orderly}
 use Rattle.argus_model.proofs.Standing.{Orderly}
 
 -- the parent of an action that may begin
-pub parent_stands : {V : Type 0} (h : History V) → Orderly h → (from : Origin) → (creator_of from == 0 || is_live h (creator_of from)) ≡ true → stands h (parent_of from) ≡ true
+pub parent_stands : {V : Type 0} (h : History V) → Orderly h → (from : Origin)
+    → (creator_of from == 0 || is_live h (creator_of from)) ≡ true → stands h (parent_of from) ≡ true
 parent_stands h w Top e = base_stands h w
 parent_stands h w (Nested c) e = base_stands h w
-parent_stands h w (Sub p) e = ⊎_elim (λ k. subst (λ u. stands h u ≡ true) (sym (eqb-true p 0 k)) (base_stands h w)) (λ k. (live_stands h w p k).1) (or_cases (p == 0) (is_live h p) e)
+parent_stands h w (Sub p) e =
+    ⊎_elim (λ k. subst (λ u. stands h u ≡ true) (sym (eqb-true p 0 k)) (base_stands h w)) (λ k. (live_stands h w p k).1)
+    (or_cases (p == 0) (is_live h p) e)
 
-pub all_stand : {V : Type 0} (h : History V) → Orderly h → (actions : List ℕ) → list_all (is_live h) actions ≡ true → AllStand h actions
+pub all_stand : {V : Type 0} (h : History V) → Orderly h → (actions : List ℕ) → list_all (is_live h) actions ≡ true
+    → AllStand h actions
 all_stand h w actions e = λ a i. live_stands h w a (every_at (is_live h) actions a e i)
 
 module _ {V C A : Type 0} (meaning : Meaning V C A) (opening : Opening C) where
-  access_by_steps : (h : History V) → Orderly h → (a o : ℕ) (v : V) → may_access meaning h a o v ≡ may_by_steps meaning.writes h a o (meaning.writes v) h
+  access_by_steps : (h : History V) → Orderly h → (a o : ℕ) (v : V)
+      → may_access meaning h a o v ≡ may_by_steps meaning.writes h a o (meaning.writes v) h
   access_by_steps h w a o v =
       ⊎_elim
-      (λ k. ap (λ b. cond b (may_write meaning h a o) (may_read meaning h a o)) k ∙ may_write_is meaning h w a o ∙ ap (λ b. may_by_steps meaning.writes h a o b h) (sym k))
-      (λ k. ap (λ b. cond b (may_write meaning h a o) (may_read meaning h a o)) k ∙ may_read_is meaning h w a o ∙ ap (λ b. may_by_steps meaning.writes h a o b h) (sym k))
+      (λ k. ap (λ b. cond b (may_write meaning h a o) (may_read meaning h a o)) k ∙ may_write_is meaning h w a o
+      ∙ ap (λ b. may_by_steps meaning.writes h a o b h) (sym k))
+      (λ k. ap (λ b. cond b (may_write meaning h a o) (may_read meaning h a o)) k ∙ may_read_is meaning h w a o
+      ∙ ap (λ b. may_by_steps meaning.writes h a o b h) (sym k))
       (cases_Bool (meaning.writes v))
 
   -- one more event
-  pub step : (h : History V) (e : Event V) → LawfulSteps meaning opening.contents h → Allowed meaning opening h e → LawfulSteps meaning opening.contents (e ▹ h)
+  pub step : (h : History V) (e : Event V) → LawfulSteps meaning opening.contents h → Allowed meaning opening h e
+      → LawfulSteps meaning opening.contents (e ▹ h)
   step h (Began from) s q = (parent_stands h (orderly meaning opening.contents h s) from q, s)
   step h (Committed a) s q =
       let w = orderly meaning opening.contents h s in let l = live_stands h w a q.0 in
       (l.0, l.1, child_is h w a ∙ q.1, s)
   step h (Aborted actions) s q = (all_stand h (orderly meaning opening.contents h s) actions q, s)
   step h (Accessed a o v) s q =
-      let w = orderly meaning opening.contents h s in let l = live_stands h w a q.0 in
-      (l.1, child_is h w a ∙ q.1, sym (access_by_steps h w a o v) ∙ q.2, subst (λ c. Fits meaning v c) (sees_is meaning opening h w a o) q.3, l.0, s)
+      let w = orderly meaning opening.contents h s in let l = live_stands h w a q.0 in (
+        l.1,
+        child_is h w a ∙ q.1,
+        sym (access_by_steps h w a o v)
+            ∙ q.2,
+        subst (λ c. Fits meaning v c) (sees_is meaning opening h w a o) q.3,
+        l.0,
+        s,
+      )
 
   pub lawful_steps : (h : History V) → Lawful meaning opening h → LawfulSteps meaning opening.contents h
   lawful_steps (Opened n) l = tt

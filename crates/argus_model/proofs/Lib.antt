@@ -24,3 +24,6 @@ pub mod NextHolders
 pub mod NextSees
 pub mod LockRules
 pub mod Commits
+pub mod Depth
+pub mod Siblings
+pub mod Recorded

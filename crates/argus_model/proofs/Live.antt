@@ -11,7 +11,7 @@ use Rattle.argus_model.specs.Event.{Aborted, Accessed, Began, Committed, creator
 use Rattle.argus_model.specs.History.{History, Opened, begun_actions, folded, next_action, ◌▹◌}
 use Rattle.argus_model.specs.Numbers.{contains}
 use Rattle.argus_model.specs.OwnerSteps.{owner_by_steps, standing_child, stands}
-use Rattle.argus_model.specs.Status.{has_committed, has_live_child, is_begun, is_doomed, is_live, live_siblings}
+use Rattle.argus_model.specs.Status.{has_committed, has_live_child, is_begun, is_doomed, is_live, is_sibling, live_siblings}
 use Rattle.argus_model.proofs.Ancestors.{folded_next}
 use Rattle.argus_model.proofs.Bools.{or_none, same_bool}
 use Rattle.argus_model.proofs.Numbers.{IsRising, any_agree, contains_filter, every_from, filter_contains, joined, joined_cases, joined_left, rising-more}
@@ -19,33 +19,40 @@ use Rattle.argus_model.proofs.OwnerRules.{owner_self, stands_plain}
 use Rattle.argus_model.proofs.Standing.{Orderly, some_at, stands_unfolded}
 
 pub is_begun_parts : {V : Type 0} (h : History V) (a : ℕ) → is_begun h a ≡ true → (folded h < a) × (a < next_action h)
-is_begun_parts h a k = let q = and_parts (nat_lt (folded h) a) (nat_lt a (next_action h)) k in (ltb-true (folded h) a q.0, ltb-true a (next_action h) q.1)
+is_begun_parts h a k = let q = and_parts (nat_lt (folded h) a) (nat_lt a (next_action h)) k in
+    (ltb-true (folded h) a q.0, ltb-true a (next_action h) q.1)
 
 pub is_begun_from : {V : Type 0} (h : History V) (a : ℕ) → folded h < a → a < next_action h → is_begun h a ≡ true
-is_begun_from h a l m = and_from (nat_lt (folded h) a) (nat_lt a (next_action h)) (lt-ltb (folded h) a l) (lt-ltb a (next_action h) m)
+is_begun_from h a l m =
+    and_from (nat_lt (folded h) a) (nat_lt a (next_action h)) (lt-ltb (folded h) a l) (lt-ltb a (next_action h) m)
 
 pub stands_is_live : {V : Type 0} (h : History V) → Orderly h → (a : ℕ) → a ≢ 0 → stands h a ≡ is_live h a
 stands_is_live h w a n =
     same_bool (stands h a) (is_live h a)
     (λ l. let p = stands_plain h w a l in
-    and_from (is_begun h a) (not (has_committed h a) && not (is_doomed h a)) (is_begun_from h a (stands_unfolded h a n l) p.0)
+    and_from (is_begun h a) (not (has_committed h a) && not (is_doomed h a))
+    (is_begun_from h a (stands_unfolded h a n l) p.0)
     (and_from (not (has_committed h a)) (not (is_doomed h a)) (ap not p.1) (ap not p.2)))
     (λ l. let q = and_parts (is_begun h a) (not (has_committed h a) && not (is_doomed h a)) l in
     let r = and_parts (not (has_committed h a)) (not (is_doomed h a)) q.1 in
     let k = is_begun_parts h a q.0 in
-    some_at (owner_by_steps h a) a (owner_self h w a k.0 k.1 (not-true (is_doomed h a) r.1) (not-true (has_committed h a) r.0)))
+    some_at (owner_by_steps h a) a
+    (owner_self h w a k.0 k.1 (not-true (is_doomed h a) r.1) (not-true (has_committed h a) r.0)))
 
-pub live_stands : {V : Type 0} (h : History V) → Orderly h → (a : ℕ) → is_live h a ≡ true → (a ≢ 0) × (stands h a ≡ true)
+pub live_stands : {V : Type 0} (h : History V) → Orderly h → (a : ℕ) → is_live h a ≡ true
+    → (a ≢ 0) × (stands h a ≡ true)
 live_stands h w a l =
     let k = is_begun_parts h a (and_parts (is_begun h a) (not (has_committed h a) && not (is_doomed h a)) l).0 in
     let n : a ≢ 0 = λ e. let u = k.0 in omega arith in
     (n, stands_is_live h w a n ∙ l)
 
-pub begun_contains : {V : Type 0} (h : History V) (x : ℕ) → folded h < x → x < next_action h → contains (begun_actions h) x ≡ true
+pub begun_contains : {V : Type 0} (h : History V) (x : ℕ) → folded h < x → x < next_action h
+    → contains (begun_actions h) x ≡ true
 begun_contains (Opened n) x l m = absurd (omega arith)
 begun_contains (Began from ▹ h) x l m =
     ⊎_elim
-    (λ e. joined (begun_actions h) (next_action h ∷ []) x (or_left (x == next_action h) false (eq-eqb x (next_action h) e)))
+    (λ e. joined (begun_actions h) (next_action h ∷ []) x
+    (or_left (x == next_action h) false (eq-eqb x (next_action h) e)))
     (λ ne. joined_left (begun_actions h) (next_action h ∷ []) x (begun_contains h x l (omega arith)))
     (cases_eq x (next_action h))
 begun_contains (Committed a ▹ h) x l m = begun_contains h x l m
@@ -57,7 +64,9 @@ begun_below (Opened n) x m = absurd (false≢true m)
 begun_below (Began from ▹ h) x m =
     ⊎_elim
     (λ e. omega arith)
-    (λ ne. ⊎_elim (λ k. let ih = begun_below h x k in omega arith) (λ k. absurd (both_ways (x == next_action h || false) (ap (λ b. b || false) (ne_eqb x (next_action h) ne)) k)) (joined_cases (begun_actions h) (next_action h ∷ []) x m))
+    (λ ne. ⊎_elim (λ k. let ih = begun_below h x k in omega arith)
+    (λ k. absurd (both_ways (x == next_action h || false) (ap (λ b. b || false) (ne_eqb x (next_action h) ne)) k))
+    (joined_cases (begun_actions h) (next_action h ∷ []) x m))
     (cases_eq x (next_action h))
 begun_below (Committed a ▹ h) x m = begun_below h x m
 begun_below (Aborted a ▹ h) x m = begun_below h x m
@@ -67,7 +76,8 @@ pub contains_unfolded : {V : Type 0} (h : History V) (x : ℕ) → contains (beg
 contains_unfolded (Opened n) x m = absurd (false≢true m)
 contains_unfolded (Began from ▹ h) x m =
     let f = folded_next h in
-    ⊎_elim (λ k. contains_unfolded h x k) (λ k. let e : x ≡ next_action h = grind (arith, nat_tests) in omega arith) (joined_cases (begun_actions h) (next_action h ∷ []) x m)
+    ⊎_elim (λ k. contains_unfolded h x k) (λ k. let e : x ≡ next_action h = grind (arith, nat_tests) in omega arith)
+    (joined_cases (begun_actions h) (next_action h ∷ []) x m)
 contains_unfolded (Committed a ▹ h) x m = contains_unfolded h x m
 contains_unfolded (Aborted a ▹ h) x m = contains_unfolded h x m
 contains_unfolded (Accessed a o v ▹ h) x m = contains_unfolded h x m
@@ -79,19 +89,29 @@ begun_rising (Committed a ▹ h) = begun_rising h
 begun_rising (Aborted a ▹ h) = begun_rising h
 begun_rising (Accessed a o v ▹ h) = begun_rising h
 
-children_in : {V : Type 0} (h k : History V) (y : ℕ) → standing_child h y k ≡ list_any (λ x. stands h x && (parent k x == y || creator k x == y)) (begun_actions k)
+children_in : {V : Type 0} (h k : History V) (y : ℕ)
+    → standing_child h y k ≡ list_any (λ x. stands h x && (parent k x == y || creator k x == y)) (begun_actions k)
 children_in h (Opened n) y = refl
 children_in h (Began from ▹ k) y =
     let g = Began from ▹ k in
     let t = λ (x : ℕ). stands h x && (parent k x == y || creator k x == y) in
     let u = λ (x : ℕ). stands h x && (parent g x == y || creator g x == y) in
     let own : u (next_action k) ≡ (((parent_of from) == y || (creator_of from) == y) && stands h (next_action k)) =
-    ap (λ b. stands h (next_action k) && (cond b (parent_of from) (parent k (next_action k)) == y || cond b (creator_of from) (creator k (next_action k)) == y)) (eq-eqb (next_action k) (next_action k) refl) ∙ and_comm (stands h (next_action k)) ((parent_of from) == y || (creator_of from) == y) in
+    ap (λ b. stands h
+    (next_action k)
+    && (cond b (parent_of from) (parent k (next_action k)) == y || cond b (creator_of from)
+    (creator k (next_action k)) == y)) (eq-eqb (next_action k) (next_action k) refl)
+    ∙ and_comm (stands h (next_action k)) ((parent_of from) == y || (creator_of from) == y) in
     ap (λ b. (((parent_of from) == y || (creator_of from) == y) && stands h (next_action k)) || b) (children_in h k y)
-    ∙ or_comm (((parent_of from) == y || (creator_of from) == y) && stands h (next_action k)) (list_any t (begun_actions k))
+    ∙ or_comm (((parent_of from) == y || (creator_of from) == y) && stands h (next_action k))
+    (list_any t (begun_actions k))
     ∙ ap (λ b. list_any t (begun_actions k) || b) (sym own ∙ or_none (u (next_action k)))
     ∙ ap (λ b. b || list_any u (next_action k ∷ []))
-    (any_agree t u (begun_actions k) (λ x m. let l = begun_below k x m in sym (ap (λ b. stands h x && (cond b (parent_of from) (parent k x) == y || cond b (creator_of from) (creator k x) == y)) (ne_eqb x (next_action k) (λ e. omega arith)))))
+    (any_agree t u (begun_actions k)
+    (λ x m. let l = begun_below k x m in
+    sym (ap (λ b.
+    stands h x && (cond b (parent_of from) (parent k x) == y || cond b (creator_of from) (creator k x) == y))
+    (ne_eqb x (next_action k) (λ e. omega arith)))))
     ∙ sym (list_any-append u (begun_actions k) (next_action k ∷ []))
 children_in h (Committed a ▹ k) y = children_in h k y
 children_in h (Aborted a ▹ k) y = children_in h k y
@@ -100,21 +120,26 @@ children_in h (Accessed a o v ▹ k) y = children_in h k y
 pub child_is : {V : Type 0} (h : History V) → Orderly h → (y : ℕ) → standing_child h y h ≡ has_live_child h y
 child_is h w y =
     children_in h h y
-    ∙ any_agree (λ x. stands h x && (parent h x == y || creator h x == y)) (λ x. is_live h x && (parent h x == y || creator h x == y)) (begun_actions h)
-    (λ x m. let f = contains_unfolded h x m in ap (λ b. b && (parent h x == y || creator h x == y)) (stands_is_live h w x (λ e. omega arith)))
+    ∙ any_agree (λ x. stands h x && (parent h x == y || creator h x == y))
+    (λ x. is_live h x && (parent h x == y || creator h x == y)) (begun_actions h)
+    (λ x m. let f = contains_unfolded h x m in
+    ap (λ b. b && (parent h x == y || creator h x == y)) (stands_is_live h w x (λ e. omega arith)))
 
 -- who the siblings are
-pub contains_siblings : {V : Type 0} (h : History V) (a x : ℕ) → contains (live_siblings h a) x ≡ (is_live h x && (not (x == a) && creator h x == creator h a))
+pub contains_siblings : {V : Type 0} (h : History V) (a x : ℕ)
+    → contains (live_siblings h a) x ≡ (is_live h x && is_sibling h a x)
 contains_siblings h a x =
-    let p = λ (x : ℕ). is_live h x && (not (x == a) && (creator h x == creator h a)) in
+    let p = λ (x : ℕ). is_live h x && is_sibling h a x in
     same_bool (contains (live_siblings h a) x) (p x)
     (λ m. (contains_filter p (begun_actions h) x m).0)
-    (λ m. let l = (and_parts (is_live h x) (not (x == a) && (creator h x == creator h a)) m).0 in
+    (λ m. let l = (and_parts (is_live h x) (is_sibling h a x) m).0 in
     let k = is_begun_parts h x (and_parts (is_begun h x) (not (has_committed h x) && not (is_doomed h x)) l).0 in
     filter_contains p (begun_actions h) x m (begun_contains h x k.0 k.1))
 
 pub siblings_live : {V : Type 0} (h : History V) (a : ℕ) → list_all (is_live h) (live_siblings h a) ≡ true
-siblings_live h a = every_from (is_live h) (live_siblings h a) (λ x m. (and_parts (is_live h x) (not (x == a) && (creator h x == creator h a)) (sym (contains_siblings h a x) ∙ m)).0)
+siblings_live h a =
+    every_from (is_live h) (live_siblings h a)
+    (λ x m. (and_parts (is_live h x) (is_sibling h a x) (sym (contains_siblings h a x) ∙ m)).0)
 
 pub begun_listed : {V : Type 0} (h : History V) (a : ℕ) → contains (begun_actions h) a ≡ is_begun h a
 begun_listed h a =

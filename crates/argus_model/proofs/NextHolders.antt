@@ -16,24 +16,27 @@ use Rattle.argus_model.proofs.Live.{contains_unfolded}
 use Rattle.argus_model.proofs.Numbers.{IsRising, contains_filter, contains_insert, filter_contains, insert-IsRising, rising_filter, rising_same}
 use Rattle.argus_model.proofs.Standing.{Orderly, at_some, handed_cases, parent_is, parents_are_older}
 
-contains_filtered : (p : ℕ → Bool) (xs : List ℕ) (x : ℕ) → contains (filter p xs) x ≡ (contains xs x && p x)
+pub contains_filtered : (p : ℕ → Bool) (xs : List ℕ) (x : ℕ) → contains (filter p xs) x ≡ (contains xs x && p x)
 contains_filtered p xs x =
     same_bool (contains (filter p xs) x) (contains xs x && p x)
     (λ m. let q = contains_filter p xs x m in and_from (contains xs x) (p x) q.1 q.0)
     (λ m. let q = and_parts (contains xs x) (p x) m in filter_contains p xs x q.1 q.0)
 
-contains_without : (s : ℕ) (xs : List ℕ) (x : ℕ) → contains (without s xs) x ≡ (contains xs x && not (x == s))
+pub contains_without : (s : ℕ) (xs : List ℕ) (x : ℕ) → contains (without s xs) x ≡ (contains xs x && not (x == s))
 contains_without s xs x = contains_filtered (λ y. not (y == s)) xs x
 
-without_own : (s : ℕ) (xs : List ℕ) → contains (without s xs) s ≡ false
-without_own s xs = contains_without s xs s ∙ ap (λ b. contains xs s && not b) (eq-eqb s s refl) ∙ and_none (contains xs s)
+pub without_own : (s : ℕ) (xs : List ℕ) → contains (without s xs) s ≡ false
+without_own s xs =
+    contains_without s xs s ∙ ap (λ b. contains xs s && not b) (eq-eqb s s refl) ∙ and_none (contains xs s)
 
-without_other : (s : ℕ) (xs : List ℕ) (x : ℕ) → x ≢ s → contains (without s xs) x ≡ contains xs x
-without_other s xs x n = contains_without s xs x ∙ ap (λ b. contains xs x && not b) (ne_eqb x s n) ∙ and_all (contains xs x)
+pub without_other : (s : ℕ) (xs : List ℕ) (x : ℕ) → x ≢ s → contains (without s xs) x ≡ contains xs x
+without_other s xs x n =
+    contains_without s xs x ∙ ap (λ b. contains xs x && not b) (ne_eqb x s n) ∙ and_all (contains xs x)
 
 -- the three forms of what is left when s has handed its hold to p
 inherited_by : (P : List ℕ → Type 0) (s p : ℕ) (xs : List ℕ)
-    → (contains xs s ≡ true → p ≡ 0 → P (without s xs)) → (contains xs s ≡ true → p ≢ 0 → P (insert p (without s xs))) → (contains xs s ≡ false → P xs)
+    → (contains xs s ≡ true → p ≡ 0 → P (without s xs)) → (contains xs s ≡ true → p ≢ 0 → P (insert p (without s xs)))
+    → (contains xs s ≡ false → P xs)
     → P (inherited s p xs)
 inherited_by P s p xs top sub none =
     ⊎_elim
@@ -51,43 +54,53 @@ without-IsRising s xs r = rising_filter (λ y. not (y == s)) xs r
 without_zero : (s : ℕ) (xs : List ℕ) → contains xs 0 ≡ false → contains (without s xs) 0 ≡ false
 without_zero s xs n = contains_without s xs 0 ∙ ap (λ b. b && not (0 == s)) n
 
-inherited-IsRising : (s p : ℕ) (xs : List ℕ) → IsRising xs → IsRising (inherited s p xs)
-inherited-IsRising s p xs r = inherited_by IsRising s p xs (λ k e. without-IsRising s xs r) (λ k e. insert-IsRising p (without s xs) (without-IsRising s xs r)) (λ k. r)
+pub inherited-IsRising : (s p : ℕ) (xs : List ℕ) → IsRising xs → IsRising (inherited s p xs)
+inherited-IsRising s p xs r =
+    inherited_by IsRising s p xs (λ k e. without-IsRising s xs r)
+    (λ k e. insert-IsRising p (without s xs) (without-IsRising s xs r)) (λ k. r)
 
-inherited_zero : (s p : ℕ) (xs : List ℕ) → contains xs 0 ≡ false → contains (inherited s p xs) 0 ≡ false
+pub inherited_zero : (s p : ℕ) (xs : List ℕ) → contains xs 0 ≡ false → contains (inherited s p xs) 0 ≡ false
 inherited_zero s p xs n =
     inherited_by (λ ys. contains ys 0 ≡ false) s p xs
     (λ k e. without_zero s xs n)
-    (λ k e. contains_insert p (without s xs) 0 ∙ ap (λ b. b || contains (without s xs) 0) (ne_eqb 0 p (λ i. e (sym i))) ∙ without_zero s xs n)
+    (λ k e. contains_insert p (without s xs) 0 ∙ ap (λ b. b || contains (without s xs) 0) (ne_eqb 0 p (λ i. e (sym i)))
+    ∙ without_zero s xs n)
     (λ k. n)
 
-inherited_own : (s p : ℕ) (xs : List ℕ) → p ≢ s → contains (inherited s p xs) s ≡ false
+pub inherited_own : (s p : ℕ) (xs : List ℕ) → p ≢ s → contains (inherited s p xs) s ≡ false
 inherited_own s p xs n =
     inherited_by (λ ys. contains ys s ≡ false) s p xs
     (λ k e. without_own s xs)
-    (λ k e. contains_insert p (without s xs) s ∙ ap (λ b. b || contains (without s xs) s) (ne_eqb s p (λ i. n (sym i))) ∙ without_own s xs)
+    (λ k e. contains_insert p (without s xs) s ∙ ap (λ b. b || contains (without s xs) s) (ne_eqb s p (λ i. n (sym i)))
+    ∙ without_own s xs)
     (λ k. k)
 
-inherited_parent : (s p : ℕ) (xs : List ℕ) → p ≢ s → p ≢ 0 → contains (inherited s p xs) p ≡ (contains xs s || contains xs p)
+pub inherited_parent : (s p : ℕ) (xs : List ℕ) → p ≢ s → p ≢ 0
+    → contains (inherited s p xs) p ≡ (contains xs s || contains xs p)
 inherited_parent s p xs n p0 =
     inherited_by (λ ys. contains ys p ≡ (contains xs s || contains xs p)) s p xs
     (λ k e. absurd (p0 e))
-    (λ k e. contains_insert p (without s xs) p ∙ ap (λ b. b || contains (without s xs) p) (eq-eqb p p refl) ∙ sym (ap (λ b. b || contains xs p) k))
+    (λ k e. contains_insert p (without s xs) p ∙ ap (λ b. b || contains (without s xs) p) (eq-eqb p p refl)
+    ∙ sym (ap (λ b. b || contains xs p) k))
     (λ k. sym (ap (λ b. b || contains xs p) k))
 
-inherited_other : (s p : ℕ) (xs : List ℕ) (x : ℕ) → x ≢ s → x ≢ p → contains (inherited s p xs) x ≡ contains xs x
+pub inherited_other : (s p : ℕ) (xs : List ℕ) (x : ℕ) → x ≢ s → x ≢ p → contains (inherited s p xs) x ≡ contains xs x
 inherited_other s p xs x xs' xp =
     inherited_by (λ ys. contains ys x ≡ contains xs x) s p xs
     (λ k e. without_other s xs x xs')
-    (λ k e. contains_insert p (without s xs) x ∙ ap (λ b. b || contains (without s xs) x) (ne_eqb x p xp) ∙ without_other s xs x xs')
+    (λ k e. contains_insert p (without s xs) x ∙ ap (λ b. b || contains (without s xs) x) (ne_eqb x p xp)
+    ∙ without_other s xs x xs')
     (λ k. refl)
 
 module _ {V : Type 0} (kind : V → Bool) where
   pub no_base_holder : (h : History V) (o : ℕ) → contains (holders kind h o) 0 ≡ false
-  no_base_holder h o = false_from_ne_true (contains (holders kind h o) 0) (λ m. let l = contains_unfolded h 0 (contains_filter (is_holder kind h o) (begun_actions h) 0 m).1 in omega arith)
+  no_base_holder h o =
+      false_from_ne_true (contains (holders kind h o) 0)
+      (λ m. let l = contains_unfolded h 0 (contains_filter (is_holder kind h o) (begun_actions h) 0 m).1 in omega arith)
 
   -- a rising list of the same members is the list of holders
-  holders_listed : (g : History V) → Orderly g → (o : ℕ) (xs : List ℕ) → IsRising xs → contains xs 0 ≡ false → ((x : ℕ) → x ≢ 0 → holds kind g o false x ≡ contains xs x) → holders kind g o ≡ xs
+  holders_listed : (g : History V) → Orderly g → (o : ℕ) (xs : List ℕ) → IsRising xs → contains xs 0 ≡ false
+      → ((x : ℕ) → x ≢ 0 → holds kind g o false x ≡ contains xs x) → holders kind g o ≡ xs
   holders_listed g w o xs r n same =
       rising_same (holders kind g o) xs (holders_rising kind g o) r
       (λ x. ⊎_elim
@@ -95,31 +108,39 @@ module _ {V : Type 0} (kind : V → Bool) where
       (λ x0. contains_holders kind g w o x x0 ∙ same x x0)
       (cases_eq x 0))
 
-  pub holders_after_begin : (h : History V) (from : Origin) → Orderly (Began from ▹ h) → (o : ℕ) → holders kind (Began from ▹ h) o ≡ holders kind h o
+  pub holders_after_begin : (h : History V) (from : Origin) → Orderly (Began from ▹ h) → (o : ℕ)
+      → holders kind (Began from ▹ h) o ≡ holders kind h o
   holders_after_begin h from w o =
       holders_listed (Began from ▹ h) w o (holders kind h o) (holders_rising kind h o) (no_base_holder h o)
       (λ x n. holds_begin kind h from o false x w.1 ∙ sym (contains_holders kind h w.1 o x n))
 
-  pub holders_after_access : (h : History V) (a o' : ℕ) (v : V) → Orderly (Accessed a o' v ▹ h) → (o : ℕ) → holders kind (Accessed a o' v ▹ h) o ≡ cond (o' == o && kind v) (insert a (holders kind h o)) (holders kind h o)
+  pub holders_after_access : (h : History V) (a o' : ℕ) (v : V) → Orderly (Accessed a o' v ▹ h) → (o : ℕ)
+      → holders kind (Accessed a o' v ▹ h) o ≡ cond (o' == o && kind v) (insert a (holders kind h o)) (holders kind h o)
   holders_after_access h a o' v w o =
       let g = Accessed a o' v ▹ h in
       let old = holders kind h o in
       let now = holds_access kind h a o' v o false in
       ⊎_elim
-      (λ k. holders_listed g w o (insert a old) (insert-IsRising a old (holders_rising kind h o)) (contains_insert a old 0 ∙ ap (λ b. b || contains old 0) (ne_eqb 0 a (λ e. w.2 (sym e))) ∙ no_base_holder h o)
-      (λ x n. now x w.0 ∙ ap (λ b. b && (a == x) || holds kind h o false x) k ∙ ap (λ b. b || holds kind h o false x) (eqb_sym a x) ∙ ap (λ b. (x == a) || b) (sym (contains_holders kind h w.3 o x n)) ∙ sym (contains_insert a old x))
+      (λ k. holders_listed g w o (insert a old) (insert-IsRising a old (holders_rising kind h o))
+      (contains_insert a old 0 ∙ ap (λ b. b || contains old 0) (ne_eqb 0 a (λ e. w.2 (sym e))) ∙ no_base_holder h o)
+      (λ x n. now x w.0 ∙ ap (λ b. b && (a == x) || holds kind h o false x) k
+      ∙ ap (λ b. b || holds kind h o false x) (eqb_sym a x)
+      ∙ ap (λ b. (x == a) || b) (sym (contains_holders kind h w.3 o x n)) ∙ sym (contains_insert a old x))
       ∙ sym (ap (λ b. cond b (insert a old) old) k))
       (λ k. holders_listed g w o old (holders_rising kind h o) (no_base_holder h o)
       (λ x n. now x w.0 ∙ ap (λ b. b && (a == x) || holds kind h o false x) k ∙ sym (contains_holders kind h w.3 o x n))
       ∙ sym (ap (λ b. cond b (insert a old) old) k))
       (cases_Bool (o' == o && kind v))
 
-  pub holders_after_abort : (h : History V) (z : List ℕ) → Orderly (Aborted z ▹ h) → (o : ℕ) → holders kind (Aborted z ▹ h) o ≡ filter (λ x. not (is_under h z x)) (holders kind h o)
+  pub holders_after_abort : (h : History V) (z : List ℕ) → Orderly (Aborted z ▹ h) → (o : ℕ)
+      → holders kind (Aborted z ▹ h) o ≡ filter (λ x. not (is_under h z x)) (holders kind h o)
   holders_after_abort h z w o =
       let p = λ (x : ℕ). not (is_under h z x) in
       let old = holders kind h o in
-      holders_listed (Aborted z ▹ h) w o (filter p old) (rising_filter p old (holders_rising kind h o)) (contains_filtered p old 0 ∙ ap (λ b. b && p 0) (no_base_holder h o))
-      (λ x n. holds_abort kind h z o false x ∙ ap (λ b. b && p x) (sym (contains_holders kind h w.1 o x n)) ∙ sym (contains_filtered p old x))
+      holders_listed (Aborted z ▹ h) w o (filter p old) (rising_filter p old (holders_rising kind h o))
+      (contains_filtered p old 0 ∙ ap (λ b. b && p 0) (no_base_holder h o))
+      (λ x n. holds_abort kind h z o false x ∙ ap (λ b. b && p x) (sym (contains_holders kind h w.1 o x n))
+      ∙ sym (contains_filtered p old x))
 
   -- who commits holds nothing any more
   holds_commit_own : (h : History V) (s o : ℕ) → parent h s ≢ s → holds kind (Committed s ▹ h) o false s ≡ false
@@ -127,22 +148,28 @@ module _ {V : Type 0} (kind : V → Bool) where
       let g = Committed s ▹ h in
       false_from_ne_true (holds kind g o false s) (λ m.
       let q = used_by_found kind (λ b. is_exactly (owner_by_steps g b) s) o false h m in
-      ⊎_elim (λ k. ne (sym k.1)) (λ k. k.1 refl) (handed_cases s (parent h s) (owner_by_steps h q.0) s (at_some (owner_by_steps g q.0) s q.2)))
+      ⊎_elim (λ k. ne (sym k.1)) (λ k. k.1 refl)
+      (handed_cases s (parent h s) (owner_by_steps h q.0) s (at_some (owner_by_steps g q.0) s q.2)))
 
-  pub holders_after_commit : (h : History V) (s : ℕ) → Orderly (Committed s ▹ h) → (o : ℕ) → holders kind (Committed s ▹ h) o ≡ inherited s (parent h s) (holders kind h o)
+  pub holders_after_commit : (h : History V) (s : ℕ) → Orderly (Committed s ▹ h) → (o : ℕ)
+      → holders kind (Committed s ▹ h) o ≡ inherited s (parent h s) (holders kind h o)
   holders_after_commit h s w o =
       let p = parent h s in
       let old = holders kind h o in
       let i = parent_is h (parents_are_older h w.3) s w.0 w.1 in
       let ps : p ≢ s = omega (arith, i.0) in
-      holders_listed (Committed s ▹ h) w o (inherited s p old) (inherited-IsRising s p old (holders_rising kind h o)) (inherited_zero s p old (no_base_holder h o))
+      holders_listed (Committed s ▹ h) w o (inherited s p old) (inherited-IsRising s p old (holders_rising kind h o))
+      (inherited_zero s p old (no_base_holder h o))
       (λ x n. ⊎_elim
-      (λ q. subst (λ y. holds kind (Committed s ▹ h) o false y ≡ contains (inherited s p old) y) (sym q) (holds_commit_own h s o ps ∙ sym (inherited_own s p old ps)))
+      (λ q. subst (λ y. holds kind (Committed s ▹ h) o false y ≡ contains (inherited s p old) y) (sym q)
+      (holds_commit_own h s o ps ∙ sym (inherited_own s p old ps)))
       (λ q. ⊎_elim
       (λ e. subst (λ y. y ≢ 0 → holds kind (Committed s ▹ h) o false y ≡ contains (inherited s p old) y) (sym e)
       (λ p0. holds_commit_parent kind h s o false ps
-      ∙ ap (λ b. b || holds kind h o false p) (sym (contains_holders kind h w.3 o s w.0)) ∙ ap (λ b. contains old s || b) (sym (contains_holders kind h w.3 o p p0))
+      ∙ ap (λ b. b || holds kind h o false p) (sym (contains_holders kind h w.3 o s w.0))
+      ∙ ap (λ b. contains old s || b) (sym (contains_holders kind h w.3 o p p0))
       ∙ sym (inherited_parent s p old ps p0)) n)
-      (λ e. holds_commit_other kind h s o false x q e ∙ sym (contains_holders kind h w.3 o x n) ∙ sym (inherited_other s p old x q e))
+      (λ e. holds_commit_other kind h s o false x q e ∙ sym (contains_holders kind h w.3 o x n)
+      ∙ sym (inherited_other s p old x q e))
       (cases_eq x p))
       (cases_eq x s))

@@ -17,88 +17,121 @@ use Rattle.argus_model.proofs.Standing.{Orderly, at_some, handed_from, handed_st
 
 -- the base is not called live
 pub zero_not_live : {V : Type 0} (h : History V) → is_live h 0 ≡ false
-zero_not_live h = false_from_ne_true (is_live h 0) (λ l. let k = is_begun_parts h 0 (and_parts (is_begun h 0) (not (has_committed h 0) && not (is_doomed h 0)) l).0 in omega (arith, k.0))
+zero_not_live h =
+    false_from_ne_true (is_live h 0)
+    (λ l. let k = is_begun_parts h 0 (and_parts (is_begun h 0) (not (has_committed h 0) && not (is_doomed h 0)) l).0 in
+    omega (arith, k.0))
 
 -- a test of the owner, for each action but the base
-from_stands : {V : Type 0} (h g : History V) → Orderly h → Orderly g → (test : ℕ → Bool) → ((x : ℕ) → stands g x ≡ (stands h x && test x)) → (x : ℕ) → is_live g x ≡ (is_live h x && test x)
+from_stands : {V : Type 0} (h g : History V) → Orderly h → Orderly g → (test : ℕ → Bool)
+    → ((x : ℕ) → stands g x ≡ (stands h x && test x)) → (x : ℕ) → is_live g x ≡ (is_live h x && test x)
 from_stands h g w u test same x =
     ⊎_elim
-    (λ e. subst (λ y. is_live g y ≡ (is_live h y && test y)) (sym e) (zero_not_live g ∙ sym (ap (λ b. b && test 0) (zero_not_live h))))
+    (λ e. subst (λ y. is_live g y ≡ (is_live h y && test y)) (sym e)
+    (zero_not_live g ∙ sym (ap (λ b. b && test 0) (zero_not_live h))))
     (λ n. sym (stands_is_live g u x n) ∙ same x ∙ ap (λ b. b && test x) (stands_is_live h w x n))
     (cases_eq x 0)
 
-pub live_after_begin : {V : Type 0} (h : History V) (from : Origin) → Orderly (Began from ▹ h) → (x : ℕ) → is_live (Began from ▹ h) x ≡ ((x == next_action h) || is_live h x)
+pub live_after_begin : {V : Type 0} (h : History V) (from : Origin) → Orderly (Began from ▹ h) → (x : ℕ)
+    → is_live (Began from ▹ h) x ≡ ((x == next_action h) || is_live h x)
 live_after_begin h from w x =
     let g = Began from ▹ h in
     ⊎_elim
-    (λ e. subst (λ y. is_live g y ≡ ((y == next_action h) || is_live h y)) (sym e) (zero_not_live g ∙ sym (ap (λ b. b || is_live h 0) (ne_eqb 0 (next_action h) (let k = next_pos h in omega arith)) ∙ zero_not_live h)))
+    (λ e. subst (λ y. is_live g y ≡ ((y == next_action h) || is_live h y)) (sym e)
+    (zero_not_live g
+    ∙ sym (ap (λ b. b || is_live h 0) (ne_eqb 0 (next_action h) (let k = next_pos h in omega arith))
+    ∙ zero_not_live h)))
     (λ n. sym (stands_is_live g w x n)
     ∙ ⊎_elim
     (λ e. stands_new h from x e ∙ sym (ap (λ b. b || is_live h x) (eq-eqb x (next_action h) e)))
-    (λ ne. stands_old h from x ne ∙ stands_is_live h w.1 x n ∙ sym (ap (λ b. b || is_live h x) (ne_eqb x (next_action h) ne)))
+    (λ ne. stands_old h from x ne ∙ stands_is_live h w.1 x n
+    ∙ sym (ap (λ b. b || is_live h x) (ne_eqb x (next_action h) ne)))
     (cases_eq x (next_action h)))
     (cases_eq x 0)
 
-pub live_after_commit : {V : Type 0} (h : History V) (s : ℕ) → Orderly (Committed s ▹ h) → (x : ℕ) → is_live (Committed s ▹ h) x ≡ (is_live h x && not (x == s))
+pub live_after_commit : {V : Type 0} (h : History V) (s : ℕ) → Orderly (Committed s ▹ h) → (x : ℕ)
+    → is_live (Committed s ▹ h) x ≡ (is_live h x && not (x == s))
 live_after_commit h s w =
     let g = Committed s ▹ h in
     from_stands h g w.3 w (λ x. not (x == s))
     (λ x. same_bool (stands g x) (stands h x && not (x == s))
-    (λ k. let q = stands_commit h (parents_are_older h w.3) (stands_upward h w.3) s x w.0 w.1 k in and_from (stands h x) (not (x == s)) q.0 (ap not (ne_eqb x s q.1)))
+    (λ k. let q = stands_commit h (parents_are_older h w.3) (stands_upward h w.3) s x w.0 w.1 k in
+    and_from (stands h x) (not (x == s)) q.0 (ap not (ne_eqb x s q.1)))
     (λ k. let q = and_parts (stands h x) (not (x == s)) k in
-    some_at (owner_by_steps g x) x (handed_stays s (parent h s) (owner_by_steps h x) x (at_some (owner_by_steps h x) x q.0) (λ e. both_ways (x == s) (not-true (x == s) q.1) (eq-eqb x s e)))))
+    some_at (owner_by_steps g x) x
+    (handed_stays s (parent h s) (owner_by_steps h x) x (at_some (owner_by_steps h x) x q.0)
+    (λ e. both_ways (x == s) (not-true (x == s) q.1) (eq-eqb x s e)))))
 
-pub live_after_abort : {V : Type 0} (h : History V) (z : List ℕ) → Orderly (Aborted z ▹ h) → (x : ℕ) → is_live (Aborted z ▹ h) x ≡ (is_live h x && not (is_under h z x))
+pub live_after_abort : {V : Type 0} (h : History V) (z : List ℕ) → Orderly (Aborted z ▹ h) → (x : ℕ)
+    → is_live (Aborted z ▹ h) x ≡ (is_live h x && not (is_under h z x))
 live_after_abort h z w =
     let g = Aborted z ▹ h in
     from_stands h g w.1 w (λ x. not (is_under h z x))
     (λ x. same_bool (stands g x) (stands h x && not (is_under h z x))
     (λ k. let q = stands_abort h z x k in and_from (stands h x) (not (is_under h z x)) q.0 (ap not q.1))
     (λ k. let q = and_parts (stands h x) (not (is_under h z x)) k in
-    some_at (owner_by_steps g x) x (kept_stays (is_under h z) (owner_by_steps h x) x (at_some (owner_by_steps h x) x q.0) (not-true (is_under h z x) q.1))))
+    some_at (owner_by_steps g x) x
+    (kept_stays (is_under h z) (owner_by_steps h x) x (at_some (owner_by_steps h x) x q.0)
+    (not-true (is_under h z x) q.1))))
 
 -- owners
-pub owner_after_begin : {V : Type 0} (h : History V) (from : Origin) → Orderly (Began from ▹ h) → (x : ℕ) → is_begun h x ≡ true → owner (Began from ▹ h) x ≡ owner h x
+pub owner_after_begin : {V : Type 0} (h : History V) (from : Origin) → Orderly (Began from ▹ h) → (x : ℕ)
+    → is_begun h x ≡ true → owner (Began from ▹ h) x ≡ owner h x
 owner_after_begin h from w x k =
     let q = is_begun_parts h x k in
     owner_is (Began from ▹ h) w x (begun_stays h (Began from) x k)
     ∙ ap as_owner (⊎_elim (λ c. absurd (omega (arith, c.0, q.1))) (λ c. c.1) (owner_cases h from x))
     ∙ sym (owner_is h w.1 x k)
 
-pub owner_after_access : {V : Type 0} (h : History V) (a o : ℕ) (v : V) → Orderly (Accessed a o v ▹ h) → (x : ℕ) → is_begun h x ≡ true → owner (Accessed a o v ▹ h) x ≡ owner h x
+pub owner_after_access : {V : Type 0} (h : History V) (a o : ℕ) (v : V) → Orderly (Accessed a o v ▹ h) → (x : ℕ)
+    → is_begun h x ≡ true → owner (Accessed a o v ▹ h) x ≡ owner h x
 owner_after_access h a o v w x k = owner_is (Accessed a o v ▹ h) w x k ∙ sym (owner_is h w.3 x k)
 
 handed_is : (s p : ℕ) → s ≢ 0 → (q : Option ℕ) → as_owner (handed_up s p q) ≡ passed_up s p (as_owner q)
 handed_is s p s0 None = refl
 handed_is s p s0 (Some x) =
     ⊎_elim
-    (λ e. ap as_owner (handed_from s p (Some x) (ap Some e)) ∙ sym (ap (passed_up s p) (as_held x (λ z. s0 (sym e ∙ z))) ∙ ap (λ b. cond b (cond (p == 0) Base (Held p)) (Held x)) (eq-eqb x s e)))
+    (λ e. ap as_owner (handed_from s p (Some x) (ap Some e))
+    ∙ sym (ap (passed_up s p) (as_held x (λ z. s0 (sym e ∙ z)))
+    ∙ ap (λ b. cond b (cond (p == 0) Base (Held p)) (Held x)) (eq-eqb x s e)))
     (λ ne. ap as_owner (handed_stays s p (Some x) x refl ne)
     ∙ ⊎_elim
     (λ z. let b = ap (λ b. cond b Base (Held x)) (eq-eqb x 0 z) in b ∙ sym (ap (passed_up s p) b))
-    (λ z. as_held x z ∙ sym (ap (passed_up s p) (as_held x z) ∙ ap (λ b. cond b (cond (p == 0) Base (Held p)) (Held x)) (ne_eqb x s ne)))
+    (λ z. as_held x z
+    ∙ sym (ap (passed_up s p) (as_held x z)
+    ∙ ap (λ b. cond b (cond (p == 0) Base (Held p)) (Held x)) (ne_eqb x s ne)))
     (cases_eq x 0))
     (cases_eq x s)
 
-pub owner_after_commit : {V : Type 0} (h : History V) (s : ℕ) → Orderly (Committed s ▹ h) → (x : ℕ) → is_begun h x ≡ true → owner (Committed s ▹ h) x ≡ passed_up s (parent h s) (owner h x)
-owner_after_commit h s w x k = owner_is (Committed s ▹ h) w x k ∙ handed_is s (parent h s) w.0 (owner_by_steps h x) ∙ ap (passed_up s (parent h s)) (sym (owner_is h w.3 x k))
+pub owner_after_commit : {V : Type 0} (h : History V) (s : ℕ) → Orderly (Committed s ▹ h) → (x : ℕ)
+    → is_begun h x ≡ true → owner (Committed s ▹ h) x ≡ passed_up s (parent h s) (owner h x)
+owner_after_commit h s w x k =
+    owner_is (Committed s ▹ h) w x k ∙ handed_is s (parent h s) w.0 (owner_by_steps h x)
+    ∙ ap (passed_up s (parent h s)) (sym (owner_is h w.3 x k))
 
-lost_is : (lost : ℕ → Bool) → lost 0 ≡ false → (q : Option ℕ) → as_owner (unless_lost lost q) ≡ unless_gone lost (as_owner q)
+lost_is : (lost : ℕ → Bool) → lost 0 ≡ false → (q : Option ℕ)
+    → as_owner (unless_lost lost q) ≡ unless_gone lost (as_owner q)
 lost_is lost n None = refl
 lost_is lost n (Some x) =
     ⊎_elim
     (λ z. let b = ap (λ b. cond b Base (Held x)) (eq-eqb x 0 z) in
     ap (λ b. as_owner (cond b None (Some x))) (ap lost z ∙ n) ∙ b ∙ sym (ap (unless_gone lost) b))
     (λ z. ⊎_elim
-    (λ l. ap (λ b. as_owner (cond b None (Some x))) l ∙ sym (ap (unless_gone lost) (as_held x z) ∙ ap (λ b. cond b Gone (Held x)) l))
-    (λ l. ap (λ b. as_owner (cond b None (Some x))) l ∙ as_held x z ∙ sym (ap (unless_gone lost) (as_held x z) ∙ ap (λ b. cond b Gone (Held x)) l))
+    (λ l. ap (λ b. as_owner (cond b None (Some x))) l
+    ∙ sym (ap (unless_gone lost) (as_held x z) ∙ ap (λ b. cond b Gone (Held x)) l))
+    (λ l. ap (λ b. as_owner (cond b None (Some x))) l ∙ as_held x z
+    ∙ sym (ap (unless_gone lost) (as_held x z) ∙ ap (λ b. cond b Gone (Held x)) l))
     (cases_Bool (lost x)))
     (cases_eq x 0)
 
-pub owner_after_abort : {V : Type 0} (h : History V) (z : List ℕ) → Orderly (Aborted z ▹ h) → (x : ℕ) → is_begun h x ≡ true → owner (Aborted z ▹ h) x ≡ unless_gone (is_under h z) (owner h x)
-owner_after_abort h z w x k = owner_is (Aborted z ▹ h) w x k ∙ lost_is (is_under h z) (base_spared h z w) (owner_by_steps h x) ∙ ap (unless_gone (is_under h z)) (sym (owner_is h w.1 x k))
+pub owner_after_abort : {V : Type 0} (h : History V) (z : List ℕ) → Orderly (Aborted z ▹ h) → (x : ℕ)
+    → is_begun h x ≡ true → owner (Aborted z ▹ h) x ≡ unless_gone (is_under h z) (owner h x)
+owner_after_abort h z w x k =
+    owner_is (Aborted z ▹ h) w x k ∙ lost_is (is_under h z) (base_spared h z w) (owner_by_steps h x)
+    ∙ ap (unless_gone (is_under h z)) (sym (owner_is h w.1 x k))
 
-pub new_owner : {V : Type 0} (h : History V) (from : Origin) → Orderly (Began from ▹ h) → owner (Began from ▹ h) (next_action h) ≡ Held (next_action h)
+pub new_owner : {V : Type 0} (h : History V) (from : Origin) → Orderly (Began from ▹ h)
+    → owner (Began from ▹ h) (next_action h) ≡ Held (next_action h)
 new_owner h from w =
     let f = folded_next h in
     let n = next_action h in
@@ -106,5 +139,6 @@ new_owner h from w =
     ∙ ap as_owner (at_some (owner_by_steps (Began from ▹ h) n) n (stands_new h from n refl))
     ∙ as_held n (λ e. omega arith)
 
-pub new_lineage : {V : Type 0} (h : History V) (from : Origin) → lineage (Began from ▹ h) (next_action h) ≡ next_action h ∷ lineage h (parent_of from)
+pub new_lineage : {V : Type 0} (h : History V) (from : Origin)
+    → lineage (Began from ▹ h) (next_action h) ≡ next_action h ∷ lineage h (parent_of from)
 new_lineage h from = ⊎_elim (λ k. k.1) (λ k. absurd (k.0 refl)) (lineage_cases h from (next_action h))

@@ -28,54 +28,83 @@ module _ {V C A : Type 0} (meaning : Meaning V C A) (opening : Opening C) where
   sees_base h w o = sees_is meaning opening h w 0 o ∙ sym (base_is meaning opening h w o)
 
   -- two histories' views agree where their accesses leave the same
-  both : (g h : History V) → Orderly g → Orderly h → (x y o : ℕ) → content_after meaning opening.contents o (visible_accesses h y) ≡ content_after meaning opening.contents o (visible_accesses g x) → sees meaning opening g x o ≡ sees meaning opening h y o
+  both : (g h : History V) → Orderly g → Orderly h → (x y o : ℕ)
+      → content_after meaning opening.contents o (visible_accesses h y)
+      ≡ content_after meaning opening.contents o (visible_accesses g x)
+      → sees meaning opening g x o ≡ sees meaning opening h y o
   both g h v w x y o e = sees_is meaning opening g v x o ∙ sym e ∙ sym (sees_is meaning opening h w y o)
 
   -- what holds of what the base sees holds of the base
-  for_base : (g h : History V) → Orderly g → Orderly h → (o : ℕ) → sees meaning opening g 0 o ≡ sees meaning opening h 0 o → base meaning opening g o ≡ base meaning opening h o
+  for_base : (g h : History V) → Orderly g → Orderly h → (o : ℕ)
+      → sees meaning opening g 0 o ≡ sees meaning opening h 0 o → base meaning opening g o ≡ base meaning opening h o
   for_base g h v w o e = sym (sees_base g v o) ∙ e ∙ sees_base h w o
 
-  pub sees_after_begin_new : (h : History V) (from : Origin) → Orderly (Began from ▹ h) → (o : ℕ) → sees meaning opening (Began from ▹ h) (next_action h) o ≡ sees meaning opening h (parent_of from) o
-  sees_after_begin_new h from w o = both (Began from ▹ h) h w w.1 (next_action h) (parent_of from) o (seen_begin_new meaning opening.contents h from (next_action h) o w.1 refl)
+  pub sees_after_begin_new : (h : History V) (from : Origin) → Orderly (Began from ▹ h) → (o : ℕ)
+      → sees meaning opening (Began from ▹ h) (next_action h) o ≡ sees meaning opening h (parent_of from) o
+  sees_after_begin_new h from w o =
+      both (Began from ▹ h) h w w.1 (next_action h) (parent_of from) o
+      (seen_begin_new meaning opening.contents h from (next_action h) o w.1 refl)
 
-  pub sees_after_begin : (h : History V) (from : Origin) → Orderly (Began from ▹ h) → (y o : ℕ) → y ≢ next_action h → sees meaning opening (Began from ▹ h) y o ≡ sees meaning opening h y o
-  sees_after_begin h from w y o n = both (Began from ▹ h) h w w.1 y y o (seen_begin_old meaning opening.contents h from y o w.1 n)
+  pub sees_after_begin : (h : History V) (from : Origin) → Orderly (Began from ▹ h) → (y o : ℕ) → y ≢ next_action h
+      → sees meaning opening (Began from ▹ h) y o ≡ sees meaning opening h y o
+  sees_after_begin h from w y o n =
+      both (Began from ▹ h) h w w.1 y y o (seen_begin_old meaning opening.contents h from y o w.1 n)
 
-  pub base_after_begin : (h : History V) (from : Origin) → Orderly (Began from ▹ h) → (o : ℕ) → base meaning opening (Began from ▹ h) o ≡ base meaning opening h o
-  base_after_begin h from w o = for_base (Began from ▹ h) h w w.1 o (sees_after_begin h from w 0 o (let k = next_pos h in omega arith))
+  pub base_after_begin : (h : History V) (from : Origin) → Orderly (Began from ▹ h) → (o : ℕ)
+      → base meaning opening (Began from ▹ h) o ≡ base meaning opening h o
+  base_after_begin h from w o =
+      for_base (Began from ▹ h) h w w.1 o (sees_after_begin h from w 0 o (let k = next_pos h in omega arith))
 
-  pub sees_after_access_own : (h : History V) (a o : ℕ) (v : V) → Orderly (Accessed a o v ▹ h) → (i : ℕ) → sees meaning opening (Accessed a o v ▹ h) a i ≡ cond (o == i) (meaning.after v (sees meaning opening h a i)) (sees meaning opening h a i)
+  pub sees_after_access_own : (h : History V) (a o : ℕ) (v : V) → Orderly (Accessed a o v ▹ h) → (i : ℕ)
+      → sees meaning opening (Accessed a o v ▹ h) a i
+      ≡ cond (o == i) (meaning.after v (sees meaning opening h a i)) (sees meaning opening h a i)
   sees_after_access_own h a o v w i =
       sees_is meaning opening (Accessed a o v ▹ h) w a i
       ∙ seen_access_own meaning opening.contents h a o v i w.0
       ∙ ap (λ c. cond (o == i) (meaning.after v c) c) (sym (sees_is meaning opening h w.3 a i))
 
-  pub sees_after_access_other : (h : History V) (a o : ℕ) (v : V) → Orderly (Accessed a o v ▹ h) → (y i : ℕ) → stands h y ≡ true → y ≢ a → sees meaning opening (Accessed a o v ▹ h) y i ≡ sees meaning opening h y i
+  pub sees_after_access_other : (h : History V) (a o : ℕ) (v : V) → Orderly (Accessed a o v ▹ h) → (y i : ℕ)
+      → stands h y ≡ true → y ≢ a → sees meaning opening (Accessed a o v ▹ h) y i ≡ sees meaning opening h y i
   sees_after_access_other h a o v w y i l n =
       both (Accessed a o v ▹ h) h w w.3 y y i
-      (seen_access_other meaning opening.contents h a o v y i w.0 (λ m. n (sym (alone h (parents_are_older h w.3) (stands_upward h w.3) a y l m w.1))))
+      (seen_access_other meaning opening.contents h a o v y i w.0
+      (λ m. n (sym (alone h (parents_are_older h w.3) (stands_upward h w.3) a y l m w.1))))
 
-  pub base_after_access : (h : History V) (a o : ℕ) (v : V) → Orderly (Accessed a o v ▹ h) → (i : ℕ) → base meaning opening (Accessed a o v ▹ h) i ≡ base meaning opening h i
-  base_after_access h a o v w i = for_base (Accessed a o v ▹ h) h w w.3 i (sees_after_access_other h a o v w 0 i (base_stands h w.3) (λ e. w.2 (sym e)))
+  pub base_after_access : (h : History V) (a o : ℕ) (v : V) → Orderly (Accessed a o v ▹ h) → (i : ℕ)
+      → base meaning opening (Accessed a o v ▹ h) i ≡ base meaning opening h i
+  base_after_access h a o v w i =
+      for_base (Accessed a o v ▹ h) h w w.3 i
+      (sees_after_access_other h a o v w 0 i (base_stands h w.3) (λ e. w.2 (sym e)))
 
-  pub sees_after_abort : (h : History V) (z : List ℕ) → Orderly (Aborted z ▹ h) → (y o : ℕ) → stands (Aborted z ▹ h) y ≡ true → sees meaning opening (Aborted z ▹ h) y o ≡ sees meaning opening h y o
+  pub sees_after_abort : (h : History V) (z : List ℕ) → Orderly (Aborted z ▹ h) → (y o : ℕ)
+      → stands (Aborted z ▹ h) y ≡ true → sees meaning opening (Aborted z ▹ h) y o ≡ sees meaning opening h y o
   sees_after_abort h z w y o l = both (Aborted z ▹ h) h w w.1 y y o (seen_abort meaning opening.contents h z y o w.1 l)
 
-  pub base_after_abort : (h : History V) (z : List ℕ) → Orderly (Aborted z ▹ h) → (o : ℕ) → base meaning opening (Aborted z ▹ h) o ≡ base meaning opening h o
-  base_after_abort h z w o = for_base (Aborted z ▹ h) h w w.1 o (sees_after_abort h z w 0 o (base_stands (Aborted z ▹ h) w))
+  pub base_after_abort : (h : History V) (z : List ℕ) → Orderly (Aborted z ▹ h) → (o : ℕ)
+      → base meaning opening (Aborted z ▹ h) o ≡ base meaning opening h o
+  base_after_abort h z w o =
+      for_base (Aborted z ▹ h) h w w.1 o (sees_after_abort h z w 0 o (base_stands (Aborted z ▹ h) w))
 
-  module _ (h : History V) (s : ℕ) (w : Orderly (Committed s ▹ h)) (gd : Guarded meaning.writes h) (y : ℕ) (ly : stands h y ≡ true) (ne : y ≢ s) (o : ℕ) where
-    wrote : contains (writers meaning h o) s ≡ true → (a : ℕ) × (has_used meaning.writes h a o false ≡ true) × (owner_by_steps h a ≡ Some s)
+  module _ (h : History V) (s : ℕ) (w : Orderly (Committed s ▹ h)) (gd : Guarded meaning.writes h) (y : ℕ)
+      (ly : stands h y ≡ true) (ne : y ≢ s) (o : ℕ) where
+    wrote : contains (writers meaning h o) s ≡ true
+        → (a : ℕ) × (has_used meaning.writes h a o false ≡ true) × (owner_by_steps h a ≡ Some s)
     wrote k =
-        let q = used_by_found meaning.writes (λ b. is_exactly (owner_by_steps h b) s) o false h (listed meaning.writes h w.3 o s k) in
+        let q = used_by_found meaning.writes (λ b. is_exactly (owner_by_steps h b) s) o false h
+        (listed meaning.writes h w.3 o s k) in
         (q.0, q.1, at_some (owner_by_steps h q.0) s q.2)
 
-    wrote_nothing : contains (writers meaning h o) s ≡ false → (a : ℕ) → has_used meaning.writes h a o false ≡ true → owner_by_steps h a ≢ Some s
+    wrote_nothing : contains (writers meaning h o) s ≡ false → (a : ℕ) → has_used meaning.writes h a o false ≡ true
+        → owner_by_steps h a ≢ Some s
     wrote_nothing k a u e =
         both_ways (contains (writers meaning h o) s) k
-        (contains_holders meaning.writes h w.3 o s w.0 ∙ used_by_from meaning.writes (λ b. is_exactly (owner_by_steps h b) s) o false h a u (some_at (owner_by_steps h a) s e))
+        (contains_holders meaning.writes h w.3 o s w.0
+        ∙ used_by_from meaning.writes (λ b. is_exactly (owner_by_steps h b) s) o false h a u
+        (some_at (owner_by_steps h a) s e))
 
-    pub sees_after_commit : sees meaning opening (Committed s ▹ h) y o ≡ cond (contains (writers meaning h o) s && is_ancestor h (parent h s) y) (sees meaning opening h s o) (sees meaning opening h y o)
+    pub sees_after_commit : sees meaning opening (Committed s ▹ h) y o
+        ≡ cond (contains (writers meaning h o) s && is_ancestor h (parent h s) y) (sees meaning opening h s o)
+        (sees meaning opening h y o)
     sees_after_commit =
         let g = Committed s ▹ h in
         let up = is_ancestor h (parent h s) y in
@@ -83,8 +112,11 @@ module _ {V C A : Type 0} (meaning : Meaning V C A) (opening : Opening C) where
         let at = λ (b : Bool). cond b (sees meaning opening h s o) (sees meaning opening h y o) in
         ⊎_elim
         (λ k. ⊎_elim
-        (λ a. both g h w w.3 y s o (let q = wrote k in seen_as_s meaning opening.contents h s y w.3 gd w.0 w.1 w.2 ly ne a o q.0 q.1 q.2) ∙ sym (ap at (and_from wr up k a)))
-        (λ a. both g h w w.3 y y o (seen_aside meaning opening.contents h s y w.3 gd w.0 w.1 w.2 ly ne a o) ∙ sym (ap at (and_right wr up a)))
+        (λ a. both g h w w.3 y s o
+        (let q = wrote k in seen_as_s meaning opening.contents h s y w.3 gd w.0 w.1 w.2 ly ne a o q.0 q.1 q.2)
+        ∙ sym (ap at (and_from wr up k a)))
+        (λ a. both g h w w.3 y y o (seen_aside meaning opening.contents h s y w.3 gd w.0 w.1 w.2 ly ne a o)
+        ∙ sym (ap at (and_right wr up a)))
         (cases_Bool up))
         (λ k. both g h w w.3 y y o
         (⊎_elim
@@ -94,10 +126,14 @@ module _ {V C A : Type 0} (meaning : Meaning V C A) (opening : Opening C) where
         ∙ sym (ap at (and_left wr up k)))
         (cases_Bool wr)
 
-  pub base_after_commit : (h : History V) (s : ℕ) → Orderly (Committed s ▹ h) → Guarded meaning.writes h → (o : ℕ) → base meaning opening (Committed s ▹ h) o ≡ cond (contains (writers meaning h o) s && parent h s == 0) (sees meaning opening h s o) (base meaning opening h o)
+  pub base_after_commit : (h : History V) (s : ℕ) → Orderly (Committed s ▹ h) → Guarded meaning.writes h → (o : ℕ)
+      → base meaning opening (Committed s ▹ h) o
+      ≡ cond (contains (writers meaning h o) s && parent h s == 0) (sees meaning opening h s o)
+      (base meaning opening h o)
   base_after_commit h s w gd o =
       let wr = contains (writers meaning h o) s in
-      let above : is_ancestor h (parent h s) 0 ≡ (parent h s == 0) = ap (λ t. contains t (parent h s)) (lineage-base h) ∙ sym (or_none (parent h s == 0)) in
+      let above : is_ancestor h (parent h s) 0 ≡ (parent h s == 0) =
+      ap (λ t. contains t (parent h s)) (lineage-base h) ∙ sym (or_none (parent h s == 0)) in
       sym (sees_base (Committed s ▹ h) w o)
       ∙ sees_after_commit h s w gd 0 (base_stands h w.3) (λ e. w.0 (sym e)) o
       ∙ ap (λ b. cond (wr && b) (sees meaning opening h s o) (sees meaning opening h 0 o)) above

@@ -21,67 +21,93 @@ gone None = true
 gone (Some x) = false
 
 -- an owner is an ancestor
-pub owner_ancestor : {V : Type 0} (h : History V) → Orderly h → (a x : ℕ) → owner_by_steps h a ≡ Some x → is_ancestor h x a ≡ true
-owner_ancestor (Opened n) w a x e = ⊎_elim (λ k. grind (arith, nat_tests)) (λ k. absurd (grind (arith, nat_tests))) (cases_eq a 0)
+pub owner_ancestor : {V : Type 0} (h : History V) → Orderly h → (a x : ℕ) → owner_by_steps h a ≡ Some x
+    → is_ancestor h x a ≡ true
+owner_ancestor (Opened n) w a x e =
+    ⊎_elim (λ k. grind (arith, nat_tests)) (λ k. absurd (grind (arith, nat_tests))) (cases_eq a 0)
 owner_ancestor (Began from ▹ h) w a x e =
     ⊎_elim
-    (λ k. let q : a ≡ x = grind arith in subst (λ u. is_ancestor (Began from ▹ h) u a ≡ true) q (ancestor_self (Began from ▹ h) a))
+    (λ k. let q : a ≡ x = grind arith in
+    subst (λ u. is_ancestor (Began from ▹ h) u a ≡ true) q (ancestor_self (Began from ▹ h) a))
     (λ k. ancestor_old h from x a k.0 (owner_ancestor h w.1 a x (sym k.1 ∙ e)))
     (owner_cases h from a)
 owner_ancestor (Committed s ▹ h) w a x e =
     ⊎_elim
-    (λ k. ancestor_trans h x s a (parents_are_older h w.3) (owned_begun h a s k.0) (subst (λ u. is_ancestor h u s ≡ true) (sym k.1) (parent_is h (parents_are_older h w.3) s w.0 w.1).1) (owner_ancestor h w.3 a s k.0))
+    (λ k. ancestor_trans h x s a (parents_are_older h w.3) (owned_begun h a s k.0)
+    (subst (λ u. is_ancestor h u s ≡ true) (sym k.1) (parent_is h (parents_are_older h w.3) s w.0 w.1).1)
+    (owner_ancestor h w.3 a s k.0))
     (λ k. owner_ancestor h w.3 a x k.0)
     (handed_cases s (parent h s) (owner_by_steps h a) x e)
 owner_ancestor (Aborted z ▹ h) w a x e = owner_ancestor h w.1 a x (kept_cases (is_under h z) (owner_by_steps h a) x e).0
 owner_ancestor (Accessed b o v ▹ h) w a x e = owner_ancestor h w.3 a x e
 
 -- a live ancestor is one of the owner
-ancestor_owner : {V : Type 0} (h : History V) → Orderly h → (a x z : ℕ) → owner_by_steps h a ≡ Some x → stands h z ≡ true → is_ancestor h z a ≡ true → is_ancestor h z x ≡ true
-ancestor_owner (Opened n) w a x z e l m = ⊎_elim (λ k. grind (arith, nat_tests)) (λ k. absurd (grind (arith, nat_tests))) (cases_eq a 0)
+ancestor_owner : {V : Type 0} (h : History V) → Orderly h → (a x z : ℕ) → owner_by_steps h a ≡ Some x
+    → stands h z ≡ true → is_ancestor h z a ≡ true → is_ancestor h z x ≡ true
+ancestor_owner (Opened n) w a x z e l m =
+    ⊎_elim (λ k. grind (arith, nat_tests)) (λ k. absurd (grind (arith, nat_tests))) (cases_eq a 0)
 ancestor_owner (Began from ▹ h) w a x z e l m =
     ⊎_elim
     (λ k. let q : a ≡ x = grind arith in subst (λ u. is_ancestor (Began from ▹ h) z u ≡ true) q m)
     (λ k. let e' = sym k.1 ∙ e in let m' = ancestor_old_is h from z a k.0 m in
-    let al = owned_begun h a x e' in let zl = ancestor_le h z a (parents_are_older h w.1) al m' in let xl = owner_begun h a x (parents_are_older h w.1) e' in
-    let l' : stands h z ≡ true = ⊎_elim (λ q. absurd (omega (arith, q.0))) (λ q. ap (λ o. is_exactly o z) (sym q.1) ∙ l) (owner_cases h from z) in
+    let al = owned_begun h a x e' in let zl = ancestor_le h z a (parents_are_older h w.1) al m' in let xl =
+    owner_begun h a x (parents_are_older h w.1) e' in
+    let l' : stands h z ≡ true =
+    ⊎_elim (λ q. absurd (omega (arith, q.0))) (λ q. ap (λ o. is_exactly o z) (sym q.1) ∙ l)
+    (owner_cases h from z) in
     ancestor_old h from z x (omega arith) (ancestor_owner h w.1 a x z e' l' m'))
     (owner_cases h from a)
 ancestor_owner (Committed s ▹ h) w a x z e l m =
     let f = parents_are_older h w.3 in
     let q = stands_commit h f (stands_upward h w.3) s z w.0 w.1 l in
     ⊎_elim
-    (λ k. subst (λ u. is_ancestor h z u ≡ true) (sym k.1) (above_parent h f s z w.0 w.1 q.1 (ancestor_owner h w.3 a s z k.0 q.0 m)))
+    (λ k. subst (λ u. is_ancestor h z u ≡ true) (sym k.1)
+    (above_parent h f s z w.0 w.1 q.1 (ancestor_owner h w.3 a s z k.0 q.0 m)))
     (λ k. ancestor_owner h w.3 a x z k.0 q.0 m)
     (handed_cases s (parent h s) (owner_by_steps h a) x e)
-ancestor_owner (Aborted y ▹ h) w a x z e l m = ancestor_owner h w.1 a x z (kept_cases (is_under h y) (owner_by_steps h a) x e).0 (stands_abort h y z l).0 m
+ancestor_owner (Aborted y ▹ h) w a x z e l m =
+    ancestor_owner h w.1 a x z (kept_cases (is_under h y) (owner_by_steps h a) x e).0 (stands_abort h y z l).0 m
 ancestor_owner (Accessed b o v ▹ h) w a x z e l m = ancestor_owner h w.3 a x z e l m
 
-aborted_agree : {V : Type 0} (t u : ℕ → Bool) (h : History V) → Orderly h → ((z : ℕ) → z < next_action h → t z ≡ u z) → was_aborted t h ≡ was_aborted u h
+aborted_agree : {V : Type 0} (t u : ℕ → Bool) (h : History V) → Orderly h → ((z : ℕ) → z < next_action h → t z ≡ u z)
+    → was_aborted t h ≡ was_aborted u h
 aborted_agree t u (Opened n) w same = refl
 aborted_agree t u (Began from ▹ h) w same = aborted_agree t u h w.1 (λ z l. same z (omega arith))
 aborted_agree t u (Committed s ▹ h) w same = aborted_agree t u h w.3 same
-aborted_agree t u (Aborted zs ▹ h) w same = ap (λ b. b || was_aborted t h) (any_agree t u zs (λ z m. same z (stands_begun h z (w.0 z m).1))) ∙ ap (λ b. list_any u zs || b) (aborted_agree t u h w.1 same)
+aborted_agree t u (Aborted zs ▹ h) w same =
+    ap (λ b. b || was_aborted t h) (any_agree t u zs (λ z m. same z (stands_begun h z (w.0 z m).1)))
+    ∙ ap (λ b. list_any u zs || b) (aborted_agree t u h w.1 same)
 aborted_agree t u (Accessed a o v ▹ h) w same = aborted_agree t u h w.3 same
 
 gone-handed : (s p : ℕ) (o : Option ℕ) → gone (handed_up s p o) ≡ gone o
 gone-handed s p None = refl
-gone-handed s p (Some x) = ⊎_elim (λ k. ap gone (handed_from s p (Some x) (ap Some k))) (λ k. ap gone (handed_stays s p (Some x) x refl k)) (cases_eq x s)
+gone-handed s p (Some x) =
+    ⊎_elim (λ k. ap gone (handed_from s p (Some x) (ap Some k))) (λ k. ap gone (handed_stays s p (Some x) x refl k))
+    (cases_eq x s)
 
-gone-kept : (lost : ℕ → Bool) (o : Option ℕ) (b : Bool) → ((x : ℕ) → o ≡ Some x → b ≡ lost x) → (b || gone o) ≡ gone (unless_lost lost o)
+gone-kept : (lost : ℕ → Bool) (o : Option ℕ) (b : Bool) → ((x : ℕ) → o ≡ Some x → b ≡ lost x)
+    → (b || gone o) ≡ gone (unless_lost lost o)
 gone-kept lost None true same = refl
 gone-kept lost None false same = refl
 gone-kept lost (Some x) b same =
-    ap (λ q. q || false) (same x refl) ∙ ⊎_elim (λ k. ap (λ q. q || false) k ∙ sym (ap (λ q. gone (cond q None (Some x))) k)) (λ k. ap (λ q. q || false) k ∙ sym (ap (λ q. gone (cond q None (Some x))) k)) (cases_Bool (lost x))
+    ap (λ q. q || false) (same x refl)
+    ∙ ⊎_elim (λ k. ap (λ q. q || false) k ∙ sym (ap (λ q. gone (cond q None (Some x))) k))
+    (λ k. ap (λ q. q || false) k ∙ sym (ap (λ q. gone (cond q None (Some x))) k)) (cases_Bool (lost x))
 
 -- what is doomed has no owner, and nothing else
-doomed_gone : {V : Type 0} (h : History V) → Orderly h → (a : ℕ) → (a ≢ 0 → folded h < a) → a < next_action h → is_doomed h a ≡ gone (owner_by_steps h a)
-doomed_gone (Opened n) w a u l = let e : a ≡ 0 = ⊎_elim (λ k. k) (λ k. let q = u k in absurd (omega arith)) (cases_eq a 0) in sym (ap (λ u. gone (cond (u == 0) (Some 0) None)) e)
+doomed_gone : {V : Type 0} (h : History V) → Orderly h → (a : ℕ) → (a ≢ 0 → folded h < a) → a < next_action h
+    → is_doomed h a ≡ gone (owner_by_steps h a)
+doomed_gone (Opened n) w a u l = let e : a ≡ 0 =
+    ⊎_elim (λ k. k) (λ k. let q = u k in absurd (omega arith)) (cases_eq a 0) in
+    sym (ap (λ u. gone (cond (u == 0) (Some 0) None)) e)
 doomed_gone (Began from ▹ h) w a u l =
     ⊎_elim
     (λ k. ap (λ t. was_aborted (λ z. contains t z) h) k.1
-    ∙ aborted_agree (λ z. contains (a ∷ lineage h (parent_of from)) z) (λ z. is_ancestor h z (parent_of from)) h w.1 (λ z zl. ap (λ b. b || contains (lineage h (parent_of from)) z) (ne_eqb z a (λ q. omega (arith, k.0))))
-    ∙ doomed_gone h w.1 (parent_of from) (λ k. stands_unfolded h (parent_of from) k w.0) (stands_begun h (parent_of from) w.0) ∙ ap gone (at_some (owner_by_steps h (parent_of from)) (parent_of from) w.0)
+    ∙ aborted_agree (λ z. contains (a ∷ lineage h (parent_of from)) z) (λ z. is_ancestor h z (parent_of from)) h w.1
+    (λ z zl. ap (λ b. b || contains (lineage h (parent_of from)) z) (ne_eqb z a (λ q. omega (arith, k.0))))
+    ∙ doomed_gone h w.1 (parent_of from) (λ k. stands_unfolded h (parent_of from) k w.0)
+    (stands_begun h (parent_of from) w.0)
+    ∙ ap gone (at_some (owner_by_steps h (parent_of from)) (parent_of from) w.0)
     ∙ sym (ap (λ b. gone (cond b (Some a) (owner_by_steps h a))) (eq-eqb a (next_action h) k.0)))
     (λ k. ap (λ t. was_aborted (λ z. contains t z) h) k.1
     ∙ doomed_gone h w.1 a u (omega (arith, k.0))
@@ -92,23 +118,31 @@ doomed_gone (Aborted zs ▹ h) w a u l =
     ap (λ b. is_under h zs a || b) (doomed_gone h w.1 a u l)
     ∙ gone-kept (is_under h zs) (owner_by_steps h a) (is_under h zs a)
     (λ x e. any_agree (λ z. is_ancestor h z a) (λ z. is_ancestor h z x) zs
-    (λ z i. same_bool (is_ancestor h z a) (is_ancestor h z x) (λ m. ancestor_owner h w.1 a x z e (w.0 z i).1 m) (λ m. ancestor_trans h z x a (parents_are_older h w.1) l m (owner_ancestor h w.1 a x e))))
+    (λ z i. same_bool (is_ancestor h z a) (is_ancestor h z x) (λ m. ancestor_owner h w.1 a x z e (w.0 z i).1 m)
+    (λ m. ancestor_trans h z x a (parents_are_older h w.1) l m (owner_ancestor h w.1 a x e))))
 doomed_gone (Accessed b o v ▹ h) w a u l = doomed_gone h w.3 a u l
 
 -- what is owned by another has committed
-pub moved : {V : Type 0} (h : History V) → Orderly h → (a x : ℕ) → owner_by_steps h a ≡ Some x → has_committed h a ≡ false → x ≡ a
-moved (Opened m) w a x e n = ⊎_elim (λ k. grind (arith, nat_tests)) (λ k. absurd (grind (arith, nat_tests))) (cases_eq a 0)
-moved (Began from ▹ h) w a x e n = ⊎_elim (λ k. grind arith) (λ k. moved h w.1 a x (sym k.1 ∙ e) n) (owner_cases h from a)
+pub moved : {V : Type 0} (h : History V) → Orderly h → (a x : ℕ) → owner_by_steps h a ≡ Some x
+    → has_committed h a ≡ false → x ≡ a
+moved (Opened m) w a x e n =
+    ⊎_elim (λ k. grind (arith, nat_tests)) (λ k. absurd (grind (arith, nat_tests))) (cases_eq a 0)
+moved (Began from ▹ h) w a x e n =
+    ⊎_elim (λ k. grind arith) (λ k. moved h w.1 a x (sym k.1 ∙ e) n) (owner_cases h from a)
 moved (Committed s ▹ h) w a x e n =
     let q = or_parts (s == a) (has_committed h a) n in
-    ⊎_elim (λ k. absurd (eqb-false s a q.0 (moved h w.3 a s k.0 q.1))) (λ k. moved h w.3 a x k.0 q.1) (handed_cases s (parent h s) (owner_by_steps h a) x e)
+    ⊎_elim (λ k. absurd (eqb-false s a q.0 (moved h w.3 a s k.0 q.1))) (λ k. moved h w.3 a x k.0 q.1)
+    (handed_cases s (parent h s) (owner_by_steps h a) x e)
 moved (Aborted z ▹ h) w a x e n = moved h w.1 a x (kept_cases (is_under h z) (owner_by_steps h a) x e).0 n
 moved (Accessed b o v ▹ h) w a x e n = moved h w.3 a x e n
 
-pub committed_begun : {V : Type 0} (h : History V) → Orderly h → (a : ℕ) → has_committed h a ≡ true → (0 < a) × (a < next_action h)
+pub committed_begun : {V : Type 0} (h : History V) → Orderly h → (a : ℕ) → has_committed h a ≡ true
+    → (0 < a) × (a < next_action h)
 committed_begun (Opened n) w a m = absurd (false≢true m)
 committed_begun (Began from ▹ h) w a m = let k = committed_begun h w.1 a m in (k.0, omega (arith, k.1))
-committed_begun (Committed s ▹ h) w a m = ⊎_elim (λ k. let e = eqb-true s a k in let l = stands_begun h s w.1 in let n = w.0 in (omega arith, omega arith)) (λ k. committed_begun h w.3 a k) (or_cases (s == a) (has_committed h a) m)
+committed_begun (Committed s ▹ h) w a m =
+    ⊎_elim (λ k. let e = eqb-true s a k in let l = stands_begun h s w.1 in let n = w.0 in (omega arith, omega arith))
+    (λ k. committed_begun h w.3 a k) (or_cases (s == a) (has_committed h a) m)
 committed_begun (Aborted z ▹ h) w a m = committed_begun h w.1 a m
 committed_begun (Accessed b o v ▹ h) w a m = committed_begun h w.3 a m
 
@@ -124,14 +158,17 @@ committed_unfolded (Aborted z ▹ h) w a m = committed_unfolded h w.1 a m
 committed_unfolded (Accessed b o v ▹ h) w a m = committed_unfolded h w.3 a m
 
 -- what has committed has its parent's owner
-passed_on : {V : Type 0} (h : History V) → Orderly h → (a : ℕ) → has_committed h a ≡ true → owner_by_steps h a ≡ owner_by_steps h (parent h a)
+passed_on : {V : Type 0} (h : History V) → Orderly h → (a : ℕ) → has_committed h a ≡ true
+    → owner_by_steps h a ≡ owner_by_steps h (parent h a)
 passed_on (Opened n) w a m = absurd (false≢true m)
 passed_on (Began from ▹ h) w a m =
     let b = committed_begun h w.1 a m in
     let pb = parent_begun h a (parents_are_older h w.1) in
     ⊎_elim (λ k. absurd (omega (arith, k.0, b.1)))
     (λ k. ⊎_elim (λ q. absurd (omega (arith, q.0, b.1)))
-    (λ q. k.1 ∙ passed_on h w.1 a m ∙ ⊎_elim (λ r. absurd (omega (arith, r.0))) (λ r. sym r.1) (owner_cases h from (parent h a)) ∙ ap (owner_by_steps (Began from ▹ h)) (sym q.1))
+    (λ q. k.1 ∙ passed_on h w.1 a m
+    ∙ ⊎_elim (λ r. absurd (omega (arith, r.0))) (λ r. sym r.1) (owner_cases h from (parent h a))
+    ∙ ap (owner_by_steps (Began from ▹ h)) (sym q.1))
     (parent_cases h from a))
     (owner_cases h from a)
 passed_on (Committed s ▹ h) w a m =
@@ -141,32 +178,37 @@ passed_on (Committed s ▹ h) w a m =
     let i = parent_is h (parents_are_older h w.3) s w.0 w.1 in
     let op = at_some (owner_by_steps h p) p (stands_upward h w.3 p s w.1 i.1) in
     subst (λ u. handed_up s p (owner_by_steps h u) ≡ handed_up s p (owner_by_steps h (parent h u))) e
-    (handed_from s p (owner_by_steps h s) (at_some (owner_by_steps h s) s w.1) ∙ sym (handed_stays s p (owner_by_steps h p) p op (omega (arith, i.0)))))
+    (handed_from s p (owner_by_steps h s) (at_some (owner_by_steps h s) s w.1)
+    ∙ sym (handed_stays s p (owner_by_steps h p) p op (omega (arith, i.0)))))
     (λ k. ap (handed_up s p) (passed_on h w.3 a k))
     (or_cases (s == a) (has_committed h a) m)
 passed_on (Aborted z ▹ h) w a m = ap (unless_lost (is_under h z)) (passed_on h w.1 a m)
 passed_on (Accessed b o v ▹ h) w a m = passed_on h w.3 a m
 
 -- the owner by the words of its definition
-pub owner_gone : {V : Type 0} (h : History V) → Orderly h → (a : ℕ) → folded h < a → a < next_action h → is_doomed h a ≡ true → owner_by_steps h a ≡ None
+pub owner_gone : {V : Type 0} (h : History V) → Orderly h → (a : ℕ) → folded h < a → a < next_action h
+    → is_doomed h a ≡ true → owner_by_steps h a ≡ None
 owner_gone h w a u l d = none_of (owner_by_steps h a) (sym (doomed_gone h w a (λ k. u) l) ∙ d)
   where
     none_of : (o : Option ℕ) → gone o ≡ true → o ≡ None
     none_of None e = refl
     none_of (Some x) e = absurd (false≢true e)
 
-pub owner_self : {V : Type 0} (h : History V) → Orderly h → (a : ℕ) → folded h < a → a < next_action h → is_doomed h a ≡ false → has_committed h a ≡ false → owner_by_steps h a ≡ Some a
+pub owner_self : {V : Type 0} (h : History V) → Orderly h → (a : ℕ) → folded h < a → a < next_action h
+    → is_doomed h a ≡ false → has_committed h a ≡ false → owner_by_steps h a ≡ Some a
 owner_self h w a u l d n = some_of (owner_by_steps h a) refl (sym (doomed_gone h w a (λ k. u) l) ∙ d)
   where
     some_of : (o : Option ℕ) → owner_by_steps h a ≡ o → gone o ≡ false → owner_by_steps h a ≡ Some a
     some_of None e g = absurd (false≢true (sym g))
     some_of (Some x) e g = e ∙ ap Some (moved h w a x e n)
 
-pub owner_passed : {V : Type 0} (h : History V) → Orderly h → (a : ℕ) → has_committed h a ≡ true → owner_by_steps h a ≡ owner_by_steps h (parent h a)
+pub owner_passed : {V : Type 0} (h : History V) → Orderly h → (a : ℕ) → has_committed h a ≡ true
+    → owner_by_steps h a ≡ owner_by_steps h (parent h a)
 owner_passed h w a m = passed_on h w a m
 
 -- what is live has begun, and is neither committed nor doomed
-pub stands_plain : {V : Type 0} (h : History V) → Orderly h → (a : ℕ) → stands h a ≡ true → (a < next_action h) × (has_committed h a ≡ false) × (is_doomed h a ≡ false)
+pub stands_plain : {V : Type 0} (h : History V) → Orderly h → (a : ℕ) → stands h a ≡ true
+    → (a < next_action h) × (has_committed h a ≡ false) × (is_doomed h a ≡ false)
 stands_plain h w a l =
     let o = at_some (owner_by_steps h a) a l in let b = stands_begun h a l in (
       b,

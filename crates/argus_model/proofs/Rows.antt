@@ -25,34 +25,45 @@ use Rattle.argus_model.proofs.Standing.{Orderly, parents_are_older, stands_begun
 abbrev over : Bool → Bool → Status
 over d c = cond d IsAborted (cond c IsCommitted IsLive)
 
-status_known : {V : Type 0} (h : History V) (a : ℕ) → is_begun h a ≡ true → status h a ≡ over (is_doomed h a) (has_committed h a)
+status_known : {V : Type 0} (h : History V) (a : ℕ) → is_begun h a ≡ true
+    → status h a ≡ over (is_doomed h a) (has_committed h a)
 status_known h a k = ap (λ b. cond b (over (is_doomed h a) (has_committed h a)) IsFolded) k
 
 stands_status : {V : Type 0} (h : History V) → Orderly h → (a : ℕ) → a ≢ 0 → stands h a ≡ true → status h a ≡ IsLive
 stands_status h w a n l =
     let p = stands_plain h w a l in
-    status_known h a (is_begun_from h a (stands_unfolded h a n l) p.0) ∙ ap (λ d. over d (has_committed h a)) p.2 ∙ ap (λ c. over false c) p.1
+    status_known h a (is_begun_from h a (stands_unfolded h a n l) p.0) ∙ ap (λ d. over d (has_committed h a)) p.2
+    ∙ ap (λ c. over false c) p.1
 
-pub status_began_new : {V : Type 0} (h : History V) (from : Origin) (y : ℕ) → Orderly h → stands h (parent_of from) ≡ true → y ≡ next_action h → status (Began from ▹ h) y ≡ IsLive
-status_began_new h from y w lp e = let f = folded_next h in stands_status (Began from ▹ h) (lp, w) y (λ k. omega arith) (stands_new h from y e)
+pub status_began_new : {V : Type 0} (h : History V) (from : Origin) (y : ℕ) → Orderly h
+    → stands h (parent_of from) ≡ true → y ≡ next_action h → status (Began from ▹ h) y ≡ IsLive
+status_began_new h from y w lp e = let f = folded_next h in
+    stands_status (Began from ▹ h) (lp, w) y (λ k. omega arith) (stands_new h from y e)
 
-pub status_began_old : {V : Type 0} (h : History V) (from : Origin) (y : ℕ) → is_begun h y ≡ true → status (Began from ▹ h) y ≡ status h y
+pub status_began_old : {V : Type 0} (h : History V) (from : Origin) (y : ℕ) → is_begun h y ≡ true
+    → status (Began from ▹ h) y ≡ status h y
 status_began_old h from y k =
     let q = is_begun_parts h y k in
-    let d : is_doomed (Began from ▹ h) y ≡ is_doomed h y = ⊎_elim (λ t. absurd (omega (arith, t.0))) (λ t. ap (λ l. was_aborted (λ z. contains l z) h) t.1) (lineage_cases h from y) in
+    let d : is_doomed (Began from ▹ h) y ≡ is_doomed h y =
+    ⊎_elim (λ t. absurd (omega (arith, t.0))) (λ t. ap (λ l. was_aborted (λ z. contains l z) h) t.1)
+    (lineage_cases h from y) in
     status_known (Began from ▹ h) y (is_begun_from (Began from ▹ h) y q.0 (omega (arith, q.1)))
     ∙ ap (λ b. over b (has_committed h y)) d ∙ sym (status_known h y k)
 
-pub status_commit_own : {V : Type 0} (h : History V) (s : ℕ) → Orderly h → s ≢ 0 → stands h s ≡ true → status (Committed s ▹ h) s ≡ IsCommitted
+pub status_commit_own : {V : Type 0} (h : History V) (s : ℕ) → Orderly h → s ≢ 0 → stands h s ≡ true
+    → status (Committed s ▹ h) s ≡ IsCommitted
 status_commit_own h s w s0 l =
     let p = stands_plain h w s l in
     status_known (Committed s ▹ h) s (is_begun_from h s (stands_unfolded h s s0 l) p.0)
-    ∙ ap (λ d. over d ((s == s) || has_committed h s)) p.2 ∙ ap (λ b. over false (b || has_committed h s)) (eq-eqb s s refl)
+    ∙ ap (λ d. over d ((s == s) || has_committed h s)) p.2
+    ∙ ap (λ b. over false (b || has_committed h s)) (eq-eqb s s refl)
 
 pub status_commit_other : {V : Type 0} (h : History V) (s y : ℕ) → y ≢ s → status (Committed s ▹ h) y ≡ status h y
-status_commit_other h s y n = ap (λ b. cond (is_begun h y) (over (is_doomed h y) (b || has_committed h y)) IsFolded) (ne_eqb s y (λ e. n (sym e)))
+status_commit_other h s y n =
+    ap (λ b. cond (is_begun h y) (over (is_doomed h y) (b || has_committed h y)) IsFolded) (ne_eqb s y (λ e. n (sym e)))
 
-pub status_abort : {V : Type 0} (h : History V) (zs : List ℕ) (y : ℕ) → is_begun h y ≡ true → status (Aborted zs ▹ h) y ≡ cond (is_under h zs y) IsAborted (status h y)
+pub status_abort : {V : Type 0} (h : History V) (zs : List ℕ) (y : ℕ) → is_begun h y ≡ true
+    → status (Aborted zs ▹ h) y ≡ cond (is_under h zs y) IsAborted (status h y)
 status_abort h zs y k =
     status_known (Aborted zs ▹ h) y k
     ∙ over_or (is_under h zs y) (is_doomed h y) (has_committed h y)
@@ -63,22 +74,27 @@ status_abort h zs y k =
     over_or false d c = refl
 
 -- rows
-length-mark : (n : ℕ) (which : ℕ → Bool) (s : Status) (rs : List Row) → length (mark n which s rs) ≡ length rs
+pub length-mark : (n : ℕ) (which : ℕ → Bool) (s : Status) (rs : List Row) → length (mark n which s rs) ≡ length rs
 length-mark n which s [] = refl
 length-mark n which s (r ∷ rs) = ap suc (length-mark n which s rs)
 
 pub rows_length : {V : Type 0} (h : History V) → folded h + length (rows h) + 1 ≡ next_action h
 rows_length (Opened n) = omega arith
 rows_length (Began from ▹ h) = let ih = rows_length h in omega arith
-rows_length (Committed s ▹ h) = ap (λ k. folded h + k + 1) (length-mark (folded h) (λ k. k == s) IsCommitted (rows h)) ∙ rows_length h
-rows_length (Aborted zs ▹ h) = ap (λ k. folded h + k + 1) (length-mark (folded h) (λ k. list_any (λ z. is_above (folded h) (rows h) z k) zs) IsAborted (rows h)) ∙ rows_length h
+rows_length (Committed s ▹ h) =
+    ap (λ k. folded h + k + 1) (length-mark (folded h) (λ k. k == s) IsCommitted (rows h)) ∙ rows_length h
+rows_length (Aborted zs ▹ h) =
+    ap (λ k. folded h + k + 1)
+    (length-mark (folded h) (λ k. list_any (λ z. is_above (folded h) (rows h) z k) zs) IsAborted (rows h))
+    ∙ rows_length h
 rows_length (Accessed a o v ▹ h) = rows_length h
 
 abbrev marked : Bool → Status → Option Row → Option Row
 marked b s None = None
 marked b s (Some r) = Some (cond b (with_status s r) r)
 
-row_at-mark : (n : ℕ) (which : ℕ → Bool) (s : Status) (rs : List Row) (a : ℕ) → row_at n (mark n which s rs) a ≡ marked (which a) s (row_at n rs a)
+row_at-mark : (n : ℕ) (which : ℕ → Bool) (s : Status) (rs : List Row) (a : ℕ)
+    → row_at n (mark n which s rs) a ≡ marked (which a) s (row_at n rs a)
 row_at-mark n which s [] a = refl
 row_at-mark n which s (r ∷ rs) a =
     let top = n + length rs + 1 in
@@ -93,15 +109,20 @@ row_at-mark n which s (r ∷ rs) a =
     ∙ sym (ap (λ b. marked (which a) s (cond b (Some r) (row_at n rs a))) (ne_eqb a top ne)))
     (cases_eq a top)
 
-is_above-mark : (n : ℕ) (which : ℕ → Bool) (s : Status) (rs : List Row) (x y : ℕ) → is_above n (mark n which s rs) x y ≡ is_above n rs x y
+is_above-mark : (n : ℕ) (which : ℕ → Bool) (s : Status) (rs : List Row) (x y : ℕ)
+    → is_above n (mark n which s rs) x y ≡ is_above n rs x y
 is_above-mark n which s [] x y = refl
 is_above-mark n which s (r ∷ rs) x y =
     let r' = cond (which (n + length rs + 1)) (with_status s r) r in
     let same : parent_of r'.origin ≡ parent_of r.origin = kept (which (n + length rs + 1)) in
-    ap (λ k. cond (y == n + k + 1) (x == y || is_above n (mark n which s rs) x (parent_of r'.origin)) (is_above n (mark n which s rs) x y)) (length-mark n which s rs)
-    ∙ ap (λ q. cond (y == n + length rs + 1) (x == y || is_above n (mark n which s rs) x q) (is_above n (mark n which s rs) x y)) same
-    ∙ ap (λ b. cond (y == n + length rs + 1) (x == y || b) (is_above n (mark n which s rs) x y)) (is_above-mark n which s rs x (parent_of r.origin))
-    ∙ ap (λ b. cond (y == n + length rs + 1) (x == y || is_above n rs x (parent_of r.origin)) b) (is_above-mark n which s rs x y)
+    ap (λ k. cond (y == n + k + 1) (x == y || is_above n (mark n which s rs) x (parent_of r'.origin))
+    (is_above n (mark n which s rs) x y)) (length-mark n which s rs)
+    ∙ ap (λ q. cond (y == n + length rs + 1) (x == y || is_above n (mark n which s rs) x q)
+    (is_above n (mark n which s rs) x y)) same
+    ∙ ap (λ b. cond (y == n + length rs + 1) (x == y || b) (is_above n (mark n which s rs) x y))
+    (is_above-mark n which s rs x (parent_of r.origin))
+    ∙ ap (λ b. cond (y == n + length rs + 1) (x == y || is_above n rs x (parent_of r.origin)) b)
+    (is_above-mark n which s rs x y)
   where
     kept : (b : Bool) → parent_of (cond b (with_status s r) r).origin ≡ parent_of r.origin
     kept true = refl
@@ -112,37 +133,52 @@ is_above_low : {V : Type 0} (h : History V) (x y : ℕ) → (folded h < y → �
 is_above_low (Opened n) x y u = refl
 is_above_low (Began from ▹ h) x y u =
     let t = rows_length h in
-    ap (λ b. cond b (x == y || is_above (folded h) (rows h) x (parent_of from)) (is_above (folded h) (rows h) x y)) (ne_eqb y (folded h + length (rows h) + 1) (λ e. u (omega arith)))
+    ap (λ b. cond b (x == y || is_above (folded h) (rows h) x (parent_of from)) (is_above (folded h) (rows h) x y))
+    (ne_eqb y (folded h + length (rows h) + 1) (λ e. u (omega arith)))
     ∙ is_above_low h x y u
-is_above_low (Committed s ▹ h) x y u = is_above-mark (folded h) (λ k. k == s) IsCommitted (rows h) x y ∙ is_above_low h x y u
-is_above_low (Aborted zs ▹ h) x y u = is_above-mark (folded h) (λ k. list_any (λ z. is_above (folded h) (rows h) z k) zs) IsAborted (rows h) x y ∙ is_above_low h x y u
+is_above_low (Committed s ▹ h) x y u =
+    is_above-mark (folded h) (λ k. k == s) IsCommitted (rows h) x y ∙ is_above_low h x y u
+is_above_low (Aborted zs ▹ h) x y u =
+    is_above-mark (folded h) (λ k. list_any (λ z. is_above (folded h) (rows h) z k) zs) IsAborted (rows h) x y
+    ∙ is_above_low h x y u
 is_above_low (Accessed a o v ▹ h) x y u = is_above_low h x y u
 
 -- the rows' ancestors are those of the history
-pub is_above_is : {V : Type 0} (h : History V) → Orderly h → (x y : ℕ) → x ≢ 0 → is_begun h y ≡ true → is_above (folded h) (rows h) x y ≡ is_ancestor h x y
-is_above_is {V} (Opened n) w x y x0 k = let q = is_begun_parts {V = V} (Opened n) y k in absurd (omega (arith, q.0, q.1))
+pub is_above_is : {V : Type 0} (h : History V) → Orderly h → (x y : ℕ) → x ≢ 0 → is_begun h y ≡ true
+    → is_above (folded h) (rows h) x y ≡ is_ancestor h x y
+is_above_is {V} (Opened n) w x y x0 k = let q = is_begun_parts {V = V} (Opened n) y k in
+    absurd (omega (arith, q.0, q.1))
 is_above_is (Began from ▹ h) w x y x0 k =
     let q = is_begun_parts (Began from ▹ h) y k in
     let top = rows_length h in
-    let at = λ (b : Bool). cond b (x == y || is_above (folded h) (rows h) x (parent_of from)) (is_above (folded h) (rows h) x y) in
+    let at = λ (b : Bool).
+    cond b (x == y || is_above (folded h) (rows h) x (parent_of from)) (is_above (folded h) (rows h) x y) in
     ⊎_elim
     (λ t. ap at (eq-eqb y (folded h + length (rows h) + 1) (t.0 ∙ sym top))
     ∙ ap (λ b. x == y || b)
     (⊎_elim
-    (λ e. is_above_low h x (parent_of from) (λ l. omega arith) ∙ sym (subst (λ u. is_ancestor h x u ≡ false) (sym e) (ap (λ l. contains l x) (lineage-base h) ∙ ap (λ b. b || false) (ne_eqb x 0 x0))))
-    (λ ne. is_above_is h w.1 x (parent_of from) x0 (is_begun_from h (parent_of from) (stands_unfolded h (parent_of from) ne w.0) (stands_begun h (parent_of from) w.0)))
+    (λ e. is_above_low h x (parent_of from) (λ l. omega arith)
+    ∙ sym (subst (λ u. is_ancestor h x u ≡ false) (sym e)
+    (ap (λ l. contains l x) (lineage-base h) ∙ ap (λ b. b || false) (ne_eqb x 0 x0))))
+    (λ ne. is_above_is h w.1 x (parent_of from) x0
+    (is_begun_from h (parent_of from) (stands_unfolded h (parent_of from) ne w.0)
+    (stands_begun h (parent_of from) w.0)))
     (cases_eq (parent_of from) 0))
     ∙ sym (ap (λ l. contains l x) t.1))
     (λ t. ap at (ne_eqb y (folded h + length (rows h) + 1) (λ e. t.0 (e ∙ top)))
     ∙ is_above_is h w.1 x y x0 (is_begun_from h y q.0 (let u = q.1 in let v = t.0 in omega arith))
     ∙ sym (ap (λ l. contains l x) t.1))
     (lineage_cases h from y)
-is_above_is (Committed s ▹ h) w x y x0 k = is_above-mark (folded h) (λ k. k == s) IsCommitted (rows h) x y ∙ is_above_is h w.3 x y x0 k
-is_above_is (Aborted zs ▹ h) w x y x0 k = is_above-mark (folded h) (λ k. list_any (λ z. is_above (folded h) (rows h) z k) zs) IsAborted (rows h) x y ∙ is_above_is h w.1 x y x0 k
+is_above_is (Committed s ▹ h) w x y x0 k =
+    is_above-mark (folded h) (λ k. k == s) IsCommitted (rows h) x y ∙ is_above_is h w.3 x y x0 k
+is_above_is (Aborted zs ▹ h) w x y x0 k =
+    is_above-mark (folded h) (λ k. list_any (λ z. is_above (folded h) (rows h) z k) zs) IsAborted (rows h) x y
+    ∙ is_above_is h w.1 x y x0 k
 is_above_is (Accessed a o v ▹ h) w x y x0 k = is_above_is h w.3 x y x0 k
 
 -- and each row says what the history says
-pub row_is : {V : Type 0} (h : History V) → Orderly h → (a : ℕ) → is_begun h a ≡ true → row_at (folded h) (rows h) a ≡ Some (row_of h a)
+pub row_is : {V : Type 0} (h : History V) → Orderly h → (a : ℕ) → is_begun h a ≡ true
+    → row_at (folded h) (rows h) a ≡ Some (row_of h a)
 row_is {V} (Opened n) w a k = let q = is_begun_parts {V = V} (Opened n) a k in absurd (omega (arith, q.0, q.1))
 row_is (Began from ▹ h) w a k =
     let g = Began from ▹ h in
@@ -151,11 +187,13 @@ row_is (Began from ▹ h) w a k =
     let row : Row = record { origin = from; status = IsLive } in
     let made : Origin → Status → Option Row = λ x s. Some (record { origin = x; status = s }) in
     ⊎_elim
-    (λ e. ap (λ b. cond b (Some row) (row_at (folded h) (rows h) a)) (eq-eqb a (folded h + length (rows h) + 1) (e ∙ sym top))
+    (λ e. ap (λ b. cond b (Some row) (row_at (folded h) (rows h) a))
+    (eq-eqb a (folded h + length (rows h) + 1) (e ∙ sym top))
     ∙ ap (λ s. made from s) (sym (status_began_new h from a w.1 w.0 e))
     ∙ sym (ap (λ b. made (cond b from (origin h a)) (status g a)) (eq-eqb a (next_action h) e)))
     (λ ne. let old = is_begun_from h a q.0 (let u = q.1 in omega arith) in
-    ap (λ b. cond b (Some row) (row_at (folded h) (rows h) a)) (ne_eqb a (folded h + length (rows h) + 1) (λ e. ne (e ∙ top)))
+    ap (λ b. cond b (Some row) (row_at (folded h) (rows h) a))
+    (ne_eqb a (folded h + length (rows h) + 1) (λ e. ne (e ∙ top)))
     ∙ row_is h w.1 a old
     ∙ ap (λ s. made (origin h a) s) (sym (status_began_old h from a old))
     ∙ sym (ap (λ b. made (cond b from (origin h a)) (status g a)) (ne_eqb a (next_action h) ne)))
@@ -165,20 +203,27 @@ row_is (Committed s ▹ h) w a k =
     row_at-mark (folded h) (λ k. k == s) IsCommitted (rows h) a
     ∙ ap (marked (a == s) IsCommitted) (row_is h w.3 a k)
     ∙ ⊎_elim
-    (λ e. ap (λ b. Some (cond b (with_status IsCommitted (row_of h a)) (row_of h a))) (eq-eqb a s e) ∙ ap made (sym (subst (λ u. status (Committed s ▹ h) u ≡ IsCommitted) (sym e) (status_commit_own h s w.3 w.0 w.1))))
-    (λ ne. ap (λ b. Some (cond b (with_status IsCommitted (row_of h a)) (row_of h a))) (ne_eqb a s ne) ∙ ap made (sym (status_commit_other h s a ne)))
+    (λ e. ap (λ b. Some (cond b (with_status IsCommitted (row_of h a)) (row_of h a))) (eq-eqb a s e)
+    ∙ ap made (sym
+    (subst (λ u. status (Committed s ▹ h) u ≡ IsCommitted) (sym e) (status_commit_own h s w.3 w.0 w.1))))
+    (λ ne. ap (λ b. Some (cond b (with_status IsCommitted (row_of h a)) (row_of h a))) (ne_eqb a s ne)
+    ∙ ap made (sym (status_commit_other h s a ne)))
     (cases_eq a s)
 row_is (Aborted zs ▹ h) w a k =
     let made : Status → Option Row = λ t. Some (record { origin = origin h a; status = t }) in
     let t = list_any (λ z. is_above (folded h) (rows h) z a) zs in
-    let same : t ≡ is_under h zs a = any_agree (λ z. is_above (folded h) (rows h) z a) (λ z. is_ancestor h z a) zs (λ z m. is_above_is h w.1 z a (w.0 z m).0 k) in
+    let same : t ≡ is_under h zs a =
+    any_agree (λ z. is_above (folded h) (rows h) z a) (λ z. is_ancestor h z a) zs
+    (λ z m. is_above_is h w.1 z a (w.0 z m).0 k) in
     row_at-mark (folded h) (λ k. list_any (λ z. is_above (folded h) (rows h) z k) zs) IsAborted (rows h) a
     ∙ ap (marked t IsAborted) (row_is h w.1 a k)
     ∙ ap (λ b. Some (cond b (with_status IsAborted (row_of h a)) (row_of h a))) same
     ∙ pushed (is_under h zs a) made
     ∙ ap made (sym (status_abort h zs a k))
   where
-    pushed : (b : Bool) (made : Status → Option Row) → Some (cond b (with_status IsAborted (row_of h a)) (row_of h a)) ≡ Some (record { origin = origin h a; status = cond b IsAborted (status h a) })
+    pushed : (b : Bool) (made : Status → Option Row)
+        → Some (cond b (with_status IsAborted (row_of h a)) (row_of h a))
+        ≡ Some (record { origin = origin h a; status = cond b IsAborted (status h a) })
     pushed true made = refl
     pushed false made = refl
 row_is (Accessed d o v ▹ h) w a k = row_is h w.3 a k
@@ -189,7 +234,8 @@ parent_of_origin (Opened n) a = refl
 parent_of_origin (Began from ▹ h) a =
     ⊎_elim
     (λ e. ap (λ b. parent_of (cond b from (origin h a))) e ∙ sym (ap (λ b. cond b (parent_of from) (parent h a)) e))
-    (λ e. ap (λ b. parent_of (cond b from (origin h a))) e ∙ parent_of_origin h a ∙ sym (ap (λ b. cond b (parent_of from) (parent h a)) e))
+    (λ e. ap (λ b. parent_of (cond b from (origin h a))) e ∙ parent_of_origin h a
+    ∙ sym (ap (λ b. cond b (parent_of from) (parent h a)) e))
     (cases_Bool (a == next_action h))
 parent_of_origin (Committed s ▹ h) a = parent_of_origin h a
 parent_of_origin (Aborted z ▹ h) a = parent_of_origin h a
@@ -200,7 +246,8 @@ creator_of_origin (Opened n) a = refl
 creator_of_origin (Began from ▹ h) a =
     ⊎_elim
     (λ e. ap (λ b. creator_of (cond b from (origin h a))) e ∙ sym (ap (λ b. cond b (creator_of from) (creator h a)) e))
-    (λ e. ap (λ b. creator_of (cond b from (origin h a))) e ∙ creator_of_origin h a ∙ sym (ap (λ b. cond b (creator_of from) (creator h a)) e))
+    (λ e. ap (λ b. creator_of (cond b from (origin h a))) e ∙ creator_of_origin h a
+    ∙ sym (ap (λ b. cond b (creator_of from) (creator h a)) e))
     (cases_Bool (a == next_action h))
 creator_of_origin (Committed s ▹ h) a = creator_of_origin h a
 creator_of_origin (Aborted z ▹ h) a = creator_of_origin h a
@@ -213,19 +260,33 @@ upto n (suc k) = upto n k ++ (n + k + 1) ∷ []
 
 begun_upto : {V : Type 0} (h : History V) → begun_actions h ≡ upto (folded h) (length (rows h))
 begun_upto (Opened n) = refl
-begun_upto (Began from ▹ h) = ap (λ u. u ++ next_action h ∷ []) (begun_upto h) ∙ ap (λ k. upto (folded h) (length (rows h)) ++ k ∷ []) (sym (rows_length h))
-begun_upto (Committed s ▹ h) = begun_upto h ∙ ap (upto (folded h)) (sym (length-mark (folded h) (λ k. k == s) IsCommitted (rows h)))
-begun_upto (Aborted zs ▹ h) = begun_upto h ∙ ap (upto (folded h)) (sym (length-mark (folded h) (λ k. list_any (λ z. is_above (folded h) (rows h) z k) zs) IsAborted (rows h)))
+begun_upto (Began from ▹ h) =
+    ap (λ u. u ++ next_action h ∷ []) (begun_upto h)
+    ∙ ap (λ k. upto (folded h) (length (rows h)) ++ k ∷ []) (sym (rows_length h))
+begun_upto (Committed s ▹ h) =
+    begun_upto h ∙ ap (upto (folded h)) (sym (length-mark (folded h) (λ k. k == s) IsCommitted (rows h)))
+begun_upto (Aborted zs ▹ h) =
+    begun_upto h
+    ∙ ap (upto (folded h))
+    (sym (length-mark (folded h) (λ k. list_any (λ z. is_above (folded h) (rows h) z k) zs) IsAborted (rows h)))
 begun_upto (Accessed a o v ▹ h) = begun_upto h
 
-under_listed : (n : ℕ) (rs : List Row) (f : ℕ → Row) (a : ℕ) → ((k : ℕ) → n < k → k < n + length rs + 1 → row_at n rs k ≡ Some (f k))
-    → has_live_row rs a ≡ list_any (λ k. is_live_status (f k).status && (parent_of (f k).origin == a || creator_of (f k).origin == a)) (upto n (length rs))
+under_listed : (n : ℕ) (rs : List Row) (f : ℕ → Row) (a : ℕ)
+    → ((k : ℕ) → n < k → k < n + length rs + 1 → row_at n rs k ≡ Some (f k))
+    → has_live_row rs a
+    ≡ list_any (λ k. is_live_status (f k).status && (parent_of (f k).origin == a || creator_of (f k).origin == a))
+    (upto n (length rs))
 under_listed n [] f a each = refl
 under_listed n (r ∷ rs) f a each =
     let t = λ (x : Row). is_live_status x.status && (parent_of x.origin == a || creator_of x.origin == a) in
     let top = n + length rs + 1 in
-    let first : r ≡ f top = unsome r (f top) (sym (ap (λ b. cond b (Some r) (row_at n rs top)) (eq-eqb top top refl)) ∙ each top (omega arith) (omega arith)) in
-    let later : (k : ℕ) → n < k → k < top → row_at n rs k ≡ Some (f k) = λ k l m. sym (ap (λ b. cond b (Some r) (row_at n rs k)) (ne_eqb k top (λ e. omega arith))) ∙ each k l (omega arith) in
+    let first : r ≡ f top =
+    unsome r (f top)
+    (sym (ap (λ b. cond b (Some r) (row_at n rs top)) (eq-eqb top top refl))
+    ∙ each top (omega arith) (omega arith)) in
+    let later : (k : ℕ) → n < k → k < top → row_at n rs k ≡ Some (f k) =
+    λ k l m. sym (ap (λ b. cond b (Some r) (row_at n rs k)) (ne_eqb k top (λ e. omega arith)))
+    ∙ each k l (omega arith) in
     ap (λ b. t r || b) (under_listed n rs f a later)
     ∙ or_comm (t r) (list_any (λ k. t (f k)) (upto n (length rs)))
     ∙ ap (λ b. list_any (λ k. t (f k)) (upto n (length rs)) || b) (ap t first ∙ or_none (t (f top)))
@@ -234,11 +295,14 @@ under_listed n (r ∷ rs) f a each =
     unsome : (x y : Row) → Some x ≡ Some y → x ≡ y
     unsome x y e = ap (λ o. unwrap_or o x) e
 
-live_status_is : {V : Type 0} (h : History V) (k : ℕ) → is_live_status (status h k) ≡ is_live h k
+pub live_status_is : {V : Type 0} (h : History V) (k : ℕ) → is_live_status (status h k) ≡ is_live h k
 live_status_is h k =
     ⊎_elim
-    (λ e. ap (λ b. is_live_status (cond b (over (is_doomed h k) (has_committed h k)) IsFolded)) e ∙ by_tests (is_doomed h k) (has_committed h k) ∙ sym (ap (λ b. b && (not (has_committed h k) && not (is_doomed h k))) e))
-    (λ e. ap (λ b. is_live_status (cond b (over (is_doomed h k) (has_committed h k)) IsFolded)) e ∙ sym (ap (λ b. b && (not (has_committed h k) && not (is_doomed h k))) e))
+    (λ e. ap (λ b. is_live_status (cond b (over (is_doomed h k) (has_committed h k)) IsFolded)) e
+    ∙ by_tests (is_doomed h k) (has_committed h k)
+    ∙ sym (ap (λ b. b && (not (has_committed h k) && not (is_doomed h k))) e))
+    (λ e. ap (λ b. is_live_status (cond b (over (is_doomed h k) (has_committed h k)) IsFolded)) e
+    ∙ sym (ap (λ b. b && (not (has_committed h k) && not (is_doomed h k))) e))
     (cases_Bool (is_begun h k))
   where
     by_tests : (d c : Bool) → is_live_status (over d c) ≡ (not c && not d)
@@ -250,36 +314,55 @@ live_status_is h k =
 -- the rows' live children are those of the history
 pub has_live_row_is : {V : Type 0} (h : History V) → Orderly h → (a : ℕ) → has_live_row (rows h) a ≡ has_live_child h a
 has_live_row_is h w a =
-    under_listed (folded h) (rows h) (row_of h) a (λ k l m. row_is h w k (is_begun_from h k l (subst (λ u. k < u) (rows_length h) m)))
-    ∙ ap (list_any (λ k. is_live_status (status h k) && (parent_of (origin h k) == a || creator_of (origin h k) == a))) (sym (begun_upto h))
-    ∙ any_agree (λ k. is_live_status (status h k) && (parent_of (origin h k) == a || creator_of (origin h k) == a)) (λ k. is_live h k && (parent h k == a || creator h k == a)) (begun_actions h) (λ k m. ap (λ b. b && (parent_of (origin h k) == a || creator_of (origin h k) == a)) (live_status_is h k) ∙ ap (λ b. is_live h k && b) (ap (λ x. (x == a) || (creator_of (origin h k) == a)) (parent_of_origin h k) ∙ ap (λ x. (parent h k == a) || (x == a)) (creator_of_origin h k)))
+    under_listed (folded h) (rows h) (row_of h) a
+    (λ k l m. row_is h w k (is_begun_from h k l (subst (λ u. k < u) (rows_length h) m)))
+    ∙ ap (list_any (λ k. is_live_status (status h k) && (parent_of (origin h k) == a || creator_of (origin h k) == a)))
+    (sym (begun_upto h))
+    ∙ any_agree (λ k. is_live_status (status h k) && (parent_of (origin h k) == a || creator_of (origin h k) == a))
+    (λ k. is_live h k && (parent h k == a || creator h k == a)) (begun_actions h)
+    (λ k m. ap (λ b. b && (parent_of (origin h k) == a || creator_of (origin h k) == a)) (live_status_is h k)
+    ∙ ap (λ b. is_live h k && b)
+    (ap (λ x. (x == a) || (creator_of (origin h k) == a)) (parent_of_origin h k)
+    ∙ ap (λ x. (parent h k == a) || (x == a)) (creator_of_origin h k)))
 
 -- of a number with no row the rows say nothing
-is_above_unbegun : {V : Type 0} (h : History V) (x y : ℕ) → is_begun h y ≡ false → is_above (folded h) (rows h) x y ≡ false
+is_above_unbegun : {V : Type 0} (h : History V) (x y : ℕ) → is_begun h y ≡ false
+    → is_above (folded h) (rows h) x y ≡ false
 is_above_unbegun (Opened n) x y u = refl
 is_above_unbegun (Began from ▹ h) x y u =
     let t = rows_length h in
     let f = folded_next h in
-    let old : is_begun h y ≡ false = false_from_ne_true (is_begun h y) (λ k. let q = is_begun_parts h y k in both_ways (is_begun (Began from ▹ h) y) u (is_begun_from (Began from ▹ h) y q.0 (omega (arith, q.1)))) in
-    let top : y ≢ folded h + length (rows h) + 1 = λ e. both_ways (is_begun (Began from ▹ h) y) u (is_begun_from (Began from ▹ h) y (omega arith) (omega arith)) in
-    ap (λ b. cond b (x == y || is_above (folded h) (rows h) x (parent_of from)) (is_above (folded h) (rows h) x y)) (ne_eqb y (folded h + length (rows h) + 1) top)
+    let old : is_begun h y ≡ false =
+    false_from_ne_true (is_begun h y)
+    (λ k. let q = is_begun_parts h y k in
+    both_ways (is_begun (Began from ▹ h) y) u (is_begun_from (Began from ▹ h) y q.0 (omega (arith, q.1)))) in
+    let top : y ≢ folded h + length (rows h) + 1 =
+    λ e. both_ways (is_begun (Began from ▹ h) y) u (is_begun_from (Began from ▹ h) y (omega arith) (omega arith)) in
+    ap (λ b. cond b (x == y || is_above (folded h) (rows h) x (parent_of from)) (is_above (folded h) (rows h) x y))
+    (ne_eqb y (folded h + length (rows h) + 1) top)
     ∙ is_above_unbegun h x y old
-is_above_unbegun (Committed s ▹ h) x y u = is_above-mark (folded h) (λ k. k == s) IsCommitted (rows h) x y ∙ is_above_unbegun h x y u
-is_above_unbegun (Aborted zs ▹ h) x y u = is_above-mark (folded h) (λ k. list_any (λ z. is_above (folded h) (rows h) z k) zs) IsAborted (rows h) x y ∙ is_above_unbegun h x y u
+is_above_unbegun (Committed s ▹ h) x y u =
+    is_above-mark (folded h) (λ k. k == s) IsCommitted (rows h) x y ∙ is_above_unbegun h x y u
+is_above_unbegun (Aborted zs ▹ h) x y u =
+    is_above-mark (folded h) (λ k. list_any (λ z. is_above (folded h) (rows h) z k) zs) IsAborted (rows h) x y
+    ∙ is_above_unbegun h x y u
 is_above_unbegun (Accessed a o v ▹ h) x y u = is_above_unbegun h x y u
 
 -- the base has no row
-is_above_zero : (n : ℕ) (rs : List Row) (y : ℕ) → is_above n rs 0 y ≡ false
+pub is_above_zero : (n : ℕ) (rs : List Row) (y : ℕ) → is_above n rs 0 y ≡ false
 is_above_zero n [] y = refl
 is_above_zero n (r ∷ rs) y =
     let below = is_above n rs 0 (parent_of r.origin) in
     ⊎_elim
-    (λ e. ap (λ b. cond b (0 == y || below) (is_above n rs 0 y)) (eq-eqb y (n + length rs + 1) e) ∙ ap (λ b. b || below) (ne_eqb 0 y (λ k. omega arith)) ∙ is_above_zero n rs (parent_of r.origin))
-    (λ e. ap (λ b. cond b (0 == y || below) (is_above n rs 0 y)) (ne_eqb y (n + length rs + 1) e) ∙ is_above_zero n rs y)
+    (λ e. ap (λ b. cond b (0 == y || below) (is_above n rs 0 y)) (eq-eqb y (n + length rs + 1) e)
+    ∙ ap (λ b. b || below) (ne_eqb 0 y (λ k. omega arith)) ∙ is_above_zero n rs (parent_of r.origin))
+    (λ e. ap (λ b. cond b (0 == y || below) (is_above n rs 0 y)) (ne_eqb y (n + length rs + 1) e)
+    ∙ is_above_zero n rs y)
     (cases_eq y (n + length rs + 1))
 
 -- an ancestor of what has begun has begun, but for the base
-ancestor_unfolded : {V : Type 0} (h : History V) → Orderly h → (n x y : ℕ) → y < n → folded h < y → y < next_action h → x ≢ 0 → is_ancestor h x y ≡ true → folded h < x
+ancestor_unfolded : {V : Type 0} (h : History V) → Orderly h → (n x y : ℕ) → y < n → folded h < y → y < next_action h
+    → x ≢ 0 → is_ancestor h x y ≡ true → folded h < x
 ancestor_unfolded h w zero x y l u b x0 m = absurd (omega arith)
 ancestor_unfolded h w (suc n) x y l u b x0 m =
     let t = parent_older h y (parents_are_older h w) (omega arith) b in
@@ -287,25 +370,34 @@ ancestor_unfolded h w (suc n) x y l u b x0 m =
     ⊎_elim
     (λ e. subst (λ z. folded h < z) (sym (eqb-true x y e)) u)
     (λ e. ⊎_elim
-    (λ p0. absurd (both_ways (contains (lineage h p) x) (subst (λ z. contains (lineage h z) x ≡ false) (sym p0) (ap (λ k. contains k x) (lineage-base h) ∙ ap (λ b. b || false) (ne_eqb x 0 x0))) e))
+    (λ p0. absurd
+    (both_ways (contains (lineage h p) x)
+    (subst (λ z. contains (lineage h z) x ≡ false) (sym p0)
+    (ap (λ k. contains k x) (lineage-base h) ∙ ap (λ b. b || false) (ne_eqb x 0 x0))) e))
     (λ p0. ancestor_unfolded h w n x p (omega (arith, t.0)) (parent_unfolded h w y u b p0) (omega (arith, t.0)) x0 e)
     (cases_eq p 0))
     (or_cases (x == y) (contains (lineage h p) x) (subst (λ k. contains k x ≡ true) t.1 m))
 
-pub ancestor_begun : {V : Type 0} (h : History V) → Orderly h → (x y : ℕ) → is_begun h y ≡ true → x ≢ 0 → is_ancestor h x y ≡ true → is_begun h x ≡ true
+pub ancestor_begun : {V : Type 0} (h : History V) → Orderly h → (x y : ℕ) → is_begun h y ≡ true → x ≢ 0
+    → is_ancestor h x y ≡ true → is_begun h x ≡ true
 ancestor_begun h w x y k x0 m =
     let q = is_begun_parts h y k in
     let l = ancestor_le h x y (parents_are_older h w) q.1 m in
     is_begun_from h x (ancestor_unfolded h w (suc y) x y (omega arith) q.0 q.1 x0 m) (omega (arith, q.1))
 
-pub is_above_exactly : {V : Type 0} (h : History V) → Orderly h → (x y : ℕ) → is_above (folded h) (rows h) x y ≡ ((is_begun h x && is_begun h y) && is_ancestor h x y)
+pub is_above_exactly : {V : Type 0} (h : History V) → Orderly h → (x y : ℕ)
+    → is_above (folded h) (rows h) x y ≡ ((is_begun h x && is_begun h y) && is_ancestor h x y)
 is_above_exactly h w x y =
     let up = is_above (folded h) (rows h) x y in
     same_bool up ((is_begun h x && is_begun h y) && is_ancestor h x y)
-    (λ m. let x0 : x ≢ 0 = λ e. both_ways up (subst (λ z. is_above (folded h) (rows h) z y ≡ false) (sym e) (is_above_zero (folded h) (rows h) y)) m in
-    let k : is_begun h y ≡ true = ⊎_elim (λ k. k) (λ k. absurd (both_ways up (is_above_unbegun h x y k) m)) (cases_Bool (is_begun h y)) in
+    (λ m. let x0 : x ≢ 0 =
+    λ e. both_ways up
+    (subst (λ z. is_above (folded h) (rows h) z y ≡ false) (sym e) (is_above_zero (folded h) (rows h) y)) m in
+    let k : is_begun h y ≡ true =
+    ⊎_elim (λ k. k) (λ k. absurd (both_ways up (is_above_unbegun h x y k) m)) (cases_Bool (is_begun h y)) in
     let a = sym (is_above_is h w x y x0 k) ∙ m in
-    and_from (is_begun h x && is_begun h y) (is_ancestor h x y) (and_from (is_begun h x) (is_begun h y) (ancestor_begun h w x y k x0 a) k) a)
+    and_from (is_begun h x && is_begun h y) (is_ancestor h x y)
+    (and_from (is_begun h x) (is_begun h y) (ancestor_begun h w x y k x0 a) k) a)
     (λ m. let q = and_parts (is_begun h x && is_begun h y) (is_ancestor h x y) m in
     let r = and_parts (is_begun h x) (is_begun h y) q.0 in
     let b = is_begun_parts h x r.0 in

@@ -8,18 +8,21 @@ use Rattle.argus_model.specs.Work.{Access, content_after, content_before}
 use Rattle.argus_model.specs.WorkSteps.{Replays}
 
 module _ {V C A : Type 0} (meaning : Meaning V C A) (contents : ℕ → C) where
-  run-more : (s : ℕ → C) (es : List (Access V)) (e : Access V) (o : ℕ) → run meaning s (es ++ e ∷ []) o ≡ after_access meaning (run meaning s es) e o
+  run-more : (s : ℕ → C) (es : List (Access V)) (e : Access V) (o : ℕ)
+      → run meaning s (es ++ e ∷ []) o ≡ after_access meaning (run meaning s es) e o
   run-more s [] e o = refl
   run-more s (x ∷ es) e o = run-more (after_access meaning s x) es e o
 
   -- what is left in the end is the content
-  pub run_content : (es : List (Access V)) (o : ℕ) → run meaning contents (reverse es) o ≡ content_after meaning contents o es
+  pub run_content : (es : List (Access V)) (o : ℕ)
+      → run meaning contents (reverse es) o ≡ content_after meaning contents o es
   run_content [] o = refl
   run_content (e ∷ es) o =
       ap (λ l. run meaning contents l o) (reverse-append (e ∷ []) es) ∙ run-more contents (reverse es) e o
       ∙ ap (λ c. cond (e.object == o) (meaning.after e.what c) c) (run_content es o)
 
-  runs-more : (s : ℕ → C) (es : List (Access V)) (e : Access V) → AnswersAgain meaning s es → Fits meaning e.what (run meaning s es e.object) → AnswersAgain meaning s (es ++ e ∷ [])
+  runs-more : (s : ℕ → C) (es : List (Access V)) (e : Access V) → AnswersAgain meaning s es
+      → Fits meaning e.what (run meaning s es e.object) → AnswersAgain meaning s (es ++ e ∷ [])
   runs-more s [] e r f = (f, tt)
   runs-more s (x ∷ es) e r f = (r.0, runs-more (after_access meaning s x) es e r.1 f)
 
@@ -27,9 +30,12 @@ module _ {V C A : Type 0} (meaning : Meaning V C A) (contents : ℕ → C) where
   runs [] r = tt
   runs (e ∷ es) r =
       subst (λ l. AnswersAgain meaning contents l) (sym (reverse-append (e ∷ []) es))
-      (runs-more contents (reverse es) e (runs es r.1) (subst (λ c. Fits meaning e.what c) (sym (run_content es e.object)) r.0))
+      (runs-more contents (reverse es) e (runs es r.1)
+      (subst (λ c. Fits meaning e.what c) (sym (run_content es e.object)) r.0))
 
   -- each access is answered by what went before it
-  pub replays_at : (later : List (Access V)) (e : Access V) (earlier : List (Access V)) → Replays meaning contents (later ++ e ∷ earlier) → Fits meaning e.what (content_before meaning contents e earlier)
+  pub replays_at : (later : List (Access V)) (e : Access V) (earlier : List (Access V))
+      → Replays meaning contents (later ++ e ∷ earlier)
+      → Fits meaning e.what (content_before meaning contents e earlier)
   replays_at [] e earlier r = r.0
   replays_at (x ∷ later) e earlier r = replays_at later e earlier r.1

@@ -40,26 +40,45 @@ serial_to-base h = ap (all_of (work h)) (lineage-base h) ∙ append-nil (work h 
 rest_of : {V : Type 0} (h : History V) → ParentsAreOlder h → (y : ℕ) → y < next_action h → Rest h y
 rest_of h f y l =
     ⊎_elim
-    (λ e. record { rest = []; is = subst (λ u. lineage h u ≡ u ∷ []) (sym e) (lineage-base h); less = λ z m. absurd (false≢true m) })
+    (λ e. record {
+      rest = [];
+      is = subst (λ u. lineage h u ≡ u ∷ []) (sym e) (lineage-base h);
+      less =
+          λ z m. absurd (false≢true m);
+    })
     (λ ne. let w = parent_older h y f (omega arith) l in
-    record { rest = lineage h (parent h y); is = w.1; less = λ z m. let q = ancestor_le h z (parent h y) f (omega arith) m in omega (arith, w.0) })
+    record {
+      rest = lineage h (parent h y);
+      is = w.1;
+      less = λ z m. let q =
+          ancestor_le h z (parent h y) f (omega arith) m in omega (arith, w.0);
+    })
     (cases_eq y 0)
 
 pub base_stands : {V : Type 0} (h : History V) → Orderly h → stands h 0 ≡ true
 base_stands (Opened n) w = refl
 base_stands (Began from ▹ h) w = stands_old h from 0 (let q = next_pos h in omega arith) ∙ base_stands h w.1
-base_stands (Committed s ▹ h) w = some_at (owner_by_steps (Committed s ▹ h) 0) 0 (handed_stays s (parent h s) (owner_by_steps h 0) 0 (at_some (owner_by_steps h 0) 0 (base_stands h w.3)) (λ e. w.0 (sym e)))
+base_stands (Committed s ▹ h) w =
+    some_at (owner_by_steps (Committed s ▹ h) 0) 0
+    (handed_stays s (parent h s) (owner_by_steps h 0) 0 (at_some (owner_by_steps h 0) 0 (base_stands h w.3))
+    (λ e. w.0 (sym e)))
 base_stands (Aborted z ▹ h) w =
-    let k : is_under h z 0 ≡ false = false_from_ne_true (is_under h z 0) (λ m. let u = any_found (λ x. is_ancestor h x 0) z m in let q = ancestor_le h u.0 0 (parents_are_older h w.1) (next_pos h) u.2 in (w.0 u.0 u.1).0 (omega arith)) in
-    some_at (owner_by_steps (Aborted z ▹ h) 0) 0 (kept_stays (is_under h z) (owner_by_steps h 0) 0 (at_some (owner_by_steps h 0) 0 (base_stands h w.1)) k)
+    let k : is_under h z 0 ≡ false =
+    false_from_ne_true (is_under h z 0)
+    (λ m. let u = any_found (λ x. is_ancestor h x 0) z m in let q =
+    ancestor_le h u.0 0 (parents_are_older h w.1) (next_pos h) u.2 in (w.0 u.0 u.1).0 (omega arith)) in
+    some_at (owner_by_steps (Aborted z ▹ h) 0) 0
+    (kept_stays (is_under h z) (owner_by_steps h 0) 0 (at_some (owner_by_steps h 0) 0 (base_stands h w.1)) k)
 base_stands (Accessed a o v ▹ h) w = base_stands h w.3
 
 -- two tests of the owner agree where they agree at each owner
-owner_passes_agree : (t u : ℕ → Bool) (o : Option ℕ) → ((x : ℕ) → o ≡ Some x → t x ≡ u x) → owner_passes t o ≡ owner_passes u o
+owner_passes_agree : (t u : ℕ → Bool) (o : Option ℕ) → ((x : ℕ) → o ≡ Some x → t x ≡ u x)
+    → owner_passes t o ≡ owner_passes u o
 owner_passes_agree t u None a = refl
 owner_passes_agree t u (Some x) a = a x refl
 
-owner_passes_handed : (t u : ℕ → Bool) (s p : ℕ) (o : Option ℕ) → (o ≡ Some s → t s ≡ u p) → ((x : ℕ) → o ≡ Some x → x ≢ s → t x ≡ u x) → owner_passes t o ≡ owner_passes u (handed_up s p o)
+owner_passes_handed : (t u : ℕ → Bool) (s p : ℕ) (o : Option ℕ) → (o ≡ Some s → t s ≡ u p)
+    → ((x : ℕ) → o ≡ Some x → x ≢ s → t x ≡ u x) → owner_passes t o ≡ owner_passes u (handed_up s p o)
 owner_passes_handed t u s p None a b = refl
 owner_passes_handed t u s p (Some x) a b =
     ⊎_elim
@@ -67,7 +86,8 @@ owner_passes_handed t u s p (Some x) a b =
     (λ ne. b x refl ne ∙ sym (ap (owner_passes u) (handed_stays s p (Some x) x refl ne)))
     (cases_eq x s)
 
-owner_passes_kept : (t : ℕ → Bool) (lost : ℕ → Bool) (o : Option ℕ) → ((x : ℕ) → o ≡ Some x → lost x ≡ true → t x ≡ false) → owner_passes t o ≡ owner_passes t (unless_lost lost o)
+owner_passes_kept : (t : ℕ → Bool) (lost : ℕ → Bool) (o : Option ℕ)
+    → ((x : ℕ) → o ≡ Some x → lost x ≡ true → t x ≡ false) → owner_passes t o ≡ owner_passes t (unless_lost lost o)
 owner_passes_kept t lost None a = refl
 owner_passes_kept t lost (Some x) a =
     ⊎_elim
@@ -92,105 +112,153 @@ module _ {V C A : Type 0} (meaning : Meaning V C A) (contents : ℕ → C) where
 
   -- the two invariants, at each live action
   pub record Serial (h : History V) (y : ℕ) : Type 0 where
-    pub sees : (o : ℕ) → content_after meaning contents o (serial_order_to h y) ≡ content_after meaning contents o (visible_accesses h y)
+    pub sees : (o : ℕ)
+        → content_after meaning contents o (serial_order_to h y)
+        ≡ content_after meaning contents o (visible_accesses h y)
     pub replays : Replays meaning contents (serial_order_to h y)
 
   abbrev Serials : History V → Type 0
   Serials h = (y : ℕ) → stands h y ≡ true → Serial h y
 
   -- the same serial order, and the same sight of each object
-  carried : (h g : History V) (x y : ℕ) → serial_order_to g y ≡ serial_order_to h x → ((o : ℕ) → content_after meaning contents o (visible_accesses h x) ≡ content_after meaning contents o (visible_accesses g y)) → Serial h x → Serial g y
+  carried : (h g : History V) (x y : ℕ) → serial_order_to g y ≡ serial_order_to h x
+      → ((o : ℕ) → content_after meaning contents o (visible_accesses h x)
+      ≡ content_after meaning contents o (visible_accesses g y)) → Serial h x → Serial g y
   carried h g x y e v s = record {
     sees = λ o. ap (content_after meaning contents o) e ∙ s.sees o ∙ v o;
     replays = subst (λ es. Replays meaning contents es) (sym e) s.replays;
   }
 
   -- what each live action sees, after one more step
-  pub seen_abort : (h : History V) (z : List ℕ) (y o : ℕ) → Orderly h → stands (Aborted z ▹ h) y ≡ true → content_after meaning contents o (visible_accesses h y) ≡ content_after meaning contents o (visible_accesses (Aborted z ▹ h) y)
+  pub seen_abort : (h : History V) (z : List ℕ) (y o : ℕ) → Orderly h → stands (Aborted z ▹ h) y ≡ true
+      → content_after meaning contents o (visible_accesses h y)
+      ≡ content_after meaning contents o (visible_accesses (Aborted z ▹ h) y)
   seen_abort h z y o w l =
       let k = stands_abort h z y l in
-      accesses_by_agree meaning contents o (λ a. owner_passes (λ x. is_ancestor h x y) (owner_by_steps h a)) (λ a. owner_passes (λ x. is_ancestor h x y) (unless_lost (is_under h z) (owner_by_steps h a))) h
+      accesses_by_agree meaning contents o (λ a. owner_passes (λ x. is_ancestor h x y) (owner_by_steps h a))
+      (λ a. owner_passes (λ x. is_ancestor h x y) (unless_lost (is_under h z) (owner_by_steps h a))) h
       (λ a u. owner_passes_kept (λ x. is_ancestor h x y) (is_under h z) (owner_by_steps h a)
-      (λ x e m. false_from_ne_true (is_ancestor h x y) (λ n. both_ways (is_under h z y) k.1 (under_below h z x y (parents_are_older h w) (stands_begun h y k.0) m n))))
+      (λ x e m. false_from_ne_true (is_ancestor h x y)
+      (λ n. both_ways (is_under h z y) k.1
+      (under_below h z x y (parents_are_older h w) (stands_begun h y k.0) m n))))
 
   after_abort : (h : History V) (z : List ℕ) → Orderly h → Serials h → Serials (Aborted z ▹ h)
-  after_abort h z w ih y l = carried h (Aborted z ▹ h) y y refl (λ o. seen_abort h z y o w l) (ih y (stands_abort h z y l).0)
+  after_abort h z w ih y l =
+      carried h (Aborted z ▹ h) y y refl (λ o. seen_abort h z y o w l) (ih y (stands_abort h z y l).0)
 
   -- the owner of what has an access is as before
-  has_used_owner : (h : History V) (from : Origin) (a o : ℕ) → Orderly h → has_used meaning.writes h a o false ≡ true → owner_by_steps h a ≡ owner_by_steps (Began from ▹ h) a
-  has_used_owner h from a o w u = ⊎_elim (λ k. absurd (let l = has_used_begun meaning.writes h w a o false u in omega (arith, k.0))) (λ k. sym k.1) (owner_cases h from a)
+  has_used_owner : (h : History V) (from : Origin) (a o : ℕ) → Orderly h → has_used meaning.writes h a o false ≡ true
+      → owner_by_steps h a ≡ owner_by_steps (Began from ▹ h) a
+  has_used_owner h from a o w u =
+      ⊎_elim (λ k. absurd (let l = has_used_begun meaning.writes h w a o false u in omega (arith, k.0))) (λ k. sym k.1)
+      (owner_cases h from a)
 
-  pub seen_begin_new : (h : History V) (from : Origin) (y o : ℕ) → Orderly h → y ≡ next_action h → content_after meaning contents o (visible_accesses h (parent_of from)) ≡ content_after meaning contents o (visible_accesses (Began from ▹ h) y)
+  pub seen_begin_new : (h : History V) (from : Origin) (y o : ℕ) → Orderly h → y ≡ next_action h
+      → content_after meaning contents o (visible_accesses h (parent_of from))
+      ≡ content_after meaning contents o (visible_accesses (Began from ▹ h) y)
   seen_begin_new h from y o w k =
       let g = Began from ▹ h in
-      let t : lineage g y ≡ y ∷ lineage h (parent_of from) = ⊎_elim (λ q. q.1) (λ q. absurd (q.0 k)) (lineage_cases h from y) in
-      accesses_by_agree meaning contents o (λ a. owner_passes (λ x. is_ancestor h x (parent_of from)) (owner_by_steps h a)) (λ a. owner_passes (λ x. is_ancestor g x y) (owner_by_steps g a)) h
+      let t : lineage g y ≡ y ∷ lineage h (parent_of from) =
+      ⊎_elim (λ q. q.1) (λ q. absurd (q.0 k)) (lineage_cases h from y) in
+      accesses_by_agree meaning contents o
+      (λ a. owner_passes (λ x. is_ancestor h x (parent_of from)) (owner_by_steps h a))
+      (λ a. owner_passes (λ x. is_ancestor g x y) (owner_by_steps g a)) h
       (λ a u. owner_passes_agree (λ x. is_ancestor h x (parent_of from)) (λ x. is_ancestor g x y) (owner_by_steps h a)
       (λ x e. let xl = owner_begun h a x (parents_are_older h w) e in
       let ne : x == y ≡ false = ne_eqb x y (λ q. omega arith) in
       sym (ap (λ t. contains t x) t ∙ ap (λ b. b || contains (lineage h (parent_of from)) x) ne))
       ∙ ap (owner_passes (λ x. is_ancestor g x y)) (has_used_owner h from a o w u))
 
-  pub seen_begin_old : (h : History V) (from : Origin) (y o : ℕ) → Orderly h → y ≢ next_action h → content_after meaning contents o (visible_accesses h y) ≡ content_after meaning contents o (visible_accesses (Began from ▹ h) y)
+  pub seen_begin_old : (h : History V) (from : Origin) (y o : ℕ) → Orderly h → y ≢ next_action h
+      → content_after meaning contents o (visible_accesses h y)
+      ≡ content_after meaning contents o (visible_accesses (Began from ▹ h) y)
   seen_begin_old h from y o w k =
       let g = Began from ▹ h in
-      accesses_by_agree meaning contents o (λ a. owner_passes (λ x. is_ancestor h x y) (owner_by_steps h a)) (λ a. owner_passes (λ x. is_ancestor g x y) (owner_by_steps g a)) h
-      (λ a u. owner_passes_agree (λ x. is_ancestor h x y) (λ x. is_ancestor g x y) (owner_by_steps h a) (λ x e. sym (ap (λ t. contains t x) (lineage_old h from y k)))
+      accesses_by_agree meaning contents o (λ a. owner_passes (λ x. is_ancestor h x y) (owner_by_steps h a))
+      (λ a. owner_passes (λ x. is_ancestor g x y) (owner_by_steps g a)) h
+      (λ a u. owner_passes_agree (λ x. is_ancestor h x y) (λ x. is_ancestor g x y) (owner_by_steps h a)
+      (λ x e. sym (ap (λ t. contains t x) (lineage_old h from y k)))
       ∙ ap (owner_passes (λ x. is_ancestor g x y)) (has_used_owner h from a o w u))
 
-  after_begin : (h : History V) (from : Origin) → Orderly h → stands h (parent_of from) ≡ true → Serials h → Serials (Began from ▹ h)
+  after_begin : (h : History V) (from : Origin) → Orderly h → stands h (parent_of from) ≡ true → Serials h
+      → Serials (Began from ▹ h)
   after_begin h from w lp ih y l =
       let g = Began from ▹ h in
       ⊎_elim
       (λ k. carried h g (parent_of from) y
-      (ap (all_of (work h)) k.1 ∙ ap (λ es. es ++ serial_order_to h (parent_of from)) (no_work h w y (omega (arith, k.0))))
+      (ap (all_of (work h)) k.1
+      ∙ ap (λ es. es ++ serial_order_to h (parent_of from)) (no_work h w y (omega (arith, k.0))))
       (λ o. seen_begin_new h from y o w k.0) (ih (parent_of from) lp))
-      (λ k. carried h g y y (ap (all_of (work h)) k.1) (λ o. seen_begin_old h from y o w k.0) (ih y (sym (stands_old h from y k.0) ∙ l)))
+      (λ k. carried h g y y (ap (all_of (work h)) k.1) (λ o. seen_begin_old h from y o w k.0)
+      (ih y (sym (stands_old h from y k.0) ∙ l)))
       (lineage_cases h from y)
 
-  pub seen_access_own : (h : History V) (a o : ℕ) (v : V) (i : ℕ) → stands h a ≡ true → content_after meaning contents i (visible_accesses (Accessed a o v ▹ h) a) ≡ cond (o == i) (meaning.after v (content_after meaning contents i (visible_accesses h a))) (content_after meaning contents i (visible_accesses h a))
+  pub seen_access_own : (h : History V) (a o : ℕ) (v : V) (i : ℕ) → stands h a ≡ true
+      → content_after meaning contents i (visible_accesses (Accessed a o v ▹ h) a)
+      ≡ cond (o == i) (meaning.after v (content_after meaning contents i (visible_accesses h a)))
+      (content_after meaning contents i (visible_accesses h a))
   seen_access_own h a o v i la =
       let t = λ (b : ℕ). owner_passes (λ x. is_ancestor h x a) (owner_by_steps h b) in
-      ap (λ b. content_after meaning contents i (cond b (record { object = o; what = v } ∷ accesses_by t h) (accesses_by t h))) (ap (owner_passes (λ x. is_ancestor h x a)) (at_some (owner_by_steps h a) a la) ∙ ancestor_self h a)
+      ap (λ b. content_after meaning contents i
+      (cond b (record { object = o; what = v } ∷ accesses_by t h) (accesses_by t h)))
+      (ap (owner_passes (λ x. is_ancestor h x a)) (at_some (owner_by_steps h a) a la) ∙ ancestor_self h a)
 
-  pub seen_access_other : (h : History V) (a o : ℕ) (v : V) (y i : ℕ) → stands h a ≡ true → (is_ancestor h a y ≡ true → ⊥) → content_after meaning contents i (visible_accesses h y) ≡ content_after meaning contents i (visible_accesses (Accessed a o v ▹ h) y)
+  pub seen_access_other : (h : History V) (a o : ℕ) (v : V) (y i : ℕ) → stands h a ≡ true
+      → (is_ancestor h a y ≡ true → ⊥)
+      → content_after meaning contents i (visible_accesses h y)
+      ≡ content_after meaning contents i (visible_accesses (Accessed a o v ▹ h) y)
   seen_access_other h a o v y i la n =
       let t = λ (b : ℕ). owner_passes (λ x. is_ancestor h x y) (owner_by_steps h b) in
-      sym (ap (λ b. content_after meaning contents i (cond b (record { object = o; what = v } ∷ accesses_by t h) (accesses_by t h))) (ap (owner_passes (λ x. is_ancestor h x y)) (at_some (owner_by_steps h a) a la) ∙ false_from_ne_true (is_ancestor h a y) n))
+      sym (ap (λ b.
+      content_after meaning contents i
+      (cond b (record { object = o; what = v } ∷ accesses_by t h) (accesses_by t h)))
+      (ap (owner_passes (λ x. is_ancestor h x y)) (at_some (owner_by_steps h a) a la)
+      ∙ false_from_ne_true (is_ancestor h a y) n))
 
-  access_here : (h : History V) (a o : ℕ) (v : V) → Orderly h → stands h a ≡ true → Fits meaning v (content_after meaning contents o (visible_accesses h a)) → Serials h → Serial (Accessed a o v ▹ h) a
+  access_here : (h : History V) (a o : ℕ) (v : V) → Orderly h → stands h a ≡ true
+      → Fits meaning v (content_after meaning contents o (visible_accesses h a)) → Serials h
+      → Serial (Accessed a o v ▹ h) a
   access_here h a o v w la q ih =
       let g = Accessed a o v ▹ h in
       let e : Access V = record { object = o; what = v } in
       let s = ih a la in
       let r = rest_of h (parents_are_older h w) a (stands_begun h a la) in
       let rest_same : all_of (work g) r.rest ≡ all_of (work h) r.rest =
-      all_of_agree (work g) (work h) r.rest (λ z m. let lz = r.less z m in ap (λ b. cond b (e ∷ work h z) (work h z)) (ne_eqb a z (λ k. omega arith))) in
+      all_of_agree (work g) (work h) r.rest
+      (λ z m. let lz = r.less z m in ap (λ b. cond b (e ∷ work h z) (work h z)) (ne_eqb a z (λ k. omega arith))) in
       let same : serial_order_to g a ≡ e ∷ serial_order_to h a =
       ap (all_of (work g)) r.is
       ∙ ap (λ b. cond b (e ∷ work h a) (work h a) ++ all_of (work g) r.rest) (eq-eqb a a refl)
       ∙ ap (λ es. e ∷ (work h a ++ es)) rest_same
       ∙ ap (λ es. e ∷ es) (sym (ap (all_of (work h)) r.is)) in
       record {
-        sees = λ i. ap (content_after meaning contents i) same ∙ ap (λ c. cond (o == i) (meaning.after v c) c) (s.sees i) ∙ sym (seen_access_own h a o v i la);
-        replays = subst (λ es. Replays meaning contents es) (sym same) (subst (Fits meaning v) (sym (s.sees o)) q, s.replays);
+        sees = λ i. ap (content_after meaning contents i) same
+            ∙ ap (λ c. cond (o == i) (meaning.after v c) c) (s.sees i) ∙ sym (seen_access_own h a o v i la);
+        replays = subst (λ es. Replays meaning contents es) (sym same)
+            (subst (Fits meaning v) (sym (s.sees o)) q, s.replays);
       }
 
-  after_access : (h : History V) (a o : ℕ) (v : V) → Orderly h → stands h a ≡ true → standing_child h a h ≡ false → Fits meaning v (content_after meaning contents o (visible_accesses h a)) → Serials h → Serials (Accessed a o v ▹ h)
+  after_access : (h : History V) (a o : ℕ) (v : V) → Orderly h → stands h a ≡ true → standing_child h a h ≡ false
+      → Fits meaning v (content_after meaning contents o (visible_accesses h a)) → Serials h
+      → Serials (Accessed a o v ▹ h)
   after_access h a o v w la n q ih y l =
       let g = Accessed a o v ▹ h in
       let e : Access V = record { object = o; what = v } in
       ⊎_elim
       (λ k. subst (λ u. Serial g u) k (access_here h a o v w la q ih))
       (λ k.
-      let not_above : is_ancestor h a y ≡ true → ⊥ = λ m. k (alone h (parents_are_older h w) (stands_upward h w) a y l m n) in
+      let not_above : is_ancestor h a y ≡ true → ⊥ =
+      λ m. k (alone h (parents_are_older h w) (stands_upward h w) a y l m n) in
       carried h g y y
-      (all_of_agree (work g) (work h) (lineage h y) (λ z m. ap (λ b. cond b (e ∷ work h z) (work h z)) (ne_eqb a z (λ i. not_above (subst (λ u. is_ancestor h u y ≡ true) (sym i) m)))))
+      (all_of_agree (work g) (work h) (lineage h y)
+      (λ z m. ap (λ b. cond b (e ∷ work h z) (work h z))
+      (ne_eqb a z (λ i. not_above (subst (λ u. is_ancestor h u y ≡ true) (sym i) m)))))
       (λ i. seen_access_other h a o v y i la not_above)
       (ih y l))
       (cases_eq a y)
 
-  module _ (h : History V) (s y : ℕ) (w : Orderly h) (gd : Guarded meaning.writes h) (s0 : s ≢ 0) (ls : stands h s ≡ true) (n : standing_child h s h ≡ false) (ly : stands h y ≡ true) (ne : y ≢ s) where
+  module _ (h : History V) (s y : ℕ) (w : Orderly h) (gd : Guarded meaning.writes h) (s0 : s ≢ 0)
+      (ls : stands h s ≡ true) (n : standing_child h s h ≡ false) (ly : stands h y ≡ true) (ne : y ≢ s) where
     not_below : is_ancestor h s y ≡ true → ⊥
     not_below m = ne (sym (alone h (parents_are_older h w) (stands_upward h w) s y ly m n))
 
@@ -210,16 +278,22 @@ module _ {V C A : Type 0} (meaning : Meaning V C A) (contents : ℕ → C) where
         let r = rest_of h (parents_are_older h w) p (parent_begun h s (parents_are_older h w)) in
         ap (all_of (work g)) r.is
         ∙ ap (λ b. cond b (work h s ++ work h p) (work h p) ++ all_of (work g) r.rest) (eq-eqb p p refl)
-        ∙ ap (λ es. (work h s ++ work h p) ++ es) (all_of_agree (work g) (work h) r.rest (λ z m. work_stays z (λ k. let lz = r.less z m in omega arith)))
+        ∙ ap (λ es. (work h s ++ work h p) ++ es)
+        (all_of_agree (work g) (work h) r.rest (λ z m. work_stays z (λ k. let lz = r.less z m in omega arith)))
         ∙ append_assoc (work h s) (work h p) (all_of (work h) r.rest)
         ∙ ap (λ es. work h s ++ es) (sym (ap (all_of (work h)) r.is))
         ∙ sym serial_s
 
     -- where no writer is owned by s
-    spared : (o : ℕ) → ((a : ℕ) → has_used meaning.writes h a o false ≡ true → owner_by_steps h a ≢ Some s) → content_after meaning contents o (serial_order_to h (parent h s)) ≡ content_after meaning contents o (serial_order_to h s)
+    spared : (o : ℕ) → ((a : ℕ) → has_used meaning.writes h a o false ≡ true → owner_by_steps h a ≢ Some s)
+        → content_after meaning contents o (serial_order_to h (parent h s))
+        ≡ content_after meaning contents o (serial_order_to h s)
     spared o none =
-        let k : touches meaning.writes (work h s) o false ≡ false = false_from_ne_true (touches meaning.writes (work h s) o false) (λ m. let u = user_of meaning.writes h w s o false ls m in none u.action u.uses u.owned) in
-        sym (ap (content_after meaning contents o) serial_s ∙ content_past meaning contents o (work h s) (serial_order_to h (parent h s)) k)
+        let k : touches meaning.writes (work h s) o false ≡ false =
+        false_from_ne_true (touches meaning.writes (work h s) o false)
+        (λ m. let u = user_of meaning.writes h w s o false ls m in none u.action u.uses u.owned) in
+        sym (ap (content_after meaning contents o) serial_s
+        ∙ content_past meaning contents o (work h s) (serial_order_to h (parent h s)) k)
 
     module _ (above : is_ancestor h (parent h s) y ≡ true) where
       cut : Split (lineage h y) (lineage h (parent h s)) (parent h s)
@@ -239,66 +313,93 @@ module _ {V C A : Type 0} (meaning : Meaning V C A) (contents : ℕ → C) where
           let p = parent h s in let g = Committed s ▹ h in
           ap (all_of (work g)) cut.is
           ∙ all_of-append (work g) cut.front (lineage h p)
-          ∙ ap (λ es. es ++ all_of (work g) (lineage h p)) (all_of_agree (work g) (work h) cut.front (λ z m. work_stays z (λ k. let lz = cut.above z m in omega arith)))
+          ∙ ap (λ es. es ++ all_of (work g) (lineage h p))
+          (all_of_agree (work g) (work h) cut.front
+          (λ z m. work_stays z (λ k. let lz = cut.above z m in omega arith)))
           ∙ ap (λ es. all_of (work h) cut.front ++ es) serial_p
 
       -- what a writer that s owns wrote, no one between has touched
-      apart : (o a : ℕ) → has_used meaning.writes h a o false ≡ true → owner_by_steps h a ≡ Some s → touches meaning.writes between o true ≡ false
+      apart : (o a : ℕ) → has_used meaning.writes h a o false ≡ true → owner_by_steps h a ≡ Some s
+          → touches meaning.writes between o true ≡ false
       unfolding between
       apart o a ua ea = false_from_ne_true (touches meaning.writes between o true) (λ m.
           let t = touches-all_of meaning.writes (work h) cut.front o true m in
           let z = t.by in
-          let az : is_ancestor h z y ≡ true = subst (λ es. contains es z ≡ true) (sym cut.is) (joined_left cut.front (lineage h (parent h s)) z t.among) in
+          let az : is_ancestor h z y ≡ true =
+          subst (λ es. contains es z ≡ true) (sym cut.is)
+          (joined_left cut.front (lineage h (parent h s)) z t.among) in
           let lz = stands_upward h w z y ly az in
           let u = user_of meaning.writes h w z o true lz t.touch in
           let zs : z ≢ s = λ e. not_below (subst (λ q. is_ancestor h q y ≡ true) e az) in
           ⊎_elim
           (λ k. zs (sym (alone h (parents_are_older h w) (stands_upward h w) s z lz k n)))
-          (λ k. let q = ancestor_le h z (parent h s) (parents_are_older h w) (parent_begun h s (parents_are_older h w)) (above_parent h (parents_are_older h w) s z s0 ls zs k) in let b = cut.above z t.among in omega arith)
+          (λ k. let q =
+          ancestor_le h z (parent h s) (parents_are_older h w) (parent_begun h s (parents_are_older h w))
+          (above_parent h (parents_are_older h w) s z s0 ls zs k) in let b = cut.above z t.among in omega arith)
           (exclusion meaning.writes h w gd a u.action o s z ua u.uses ea u.owned))
 
-      pub seen_same : (o : ℕ) → ((a : ℕ) → has_used meaning.writes h a o false ≡ true → owner_by_steps h a ≢ Some s) → content_after meaning contents o (visible_accesses h y) ≡ content_after meaning contents o (visible_accesses (Committed s ▹ h) y)
+      pub seen_same : (o : ℕ) → ((a : ℕ) → has_used meaning.writes h a o false ≡ true → owner_by_steps h a ≢ Some s)
+          → content_after meaning contents o (visible_accesses h y)
+          ≡ content_after meaning contents o (visible_accesses (Committed s ▹ h) y)
       seen_same o none =
-          accesses_by_agree meaning contents o (λ a. owner_passes (λ x. is_ancestor h x y) (owner_by_steps h a)) (λ a. owner_passes (λ x. is_ancestor h x y) (handed_up s (parent h s) (owner_by_steps h a))) h
-          (λ a u. owner_passes_handed (λ x. is_ancestor h x y) (λ x. is_ancestor h x y) s (parent h s) (owner_by_steps h a) (λ e. absurd (none a u e)) (λ x e k. refl))
+          accesses_by_agree meaning contents o (λ a. owner_passes (λ x. is_ancestor h x y) (owner_by_steps h a))
+          (λ a. owner_passes (λ x. is_ancestor h x y) (handed_up s (parent h s) (owner_by_steps h a))) h
+          (λ a u. owner_passes_handed (λ x. is_ancestor h x y) (λ x. is_ancestor h x y) s (parent h s)
+          (owner_by_steps h a) (λ e. absurd (none a u e)) (λ x e k. refl))
 
-      pub seen_as_s : (o a : ℕ) → has_used meaning.writes h a o false ≡ true → owner_by_steps h a ≡ Some s → content_after meaning contents o (visible_accesses h s) ≡ content_after meaning contents o (visible_accesses (Committed s ▹ h) y)
+      pub seen_as_s : (o a : ℕ) → has_used meaning.writes h a o false ≡ true → owner_by_steps h a ≡ Some s
+          → content_after meaning contents o (visible_accesses h s)
+          ≡ content_after meaning contents o (visible_accesses (Committed s ▹ h) y)
       seen_as_s o a ua ea =
           let f = parents_are_older h w in let p = parent h s in let yl = stands_begun h y ly in
-          accesses_by_agree meaning contents o (λ b. owner_passes (λ x. is_ancestor h x s) (owner_by_steps h b)) (λ b. owner_passes (λ x. is_ancestor h x y) (handed_up s p (owner_by_steps h b))) h
+          accesses_by_agree meaning contents o (λ b. owner_passes (λ x. is_ancestor h x s) (owner_by_steps h b))
+          (λ b. owner_passes (λ x. is_ancestor h x y) (handed_up s p (owner_by_steps h b))) h
           (λ b u. owner_passes_handed (λ x. is_ancestor h x s) (λ x. is_ancestor h x y) s p (owner_by_steps h b)
           (λ e. ancestor_self h s ∙ sym above)
           (λ x e k. same_bool (is_ancestor h x s) (is_ancestor h x y)
           (λ m. ancestor_trans h x p y f yl (above_parent h f s x s0 ls k m) above)
-          (λ m. ⊎_elim (λ q. absurd (not_below (ancestor_trans h s x y f yl q m))) (λ q. q) (exclusion meaning.writes h w gd a b o s x ua (has_used_all meaning.writes h b o true u) ea e))))
+          (λ m. ⊎_elim (λ q. absurd (not_below (ancestor_trans h s x y f yl q m))) (λ q. q)
+          (exclusion meaning.writes h w gd a b o s x ua (has_used_all meaning.writes h b o true u) ea e))))
 
       commit_above : Serials h → Serial (Committed s ▹ h) y
       commit_above ih = record {
         sees = λ o. ap (content_after meaning contents o) serial_after ∙ ⊎_elim
-            (λ k. content_past meaning contents o between (serial_order_to h s) (touches_all meaning.writes between o (apart o k.0 k.1 k.2)) ∙ (ih s ls).sees o ∙ seen_as_s o k.0 k.1 k.2)
-            (λ none. content_front meaning contents o between (serial_order_to h s) (serial_order_to h (parent h s)) (sym (spared o none)) ∙ sym (ap (content_after meaning contents o) serial_before) ∙ (ih y ly).sees o ∙ seen_same o none)
+            (λ k. content_past meaning contents o between (serial_order_to h s)
+            (touches_all meaning.writes between o (apart o k.0 k.1 k.2)) ∙ (ih s ls).sees o
+            ∙ seen_as_s o k.0 k.1 k.2)
+            (λ none. content_front meaning contents o between (serial_order_to h s) (serial_order_to h (parent h s))
+            (sym (spared o none)) ∙ sym (ap (content_after meaning contents o) serial_before) ∙ (ih y ly).sees o
+            ∙ seen_same o none)
             (find_writer meaning.writes h h s o);
         replays = subst (λ es. Replays meaning contents es) (sym serial_after)
             (replays_on meaning contents between (serial_order_to h (parent h s)) (serial_order_to h s)
-            (λ o m. ⊎_elim (λ k. absurd (both_ways (touches meaning.writes between o true) (apart o k.0 k.1 k.2) m)) (λ none. spared o none) (find_writer meaning.writes h h s o))
+            (λ o m. ⊎_elim (λ k. absurd (both_ways (touches meaning.writes between o true) (apart o k.0 k.1 k.2) m))
+            (λ none. spared o none) (find_writer meaning.writes h h s o))
             (subst (λ es. Replays meaning contents es) serial_before (ih y ly).replays)
             (ih s ls).replays);
       }
 
-    pub seen_aside : is_ancestor h (parent h s) y ≡ false → (o : ℕ) → content_after meaning contents o (visible_accesses h y) ≡ content_after meaning contents o (visible_accesses (Committed s ▹ h) y)
+    pub seen_aside : is_ancestor h (parent h s) y ≡ false → (o : ℕ)
+        → content_after meaning contents o (visible_accesses h y)
+        ≡ content_after meaning contents o (visible_accesses (Committed s ▹ h) y)
     seen_aside off o =
-        accesses_by_agree meaning contents o (λ a. owner_passes (λ x. is_ancestor h x y) (owner_by_steps h a)) (λ a. owner_passes (λ x. is_ancestor h x y) (handed_up s (parent h s) (owner_by_steps h a))) h
-        (λ a u. owner_passes_handed (λ x. is_ancestor h x y) (λ x. is_ancestor h x y) s (parent h s) (owner_by_steps h a) (λ e. false_from_ne_true (is_ancestor h s y) not_below ∙ sym off) (λ x e k. refl))
+        accesses_by_agree meaning contents o (λ a. owner_passes (λ x. is_ancestor h x y) (owner_by_steps h a))
+        (λ a. owner_passes (λ x. is_ancestor h x y) (handed_up s (parent h s) (owner_by_steps h a))) h
+        (λ a u. owner_passes_handed (λ x. is_ancestor h x y) (λ x. is_ancestor h x y) s (parent h s)
+        (owner_by_steps h a) (λ e. false_from_ne_true (is_ancestor h s y) not_below ∙ sym off) (λ x e k. refl))
 
     commit_aside : is_ancestor h (parent h s) y ≡ false → Serials h → Serial (Committed s ▹ h) y
     commit_aside off ih =
         let p = parent h s in
         carried h (Committed s ▹ h) y y
-        (all_of_agree (work (Committed s ▹ h)) (work h) (lineage h y) (λ z m. work_stays z (λ e. both_ways (is_ancestor h p y) off (subst (λ u. is_ancestor h u y ≡ true) (sym e) m))))
+        (all_of_agree (work (Committed s ▹ h)) (work h) (lineage h y)
+        (λ z m. work_stays z
+        (λ e. both_ways (is_ancestor h p y) off (subst (λ u. is_ancestor h u y ≡ true) (sym e) m))))
         (seen_aside off)
         (ih y ly)
 
-  after_commit : (h : History V) (s : ℕ) → Orderly h → Guarded meaning.writes h → s ≢ 0 → stands h s ≡ true → standing_child h s h ≡ false → Serials h → Serials (Committed s ▹ h)
+  after_commit : (h : History V) (s : ℕ) → Orderly h → Guarded meaning.writes h → s ≢ 0 → stands h s ≡ true
+      → standing_child h s h ≡ false → Serials h → Serials (Committed s ▹ h)
   after_commit h s w g s0 ls n ih y l =
       let k = stands_commit h (parents_are_older h w) (stands_upward h w) s y s0 ls l in
       ⊎_elim
@@ -308,7 +409,8 @@ module _ {V C A : Type 0} (meaning : Meaning V C A) (contents : ℕ → C) where
 
   pub serials : (h : History V) → LawfulSteps meaning contents h → Serials h
   serials (Opened n) w = λ y l.
-      let b : y ≡ 0 = let o = at_some (owner_by_steps {V = V} (Opened n) y) y l in ⊎_elim (λ e. e) (λ ne. absurd (grind (arith, nat_tests))) (cases_eq y 0) in
+      let b : y ≡ 0 = let o = at_some (owner_by_steps {V = V} (Opened n) y) y l in
+      ⊎_elim (λ e. e) (λ ne. absurd (grind (arith, nat_tests))) (cases_eq y 0) in
       subst (λ u. Serial (Opened n) u) (sym b) (record { sees = λ o. refl; replays = tt })
   serials (Began from ▹ h) w = after_begin h from (orderly h w.1) w.0 (serials h w.1)
   serials (Committed s ▹ h) w = after_commit h s (orderly h w.3) (guarded h w.3) w.0 w.1 w.2 (serials h w.3)

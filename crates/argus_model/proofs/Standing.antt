@@ -14,9 +14,11 @@ use Rattle.argus_model.proofs.Ancestors.{ParentsAreOlder, ancestor_new_is, ances
 abbrev pub Orderly : {V : Type 0} → History V → Type 0
 Orderly (Opened n) = Unit {0}
 Orderly (Began from ▹ older) = (stands older (parent_of from) ≡ true) × Orderly older
-Orderly (Committed s ▹ older) = (s ≢ 0) × (stands older s ≡ true) × (standing_child older s older ≡ false) × Orderly older
+Orderly (Committed s ▹ older) =
+    (s ≢ 0) × (stands older s ≡ true) × (standing_child older s older ≡ false) × Orderly older
 Orderly (Aborted zs ▹ older) = AllStand older zs × Orderly older
-Orderly (Accessed a o v ▹ older) = (stands older a ≡ true) × (standing_child older a older ≡ false) × (a ≢ 0) × Orderly older
+Orderly (Accessed a o v ▹ older) =
+    (stands older a ≡ true) × (standing_child older a older ≡ false) × (a ≢ 0) × Orderly older
 
 pub at_some : (o : Option ℕ) (y : ℕ) → is_exactly o y ≡ true → o ≡ Some y
 at_some None y e = absurd (false≢true e)
@@ -25,9 +27,12 @@ at_some (Some x) y e = ap Some (eqb-true x y e)
 pub some_at : (o : Option ℕ) (y : ℕ) → o ≡ Some y → is_exactly o y ≡ true
 some_at o y e = rw e (eq-eqb y y refl)
 
-pub handed_cases : (s p : ℕ) (o : Option ℕ) (x : ℕ) → handed_up s p o ≡ Some x → ((o ≡ Some s) × (x ≡ p)) ⊎ ((o ≡ Some x) × (x ≢ s))
+pub handed_cases : (s p : ℕ) (o : Option ℕ) (x : ℕ) → handed_up s p o ≡ Some x
+    → ((o ≡ Some s) × (x ≡ p)) ⊎ ((o ≡ Some x) × (x ≢ s))
 handed_cases s p None x e = grind arith
-handed_cases s p (Some y) x e = ⊎_elim (λ k. inl (ap Some k, grind (arith, nat_tests))) (λ k. inr (grind (arith, nat_tests), grind (arith, nat_tests))) (cases_eq y s)
+handed_cases s p (Some y) x e =
+    ⊎_elim (λ k. inl (ap Some k, grind (arith, nat_tests)))
+    (λ k. inr (grind (arith, nat_tests), grind (arith, nat_tests))) (cases_eq y s)
 
 pub handed_from : (s p : ℕ) (o : Option ℕ) → o ≡ Some s → handed_up s p o ≡ Some p
 handed_from s p o e = grind (arith, nat_tests)
@@ -35,29 +40,41 @@ handed_from s p o e = grind (arith, nat_tests)
 pub handed_stays : (s p : ℕ) (o : Option ℕ) (x : ℕ) → o ≡ Some x → x ≢ s → handed_up s p o ≡ Some x
 handed_stays s p o x e ne = grind (arith, nat_tests)
 
-pub kept_cases : (lost : ℕ → Bool) (o : Option ℕ) (x : ℕ) → unless_lost lost o ≡ Some x → (o ≡ Some x) × (lost x ≡ false)
+pub kept_cases : (lost : ℕ → Bool) (o : Option ℕ) (x : ℕ) → unless_lost lost o ≡ Some x
+    → (o ≡ Some x) × (lost x ≡ false)
 kept_cases lost None x e = grind arith
-kept_cases lost (Some y) x e = ⊎_elim (λ k. absurd (grind arith)) (λ k. (grind arith, grind arith)) (cases_Bool (lost y))
+kept_cases lost (Some y) x e =
+    ⊎_elim (λ k. absurd (grind arith)) (λ k. (grind arith, grind arith)) (cases_Bool (lost y))
 
 pub kept_stays : (lost : ℕ → Bool) (o : Option ℕ) (x : ℕ) → o ≡ Some x → lost x ≡ false → unless_lost lost o ≡ Some x
 kept_stays lost o x e n = grind arith
 
-pub owner_cases : {V : Type 0} (h : History V) (from : Origin) (y : ℕ) → ((y ≡ next_action h) × (owner_by_steps (Began from ▹ h) y ≡ Some y)) ⊎ ((y ≢ next_action h) × (owner_by_steps (Began from ▹ h) y ≡ owner_by_steps h y))
+pub owner_cases : {V : Type 0} (h : History V) (from : Origin) (y : ℕ)
+    → ((y ≡ next_action h) × (owner_by_steps (Began from ▹ h) y ≡ Some y))
+    ⊎ ((y ≢ next_action h) × (owner_by_steps (Began from ▹ h) y ≡ owner_by_steps h y))
 owner_cases h from y = grind (arith, nat_tests)
 
 -- only what has begun has an owner
 pub owned_begun : {V : Type 0} (h : History V) (y x : ℕ) → owner_by_steps h y ≡ Some x → y < next_action h
 owned_begun (Opened n) y x e = ⊎_elim (λ k. omega arith) (λ k. absurd (grind (arith, nat_tests))) (cases_eq y 0)
-owned_begun (Began from ▹ h) y x e = ⊎_elim (λ k. omega (arith, k.0)) (λ k. let l = owned_begun h y x (sym k.1 ∙ e) in omega arith) (owner_cases h from y)
-owned_begun (Committed s ▹ h) y x e = ⊎_elim (λ k. owned_begun h y s k.0) (λ k. owned_begun h y x k.0) (handed_cases s (parent h s) (owner_by_steps h y) x e)
+owned_begun (Began from ▹ h) y x e =
+    ⊎_elim (λ k. omega (arith, k.0)) (λ k. let l = owned_begun h y x (sym k.1 ∙ e) in omega arith)
+    (owner_cases h from y)
+owned_begun (Committed s ▹ h) y x e =
+    ⊎_elim (λ k. owned_begun h y s k.0) (λ k. owned_begun h y x k.0)
+    (handed_cases s (parent h s) (owner_by_steps h y) x e)
 owned_begun (Aborted z ▹ h) y x e = owned_begun h y x (kept_cases (is_under h z) (owner_by_steps h y) x e).0
 owned_begun (Accessed a o v ▹ h) y x e = owned_begun h y x e
 
 -- what is folded has no owner
 pub owned_unfolded : {V : Type 0} (h : History V) (y x : ℕ) → y ≢ 0 → owner_by_steps h y ≡ Some x → folded h < y
 owned_unfolded (Opened n) y x ne e = absurd (grind (arith, nat_tests))
-owned_unfolded (Began from ▹ h) y x ne e = ⊎_elim (λ k. let q = folded_next h in omega (arith, k.0)) (λ k. owned_unfolded h y x ne (sym k.1 ∙ e)) (owner_cases h from y)
-owned_unfolded (Committed s ▹ h) y x ne e = ⊎_elim (λ k. owned_unfolded h y s ne k.0) (λ k. owned_unfolded h y x ne k.0) (handed_cases s (parent h s) (owner_by_steps h y) x e)
+owned_unfolded (Began from ▹ h) y x ne e =
+    ⊎_elim (λ k. let q = folded_next h in omega (arith, k.0)) (λ k. owned_unfolded h y x ne (sym k.1 ∙ e))
+    (owner_cases h from y)
+owned_unfolded (Committed s ▹ h) y x ne e =
+    ⊎_elim (λ k. owned_unfolded h y s ne k.0) (λ k. owned_unfolded h y x ne k.0)
+    (handed_cases s (parent h s) (owner_by_steps h y) x e)
 owned_unfolded (Aborted z ▹ h) y x ne e = owned_unfolded h y x ne (kept_cases (is_under h z) (owner_by_steps h y) x e).0
 owned_unfolded (Accessed a o v ▹ h) y x ne e = owned_unfolded h y x ne e
 
@@ -77,26 +94,39 @@ parents_are_older (Accessed a o v ▹ h) w = parents_are_older h w.3
 -- an owner has begun
 pub parent_begun : {V : Type 0} (h : History V) (y : ℕ) → ParentsAreOlder h → parent h y < next_action h
 parent_begun (Opened n) y f = omega arith
-parent_begun (Began from ▹ h) y f = let ih = parent_begun h y f.1 in ⊎_elim (λ k. let q = k.1 in let l = f.0 in rw q (omega arith)) (λ k. let q = k.1 in rw q (omega arith)) (parent_cases h from y)
+parent_begun (Began from ▹ h) y f = let ih = parent_begun h y f.1 in
+    ⊎_elim (λ k. let q = k.1 in let l = f.0 in rw q (omega arith)) (λ k. let q = k.1 in rw q (omega arith))
+    (parent_cases h from y)
 parent_begun (Committed s ▹ h) y f = parent_begun h y f
 parent_begun (Aborted z ▹ h) y f = parent_begun h y f
 parent_begun (Accessed a o v ▹ h) y f = parent_begun h y f
 
-pub owner_begun : {V : Type 0} (h : History V) (y x : ℕ) → ParentsAreOlder h → owner_by_steps h y ≡ Some x → x < next_action h
-owner_begun (Opened n) y x f e = ⊎_elim (λ k. grind (arith, nat_tests)) (λ k. absurd (grind (arith, nat_tests))) (cases_eq y 0)
-owner_begun (Began from ▹ h) y x f e = ⊎_elim (λ k. let q : y ≡ x = grind arith in omega (arith, k.0)) (λ k. let l = owner_begun h y x f.1 (sym k.1 ∙ e) in omega arith) (owner_cases h from y)
-owner_begun (Committed s ▹ h) y x f e = ⊎_elim (λ k. let l = parent_begun h s f in omega (arith, k.1)) (λ k. owner_begun h y x f k.0) (handed_cases s (parent h s) (owner_by_steps h y) x e)
+pub owner_begun : {V : Type 0} (h : History V) (y x : ℕ) → ParentsAreOlder h → owner_by_steps h y ≡ Some x
+    → x < next_action h
+owner_begun (Opened n) y x f e =
+    ⊎_elim (λ k. grind (arith, nat_tests)) (λ k. absurd (grind (arith, nat_tests))) (cases_eq y 0)
+owner_begun (Began from ▹ h) y x f e =
+    ⊎_elim (λ k. let q : y ≡ x = grind arith in omega (arith, k.0))
+    (λ k. let l = owner_begun h y x f.1 (sym k.1 ∙ e) in omega arith) (owner_cases h from y)
+owner_begun (Committed s ▹ h) y x f e =
+    ⊎_elim (λ k. let l = parent_begun h s f in omega (arith, k.1)) (λ k. owner_begun h y x f k.0)
+    (handed_cases s (parent h s) (owner_by_steps h y) x e)
 owner_begun (Aborted z ▹ h) y x f e = owner_begun h y x f (kept_cases (is_under h z) (owner_by_steps h y) x e).0
 owner_begun (Accessed a o v ▹ h) y x f e = owner_begun h y x f e
 
 -- a live child that stands in k is found there
-pub child_found : {V : Type 0} (h k : History V) (x y : ℕ) → folded k < y → y < next_action k → parent k y ≡ x → stands h y ≡ true → standing_child h x k ≡ true
+pub child_found : {V : Type 0} (h k : History V) (x y : ℕ) → folded k < y → y < next_action k → parent k y ≡ x
+    → stands h y ≡ true → standing_child h x k ≡ true
 child_found h (Opened m) x y y0 l e n = absurd (omega arith)
 child_found h (Began from ▹ k) x y y0 l e n =
     ⊎_elim
-    (λ w. let q : (parent_of from) ≡ x = sym w.1 ∙ e in let m : stands h (next_action k) ≡ true = subst (λ u. stands h u ≡ true) w.0 n in
-    or_left (((parent_of from) == x || (creator_of from) == x) && stands h (next_action k)) (standing_child h x k) (and_from ((parent_of from) == x || (creator_of from) == x) (stands h (next_action k)) (or_left ((parent_of from) == x) ((creator_of from) == x) (eq-eqb (parent_of from) x q)) m))
-    (λ w. or_right (((parent_of from) == x || (creator_of from) == x) && stands h (next_action k)) (standing_child h x k) (child_found h k x y y0 (omega (arith, w.0)) (sym w.1 ∙ e) n))
+    (λ w. let q : (parent_of from) ≡ x = sym w.1 ∙ e in let m : stands h (next_action k) ≡ true =
+    subst (λ u. stands h u ≡ true) w.0 n in
+    or_left (((parent_of from) == x || (creator_of from) == x) && stands h (next_action k)) (standing_child h x k)
+    (and_from ((parent_of from) == x || (creator_of from) == x) (stands h (next_action k))
+    (or_left ((parent_of from) == x) ((creator_of from) == x) (eq-eqb (parent_of from) x q)) m))
+    (λ w. or_right (((parent_of from) == x || (creator_of from) == x) && stands h (next_action k))
+    (standing_child h x k) (child_found h k x y y0 (omega (arith, w.0)) (sym w.1 ∙ e) n))
     (parent_cases k from y)
 child_found h (Committed s ▹ k) x y y0 l e n = child_found h k x y y0 l e n
 child_found h (Aborted z ▹ k) x y y0 l e n = child_found h k x y y0 l e n
@@ -107,22 +137,30 @@ abbrev pub StandsUpward : {V : Type 0} → History V → Type 0
 StandsUpward h = (x y : ℕ) → stands h y ≡ true → is_ancestor h x y ≡ true → stands h x ≡ true
 
 -- an action with no live child has nothing live below it
-pub alone : {V : Type 0} (h : History V) → ParentsAreOlder h → StandsUpward h → (x y : ℕ) → stands h y ≡ true → is_ancestor h x y ≡ true → standing_child h x h ≡ false → x ≡ y
+pub alone : {V : Type 0} (h : History V) → ParentsAreOlder h → StandsUpward h → (x y : ℕ) → stands h y ≡ true
+    → is_ancestor h x y ≡ true → standing_child h x h ≡ false → x ≡ y
 alone h f up x y l a n =
     ⊎_elim (λ e. e)
     (λ ne. let w = child_on_path h x y f (stands_begun h y l) ne a in
     let lc = up w.child y l w.below in
-    absurd (both_ways (standing_child h x h) n (child_found h h x w.child (stands_unfolded h w.child (λ e. let r = w.real in omega arith) lc) w.started w.of lc)))
+    absurd (both_ways (standing_child h x h) n
+    (child_found h h x w.child (stands_unfolded h w.child (λ e. let r = w.real in omega arith) lc)
+    w.started w.of lc)))
     (cases_eq x y)
 
 -- s hands all that it has to its parent, which is live and another
-pub parent_is : {V : Type 0} (h : History V) → ParentsAreOlder h → (s : ℕ) → s ≢ 0 → stands h s ≡ true → (parent h s < s) × (is_ancestor h (parent h s) s ≡ true)
+pub parent_is : {V : Type 0} (h : History V) → ParentsAreOlder h → (s : ℕ) → s ≢ 0 → stands h s ≡ true
+    → (parent h s < s) × (is_ancestor h (parent h s) s ≡ true)
 parent_is h f s s0 l =
-    let w = parent_older h s f (omega arith) (stands_begun h s l) in
-    (w.0, rw w.1 (or_right (parent h s == s) (contains (lineage h (parent h s)) (parent h s)) (ancestor_self h (parent h s))))
+    let w = parent_older h s f (omega arith) (stands_begun h s l) in (
+      w.0,
+      rw w.1
+          (or_right (parent h s == s) (contains (lineage h (parent h s)) (parent h s)) (ancestor_self h (parent h s))),
+    )
 
 -- what is live after a commit was live before it, and is not what committed
-pub stands_commit : {V : Type 0} (h : History V) → ParentsAreOlder h → StandsUpward h → (s y : ℕ) → s ≢ 0 → stands h s ≡ true → stands (Committed s ▹ h) y ≡ true → (stands h y ≡ true) × (y ≢ s)
+pub stands_commit : {V : Type 0} (h : History V) → ParentsAreOlder h → StandsUpward h → (s y : ℕ) → s ≢ 0
+    → stands h s ≡ true → stands (Committed s ▹ h) y ≡ true → (stands h y ≡ true) × (y ≢ s)
 stands_commit h f up s y s0 l e =
     ⊎_elim
     (λ k. let w = parent_is h f s s0 l in
@@ -132,18 +170,24 @@ stands_commit h f up s y s0 l e =
     (λ k. (some_at (owner_by_steps h y) y k.0, k.1))
     (handed_cases s (parent h s) (owner_by_steps h y) y (at_some (owner_by_steps (Committed s ▹ h) y) y e))
 
-pub stands_abort : {V : Type 0} (h : History V) (z : List ℕ) (y : ℕ) → stands (Aborted z ▹ h) y ≡ true → (stands h y ≡ true) × (is_under h z y ≡ false)
-stands_abort h z y e = let k = kept_cases (is_under h z) (owner_by_steps h y) y (at_some (owner_by_steps (Aborted z ▹ h) y) y e) in (some_at (owner_by_steps h y) y k.0, k.1)
+pub stands_abort : {V : Type 0} (h : History V) (z : List ℕ) (y : ℕ) → stands (Aborted z ▹ h) y ≡ true
+    → (stands h y ≡ true) × (is_under h z y ≡ false)
+stands_abort h z y e = let k =
+    kept_cases (is_under h z) (owner_by_steps h y) y (at_some (owner_by_steps (Aborted z ▹ h) y) y e) in
+    (some_at (owner_by_steps h y) y k.0, k.1)
 
-pub stands_old : {V : Type 0} (h : History V) (from : Origin) (y : ℕ) → y ≢ next_action h → stands (Began from ▹ h) y ≡ stands h y
+pub stands_old : {V : Type 0} (h : History V) (from : Origin) (y : ℕ) → y ≢ next_action h
+    → stands (Began from ▹ h) y ≡ stands h y
 stands_old h from y ne = grind (arith, nat_tests)
 
-pub stands_new : {V : Type 0} (h : History V) (from : Origin) (y : ℕ) → y ≡ next_action h → stands (Began from ▹ h) y ≡ true
+pub stands_new : {V : Type 0} (h : History V) (from : Origin) (y : ℕ) → y ≡ next_action h
+    → stands (Began from ▹ h) y ≡ true
 stands_new h from y e = grind (arith, nat_tests)
 
 pub stands_upward : {V : Type 0} (h : History V) → Orderly h → StandsUpward h
 stands_upward {V} (Opened n) w x y l a =
-    let b : y ≡ 0 = let o = at_some (owner_by_steps {V = V} (Opened n) y) y l in ⊎_elim (λ e. e) (λ ne. absurd (grind (arith, nat_tests))) (cases_eq y 0) in
+    let b : y ≡ 0 = let o = at_some (owner_by_steps {V = V} (Opened n) y) y l in
+    ⊎_elim (λ e. e) (λ ne. absurd (grind (arith, nat_tests))) (cases_eq y 0) in
     let m : contains (0 ∷ []) x ≡ true = subst (λ u. is_ancestor {V = V} (Opened n) x u ≡ true) b a in
     let e : x ≡ y = grind (arith, nat_tests) in subst (λ u. stands {V = V} (Opened n) u ≡ true) (sym e) l
 stands_upward (Began from ▹ h) w x y l a =
@@ -164,6 +208,8 @@ stands_upward (Aborted z ▹ h) w x y l a =
     let f = parents_are_older h w.1 in let up : StandsUpward h = stands_upward h w.1 in
     let k = stands_abort h z y l in
     let ox = at_some (owner_by_steps h x) x (up x y k.0 a) in
-    let n : is_under h z x ≡ false = ⊎_elim (λ t. absurd (both_ways (is_under h z y) k.1 (under_below h z x y f (stands_begun h y k.0) t a))) (λ t. t) (cases_Bool (is_under h z x)) in
+    let n : is_under h z x ≡ false =
+    ⊎_elim (λ t. absurd (both_ways (is_under h z y) k.1 (under_below h z x y f (stands_begun h y k.0) t a)))
+    (λ t. t) (cases_Bool (is_under h z x)) in
     some_at (owner_by_steps (Aborted z ▹ h) x) x (kept_stays (is_under h z) (owner_by_steps h x) x ox n)
 stands_upward (Accessed b o v ▹ h) w x y l a = stands_upward h w.3 x y l a

@@ -3,104 +3,155 @@ use Rattle.std.proofs.Common.{List, ap, arith, false, subst, sym, true, ℕ, ⊎
 use Rattle.std.specs.Prelude.{reverse, ◌||◌}
 use Rattle.std.proofs.Math.Bool.{or_comm}
 use Rattle.std.proofs.lemmas.Bool.{or_cases}
-use Rattle.argus_model.specs.Ancestors.{is_ancestor}
+use Rattle.argus_model.specs.Ancestors.{is_ancestor, lineage}
 use Rattle.argus_model.specs.Contents.{base, sees}
 use Rattle.argus_model.specs.Effects.{effects, table}
-use Rattle.argus_model.specs.Event.{Event}
-use Rattle.argus_model.specs.History.{History, Opening, begun_actions, ◌▹◌}
+use Rattle.argus_model.specs.History.{History, Opening, begun_actions}
 use Rattle.argus_model.specs.Holders.{is_holder, readers, writers}
 use Rattle.argus_model.specs.Lawful.{Lawful}
 use Rattle.argus_model.specs.Meaning.{Fits, Meaning}
 use Rattle.argus_model.specs.Numbers.{contains}
 use Rattle.argus_model.specs.Run.{AnswersAgain, run}
 use Rattle.argus_model.specs.Status.{has_live_child, is_begun, is_live}
-use Rattle.argus_model.specs.Work.{Access, content_after, content_before, serial_order, serial_order_to}
+use Rattle.argus_model.specs.Work.{Access, all_of, content_after, content_before, serial_order, serial_order_to, work}
 use Rattle.argus_model.specs.WorkSteps.{Replays, visible_accesses}
-use Rattle.argus_model.proofs.Ancestors.{ancestor_le, ancestor_trans}
-use Rattle.argus_model.proofs.Effects.{effects_prefix, table_base, table_goes_on}
+use Rattle.argus_model.proofs.Ancestors.{ancestor_le, ancestor_trans, split_lineage}
+use Rattle.argus_model.proofs.Effects.{table-append, table_base, table_goes_on, table_same}
 use Rattle.argus_model.proofs.HolderSteps.{exclusive}
 use Rattle.argus_model.proofs.Holders.{listed, same_kinds}
 use Rattle.argus_model.proofs.Lawful.{lawful_orderly, lawful_steps}
 use Rattle.argus_model.proofs.Live.{begun_below, child_is, is_begun_parts, live_stands, stands_is_live}
 use Rattle.argus_model.proofs.Numbers.{contains_filter, joined}
+use Rattle.argus_model.proofs.Owner.{base_above}
 use Rattle.argus_model.proofs.Run.{replays_at, run_content, runs}
 use Rattle.argus_model.proofs.Sees.{base_is, sees_is}
 use Rattle.argus_model.proofs.Serial.{Serial, base_serial, guarded, serial_to-base, serials}
-use Rattle.argus_model.proofs.Standing.{alone, parents_are_older, stands_upward}
+use Rattle.argus_model.proofs.Standing.{alone, parents_are_older, stands_begun, stands_upward}
 use Rattle.argus_model.proofs.Topactions.{serial_tops}
+use Rattle.argus_model.proofs.Work.{all_of-append}
 
 module _ {V C A : Type 0} (meaning : Meaning V C A) (opening : Opening C) where
-  pub one_above_the_other : (h : History V) (o x y : ℕ) → Lawful meaning opening h → contains (writers meaning h o) x ≡ true → contains (readers meaning h o ++ writers meaning h o) y ≡ true → (is_ancestor h x y || is_ancestor h y x) ≡ true
+  pub one_above_the_other : (h : History V) (o x y : ℕ) → Lawful meaning opening h
+      → contains (writers meaning h o) x ≡ true → contains (readers meaning h o ++ writers meaning h o) y ≡ true
+      → (is_ancestor h x y || is_ancestor h y x) ≡ true
   one_above_the_other h o x y l hx hy =
       let w = lawful_orderly meaning opening h l in
       or_comm (is_ancestor h x y) (is_ancestor h y x)
-      ∙ exclusive meaning.writes h w (guarded meaning opening.contents h (lawful_steps meaning opening h l)) o y x (same_kinds meaning h w o y hy) (listed meaning.writes h w o x hx)
+      ∙ exclusive meaning.writes h w (guarded meaning opening.contents h (lawful_steps meaning opening h l)) o y x
+      (same_kinds meaning h w o y hy) (listed meaning.writes h w o x hx)
 
   serial_is : (h : History V) → Lawful meaning opening h → serial_order_to h 0 ≡ serial_order h
   serial_is h l = serial_to-base h ∙ serial_tops h (lawful_orderly meaning opening h l)
 
-  pub serial_content : (h : History V) (o : ℕ) → Lawful meaning opening h → content_after meaning opening.contents o (serial_order h) ≡ base meaning opening h o
+  pub serial_content : (h : History V) (o : ℕ) → Lawful meaning opening h
+      → content_after meaning opening.contents o (serial_order h) ≡ base meaning opening h o
   serial_content h o l =
       ap (content_after meaning opening.contents o) (sym (serial_is h l))
       ∙ (base_serial meaning opening.contents h (lawful_steps meaning opening h l)).sees o
       ∙ sym (base_is meaning opening h (lawful_orderly meaning opening h l) o)
 
-  pub serial_answers : (h : History V) → Lawful meaning opening h → AnswersAgain meaning opening.contents (reverse (serial_order h))
+  pub serial_answers : (h : History V) → Lawful meaning opening h
+      → AnswersAgain meaning opening.contents (reverse (serial_order h))
   serial_answers h l =
       subst (λ es. AnswersAgain meaning opening.contents (reverse es)) (serial_is h l)
-      (runs meaning opening.contents (serial_order_to h 0) (base_serial meaning opening.contents h (lawful_steps meaning opening h l)).replays)
+      (runs meaning opening.contents (serial_order_to h 0)
+      (base_serial meaning opening.contents h (lawful_steps meaning opening h l)).replays)
 
-  pub serial_each : (h : History V) (later : List (Access V)) (e : Access V) (earlier : List (Access V)) → Lawful meaning opening h → serial_order h ≡ later ++ e ∷ earlier → Fits meaning e.what (content_before meaning opening.contents e earlier)
+  pub serial_each : (h : History V) (later : List (Access V)) (e : Access V) (earlier : List (Access V))
+      → Lawful meaning opening h → serial_order h ≡ later ++ e ∷ earlier
+      → Fits meaning e.what (content_before meaning opening.contents e earlier)
   serial_each h later e earlier l q =
       replays_at meaning opening.contents later e earlier
-      (subst (λ es. Replays meaning opening.contents es) (serial_is h l ∙ q) (base_serial meaning opening.contents h (lawful_steps meaning opening h l)).replays)
+      (subst (λ es. Replays meaning opening.contents es) (serial_is h l ∙ q)
+      (base_serial meaning opening.contents h (lawful_steps meaning opening h l)).replays)
 
-  pub serial_leaves : (h : History V) (o : ℕ) → Lawful meaning opening h → run meaning opening.contents (reverse (serial_order h)) o ≡ base meaning opening h o
+  pub serial_leaves : (h : History V) (o : ℕ) → Lawful meaning opening h
+      → run meaning opening.contents (reverse (serial_order h)) o ≡ base meaning opening h o
   serial_leaves h o l = run_content meaning opening.contents (serial_order h) o ∙ serial_content h o l
 
-  live_serial : (h : History V) (a : ℕ) → Lawful meaning opening h → is_live h a ≡ true → Serial meaning opening.contents h a
-  live_serial h a l k = serials meaning opening.contents h (lawful_steps meaning opening h l) a (live_stands h (lawful_orderly meaning opening h l) a k).1
+  live_serial : (h : History V) (a : ℕ) → Lawful meaning opening h → is_live h a ≡ true
+      → Serial meaning opening.contents h a
+  live_serial h a l k =
+      serials meaning opening.contents h (lawful_steps meaning opening h l) a
+      (live_stands h (lawful_orderly meaning opening h l) a k).1
 
-  pub live_answers : (h : History V) (a : ℕ) → Lawful meaning opening h → is_live h a ≡ true → AnswersAgain meaning opening.contents (reverse (serial_order_to h a))
+  pub live_answers : (h : History V) (a : ℕ) → Lawful meaning opening h → is_live h a ≡ true
+      → AnswersAgain meaning opening.contents (reverse (serial_order_to h a))
   live_answers h a l k = runs meaning opening.contents (serial_order_to h a) (live_serial h a l k).replays
 
-  pub live_each : (h : History V) (a : ℕ) (later : List (Access V)) (e : Access V) (earlier : List (Access V)) → Lawful meaning opening h → is_live h a ≡ true → serial_order_to h a ≡ later ++ e ∷ earlier → Fits meaning e.what (content_before meaning opening.contents e earlier)
-  live_each h a later e earlier l k q = replays_at meaning opening.contents later e earlier (subst (λ es. Replays meaning opening.contents es) q (live_serial h a l k).replays)
+  pub live_each : (h : History V) (a : ℕ) (later : List (Access V)) (e : Access V) (earlier : List (Access V))
+      → Lawful meaning opening h → is_live h a ≡ true → serial_order_to h a ≡ later ++ e ∷ earlier
+      → Fits meaning e.what (content_before meaning opening.contents e earlier)
+  live_each h a later e earlier l k q =
+      replays_at meaning opening.contents later e earlier
+      (subst (λ es. Replays meaning opening.contents es) q (live_serial h a l k).replays)
 
-  pub live_leaves : (h : History V) (a o : ℕ) → Lawful meaning opening h → is_live h a ≡ true → run meaning opening.contents (reverse (serial_order_to h a)) o ≡ sees meaning opening h a o
+  pub live_leaves : (h : History V) (a o : ℕ) → Lawful meaning opening h → is_live h a ≡ true
+      → run meaning opening.contents (reverse (serial_order_to h a)) o ≡ sees meaning opening h a o
   live_leaves h a o l k =
       run_content meaning opening.contents (serial_order_to h a) o ∙ (live_serial h a l k).sees o
       ∙ sym (sees_is meaning opening h (lawful_orderly meaning opening h l) a o)
 
-  base_now : (h : History V) (o : ℕ) → Lawful meaning opening h → content_after meaning opening.contents o (visible_accesses h 0) ≡ base meaning opening h o
+  -- the serial run of the committed topactions comes first
+  pub live_begins : (h : History V) (a : ℕ) → Lawful meaning opening h → is_live h a ≡ true
+      → (more : List (Access V)) × (serial_order_to h a ≡ more ++ serial_order h)
+  live_begins h a l k =
+      let w = lawful_orderly meaning opening h l in
+      let s = split_lineage h 0 a (parents_are_older h w) (stands_begun h a (live_stands h w a k).1) (base_above h a) in (
+        all_of (work h) s.front,
+        ap (all_of (work h)) s.is ∙ all_of-append (work h) s.front (lineage h 0)
+            ∙ ap (λ es. all_of (work h) s.front ++ es) (serial_is h l),
+      )
+
+  base_now : (h : History V) (o : ℕ) → Lawful meaning opening h
+      → content_after meaning opening.contents o (visible_accesses h 0) ≡ base meaning opening h o
   base_now h o l = sym (base_is meaning opening h (lawful_orderly meaning opening h l) o)
 
-  pub table_is_base : (h : History V) (o : ℕ) → Lawful meaning opening h → table opening.contents (effects meaning opening h) o ≡ base meaning opening h o
+  pub table_is_base : (h : History V) (o : ℕ) → Lawful meaning opening h
+      → table opening.contents (effects meaning opening h) o ≡ base meaning opening h o
   table_is_base h o l = table_base meaning opening h (lawful_steps meaning opening h l) o ∙ base_now h o l
 
-  pub table_continues : (start : ℕ → C) (before : List (List (ℕ × C))) (h : History V) (o : ℕ) → ((x : ℕ) → table start before x ≡ opening.contents x) → Lawful meaning opening h → table start (before ++ effects meaning opening h) o ≡ base meaning opening h o
-  table_continues start before h o same l = table_goes_on meaning opening start before same h (lawful_steps meaning opening h l) o ∙ base_now h o l
+  pub table_continues : (start : ℕ → C) (before : List (List (ℕ × C))) (h : History V) (o : ℕ)
+      → ((x : ℕ) → table start before x ≡ opening.contents x) → Lawful meaning opening h
+      → table start (before ++ effects meaning opening h) o ≡ base meaning opening h o
+  table_continues start before h o same l =
+      table_goes_on meaning opening start before same h (lawful_steps meaning opening h l) o ∙ base_now h o l
 
-  pub effects_only_grow : (h : History V) (e : Event V) → Lawful meaning opening (e ▹ h) → (more : List (List (ℕ × C))) × (effects meaning opening (e ▹ h) ≡ effects meaning opening h ++ more)
-  effects_only_grow h e l = effects_prefix meaning opening h e (lawful_orderly meaning opening h l.1) (lawful_orderly meaning opening (e ▹ h) l)
+  -- effects go on from what was there for good
+  pub table_after : (h : History V) (later : List (List (ℕ × C))) (o : ℕ) → Lawful meaning opening h
+      → table opening.contents (effects meaning opening h ++ later) o ≡ table (base meaning opening h) later o
+  table_after h later o l =
+      table-append opening.contents (effects meaning opening h) later o
+      ∙ table_same (table opening.contents (effects meaning opening h)) (base meaning opening h) later
+      (λ x. table_is_base h x l) o
 
-  pub writers_in_line : (h : History V) (o x y : ℕ) → Lawful meaning opening h → contains (writers meaning h o) x ≡ true → contains (writers meaning h o) y ≡ true → x < y → is_ancestor h x y ≡ true
+  pub writers_in_line : (h : History V) (o x y : ℕ) → Lawful meaning opening h → contains (writers meaning h o) x ≡ true
+      → contains (writers meaning h o) y ≡ true → x < y → is_ancestor h x y ≡ true
   writers_in_line h o x y l hx hy lt =
       let w = lawful_orderly meaning opening h l in
       let b = begun_below h x (contains_filter (is_holder meaning.writes h o) (begun_actions h) x hx).1 in
       ⊎_elim
       (λ k. k)
       (λ k. let q = ancestor_le h y x (parents_are_older h w) b k in absurd (omega arith))
-      (or_cases (is_ancestor h x y) (is_ancestor h y x) (one_above_the_other h o x y l hx (joined (readers meaning h o) (writers meaning h o) y hy)))
+      (or_cases (is_ancestor h x y) (is_ancestor h y x)
+      (one_above_the_other h o x y l hx (joined (readers meaning h o) (writers meaning h o) y hy)))
 
-  pub ancestor_above : (h : History V) (x y a : ℕ) → Lawful meaning opening h → is_begun h a ≡ true → is_ancestor h x y ≡ true → is_ancestor h y a ≡ true → is_ancestor h x a ≡ true
-  ancestor_above h x y a l k m n = ancestor_trans h x y a (parents_are_older h (lawful_orderly meaning opening h l)) (is_begun_parts h a k).1 m n
+  pub ancestor_above : (h : History V) (x y a : ℕ) → Lawful meaning opening h → is_begun h a ≡ true
+      → is_ancestor h x y ≡ true → is_ancestor h y a ≡ true → is_ancestor h x a ≡ true
+  ancestor_above h x y a l k m n =
+      ancestor_trans h x y a (parents_are_older h (lawful_orderly meaning opening h l)) (is_begun_parts h a k).1 m n
 
-  pub ancestor_older : (h : History V) (x a : ℕ) → Lawful meaning opening h → is_begun h a ≡ true → is_ancestor h x a ≡ true → x ≤ a
-  ancestor_older h x a l k m = ancestor_le h x a (parents_are_older h (lawful_orderly meaning opening h l)) (is_begun_parts h a k).1 m
+  pub ancestor_older : (h : History V) (x a : ℕ) → Lawful meaning opening h → is_begun h a ≡ true
+      → is_ancestor h x a ≡ true → x ≤ a
+  ancestor_older h x a l k m =
+      ancestor_le h x a (parents_are_older h (lawful_orderly meaning opening h l)) (is_begun_parts h a k).1 m
 
-  pub ancestor_live : (h : History V) (x a : ℕ) → Lawful meaning opening h → is_live h a ≡ true → is_ancestor h x a ≡ true → x ≢ 0 → is_live h x ≡ true
-  ancestor_live h x a l k m n = let w = lawful_orderly meaning opening h l in sym (stands_is_live h w x n) ∙ stands_upward h w x a (live_stands h w a k).1 m
+  pub ancestor_live : (h : History V) (x a : ℕ) → Lawful meaning opening h → is_live h a ≡ true
+      → is_ancestor h x a ≡ true → x ≢ 0 → is_live h x ≡ true
+  ancestor_live h x a l k m n = let w = lawful_orderly meaning opening h l in
+      sym (stands_is_live h w x n) ∙ stands_upward h w x a (live_stands h w a k).1 m
 
-  pub live_alone : (h : History V) (x a : ℕ) → Lawful meaning opening h → is_live h a ≡ true → is_ancestor h x a ≡ true → has_live_child h x ≡ false → x ≡ a
-  live_alone h x a l k m n = let w = lawful_orderly meaning opening h l in alone h (parents_are_older h w) (stands_upward h w) x a (live_stands h w a k).1 m (child_is h w x ∙ n)
+  pub live_alone : (h : History V) (x a : ℕ) → Lawful meaning opening h → is_live h a ≡ true → is_ancestor h x a ≡ true
+      → has_live_child h x ≡ false → x ≡ a
+  live_alone h x a l k m n = let w = lawful_orderly meaning opening h l in
+      alone h (parents_are_older h w) (stands_upward h w) x a (live_stands h w a k).1 m (child_is h w x ∙ n)

@@ -27,20 +27,27 @@ no_work (Accessed a o v ▹ h) w y l =
     ap (λ b. cond b (record { object = o; what = v } ∷ work h y) (work h y)) n ∙ no_work h w.3 y l
 
 -- the work of what is over stays
-pub work_final : {V : Type 0} (h : History V) (e : Event V) → Orderly (e ▹ h) → (y : ℕ) → stands h y ≡ false → work (e ▹ h) y ≡ work h y
+pub work_final : {V : Type 0} (h : History V) (e : Event V) → Orderly (e ▹ h) → (y : ℕ) → stands h y ≡ false
+    → work (e ▹ h) y ≡ work h y
 work_final h (Began from) w y n = refl
 work_final h (Committed s) w y n =
     let f = parents_are_older h w.3 in
-    ap (λ b. cond b (work h s ++ work h y) (work h y)) (ne_eqb (parent h s) y (λ e. both_ways (stands h y) n (subst (λ u. stands h u ≡ true) e (stands_upward h w.3 (parent h s) s w.1 (parent_is h f s w.0 w.1).1))))
+    ap (λ b. cond b (work h s ++ work h y) (work h y))
+    (ne_eqb (parent h s) y
+    (λ e. both_ways (stands h y) n
+    (subst (λ u. stands h u ≡ true) e (stands_upward h w.3 (parent h s) s w.1 (parent_is h f s w.0 w.1).1))))
 work_final h (Aborted z) w y n = refl
 work_final h (Accessed a o v) w y n =
-    ap (λ b. cond b (record { object = o; what = v } ∷ work h y) (work h y)) (ne_eqb a y (λ e. both_ways (stands h y) n (subst (λ u. stands h u ≡ true) e w.0)))
+    ap (λ b. cond b (record { object = o; what = v } ∷ work h y) (work h y))
+    (ne_eqb a y (λ e. both_ways (stands h y) n (subst (λ u. stands h u ≡ true) e w.0)))
 
 pub all_of-append : {X : Type 0} (f : ℕ → List X) (ys zs : List ℕ) → all_of f (ys ++ zs) ≡ all_of f ys ++ all_of f zs
 all_of-append f [] zs = refl
-all_of-append f (y ∷ ys) zs = ap (λ u. f y ++ u) (all_of-append f ys zs) ∙ sym (append_assoc (f y) (all_of f ys) (all_of f zs))
+all_of-append f (y ∷ ys) zs =
+    ap (λ u. f y ++ u) (all_of-append f ys zs) ∙ sym (append_assoc (f y) (all_of f ys) (all_of f zs))
 
-pub all_of_agree : {X : Type 0} (f g : ℕ → List X) (ys : List ℕ) → ((y : ℕ) → contains ys y ≡ true → f y ≡ g y) → all_of f ys ≡ all_of g ys
+pub all_of_agree : {X : Type 0} (f g : ℕ → List X) (ys : List ℕ) → ((y : ℕ) → contains ys y ≡ true → f y ≡ g y)
+    → all_of f ys ≡ all_of g ys
 all_of_agree f g [] a = refl
 all_of_agree f g (y ∷ ys) a =
     ap (λ u. u ++ all_of f ys) (a y (or_left (y == y) (contains ys y) (eq-eqb y y refl)))
@@ -52,7 +59,8 @@ module _ {V : Type 0} (writes : V → Bool) where
   touches [] o all = false
   touches (e ∷ es) o all = (e.object == o && (all || writes e.what)) || touches es o all
 
-  pub touches-append : (es fs : List (Access V)) (o : ℕ) (all : Bool) → touches (es ++ fs) o all ≡ true → (touches es o all ≡ true) ⊎ (touches fs o all ≡ true)
+  pub touches-append : (es fs : List (Access V)) (o : ℕ) (all : Bool) → touches (es ++ fs) o all ≡ true
+      → (touches es o all ≡ true) ⊎ (touches fs o all ≡ true)
   touches-append [] fs o all m = inr m
   touches-append (e ∷ es) fs o all m =
       let first = e.object == o && (all || writes e.what) in
@@ -66,7 +74,8 @@ module _ {V : Type 0} (writes : V → Bool) where
   touches_all (e ∷ es) o n =
       let q = or_parts (e.object == o && true) (touches es o true) n in
       or_from (e.object == o && (false || writes e.what)) (touches es o false)
-      (⊎_elim (λ k. absurd (both_ways (e.object == o && true) q.0 (and_from (e.object == o) true k refl))) (λ k. and_left (e.object == o) (false || writes e.what) k) (cases_Bool (e.object == o)))
+      (⊎_elim (λ k. absurd (both_ways (e.object == o && true) q.0 (and_from (e.object == o) true k refl)))
+      (λ k. and_left (e.object == o) (false || writes e.what) k) (cases_Bool (e.object == o)))
       (touches_all es o q.1)
 
   pub record Toucher (f : ℕ → List (Access V)) (ys : List ℕ) (o : ℕ) (all : Bool) : Type 0 where
@@ -74,12 +83,14 @@ module _ {V : Type 0} (writes : V → Bool) where
     pub among : contains ys by ≡ true
     pub touch : touches (f by) o all ≡ true
 
-  pub touches-all_of : (f : ℕ → List (Access V)) (ys : List ℕ) (o : ℕ) (all : Bool) → touches (all_of f ys) o all ≡ true → Toucher f ys o all
+  pub touches-all_of : (f : ℕ → List (Access V)) (ys : List ℕ) (o : ℕ) (all : Bool) → touches (all_of f ys) o all ≡ true
+      → Toucher f ys o all
   touches-all_of f [] o all m = absurd (false≢true m)
   touches-all_of f (y ∷ ys) o all m =
       ⊎_elim
       (λ k. record { by = y; among = or_left (y == y) (contains ys y) (eq-eqb y y refl); touch = k })
-      (λ k. let w = touches-all_of f ys o all k in record { by = w.by; among = or_right (w.by == y) (contains ys w.by) w.among; touch = w.touch })
+      (λ k. let w = touches-all_of f ys o all k in
+      record { by = w.by; among = or_right (w.by == y) (contains ys w.by) w.among; touch = w.touch })
       (touches-append (f y) (all_of f ys) o all m)
 
   -- an action by which y holds the object
@@ -88,47 +99,85 @@ module _ {V : Type 0} (writes : V → Bool) where
     pub uses : has_used writes h action o all ≡ true
     pub owned : owner_by_steps h action ≡ Some y
 
-  pub has_used_more : (h : History V) (b o' : ℕ) (v : V) (y o : ℕ) (all : Bool) → has_used writes h y o all ≡ true → has_used writes (Accessed b o' v ▹ h) y o all ≡ true
+  pub has_used_more : (h : History V) (b o' : ℕ) (v : V) (y o : ℕ) (all : Bool) → has_used writes h y o all ≡ true
+      → has_used writes (Accessed b o' v ▹ h) y o all ≡ true
   has_used_more h b o' v y o all u = or_right (b == y && (o' == o && (all || writes v))) (has_used writes h y o all) u
 
   -- who has done something at an object holds it
-  pub user_of : (h : History V) → Orderly h → (y o : ℕ) (all : Bool) → stands h y ≡ true → touches (work h y) o all ≡ true → User h y o all
+  pub user_of : (h : History V) → Orderly h → (y o : ℕ) (all : Bool) → stands h y ≡ true
+      → touches (work h y) o all ≡ true → User h y o all
   user_of (Opened n) w y o all l m = absurd (false≢true m)
   user_of (Began from ▹ h) w y o all l m =
       ⊎_elim
       (λ k. absurd (false≢true (subst (λ es. touches es o all ≡ true) (no_work h w.1 y (omega arith)) m)))
       (λ k. let u = user_of h w.1 y o all (sym (stands_old h from y k) ∙ l) m in
-      record { action = u.action; uses = u.uses; owned = ⊎_elim (λ q. absurd (let b = owned_begun h u.action y u.owned in omega (arith, q.0))) (λ q. q.1 ∙ u.owned) (owner_cases h from u.action) })
+      record {
+        action = u.action;
+        uses = u.uses;
+        owned =
+            ⊎_elim (λ q. absurd (let b = owned_begun h u.action y u.owned in omega (arith, q.0))) (λ q. q.1 ∙ u.owned)
+            (owner_cases h from u.action);
+      })
       (cases_eq y (next_action h))
   user_of (Committed s ▹ h) w y o all l m =
       let k = stands_commit h (parents_are_older h w.3) (stands_upward h w.3) s y w.0 w.1 l in
       let p = parent h s in
       let ih : touches (work h y) o all ≡ true → User (Committed s ▹ h) y o all =
-      λ q. let u = user_of h w.3 y o all k.0 q in record { action = u.action; uses = u.uses; owned = handed_stays s p (owner_by_steps h u.action) y u.owned k.1 } in
+      λ q. let u = user_of h w.3 y o all k.0 q in
+      record {
+        action = u.action;
+        uses = u.uses;
+        owned =
+            handed_stays s p (owner_by_steps h u.action) y u.owned k.1;
+      } in
       ⊎_elim
       (λ e. ⊎_elim
-      (λ q. let u = user_of h w.3 s o all w.1 q in record { action = u.action; uses = u.uses; owned = handed_from s p (owner_by_steps h u.action) u.owned ∙ ap Some e })
+      (λ q. let u = user_of h w.3 s o all w.1 q in
+      record {
+        action = u.action;
+        uses = u.uses;
+        owned =
+            handed_from s p (owner_by_steps h u.action) u.owned ∙ ap Some e;
+      })
       ih
-      (touches-append (work h s) (work h y) o all (subst (λ b. touches (cond b (work h s ++ work h y) (work h y)) o all ≡ true) (eq-eqb p y e) m)))
+      (touches-append (work h s) (work h y) o all
+      (subst (λ b. touches (cond b (work h s ++ work h y) (work h y)) o all ≡ true) (eq-eqb p y e) m)))
       (λ e. ih (subst (λ b. touches (cond b (work h s ++ work h y) (work h y)) o all ≡ true) (ne_eqb p y e) m))
       (cases_eq p y)
   user_of (Aborted z ▹ h) w y o all l m =
       let k = stands_abort h z y l in let u = user_of h w.1 y o all k.0 m in
-      record { action = u.action; uses = u.uses; owned = kept_stays (is_under h z) (owner_by_steps h u.action) y u.owned k.1 }
+      record {
+        action = u.action;
+        uses = u.uses;
+        owned =
+            kept_stays (is_under h z) (owner_by_steps h u.action) y u.owned k.1;
+      }
   user_of (Accessed a o' v ▹ h) w y o all l m =
       let ih : touches (work h y) o all ≡ true → User (Accessed a o' v ▹ h) y o all =
-      λ q. let u = user_of h w.3 y o all l q in record { action = u.action; uses = has_used_more h a o' v u.action o all u.uses; owned = u.owned } in
+      λ q. let u = user_of h w.3 y o all l q in
+      record { action = u.action; uses = has_used_more h a o' v u.action o all u.uses; owned = u.owned } in
       let here = o' == o && (all || writes v) in
       ⊎_elim
       (λ k. ⊎_elim
-      (λ q. record { action = a; uses = or_left (a == a && here) (has_used writes h a o all) (and_from (a == a) here (eq-eqb a a refl) q); owned = at_some (owner_by_steps h a) a w.0 ∙ ap Some k })
+      (λ q. record {
+        action = a;
+        uses =
+            or_left (a == a && here) (has_used writes h a o all) (and_from (a == a) here (eq-eqb a a refl) q);
+        owned =
+            at_some (owner_by_steps h a) a w.0 ∙ ap Some k;
+      })
       ih
-      (or_cases here (touches (work h y) o all) (subst (λ b. touches (cond b (record { object = o'; what = v } ∷ work h y) (work h y)) o all ≡ true) (eq-eqb a y k) m)))
-      (λ k. ih (subst (λ b. touches (cond b (record { object = o'; what = v } ∷ work h y) (work h y)) o all ≡ true) (ne_eqb a y k) m))
+      (or_cases here (touches (work h y) o all)
+      (subst (λ b. touches (cond b (record { object = o'; what = v } ∷ work h y) (work h y)) o all ≡ true)
+      (eq-eqb a y k) m)))
+      (λ k. ih (subst (λ b. touches (cond b (record { object = o'; what = v } ∷ work h y) (work h y)) o all ≡ true)
+      (ne_eqb a y k) m))
       (cases_eq a y)
 
   -- there is a writer in k that s answers for, or none
-  pub find_writer : (h k : History V) (s o : ℕ) → ((a : ℕ) × (has_used writes k a o false ≡ true) × (owner_by_steps h a ≡ Some s)) ⊎ ((a : ℕ) → has_used writes k a o false ≡ true → owner_by_steps h a ≢ Some s)
+  pub find_writer : (h k : History V) (s o : ℕ)
+      → ((a : ℕ) × (has_used writes k a o false ≡ true) × (owner_by_steps h a ≡ Some s))
+      ⊎ ((a : ℕ) → has_used writes k a o false ≡ true → owner_by_steps h a ≢ Some s)
   find_writer h (Opened n) s o = inr (λ a u e. false≢true u)
   find_writer h (Began from ▹ k) s o = find_writer h k s o
   find_writer h (Committed b ▹ k) s o = find_writer h k s o
@@ -138,10 +187,18 @@ module _ {V : Type 0} (writes : V → Bool) where
       (λ w. inl (w.0, has_used_more k b o' v w.0 o false w.1, w.2))
       (λ none. ⊎_elim
       (λ t. let q = and_parts (o' == o && (false || writes v)) (is_exactly (owner_by_steps h b) s) t in
-      inl (b, or_left (b == b && (o' == o && (false || writes v))) (has_used writes k b o false) (and_from (b == b) (o' == o && (false || writes v)) (eq-eqb b b refl) q.0), at_some (owner_by_steps h b) s q.1))
+      inl (
+        b,
+        or_left (b == b && (o' == o && (false || writes v))) (has_used writes k b o false)
+            (and_from (b == b) (o' == o && (false || writes v)) (eq-eqb b b refl) q.0),
+        at_some (owner_by_steps h b)
+            s q.1,
+      ))
       (λ n. inr (λ a u e. ⊎_elim
       (λ c. both_ways ((o' == o && (false || writes v)) && is_exactly (owner_by_steps h b) s) n
-      (and_from (o' == o && (false || writes v)) (is_exactly (owner_by_steps h b) s) (and_from (o' == o) (false || writes v) (eq-eqb o' o c.1) c.2) (some_at (owner_by_steps h b) s (ap (owner_by_steps h) c.0 ∙ e))))
+      (and_from (o' == o && (false || writes v)) (is_exactly (owner_by_steps h b) s)
+      (and_from (o' == o) (false || writes v) (eq-eqb o' o c.1) c.2)
+      (some_at (owner_by_steps h b) s (ap (owner_by_steps h) c.0 ∙ e))))
       (λ c. none a c e)
       (has_used_cases writes k b o' v a o false u)))
       (cases_Bool ((o' == o && (false || writes v)) && is_exactly (owner_by_steps h b) s)))

@@ -9,7 +9,9 @@ module _ {V C A : Type 0} (meaning : Meaning V C A) where
   -- from this content on, what each write access to the object leaves, in order, where its action counts
   abbrev pub replay : (ℕ → Bool) → ℕ → C → History V → C
   replay counts o c (Opened n) = c
-  replay counts o c (Accessed a o' v ▹ older) = if o' == o && (meaning.writes v && counts a) then meaning.after v (replay counts o c older) else replay counts o c older
+  replay counts o c (Accessed a o' v ▹ older) =
+      if o' == o && (meaning.writes v && counts a) then meaning.after v
+      (replay counts o c older) else replay counts o c older
   replay counts o c (Began from ▹ older) = replay counts o c older
   replay counts o c (Committed a ▹ older) = replay counts o c older
   replay counts o c (Aborted actions ▹ older) = replay counts o c older

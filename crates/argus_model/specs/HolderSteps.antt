@@ -15,7 +15,9 @@ module _ {V : Type 0} (writes : V → Bool) where
   -- each owner of an access to the object in k is an ancestor of a
   abbrev pub may_by_steps : History V → ℕ → ℕ → Bool → History V → Bool
   may_by_steps h a o all (Opened n) = true
-  may_by_steps h a o all (Accessed b o' v ▹ k) = (if o' == o && (all || writes v) then if_owned (λ x. is_ancestor h x a) (owner_by_steps h b) else true) && may_by_steps h a o all k
+  may_by_steps h a o all (Accessed b o' v ▹ k) =
+      (if o' == o && (all || writes v) then if_owned (λ x. is_ancestor h x a) (owner_by_steps h b) else true)
+      && may_by_steps h a o all k
   may_by_steps h a o all (Began from ▹ k) = may_by_steps h a o all k
   may_by_steps h a o all (Committed b ▹ k) = may_by_steps h a o all k
   may_by_steps h a o all (Aborted bs ▹ k) = may_by_steps h a o all k

@@ -1,4 +1,5 @@
--- Who answers for what an action did: itself until it commits, and then whoever answers for its parent (Moss 1981, inheritance of locks).
+-- Who answers for what an action did: itself until it commits, and then whoever answers for its parent (Moss 1981,
+-- inheritance of locks).
 use Rattle.std.specs.Prelude.{Bool, List, [], false, if◌then◌else◌, true, ℕ, ◌==◌, ◌∷◌}
 use Rattle.argus_model.specs.Ancestors.{is_ancestor, lineage}
 use Rattle.argus_model.specs.History.{History}
@@ -18,7 +19,8 @@ pub data Owner : Type 0 where
 -- of a lineage: gone if the first is doomed, the first itself if it hasn't committed, else the owner of its parent
 abbrev pub owner_up : {V : Type 0} → History V → List ℕ → Owner
 owner_up h [] = Base
-owner_up h (a ∷ up) = if a == 0 then Base else if is_doomed h a then Gone else if has_committed h a then owner_up h up else Held a
+owner_up h (a ∷ up) =
+    if a == 0 then Base else if is_doomed h a then Gone else if has_committed h a then owner_up h up else Held a
 
 -- who answers for what the action did
 abbrev pub owner : {V : Type 0} → History V → ℕ → Owner

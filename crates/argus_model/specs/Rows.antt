@@ -39,14 +39,22 @@ mark n test s (row ∷ older) = (if test (n + length older + 1) then with_status
 -- x is y, or above its parent; false where either has no row
 abbrev pub is_above : ℕ → List Row → ℕ → ℕ → Bool
 is_above n [] x y = false
-is_above n (row ∷ older) x y = if y == n + length older + 1 then (x == y || is_above n older x (parent_of row.origin)) else is_above n older x y
+is_above n (row ∷ older) x y =
+    if y == n + length older + 1 then (x == y || is_above n older x (parent_of row.origin)) else is_above n older x y
+
+-- how many actions it takes from a number up to its topaction, both counted; 0 where it has no row
+abbrev pub depth_at : ℕ → List Row → ℕ → ℕ
+depth_at n [] a = 0
+depth_at n (row ∷ older) a =
+    if a == n + length older + 1 then depth_at n older (parent_of row.origin) + 1 else depth_at n older a
 
 -- the rows after each event: a commit marks one, an abort all that stand under those it names
 abbrev pub rows : {V : Type 0} → History V → List Row
 rows (Opened n) = []
 rows (Began from ▹ older) = record { origin = from; status = IsLive } ∷ rows older
 rows (Committed a ▹ older) = mark (folded older) (λ x. x == a) IsCommitted (rows older)
-rows (Aborted actions ▹ older) = mark (folded older) (λ x. list_any (λ a. is_above (folded older) (rows older) a x) actions) IsAborted (rows older)
+rows (Aborted actions ▹ older) =
+    mark (folded older) (λ x. list_any (λ a. is_above (folded older) (rows older) a x) actions) IsAborted (rows older)
 rows (Accessed a o v ▹ older) = rows older
 
 -- the status of a live action
@@ -57,4 +65,5 @@ is_live_status _ = false
 -- a row of this parent or creator is live
 abbrev pub has_live_row : List Row → ℕ → Bool
 has_live_row [] a = false
-has_live_row (row ∷ older) a = (is_live_status row.status && (parent_of row.origin == a || creator_of row.origin == a)) || has_live_row older a
+has_live_row (row ∷ older) a =
+    (is_live_status row.status && (parent_of row.origin == a || creator_of row.origin == a)) || has_live_row older a

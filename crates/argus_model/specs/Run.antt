@@ -11,7 +11,8 @@ module _ {V C A : Type 0} (meaning : Meaning V C A) where
   -- each access, run on what those before it left, gives the recorded answer again
   abbrev pub AnswersAgain : (ℕ → C) → List (Access V) → Type 0
   AnswersAgain contents [] = Unit {0}
-  AnswersAgain contents (e ∷ later) = Fits meaning e.what (contents e.object) × AnswersAgain (after_access contents e) later
+  AnswersAgain contents (e ∷ later) =
+      Fits meaning e.what (contents e.object) × AnswersAgain (after_access contents e) later
 
   -- the contents of all objects in the end
   abbrev pub run : (ℕ → C) → List (Access V) → ℕ → C

@@ -37,9 +37,13 @@ is_live h a = is_begun h a && (not (has_committed h a) && not (is_doomed h a))
 abbrev pub has_live_child : {V : Type 0} → History V → ℕ → Bool
 has_live_child h a = list_any (λ x. is_live h x && (parent h x == a || creator h x == a)) (begun_actions h)
 
--- the other live actions of the same creator, in increasing number
+-- another action of the same creator; the base is none
+abbrev pub is_sibling : {V : Type 0} → History V → ℕ → ℕ → Bool
+is_sibling h a x = not (x == 0) && (not (x == a) && creator h x == creator h a)
+
+-- its live siblings, in increasing number
 abbrev pub live_siblings : {V : Type 0} → History V → ℕ → List ℕ
-live_siblings h a = filter (λ x. is_live h x && (not (x == a) && (creator h x == creator h a))) (begun_actions h)
+live_siblings h a = filter (λ x. is_live h x && is_sibling h a x) (begun_actions h)
 
 -- what became of an action
 pub data Status : Type 0 where
@@ -51,4 +55,6 @@ pub data Status : Type 0 where
 
 -- a doomed action counts as aborted, committed or not
 abbrev pub status : {V : Type 0} → History V → ℕ → Status
-status h a = if is_begun h a then (if is_doomed h a then IsAborted else if has_committed h a then IsCommitted else IsLive) else IsFolded
+status h a =
+    if is_begun h a then
+    (if is_doomed h a then IsAborted else if has_committed h a then IsCommitted else IsLive) else IsFolded

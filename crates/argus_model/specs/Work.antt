@@ -1,5 +1,5 @@
 -- The serial order: what each action did, with the work of its subactions where they committed.
-use Rattle.std.specs.Prelude.{List, [], if◌then◌else◌, ℕ, ◌++◌, ◌==◌, ◌∷◌}
+use Rattle.std.specs.Prelude.{List, [], if◌then◌else◌, ℕ, ◌++◌, ◌==◌, ◌∷◌, ◌≡◌, ◌⊎◌}
 use Rattle.argus_model.specs.Ancestors.{lineage, parent}
 use Rattle.argus_model.specs.Event.{Aborted, Accessed, Began, Committed}
 use Rattle.argus_model.specs.History.{History, Opened, ◌▹◌}
@@ -9,6 +9,14 @@ use Rattle.argus_model.specs.Meaning.{Meaning}
 pub record Access (V : Type 0) : Type 0 where
   pub object : ℕ
   pub what : V
+
+-- one of the history's events is this access
+abbrev pub IsOnRecord : {V : Type 0} → History V → Access V → Type 0
+IsOnRecord (Opened n) e = ⊥
+IsOnRecord (Accessed a o v ▹ older) e = (record { object = o; what = v } ≡ e) ⊎ IsOnRecord older e
+IsOnRecord (Began from ▹ older) e = IsOnRecord older e
+IsOnRecord (Committed a ▹ older) e = IsOnRecord older e
+IsOnRecord (Aborted actions ▹ older) e = IsOnRecord older e
 
 -- the accesses of an action, newest first, with the whole work of each subaction where that committed
 abbrev pub work : {V : Type 0} → History V → ℕ → List (Access V)
@@ -21,7 +29,8 @@ work (Aborted bs ▹ older) a = work older a
 -- the committed topactions, nested ones too, the last to commit first
 abbrev pub committed_topactions : {V : Type 0} → History V → List ℕ
 committed_topactions (Opened n) = []
-committed_topactions (Committed a ▹ older) = if parent older a == 0 then a ∷ committed_topactions older else committed_topactions older
+committed_topactions (Committed a ▹ older) =
+    if parent older a == 0 then a ∷ committed_topactions older else committed_topactions older
 committed_topactions (Began from ▹ older) = committed_topactions older
 committed_topactions (Aborted actions ▹ older) = committed_topactions older
 committed_topactions (Accessed a o v ▹ older) = committed_topactions older
@@ -43,7 +52,8 @@ module _ {V C A : Type 0} (meaning : Meaning V C A) where
   -- what these accesses, newest first, leave in the object, from these contents on
   abbrev pub content_after : (ℕ → C) → ℕ → List (Access V) → C
   content_after contents o [] = contents o
-  content_after contents o (e ∷ older) = if e.object == o then meaning.after e.what (content_after contents o older) else content_after contents o older
+  content_after contents o (e ∷ older) =
+      if e.object == o then meaning.after e.what (content_after contents o older) else content_after contents o older
 
   -- what the object of an access holds just before it, where these went before, newest first
   abbrev pub content_before : (ℕ → C) → Access V → List (Access V) → C

@@ -11,7 +11,8 @@ use Rattle.argus_model.specs.Work.{Access, content_after}
 -- the accesses by the actions that pass the test, newest first
 abbrev pub accesses_by : {V : Type 0} → (ℕ → Bool) → History V → List (Access V)
 accesses_by test (Opened n) = []
-accesses_by test (Accessed a o v ▹ older) = if test a then record { object = o; what = v } ∷ accesses_by test older else accesses_by test older
+accesses_by test (Accessed a o v ▹ older) =
+    if test a then record { object = o; what = v } ∷ accesses_by test older else accesses_by test older
 accesses_by test (Began from ▹ older) = accesses_by test older
 accesses_by test (Committed a ▹ older) = accesses_by test older
 accesses_by test (Aborted actions ▹ older) = accesses_by test older
@@ -35,8 +36,10 @@ module _ {V C A : Type 0} (meaning : Meaning V C A) (contents : ℕ → C) where
   abbrev pub LawfulSteps : History V → Type 0
   LawfulSteps (Opened n) = Unit {0}
   LawfulSteps (Began from ▹ older) = (stands older (parent_of from) ≡ true) × LawfulSteps older
-  LawfulSteps (Committed a ▹ older) = (a ≢ 0) × (stands older a ≡ true) × (standing_child older a older ≡ false) × LawfulSteps older
+  LawfulSteps (Committed a ▹ older) =
+      (a ≢ 0) × (stands older a ≡ true) × (standing_child older a older ≡ false) × LawfulSteps older
   LawfulSteps (Aborted actions ▹ older) = AllStand older actions × LawfulSteps older
   LawfulSteps (Accessed a o v ▹ older) =
-      (stands older a ≡ true) × (standing_child older a older ≡ false) × (may_by_steps meaning.writes older a o (meaning.writes v) older ≡ true)
+      (stands older a ≡ true) × (standing_child older a older ≡ false)
+      × (may_by_steps meaning.writes older a o (meaning.writes v) older ≡ true)
       × Fits meaning v (content_after meaning contents o (visible_accesses older a)) × (a ≢ 0) × LawfulSteps older

@@ -33,7 +33,14 @@ looks_keep (Put number replaced) n c = absurd (false≢true (sym n))
 
 -- both answer what they find
 abbrev pub numbers : Meaning Deed ℕ ℕ
-numbers = record { writes = puts; after = number_after; answer = λ v c. c; recorded = answer_given; reads_keep = looks_keep }
+numbers = record {
+  writes = puts;
+  after = number_after;
+  answer = λ v c. c;
+  recorded = answer_given;
+  reads_keep =
+      looks_keep;
+}
 
 abbrev pub looked : ℕ → ℕ → Access Deed
 looked o seen = record { object = o; what = Look seen }
@@ -54,19 +61,22 @@ abbrev pub pair_begins : History Deed
 pair_begins = followed_by (Opened 0) (Began Top ∷ Began (Sub 1) ∷ Began (Sub 1) ∷ Accessed 2 0 (Put 1 0) ∷ [])
 
 abbrev pub pair_goes_on : History Deed
-pair_goes_on = followed_by pair_begins (Committed 2 ∷ Accessed 3 0 (Look 1) ∷ Accessed 3 0 (Put 5 1) ∷ Accessed 3 1 (Look 0) ∷ [])
+pair_goes_on =
+    followed_by pair_begins (Committed 2 ∷ Accessed 3 0 (Look 1) ∷ Accessed 3 0 (Put 5 1) ∷ Accessed 3 1 (Look 0) ∷ [])
 
 abbrev pub pair_ends : History Deed
 pair_ends = followed_by pair_goes_on (Committed 3 ∷ Committed 1 ∷ [])
 
--- a topaction is aborted that has begun two nested topactions, one of them through a subaction; another subaction of that one has committed
+-- a topaction is aborted that has begun two nested topactions, one of them through a subaction; another subaction of
+-- that one has committed
 abbrev pub creator_works : History Deed
 creator_works = followed_by (Opened 0) (Began Top ∷ Began (Nested 1) ∷ Accessed 2 0 (Put 7 0) ∷ [])
 
 abbrev pub creator_aborts : History Deed
 creator_aborts =
     followed_by creator_works
-    (Committed 2 ∷ Began (Sub 1) ∷ Accessed 3 1 (Put 1 0) ∷ Began (Nested 3) ∷ Began (Sub 3) ∷ Committed 5 ∷ Aborted (1 ∷ []) ∷ [])
+    (Committed 2 ∷ Began (Sub 1) ∷ Accessed 3 1 (Put 1 0) ∷ Began (Nested 3) ∷ Began (Sub 3) ∷ Committed 5 ∷ Aborted
+    (1 ∷ []) ∷ [])
 
 abbrev pub creator_outlived : History Deed
 creator_outlived = followed_by creator_aborts (Accessed 4 1 (Look 0) ∷ Accessed 4 0 (Look 7) ∷ Committed 4 ∷ [])
@@ -86,7 +96,9 @@ siblings_end = followed_by siblings_aborted (Accessed 8 1 (Put 3 0) ∷ Committe
 
 -- two topactions take turns, and the first to begin is the last to commit
 abbrev pub turns_taken : History Deed
-turns_taken = followed_by (Opened 2) (Began Top ∷ Accessed 3 0 (Look 4) ∷ Began Top ∷ Accessed 4 1 (Put 2 0) ∷ Accessed 3 0 (Put 6 4) ∷ [])
+turns_taken =
+    followed_by (Opened 2)
+    (Began Top ∷ Accessed 3 0 (Look 4) ∷ Began Top ∷ Accessed 4 1 (Put 2 0) ∷ Accessed 3 0 (Put 6 4) ∷ [])
 
 abbrev pub turns_end : History Deed
 turns_end = followed_by turns_taken (Committed 4 ∷ Accessed 3 1 (Look 2) ∷ Accessed 3 1 (Put 8 2) ∷ Committed 3 ∷ [])

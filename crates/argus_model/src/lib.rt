@@ -9,7 +9,7 @@
 //!
 //! | Module | Its laws |
 //! |---|---|
-//! | `locks` | who may hold an object together |
+//! | `locks` | who may hold an object together, and who sees the same in it |
 //! | `one_after_another` | committed and live work gives the same answers in a serial run |
 //! | `what_counts` | for whom an action's work counts, and that nothing comes back |
 //! | `tables` | the effects of committed topactions, their table, and checkpoints |

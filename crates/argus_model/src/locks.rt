@@ -7,6 +7,7 @@ ghost use Rattle.argus_model.specs.Ancestors.{is_ancestor};
 ghost use Rattle.argus_model.specs.Status.{is_live};
 ghost use Rattle.argus_model.specs.Meaning.{Meaning};
 ghost use Rattle.argus_model.specs.Holders.{readers, writers, may_read, may_write};
+ghost use Rattle.argus_model.specs.Contents.{sees};
 ghost use Rattle.argus_model.specs.Lawful.{Lawful};
 
 /// Of one who holds an object for writing and any other holder of it, one is an ancestor of the
@@ -46,4 +47,14 @@ pub fn lock_rules<V, C, A>()
         → (may_write meaning h a o ≡ true)
         ↔ ((x : ℕ) → contains (readers meaning h o ++ writers meaning h o) x ≡ true
         → is_ancestor h x a ≡ true) }
+{}
+
+/// What two actions see in an object is the same where the same of its writers are ancestors of
+/// both.
+pub fn views<V, C, A>()
+    ensures { (meaning : Meaning V C A) (opening : Opening C) (h : History V) (x y o : ℕ)
+        → Lawful meaning opening h
+        → ((z : ℕ) → contains (writers meaning h o) z ≡ true
+        → is_ancestor h z x ≡ is_ancestor h z y)
+        → sees meaning opening h x o ≡ sees meaning opening h y o }
 {}

@@ -5,7 +5,7 @@ ghost use Rattle.argus_model.specs.History.{Opening, History, ◌▹◌};
 ghost use Rattle.argus_model.specs.Status.{is_begun, is_live};
 ghost use Rattle.argus_model.specs.Meaning.{Meaning, Fits};
 ghost use Rattle.argus_model.specs.Contents.{sees, base};
-ghost use Rattle.argus_model.specs.Work.{Access, work, serial_order, serial_order_to};
+ghost use Rattle.argus_model.specs.Work.{Access, IsOnRecord, work, serial_order, serial_order_to};
 ghost use Rattle.argus_model.specs.Work.{content_after, content_before};
 ghost use Rattle.argus_model.specs.Run.{AnswersAgain, run};
 ghost use Rattle.argus_model.specs.Lawful.{Lawful};
@@ -20,7 +20,7 @@ pub fn base_is_serial<V, C, A>()
 /// The committed topactions, run one after another in the order of their commits from the contents
 /// of the opening, and within each action its committed subactions likewise, give each recorded
 /// answer again, each access by what its object holds just before it, and leave in each object what
-/// is there for good.
+/// is there for good. Each access of that run is one that the history has on record, at its object.
 pub fn committed_work_runs_again<V, C, A>()
     ensures answers { (meaning : Meaning V C A) (opening : Opening C) (h : History V)
         → Lawful meaning opening h
@@ -29,13 +29,17 @@ pub fn committed_work_runs_again<V, C, A>()
         (later : List (Access V)) (e : Access V) (earlier : List (Access V))
         → Lawful meaning opening h → serial_order h ≡ later ++ e ∷ earlier
         → Fits meaning e.what (content_before meaning opening.contents e earlier) }
+    ensures recorded { (h : History V) (later : List (Access V)) (e : Access V)
+        (earlier : List (Access V)) → serial_order h ≡ later ++ e ∷ earlier
+        → IsOnRecord h e }
     ensures leaves { (meaning : Meaning V C A) (opening : Opening C) (h : History V) (o : ℕ)
         → Lawful meaning opening h
         → run meaning opening.contents (reverse (serial_order h)) o ≡ base meaning opening h o }
 {}
 
 /// So does that run followed by the work of a live action's ancestors, the topmost first, and its
-/// own; it leaves in each object what the action sees.
+/// own; it begins with the serial run of the committed topactions, and leaves in each object what
+/// the action sees.
 pub fn live_work_runs_again<V, C, A>()
     ensures answers { (meaning : Meaning V C A) (opening : Opening C) (h : History V) (a : ℕ)
         → Lawful meaning opening h → is_live h a ≡ true
@@ -45,6 +49,12 @@ pub fn live_work_runs_again<V, C, A>()
         → Lawful meaning opening h → is_live h a ≡ true
         → serial_order_to h a ≡ later ++ e ∷ earlier
         → Fits meaning e.what (content_before meaning opening.contents e earlier) }
+    ensures recorded { (h : History V) (a : ℕ) (later : List (Access V)) (e : Access V)
+        (earlier : List (Access V)) → serial_order_to h a ≡ later ++ e ∷ earlier
+        → IsOnRecord h e }
+    ensures begins { (meaning : Meaning V C A) (opening : Opening C) (h : History V) (a : ℕ)
+        → Lawful meaning opening h → is_live h a ≡ true
+        → (more : List (Access V)) × (serial_order_to h a ≡ more ++ serial_order h) }
     ensures leaves { (meaning : Meaning V C A) (opening : Opening C) (h : History V) (a o : ℕ)
         → Lawful meaning opening h → is_live h a ≡ true
         → run meaning opening.contents (reverse (serial_order_to h a)) o

@@ -1,46 +1,43 @@
 //! What each committed topaction left for good, the table of it, and checkpoints.
-ghost use Rattle.std.specs.Prelude.{◌≡◌, ◌≢◌, ℕ, true, false, List, [], ◌∷◌, ◌++◌, ◌-◌, map};
+ghost use Rattle.std.specs.Prelude.{◌≡◌, ℕ, true, List, ◌++◌, ◌-◌};
 ghost use Rattle.std.specs.List.Sorted.{IsStrictlyIncreasing};
-ghost use Rattle.argus_model.specs.Event.{Event, Committed};
+ghost use Rattle.argus_model.specs.Event.{Event};
 ghost use Rattle.argus_model.specs.History.{Opening, History, Opened, ◌▹◌, next_action};
 ghost use Rattle.argus_model.specs.Numbers.{contains};
-ghost use Rattle.argus_model.specs.Ancestors.{parent};
 ghost use Rattle.argus_model.specs.Status.{is_live};
 ghost use Rattle.argus_model.specs.Meaning.{Meaning};
 ghost use Rattle.argus_model.specs.Holders.{writers};
-ghost use Rattle.argus_model.specs.Contents.{sees, base};
+ghost use Rattle.argus_model.specs.Contents.{base};
 ghost use Rattle.argus_model.specs.Work.{Access, work};
-ghost use Rattle.argus_model.specs.Effects.{table, written_objects, effects};
+ghost use Rattle.argus_model.specs.Effects.{table, written_objects, effects, added_effects};
 ghost use Rattle.argus_model.specs.Lawful.{Lawful};
 ghost use Rattle.argus_model.specs.Fold.{fold};
 
-/// The table of all effects is what is there for good, and an event at most adds an effect at the
-/// end.
+/// The table of all effects is what is there for good, and an event adds an effect at the end where
+/// it is the commit of a topaction, and none otherwise. What comes later goes on from what is there
+/// for good.
 pub fn table_of_effects<V, C, A>()
     ensures base { (meaning : Meaning V C A) (opening : Opening C) (h : History V) (o : ℕ)
         → Lawful meaning opening h
         → table opening.contents (effects meaning opening h) o ≡ base meaning opening h o }
     ensures grows { (meaning : Meaning V C A) (opening : Opening C) (h : History V) (e : Event V)
         → Lawful meaning opening (e ▹ h)
-        → (more : List (List (ℕ × C)))
-        × (effects meaning opening (e ▹ h) ≡ effects meaning opening h ++ more) }
+        → effects meaning opening (e ▹ h)
+        ≡ effects meaning opening h ++ added_effects meaning opening h e }
+    ensures goes_on { (meaning : Meaning V C A) (opening : Opening C) (h : History V)
+        (later : List (List (ℕ × C))) (o : ℕ) → Lawful meaning opening h
+        → table opening.contents (effects meaning opening h ++ later) o
+        ≡ table (base meaning opening h) later o }
 {}
 
-/// The commit of a topaction adds one effect: what the topaction sees in each object that it holds
-/// for writing, in increasing number. The commit of a subaction adds none.
+/// An effect names each object that the topaction holds for writing, in increasing number: a live
+/// action has written what it holds for writing, and nothing else.
 pub fn effect_of_commit<V, C, A>()
-    ensures topaction { (meaning : Meaning V C A) (opening : Opening C) (h : History V) (a : ℕ)
-        → Lawful meaning opening (Committed a ▹ h) → parent h a ≡ 0
-        → effects meaning opening (Committed a ▹ h) ≡ effects meaning opening h
-        ++ map (λ o. (o, sees meaning opening h a o)) (written_objects meaning (work h a)) ∷ [] }
     ensures written { (meaning : Meaning V C A) (opening : Opening C) (h : History V) (a o : ℕ)
         → Lawful meaning opening h → is_live h a ≡ true
         → contains (written_objects meaning (work h a)) o ≡ contains (writers meaning h o) a }
     ensures in_order { (meaning : Meaning V C A) (done : List (Access V))
         → IsStrictlyIncreasing (written_objects meaning done) }
-    ensures subaction { (meaning : Meaning V C A) (opening : Opening C) (h : History V) (a : ℕ)
-        → Lawful meaning opening (Committed a ▹ h) → parent h a ≢ 0
-        → effects meaning opening (Committed a ▹ h) ≡ effects meaning opening h }
 {}
 
 /// A history may go on from its own fold, with the contents that were there for good; the effects

@@ -1,5 +1,5 @@
 //! Each law can be called, at types of its own.
-use crate::locks::{exclusion, holders, lock_rules};
+use crate::locks::{exclusion, holders, lock_rules, views};
 use crate::next_event::{abort, access, base_sees, begin, commit};
 use crate::one_after_another::{
     base_is_serial, committed_work_runs_again, live_work_runs_again, work_is_final,
@@ -20,6 +20,7 @@ fn laws_of_locks_and_of_what_counts(_rt: HostRuntime) {
     exclusion::<u8, u32, bool>();
     holders::<u8, u32, bool>();
     lock_rules::<u8, u32, bool>();
+    views::<u8, u32, bool>();
     owners::<u8, u32, bool>();
     owners_are_live::<u8, u32, bool>();
     nothing_comes_back::<u8, u32, bool>();

@@ -1,17 +1,19 @@
 //! Ancestors, the actions as rows of a tree, and the siblings of an action.
-ghost use Rattle.std.specs.Prelude.{◌≡◌, ◌≢◌, ◌≤◌, ℕ, ◌+◌, true, false, not, ◌&&◌, ◌==◌, length, Some};
+ghost use Rattle.std.specs.Prelude.{◌≡◌, ◌≢◌, ◌<◌, ◌≤◌, ℕ, ◌+◌, ◌-◌, true, false, not, ◌&&◌, ◌==◌, length, Some};
+ghost use Rattle.std.specs.List.{list_any};
 ghost use Rattle.std.specs.List.Sorted.{IsStrictlyIncreasing};
 ghost use Rattle.argus_model.specs.Event.{Aborted, parent_of, creator_of};
 ghost use Rattle.argus_model.specs.History.{Opening, History, begun_actions, folded, next_action};
 ghost use Rattle.argus_model.specs.Numbers.{contains};
-ghost use Rattle.argus_model.specs.Ancestors.{parent, creator, is_ancestor};
-ghost use Rattle.argus_model.specs.Status.{is_begun, is_live, has_live_child, live_siblings};
+ghost use Rattle.argus_model.specs.Ancestors.{parent, creator, lineage, is_ancestor, is_under};
+ghost use Rattle.argus_model.specs.Status.{is_begun, is_live, has_live_child, is_sibling, live_siblings};
 ghost use Rattle.argus_model.specs.Meaning.{Meaning};
 ghost use Rattle.argus_model.specs.Lawful.{Allowed, Lawful};
-ghost use Rattle.argus_model.specs.Rows.{origin, row_of, row_at, is_above, rows, has_live_row};
+ghost use Rattle.argus_model.specs.Rows.{origin, row_of, row_at, is_above, depth_at, rows, has_live_row};
 
 /// An action is its own ancestor, ancestors of ancestors are ancestors, and they are older; of a
-/// live action they are live. Nothing live stands under an action that has no live child.
+/// live action they are live, but for the base. A creator is older, too. Nothing live stands under
+/// an action that has no live child.
 pub fn ancestors<V, C, A>()
     ensures own { (h : History V) (a : ℕ) → is_ancestor h a a ≡ true }
     ensures base { (h : History V) (a : ℕ) → is_ancestor h 0 a ≡ true }
@@ -25,6 +27,8 @@ pub fn ancestors<V, C, A>()
     ensures live { (meaning : Meaning V C A) (opening : Opening C) (h : History V) (x a : ℕ)
         → Lawful meaning opening h → is_live h a ≡ true → is_ancestor h x a ≡ true → x ≢ 0
         → is_live h x ≡ true }
+    ensures creator { (meaning : Meaning V C A) (opening : Opening C) (h : History V) (a : ℕ)
+        → Lawful meaning opening h → is_begun h a ≡ true → creator h a < a }
     ensures alone { (meaning : Meaning V C A) (opening : Opening C) (h : History V) (x a : ℕ)
         → Lawful meaning opening h → is_live h a ≡ true → is_ancestor h x a ≡ true
         → has_live_child h x ≡ false
@@ -49,7 +53,8 @@ pub fn rows_say_what_happened<V, C, A>()
 {}
 
 /// The ancestors that are read off the rows are those of the history, for actions that have begun,
-/// and no others; so are the live children.
+/// and no others; so are the live children. The depth of an action is how many its lineage has, the
+/// base not counted.
 pub fn rows_tell_ancestors_and_children<V, C, A>()
     ensures ancestor { (meaning : Meaning V C A) (opening : Opening C) (h : History V) (x a : ℕ)
         → Lawful meaning opening h
@@ -58,14 +63,21 @@ pub fn rows_tell_ancestors_and_children<V, C, A>()
     ensures child { (meaning : Meaning V C A) (opening : Opening C) (h : History V) (a : ℕ)
         → Lawful meaning opening h
         → has_live_row (rows h) a ≡ has_live_child h a }
+    ensures depth { (meaning : Meaning V C A) (opening : Opening C) (h : History V) (a : ℕ)
+        → Lawful meaning opening h → is_begun h a ≡ true
+        → depth_at (folded h) (rows h) a ≡ length (lineage h a) - 1 }
 {}
 
 /// The siblings that are listed are the other live actions of the same creator, and they may be
-/// aborted in one step.
+/// aborted in one step. A live action stands under one of them exactly where a sibling is in its
+/// lineage.
 pub fn siblings<V, C, A>()
     ensures who { (meaning : Meaning V C A) (opening : Opening C) (h : History V) (a x : ℕ)
-        → contains (live_siblings h a) x
-        ≡ (is_live h x && (not (x == a) && creator h x == creator h a)) }
+        → contains (live_siblings h a) x ≡ (is_live h x && is_sibling h a x) }
     ensures may_be_aborted { (meaning : Meaning V C A) (opening : Opening C) (h : History V)
         (a : ℕ) → Allowed meaning opening h (Aborted (live_siblings h a)) }
+    ensures in_order { (h : History V) (a : ℕ) → IsStrictlyIncreasing (live_siblings h a) }
+    ensures under { (meaning : Meaning V C A) (opening : Opening C) (h : History V) (a x : ℕ)
+        → Lawful meaning opening h → is_live h x ≡ true
+        → is_under h (live_siblings h a) x ≡ list_any (is_sibling h a) (lineage h x) }
 {}

@@ -157,5 +157,6 @@ pub fn rules_refuse()
     ensures begin_when_doomed { ¬ Allowed numbers zeros creator_aborts (Began (Nested 3)) }
 
     // 7 has looked at object 1
-    ensures read_lock_for_a_write { ¬ Allowed numbers opened_late siblings_work (Accessed 9 1 (Put 1 0)) }
+    ensures read_lock_for_a_write { ¬ Allowed numbers opened_late siblings_work
+        (Accessed 9 1 (Put 1 0)) }
 {}

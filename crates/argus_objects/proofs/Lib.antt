@@ -4,3 +4,6 @@ pub mod Ascending
 pub mod InOrder
 pub mod Stacks
 pub mod Changes
+pub mod Later
+pub mod Members
+pub mod Crossing

@@ -1,5 +1,5 @@
 -- The list of each action's objects.
-use Rattle.std.specs.Prelude.{◌≡◌, ℕ, ◌==◌, nat_eq, if◌then◌else◌, List, [], ◌∷◌, ◌++◌, Option, Some, None}
+use Rattle.std.specs.Prelude.{◌≡◌, ℕ, ◌+◌, ◌≤◌, ◌==◌, nat_eq, if◌then◌else◌, List, [], ◌∷◌, ◌++◌, Option, Some, None}
 use Rattle.std.specs.List.{list_any}
 use Rattle.std.specs.HashMap.{get}
 use Rattle.indexmap.specs.IndexSet.{IndexSet, spare}
@@ -47,3 +47,11 @@ PassedOn old s parent new =
 -- all lists stay
 abbrev pub SameLists : Holdings → Holdings → Type 0
 SameLists old new = (x : ActionId) → listed new x ≡ listed old x
+
+-- each list keeps at least the room that it had
+abbrev pub KeepsRooms : Holdings → Holdings → Type 0
+KeepsRooms old new = (x : ActionId) → room_of old x ≤ room_of new x
+
+-- each list keeps its room but the one of this action, which may lose one place
+abbrev pub TakesOnePlace : Holdings → ActionId → Holdings → Type 0
+TakesOnePlace old a new = (x : ActionId) → room_of old x ≤ room_of new x + (if x.0 == a.0 then 1 else 0)

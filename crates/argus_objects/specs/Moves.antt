@@ -1,5 +1,5 @@
 -- What each call leaves of the readers and of the versions.
-use Rattle.std.specs.Prelude.{Bool, not, ◌==◌, nat_lt, if◌then◌else◌, List, [], ◌∷◌, map, Option, Some, None}
+use Rattle.std.specs.Prelude.{Bool, not, ◌&&◌, ◌||◌, ◌==◌, nat_lt, if◌then◌else◌, List, [], ◌∷◌, map, Option, Some, None}
 use Rattle.std.specs.List.{list_any, filter}
 use Rattle.argus_actions.specs.declared.action_id.ActionId.{ActionId}
 use Rattle.argus_actions.specs.Tree.{Tree, is_ancestor}
@@ -54,6 +54,21 @@ readers_discarded tree a readers = filter (λ x. not (is_ancestor tree a.0 x.0))
 -- the versions whose holders don't have the action as an ancestor
 abbrev pub versions_discarded : Tree → ActionId → List PlainVersion → List PlainVersion
 versions_discarded tree a versions = filter (λ v. not (is_ancestor tree a.0 v.holder.0)) versions
+
+-- one of these actions is an ancestor of x
+abbrev pub is_under_any : Tree → List ActionId → ActionId → Bool
+is_under_any tree actions x = list_any (λ a. is_ancestor tree a.0 x.0) actions
+
+-- the readers, and the versions, that none of these actions takes along where each is aborted
+abbrev pub readers_left : Tree → List ActionId → List ActionId → List ActionId
+readers_left tree actions readers = filter (λ x. not (is_under_any tree actions x)) readers
+
+abbrev pub versions_left : Tree → List ActionId → List PlainVersion → List PlainVersion
+versions_left tree actions versions = filter (λ v. not (is_under_any tree actions v.holder)) versions
+
+-- x is among the holders once s has handed what it has to its parent
+abbrev pub is_handed : ActionId → ActionId → ActionId → Bool → Bool → Bool
+is_handed s parent x has s_has = (not (x.0 == s.0) && has) || (x.0 == parent.0 && s_has)
 
 -- the content of the newest version, or the base
 abbrev pub newest_content : Option PlainContent → List PlainVersion → Option PlainContent

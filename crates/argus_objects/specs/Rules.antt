@@ -1,5 +1,5 @@
 -- The lock rules (Moss, Nested Transactions, 1981; Argus Reference Manual, MIT/LCS/TR-400, 1987), and what is so of each object.
-use Rattle.std.specs.Prelude.{◌≡◌, Bool, true, not, ◌&&◌, ◌||◌, ◌==◌, nat_lt, nat_le, if◌then◌else◌, List, [], ◌∷◌, Option}
+use Rattle.std.specs.Prelude.{◌≡◌, ℕ, Bool, true, not, ◌&&◌, ◌||◌, ◌==◌, nat_lt, nat_le, if◌then◌else◌, List, [], ◌∷◌, Option}
 use Rattle.std.specs.List.{list_all}
 use Rattle.argus_actions.specs.declared.action_id.ActionId.{ActionId}
 use Rattle.argus_actions.specs.Tree.{Tree, is_ancestor}
@@ -58,3 +58,7 @@ are_up_to a ids = list_all (λ x. nat_le x.0 a.0) ids
 pub record AreInOrder (readers : List ActionId) (versions : List Version) : Type 0 where
   pub readers_ascend : is_ascending readers ≡ true
   pub writers_ascend : is_ascending (writers versions) ≡ true
+
+-- who is an ancestor of whom stays so
+abbrev pub KeepsAncestors : Tree → Tree → Type 0
+KeepsAncestors tree later = (x y : ℕ) → is_ancestor tree x y ≡ true → is_ancestor later x y ≡ true

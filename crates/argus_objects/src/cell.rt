@@ -1,6 +1,6 @@
 //! `Cell`: one object, with its base, its readers and its versions.
 
-ghost use Rattle.std.specs.Prelude.{◌≡◌, ◌<◌, true, [], None, Some, IfOk, OnErr, OnOk};
+ghost use Rattle.std.specs.Prelude.{◌≡◌, ◌<◌, ◌≤◌, true, [], None, Some, IfOk, OnErr, OnOk};
 ghost use Rattle.std.specs.Option.{unwrap_or};
 ghost use Rattle.argus_actions.specs.Refusals.{commit_refusal};
 ghost use Rattle.argus_actions.specs.Tree.{parent_of};
@@ -9,7 +9,7 @@ ghost use Rattle.argus_contents.specs.Change.{CreatesWithin, plain_change};
 ghost use Rattle.argus_contents.specs.Content.{KeepsLimits, plain_option};
 ghost use Rattle.argus_objects.specs.Object.{newest_first, SameLocks};
 ghost use Rattle.argus_objects.specs.Rules.{is_lawful, may_read, may_write, seen_by};
-ghost use Rattle.argus_objects.specs.Moves.{changed, version_of};
+ghost use Rattle.argus_objects.specs.Moves.{changed, newest_content, version_of};
 ghost use Rattle.argus_objects.specs.Moves.{readers_discarded, readers_inherited, with_reader, without_reader};
 ghost use Rattle.argus_objects.specs.Moves.{versions_discarded, versions_inherited, with_version, without_version};
 
@@ -121,10 +121,11 @@ impl Cell {
         self.may_read(tree, a) && all_readers_above(self.readers.as_slice(), tree, a)
     }
 
-    /// Makes room for one more reader and one more version. After `OutOfMemory` the lists stay.
+    /// Makes room for one more reader and one more version. After `OutOfMemory` the lists stay, and in any case the room that was there.
     pub fn reserve_grant(&mut self) -> Result<(), OutOfMemory>
         ensures same { SameLocks self.old self.new }
         ensures ok { OnOk result (0 < self.new.room) }
+        ensures room { self.old.room ≤ self.new.room }
     {
         self.readers.reserve(1)?;
         self.versions.reserve(1)?;
@@ -195,12 +196,14 @@ impl Cell {
         change_version(&self.base, &mut self.versions, a, change)
     }
 
-    /// The content that `a` sees: the version of its nearest ancestor that has one, else the base.
+    /// The content that `a` sees: the version of its nearest ancestor that has one, else the base. As
+    /// all holders of versions are its ancestors, that is the newest version.
     ///
     /// Condition: the read lock is free for `a`.
     pub fn visible(&self, tree: &ActionTree, a: ActionId) -> &Option<Content>
         requires { may_read tree.now self.now a ≡ true }
-        ensures { plain_option result.now ≡ seen_by tree.now a self.now.base self.now.versions }
+        ensures nearest { plain_option result.now ≡ seen_by tree.now a self.now.base self.now.versions }
+        ensures newest { plain_option result.now ≡ newest_content self.now.base self.now.versions }
     {
         content_on_top(&self.base, self.versions.as_slice())
     }

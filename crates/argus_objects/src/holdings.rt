@@ -3,7 +3,7 @@
 ghost use Rattle.std.specs.Prelude.{◌≡◌, ◌≢◌, ◌<◌, ◌≤◌, ◌==◌, [], length, OnOk};
 ghost use Rattle.std.specs.List.{IsDistinct};
 ghost use Rattle.indexmap.specs.IndexSet.{spare};
-ghost use Rattle.argus_objects.specs.Holdings.{listed, Lists, noted, passed, PassedOn, room_of, SameLists};
+ghost use Rattle.argus_objects.specs.Holdings.{KeepsRooms, listed, Lists, noted, passed, PassedOn, room_of, SameLists, TakesOnePlace};
 
 use argus_actions::ActionId;
 use argus_contents::ObjId;
@@ -65,30 +65,36 @@ impl Holdings {
         }
     }
 
-    /// Makes room for one more object in the action's list. After `OutOfMemory` the lists are as before.
+    /// Makes room for one more object in the action's list. After `OutOfMemory` the lists are as before,
+    /// and all room that was there stays.
     pub fn reserve(&mut self, a: ActionId) -> Result<(), OutOfMemory>
         ensures same { SameLists self.old self.new }
         ensures ok { OnOk result (0 < room_of self.new a) }
+        ensures rooms { KeepsRooms self.old self.new }
     {
         self.reserve_for(a, 1)
     }
 
-    /// Puts the object at the end of the action's list, unless it is there. It takes no memory.
+    /// Puts the object at the end of the action's list, unless it is there. It takes no memory, and one
+    /// place of the list's room at most.
     ///
     /// Condition: the list has room, as `reserve` makes it.
     pub fn note(&mut self, a: ActionId, o: ObjId)
         requires { 0 < room_of self.old a }
-        ensures { Lists self.old a (noted o (listed self.old a)) self.new }
+        ensures list { Lists self.old a (noted o (listed self.old a)) self.new }
+        ensures rooms { TakesOnePlace self.old a self.new }
     {
         if let Some(objects) = self.lists.get_mut(&a.0) {
             let _ = objects.insert(o);
         }
     }
 
-    /// Makes room in the parent's list for all objects of `s`. After `OutOfMemory` the lists are as before.
+    /// Makes room in the parent's list for all objects of `s`. After `OutOfMemory` the lists are as before,
+    /// and all room that was there stays.
     pub fn reserve_pass(&mut self, s: ActionId, parent: ActionId) -> Result<(), OutOfMemory>
         ensures same { SameLists self.old self.new }
         ensures ok { OnOk result (length (listed self.new s) ≤ room_of self.new parent) }
+        ensures rooms { KeepsRooms self.old self.new }
     {
         let count = self.of(s).len();
         if count == 0 {
@@ -125,6 +131,7 @@ impl Holdings {
     fn reserve_for(&mut self, a: ActionId, additional: usize) -> Result<(), OutOfMemory>
         ensures same { SameLists self.old self.new }
         ensures ok { OnOk result (additional ≤ room_of self.new a) }
+        ensures rooms { KeepsRooms self.old self.new }
     {
         if let Some(objects) = self.lists.get_mut(&a.0) {
             objects.reserve(additional)?;

@@ -9,6 +9,7 @@
 mod cell;
 mod changing;
 mod holdings;
+pub mod laws;
 mod readers;
 mod version;
 mod versions;

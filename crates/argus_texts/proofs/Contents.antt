@@ -39,9 +39,11 @@ Kind (rec vs) c = c ≡ 123
 Kind (arr low vs) c = BeginsInt c
 Kind (var t v) c = c ≡ 60
 
-kind_of : (k : ℕ) (e : PlainContent) (c : ℕ) (x y : List ℕ) → PartsWithin k e → c ∷ x ≡ content_spelling e ++ y → Kind e c
+kind_of : (k : ℕ) (e : PlainContent) (c : ℕ) (x y : List ℕ) → PartsWithin k e → c ∷ x ≡ content_spelling e ++ y
+    → Kind e c
 kind_of k (rec vs) c x y w e = head_of e
-kind_of k (arr low vs) c x y w e = int_lead low c x _ w.0 (e ∙ append_assoc (signed_decimal low) (91 ∷ inside 93 (listed vs)) y)
+kind_of k (arr low vs) c x y w e =
+    int_lead low c x _ w.0 (e ∙ append_assoc (signed_decimal low) (91 ∷ inside 93 (listed vs)) y)
 kind_of k (var t v) c x y w e = head_of e
 
 abbrev Front : List ℕ → Type 0
@@ -49,32 +51,47 @@ Front form = (c : ℕ) × (ds : List ℕ) × (form ≡ c ∷ ds)
 
 front_of : (k : ℕ) (e : PlainContent) → PartsWithin k e → Front (content_spelling e)
 front_of k (rec vs) w = (123, inside 125 (listed vs), refl)
-front_of k (arr low vs) w = let f = int_front low w.0 in (f.0, f.1 ++ 91 ∷ inside 93 (listed vs), ap (λ x. x ++ 91 ∷ inside 93 (listed vs)) f.2)
+front_of k (arr low vs) w = let f = int_front low w.0 in
+    (f.0, f.1 ++ 91 ∷ inside 93 (listed vs), ap (λ x. x ++ 91 ∷ inside 93 (listed vs)) f.2)
 front_of k (var t v) w = (60, decimal t ++ 58 ∷ (spelling v ++ 62 ∷ []), refl)
 
-both_kinds : (k : ℕ) (d e : PlainContent) (x y : List ℕ) → PartsWithin k d → PartsWithin k e → content_spelling d ++ x ≡ content_spelling e ++ y → (c : ℕ) × Kind d c × Kind e c
+both_kinds : (k : ℕ) (d e : PlainContent) (x y : List ℕ) → PartsWithin k d → PartsWithin k e
+    → content_spelling d ++ x ≡ content_spelling e ++ y → (c : ℕ) × Kind d c × Kind e c
 both_kinds k d e x y w v q =
-    let f = front_of k d w in
-    (f.0, kind_of k d f.0 f.1 [] w (sym f.2 ∙ sym (append-nil (content_spelling d))), kind_of k e f.0 (f.1 ++ x) y v (sym (ap (λ (z : List ℕ). z ++ x) f.2) ∙ q))
+    let f = front_of k d w in (
+      f.0,
+      kind_of k d f.0 f.1 [] w (sym f.2 ∙ sym (append-nil (content_spelling d))),
+      kind_of k e f.0 (f.1 ++ x) y v
+          (sym (ap (λ (z : List ℕ). z ++ x) f.2) ∙ q),
+    )
 
-pub one_content : (k : ℕ) (d e : PlainContent) (x y : List ℕ) → PartsWithin k d → PartsWithin k e → content_spelling d ++ x ≡ content_spelling e ++ y → (d ≡ e) × (x ≡ y)
+pub one_content : (k : ℕ) (d e : PlainContent) (x y : List ℕ) → PartsWithin k d → PartsWithin k e
+    → content_spelling d ++ x ≡ content_spelling e ++ y → (d ≡ e) × (x ≡ y)
 one_content k (rec ds) (rec es) x y w v e =
-    let r = one_inside k 125 (inr refl) (listed ds) (listed es) x y w v (tail_of e) in (ap rec (same_list ds es r.0), r.1)
+    let r = one_inside k 125 (inr refl) (listed ds) (listed es) x y w v (tail_of e) in
+    (ap rec (same_list ds es r.0), r.1)
 one_content k (arr m ds) (arr n es) x y w v e =
-    let both : signed_decimal m ++ 91 ∷ (inside 93 (listed ds) ++ x) ≡ signed_decimal n ++ 91 ∷ (inside 93 (listed es) ++ y) =
-    sym (append_assoc (signed_decimal m) (91 ∷ inside 93 (listed ds)) x) ∙ e ∙ append_assoc (signed_decimal n) (91 ∷ inside 93 (listed es)) y in
-    let r = ints_clear.one m n (91 ∷ (inside 93 (listed ds) ++ x)) (91 ∷ (inside 93 (listed es) ++ y)) w.0 v.0 (inr (omega arith)) (inr (omega arith)) both in
+    let both : signed_decimal m ++ 91 ∷ (inside 93 (listed ds) ++ x)
+    ≡ signed_decimal n ++ 91 ∷ (inside 93 (listed es) ++ y) =
+    sym (append_assoc (signed_decimal m) (91 ∷ inside 93 (listed ds)) x) ∙ e
+    ∙ append_assoc (signed_decimal n) (91 ∷ inside 93 (listed es)) y in
+    let r = ints_clear.one m n (91 ∷ (inside 93 (listed ds) ++ x)) (91 ∷ (inside 93 (listed es) ++ y)) w.0 v.0
+    (inr (omega arith)) (inr (omega arith)) both in
     let s = one_inside k 93 (inl refl) (listed ds) (listed es) x y w.1 v.1 (tail_of r.1) in
     (ap (λ z. arr z ds) r.0 ∙ ap (arr n) (same_list ds es s.0), s.1)
 one_content k (var s d) (var t e) x y w v i =
-    let a : decimal s ++ 58 ∷ (spelling d ++ 62 ∷ x) ≡ decimal t ++ 58 ∷ (spelling e ++ 62 ∷ y) = sym (choice_form s d x) ∙ tail_of i ∙ choice_form t e y in
-    let r = one_decimal s t (58 ∷ (spelling d ++ 62 ∷ x)) (58 ∷ (spelling e ++ 62 ∷ y)) (omega (arith, w.0)) (omega (arith, v.0)) (inr (omega arith)) (inr (omega arith)) a in
-    let u = one_form k d e (62 ∷ x) (62 ∷ y) w.1 v.1 (value_ends d (62 ∷ x) (inr (omega arith))) (value_ends e (62 ∷ y) (inr (omega arith))) (tail_of r.1) in
+    let a : decimal s ++ 58 ∷ (spelling d ++ 62 ∷ x) ≡ decimal t ++ 58 ∷ (spelling e ++ 62 ∷ y) =
+    sym (choice_form s d x) ∙ tail_of i ∙ choice_form t e y in
+    let r = one_decimal s t (58 ∷ (spelling d ++ 62 ∷ x)) (58 ∷ (spelling e ++ 62 ∷ y)) (omega (arith, w.0))
+    (omega (arith, v.0)) (inr (omega arith)) (inr (omega arith)) a in
+    let u = one_form k d e (62 ∷ x) (62 ∷ y) w.1 v.1 (value_ends d (62 ∷ x) (inr (omega arith)))
+    (value_ends e (62 ∷ y) (inr (omega arith))) (tail_of r.1) in
     (ap (λ n. var n d) r.0 ∙ ap (λ z. var t z) u.0, tail_of u.1)
 one_content k d e x y w v i = let b = both_kinds k d e x y w v i in absurd (omega arith)
 
 pub contents_clear : (k : ℕ) → Clear (Contents k)
-contents_clear k = record { one = λ d e x y w v p q i. one_content k d e x y w v i; nil = λ d. tt; first = λ d c x y e. tt }
+contents_clear k =
+    record { one = λ d e x y w v p q i. one_content k d e x y w v i; nil = λ d. tt; first = λ d c x y e. tt }
 
 pub content_texts : Accepts (Contents 16) IsContentText
 content_texts = record {
@@ -84,8 +101,10 @@ content_texts = record {
 
 -- RECORDS AND VARIANTS
 
-brace_starts : (k : ℕ) (e : PlainContent) (u y : List ℕ) → PartsWithin k e → 123 ∷ u ≡ content_spelling e ++ y → Starts (Insides 125 k) u
-brace_starts k (rec vs) u y w i = record { thing = listed vs; rest = y; reads = record { good = w; ends = tt; is = tail_of i } }
+brace_starts : (k : ℕ) (e : PlainContent) (u y : List ℕ) → PartsWithin k e → 123 ∷ u ≡ content_spelling e ++ y
+    → Starts (Insides 125 k) u
+brace_starts k (rec vs) u y w i =
+    record { thing = listed vs; rest = y; reads = record { good = w; ends = tt; is = tail_of i } }
 brace_starts k e u y w i = let l = kind_of k e 123 u y w i in absurd (omega arith)
 
 pub record_brace : (k : ℕ) → Behind (123 ∷ []) (Insides 125 k) (Contents k)
@@ -101,13 +120,28 @@ record_brace k = record {
   starts = λ u s. brace_starts k s.thing u s.rest s.reads.good s.reads.is;
 }
 
-angle_starts : (k : ℕ) (e : PlainContent) (u y : List ℕ) → PartsWithin k e → 60 ∷ u ≡ content_spelling e ++ y → Starts (Choices k) u
-angle_starts k (var t v) u y w i = record { thing = (t, (v, tt)); rest = y; reads = record { good = ((omega arith, omega (arith, w.0)), (w.1, tt)); ends = tt; is = tail_of i } }
+angle_starts : (k : ℕ) (e : PlainContent) (u y : List ℕ) → PartsWithin k e → 60 ∷ u ≡ content_spelling e ++ y
+    → Starts (Choices k) u
+angle_starts k (var t v) u y w i =
+    record {
+      thing = (t, (v, tt));
+      rest = y;
+      reads =
+          record { good = ((omega arith, omega (arith, w.0)), (w.1, tt)); ends = tt; is = tail_of i };
+    }
 angle_starts k e u y w i = let l = kind_of k e 60 u y w i in absurd (omega arith)
 
 pub variant_angle : (k : ℕ) → Behind (60 ∷ []) (Choices k) (Contents k)
 variant_angle k = record {
-  forms = λ u t f. (t, record { thing = var f.thing.0 f.thing.1.0; good = (omega (arith, f.good.0.1), f.good.1.0); is = ap (λ x. 60 ∷ x) f.is });
+  forms = λ u t f. (
+    t,
+    record {
+      thing = var f.thing.0 f.thing.1.0;
+      good = (omega (arith, f.good.0.1), f.good.1.0);
+      is =
+          ap (λ x. 60 ∷ x) f.is;
+    },
+  );
   starts = λ u s. angle_starts k s.thing u s.rest s.reads.good s.reads.is;
 }
 
@@ -116,12 +150,14 @@ variant_angle k = record {
 abbrev pub BeginsNeither : ℕ → Type 0
 BeginsNeither c = (c ≢ 123) × (c ≢ 60)
 
-array_starts : (k : ℕ) (e : PlainContent) (u y : List ℕ) → First BeginsNeither u → PartsWithin k e → u ≡ content_spelling e ++ y → Starts (Arrays k) u
+array_starts : (k : ℕ) (e : PlainContent) (u y : List ℕ) → First BeginsNeither u → PartsWithin k e
+    → u ≡ content_spelling e ++ y → Starts (Arrays k) u
 array_starts k (rec vs) [] y n w i = cc
 array_starts k (rec vs) (c ∷ u) y n w i = absurd (n.0 (head_of i))
 array_starts k (var t v) [] y n w i = cc
 array_starts k (var t v) (c ∷ u) y n w i = absurd (n.1 (head_of i))
-array_starts k (arr low vs) u y n w i = record { thing = (low, listed vs); rest = y; reads = record { good = (w.0, w.1); ends = tt; is = i } }
+array_starts k (arr low vs) u y n w i =
+    record { thing = (low, listed vs); rest = y; reads = record { good = (w.0, w.1); ends = tt; is = i } }
 
 arrays : (k : ℕ) → Among BeginsNeither (Arrays k) (Contents k)
 arrays k = record {
@@ -137,23 +173,37 @@ pub neither : (x : List ℕ) → IsNot 123 x → IsNot 60 x → First BeginsNeit
 neither [] p q = tt
 neither (c ∷ x) p q = (p, q)
 
-array_stops : (k : ℕ) (text : List ℕ) (left : ℕ) → First BeginsNeither text → Stops (Arrays k) text left → Stops (Contents k) text left
+array_stops : (k : ℕ) (text : List ℕ) (left : ℕ) → First BeginsNeither text → Stops (Arrays k) text left
+    → Stops (Contents k) text left
 array_stops k text left n s = stops_among BeginsNeither (Arrays k) (Contents k) (arrays k) text left n s
 
 int_precedes : Precedes Ints 91
 int_precedes = λ a y. inr (omega arith)
 
-pub low_stops : (k : ℕ) (text : List ℕ) (left : ℕ) → First BeginsNeither text → Stops Ints text left → Stops (Contents k) text left
-low_stops k text left n s = array_stops k text left n (stops_behind [] Ints (Arrays k) (pair_first Ints (Insides 93 k) 91 int_precedes none tt) text left s)
+pub low_stops : (k : ℕ) (text : List ℕ) (left : ℕ) → First BeginsNeither text → Stops Ints text left
+    → Stops (Contents k) text left
+low_stops k text left n s =
+    array_stops k text left n
+    (stops_behind [] Ints (Arrays k) (pair_first Ints (Insides 93 k) 91 int_precedes none tt) text left s)
 
-pub bracket_stops : (k : ℕ) (text : List ℕ) (a : ℤ) (rest : List ℕ) → First BeginsNeither text → Reads Ints text a rest → IsNot 91 rest → Stops (Contents k) text (length rest)
-bracket_stops k text a rest n r b = array_stops k text (length rest) n (pair_between Ints (Insides 93 k) 91 ints_clear int_precedes none tt text a rest r b)
+pub bracket_stops : (k : ℕ) (text : List ℕ) (a : ℤ) (rest : List ℕ) → First BeginsNeither text → Reads Ints text a rest
+    → IsNot 91 rest → Stops (Contents k) text (length rest)
+bracket_stops k text a rest n r b =
+    array_stops k text (length rest) n
+    (pair_between Ints (Insides 93 k) 91 ints_clear int_precedes none tt text a rest r b)
 
-pub items_stops : (k : ℕ) (text : List ℕ) (a : ℤ) (next mid : List ℕ) (left : ℕ) → First BeginsNeither text → Reads Ints text a next → next ≡ 91 ∷ mid → Stops (Insides 93 k) mid left → Stops (Contents k) text left
+pub items_stops : (k : ℕ) (text : List ℕ) (a : ℤ) (next mid : List ℕ) (left : ℕ) → First BeginsNeither text
+    → Reads Ints text a next → next ≡ 91 ∷ mid → Stops (Insides 93 k) mid left → Stops (Contents k) text left
 items_stops k text a next mid left n r e s =
-    array_stops k text left n (stops_in (signed_decimal a ++ 91 ∷ []) (Insides 93 k) (Arrays k) (pair_second Ints (Insides 93 k) 91 ints_clear int_precedes a r.good) text mid left (pair_whole Ints 91 text a next mid r e) s)
+    array_stops k text left n
+    (stops_in (signed_decimal a ++ 91 ∷ []) (Insides 93 k) (Arrays k)
+    (pair_second Ints (Insides 93 k) 91 ints_clear int_precedes a r.good) text mid left
+    (pair_whole Ints 91 text a next mid r e) s)
 
-pub array_reads : (k : ℕ) (text : List ℕ) (a : ℤ) (next mid rest : List ℕ) (vs : List PlainValue) → Reads Ints text a next → next ≡ 91 ∷ mid → Reads (Insides 93 k) mid (listed vs) rest → Reads (Contents k) text (arr a vs) rest
+pub array_reads : (k : ℕ) (text : List ℕ) (a : ℤ) (next mid rest : List ℕ) (vs : List PlainValue)
+    → Reads Ints text a next → next ≡ 91 ∷ mid → Reads (Insides 93 k) mid (listed vs) rest
+    → Reads (Contents k) text (arr a vs) rest
 array_reads k text a next mid rest vs r e s =
-    let p : Reads (Arrays k) text (a, listed vs) rest = pair_reads Ints (Insides 93 k) 91 text a (listed vs) next mid rest r e s in
+    let p : Reads (Arrays k) text (a, listed vs) rest =
+    pair_reads Ints (Insides 93 k) 91 text a (listed vs) next mid rest r e s in
     record { good = (r.good, s.good); ends = tt; is = p.is }

@@ -105,8 +105,30 @@ no_lead (fields vs) c n l = n.7 l
 no_lead (choice t v) c n l = n.8 l
 
 pub close_no_lead : (c : ℕ) → IsClose c → NoLead c
-close_no_lead c (inl h) = (omega arith, omega arith, omega arith, λ b. omega arith, omega arith, omega arith, omega arith, omega arith, omega arith)
-close_no_lead c (inr h) = (omega arith, omega arith, omega arith, λ b. omega arith, omega arith, omega arith, omega arith, omega arith, omega arith)
+close_no_lead c (inl h) = (
+  omega arith,
+  omega arith,
+  omega arith,
+  λ b.
+      omega arith,
+  omega arith,
+  omega arith,
+  omega arith,
+  omega arith,
+  omega arith,
+)
+close_no_lead c (inr h) = (
+  omega arith,
+  omega arith,
+  omega arith,
+  λ b.
+      omega arith,
+  omega arith,
+  omega arith,
+  omega arith,
+  omega arith,
+  omega arith,
+)
 
 pub close_no_digit : (c : ℕ) → IsClose c → IsNoDigit c
 close_no_digit c (inl h) = inr (omega arith)
@@ -117,7 +139,8 @@ close_no_comma c (inl h) = omega arith
 close_no_comma c (inr h) = omega arith
 
 -- a value's form doesn't begin with a closing byte
-not_closing : (k close : ℕ) → IsClose close → (d : PlainValue) (x y : List ℕ) → Within k d → close ∷ x ≡ spelling d ++ y → ⊥
+not_closing : (k close : ℕ) → IsClose close → (d : PlainValue) (x y : List ℕ) → Within k d → close ∷ x ≡ spelling d ++ y
+    → ⊥
 not_closing k close i d x y w e = no_lead d close (close_no_lead close i) (lead_of k d close x y w e)
 
 no_digit_behind : (close : ℕ) → IsClose close → (vs : PlainValues) (x : List ℕ) → NotDigit (behind close vs ++ x)
@@ -135,7 +158,8 @@ value_ends (sequence vs) x n = tt
 value_ends (fields vs) x n = tt
 value_ends (choice t v) x n = tt
 
-pub ends_behind : (close : ℕ) → IsClose close → (d : PlainValue) (vs : PlainValues) (x : List ℕ) → ValueEnds d (behind close vs ++ x)
+pub ends_behind : (close : ℕ) → IsClose close → (d : PlainValue) (vs : PlainValues) (x : List ℕ)
+    → ValueEnds d (behind close vs ++ x)
 ends_behind close i d vs x = value_ends d (behind close vs ++ x) (no_digit_behind close i vs x)
 
 pub ends_first : (d : PlainValue) (c : ℕ) (x y : List ℕ) → ValueEnds d (c ∷ x) → ValueEnds d (c ∷ y)
@@ -151,52 +175,76 @@ ends_first (choice t v) c x y e = tt
 pub value_precedes : (k c : ℕ) → IsNoDigit c → Precedes (Values k) c
 value_precedes k c n = λ d y. value_ends d (c ∷ y) n
 
-both_kinds : (k : ℕ) (d e : PlainValue) (x y : List ℕ) → Within k d → Within k e → spelling d ++ x ≡ spelling e ++ y → (c : ℕ) × Kind d c × Kind e c
+both_kinds : (k : ℕ) (d e : PlainValue) (x y : List ℕ) → Within k d → Within k e → spelling d ++ x ≡ spelling e ++ y
+    → (c : ℕ) × Kind d c × Kind e c
 both_kinds k d e x y w v q =
-    let f = front_of k d w in
-    (f.0, kind_of k d f.0 f.1 [] w (sym f.2 ∙ sym (append-nil (spelling d))), kind_of k e f.0 (f.1 ++ x) y v (sym (ap (λ (z : List ℕ). z ++ x) f.2) ∙ q))
+    let f = front_of k d w in (
+      f.0,
+      kind_of k d f.0 f.1 [] w (sym f.2 ∙ sym (append-nil (spelling d))),
+      kind_of k e f.0 (f.1 ++ x) y v
+          (sym (ap (λ (z : List ℕ). z ++ x) f.2) ∙ q),
+    )
 
 -- a tag's form, a value's and what comes behind them
-pub choice_form : (t : ℕ) (v : PlainValue) (x : List ℕ) → (decimal t ++ 58 ∷ (spelling v ++ 62 ∷ [])) ++ x ≡ decimal t ++ 58 ∷ (spelling v ++ 62 ∷ x)
-choice_form t v x = append_assoc (decimal t) (58 ∷ (spelling v ++ 62 ∷ [])) x ∙ ap (λ z. decimal t ++ 58 ∷ z) (append_assoc (spelling v) (62 ∷ []) x)
+pub choice_form : (t : ℕ) (v : PlainValue) (x : List ℕ)
+    → (decimal t ++ 58 ∷ (spelling v ++ 62 ∷ [])) ++ x ≡ decimal t ++ 58 ∷ (spelling v ++ 62 ∷ x)
+choice_form t v x =
+    append_assoc (decimal t) (58 ∷ (spelling v ++ 62 ∷ [])) x
+    ∙ ap (λ z. decimal t ++ 58 ∷ z) (append_assoc (spelling v) (62 ∷ []) x)
 
 mutual
-  pub one_form : (k : ℕ) (d e : PlainValue) (x y : List ℕ) → Within k d → Within k e → ValueEnds d x → ValueEnds e y → spelling d ++ x ≡ spelling e ++ y → (d ≡ e) × (x ≡ y)
+  pub one_form : (k : ℕ) (d e : PlainValue) (x y : List ℕ) → Within k d → Within k e → ValueEnds d x → ValueEnds e y
+      → spelling d ++ x ≡ spelling e ++ y → (d ≡ e) × (x ≡ y)
   one_form k null null x y w v p q e = (refl, cc)
   one_form k (bool true) (bool true) x y w v p q e = (refl, cc)
   one_form k (bool false) (bool false) x y w v p q e = (refl, cc)
   one_form k (bool true) (bool false) x y w v p q e = absurd (omega (arith, head_of e))
   one_form k (bool false) (bool true) x y w v p q e = absurd (omega (arith, head_of e))
   one_form k (int m) (int n) x y w v p q e = let r = ints_clear.one m n x y w.1 v.1 p q e in (ap int r.0, r.1)
-  one_form k (text s) (text t) x y w v p q e = let r = quoted_clear.one s t x y w.1 v.1 tt tt (tail_of e) in (ap text r.0, r.1)
-  one_form k (atomic m) (atomic n) x y w v p q e = let r = one_decimal m n x y (omega (arith, w.1)) (omega (arith, v.1)) p q (tail_of e) in (ap atomic r.0, r.1)
-  one_form k (sequence ds) (sequence es) x y w v p q e = let r = one_inside (k - 1) 93 (inl refl) ds es x y w.1 v.1 (tail_of e) in (ap sequence r.0, r.1)
-  one_form k (fields ds) (fields es) x y w v p q e = let r = one_inside (k - 1) 125 (inr refl) ds es x y w.1 v.1 (tail_of e) in (ap fields r.0, r.1)
+  one_form k (text s) (text t) x y w v p q e = let r = quoted_clear.one s t x y w.1 v.1 tt tt (tail_of e) in
+      (ap text r.0, r.1)
+  one_form k (atomic m) (atomic n) x y w v p q e = let r =
+      one_decimal m n x y (omega (arith, w.1)) (omega (arith, v.1)) p q (tail_of e) in (ap atomic r.0, r.1)
+  one_form k (sequence ds) (sequence es) x y w v p q e = let r =
+      one_inside (k - 1) 93 (inl refl) ds es x y w.1 v.1 (tail_of e) in (ap sequence r.0, r.1)
+  one_form k (fields ds) (fields es) x y w v p q e = let r =
+      one_inside (k - 1) 125 (inr refl) ds es x y w.1 v.1 (tail_of e) in (ap fields r.0, r.1)
   one_form k (choice s d) (choice t e) x y w v p q i =
       let a : decimal s ++ 58 ∷ (spelling d ++ 62 ∷ x) ≡ decimal t ++ 58 ∷ (spelling e ++ 62 ∷ y) =
       sym (choice_form s d x) ∙ tail_of i ∙ choice_form t e y in
-      let r = one_decimal s t (58 ∷ (spelling d ++ 62 ∷ x)) (58 ∷ (spelling e ++ 62 ∷ y)) (omega (arith, w.1)) (omega (arith, v.1)) (inr (omega arith)) (inr (omega arith)) a in
-      let u = one_form (k - 1) d e (62 ∷ x) (62 ∷ y) w.2 v.2 (value_ends d (62 ∷ x) (inr (omega arith))) (value_ends e (62 ∷ y) (inr (omega arith))) (tail_of r.1) in
+      let r = one_decimal s t (58 ∷ (spelling d ++ 62 ∷ x)) (58 ∷ (spelling e ++ 62 ∷ y)) (omega (arith, w.1))
+      (omega (arith, v.1)) (inr (omega arith)) (inr (omega arith)) a in
+      let u = one_form (k - 1) d e (62 ∷ x) (62 ∷ y) w.2 v.2 (value_ends d (62 ∷ x) (inr (omega arith)))
+      (value_ends e (62 ∷ y) (inr (omega arith))) (tail_of r.1) in
       (ap (λ n. choice n d) r.0 ∙ ap (λ z. choice t z) u.0, tail_of u.1)
   one_form k d e x y w v p q i = let b = both_kinds k d e x y w v i in absurd (omega arith)
 
-  pub one_inside : (k close : ℕ) → IsClose close → (ds es : PlainValues) (x y : List ℕ) → AllWithin k ds → AllWithin k es → inside close ds ++ x ≡ inside close es ++ y → (ds ≡ es) × (x ≡ y)
+  pub one_inside : (k close : ℕ) → IsClose close → (ds es : PlainValues) (x y : List ℕ) → AllWithin k ds
+      → AllWithin k es → inside close ds ++ x ≡ inside close es ++ y → (ds ≡ es) × (x ≡ y)
   one_inside k close i none none x y w v e = (refl, tail_of e)
-  one_inside k close i none (more f es) x y w v e = absurd (not_closing k close i f _ _ v.0 (e ∙ append_assoc (spelling f) (behind close es) y))
-  one_inside k close i (more d ds) none x y w v e = absurd (not_closing k close i d _ _ w.0 (sym e ∙ append_assoc (spelling d) (behind close ds) x))
+  one_inside k close i none (more f es) x y w v e =
+      absurd (not_closing k close i f _ _ v.0 (e ∙ append_assoc (spelling f) (behind close es) y))
+  one_inside k close i (more d ds) none x y w v e =
+      absurd (not_closing k close i d _ _ w.0 (sym e ∙ append_assoc (spelling d) (behind close ds) x))
   one_inside k close i (more d ds) (more f es) x y w v e =
-      let both : spelling d ++ (behind close ds ++ x) ≡ spelling f ++ (behind close es ++ y) = sym (append_assoc (spelling d) (behind close ds) x) ∙ e ∙ append_assoc (spelling f) (behind close es) y in
-      let r = one_form k d f (behind close ds ++ x) (behind close es ++ y) w.0 v.0 (ends_behind close i d ds x) (ends_behind close i f es y) both in
+      let both : spelling d ++ (behind close ds ++ x) ≡ spelling f ++ (behind close es ++ y) =
+      sym (append_assoc (spelling d) (behind close ds) x) ∙ e ∙ append_assoc (spelling f) (behind close es) y in
+      let r = one_form k d f (behind close ds ++ x) (behind close es ++ y) w.0 v.0 (ends_behind close i d ds x)
+      (ends_behind close i f es y) both in
       let s = one_behind k close i ds es x y w.1 v.1 r.1 in
       (ap (λ a. more a ds) r.0 ∙ ap (λ a. more f a) s.0, s.1)
 
-  pub one_behind : (k close : ℕ) → IsClose close → (ds es : PlainValues) (x y : List ℕ) → AllWithin k ds → AllWithin k es → behind close ds ++ x ≡ behind close es ++ y → (ds ≡ es) × (x ≡ y)
+  pub one_behind : (k close : ℕ) → IsClose close → (ds es : PlainValues) (x y : List ℕ) → AllWithin k ds
+      → AllWithin k es → behind close ds ++ x ≡ behind close es ++ y → (ds ≡ es) × (x ≡ y)
   one_behind k close i none none x y w v e = (refl, tail_of e)
   one_behind k close i none (more f es) x y w v e = absurd (close_no_comma close i (sym (head_of e)))
   one_behind k close i (more d ds) none x y w v e = absurd (close_no_comma close i (head_of e))
   one_behind k close i (more d ds) (more f es) x y w v e =
-      let both : spelling d ++ (behind close ds ++ x) ≡ spelling f ++ (behind close es ++ y) = sym (append_assoc (spelling d) (behind close ds) x) ∙ tail_of e ∙ append_assoc (spelling f) (behind close es) y in
-      let r = one_form k d f (behind close ds ++ x) (behind close es ++ y) w.0 v.0 (ends_behind close i d ds x) (ends_behind close i f es y) both in
+      let both : spelling d ++ (behind close ds ++ x) ≡ spelling f ++ (behind close es ++ y) =
+      sym (append_assoc (spelling d) (behind close ds) x) ∙ tail_of e
+      ∙ append_assoc (spelling f) (behind close es) y in
+      let r = one_form k d f (behind close ds ++ x) (behind close es ++ y) w.0 v.0 (ends_behind close i d ds x)
+      (ends_behind close i f es y) both in
       let s = one_behind k close i ds es x y w.1 v.1 r.1 in
       (ap (λ a. more a ds) r.0 ∙ ap (λ a. more f a) s.0, s.1)
 

@@ -14,38 +14,67 @@ use Rattle.argus_texts.proofs.Stops.{Behind, Among, stops_now, stops_in, stops_b
 -- the first value stops
 value_first : (close : ℕ) → IsClose close → (k : ℕ) → Behind [] (Values k) (Items close k)
 value_first close i k = record {
-  forms = λ u t f. (t ++ close ∷ [], record { thing = (f.thing, none); good = (f.good, tt); is = sym (append_assoc u t (close ∷ [])) ∙ ap (λ x. x ++ close ∷ []) f.is });
+  forms = λ u t f. (
+    t ++ close ∷ [],
+    record {
+      thing = (f.thing, none);
+      good = (f.good, tt);
+      is =
+          sym (append_assoc u t (close ∷ [])) ∙ ap (λ x. x ++ close ∷ []) f.is;
+    },
+  );
   starts = λ u s. record {
     thing = s.thing.0;
     rest = behind close s.thing.1 ++ s.rest;
-    reads = record { good = s.reads.good.0; ends = ends_behind close i s.thing.0 s.thing.1 s.rest; is = s.reads.is ∙ append_assoc (spelling s.thing.0) (behind close s.thing.1) s.rest };
+    reads = record {
+      good = s.reads.good.0;
+      ends = ends_behind close i s.thing.0 s.thing.1 s.rest;
+      is =
+          s.reads.is ∙ append_assoc (spelling s.thing.0) (behind close s.thing.1) s.rest;
+    };
   };
 }
 
-pub first_stops : (close : ℕ) → IsClose close → (k : ℕ) (text : List ℕ) (left : ℕ) → Stops (Values k) text left → Stops (Items close k) text left
+pub first_stops : (close : ℕ) → IsClose close → (k : ℕ) (text : List ℕ) (left : ℕ) → Stops (Values k) text left
+    → Stops (Items close k) text left
 first_stops close i k text left s = stops_behind [] (Values k) (Items close k) (value_first close i k) text left s
 
-not_closed : (close : ℕ) → IsClose close → (vs : PlainValues) (u x : List ℕ) → 44 ∷ u ≡ behind close vs ++ x → (e : PlainValue) × (es : PlainValues) × (vs ≡ more e es) × (u ≡ (spelling e ++ behind close es) ++ x)
+not_closed : (close : ℕ) → IsClose close → (vs : PlainValues) (u x : List ℕ) → 44 ∷ u ≡ behind close vs ++ x
+    → (e : PlainValue) × (es : PlainValues) × (vs ≡ more e es) × (u ≡ (spelling e ++ behind close es) ++ x)
 not_closed close i none u x e = absurd (close_no_comma close i (head_of e))
 not_closed close i (more f fs) u x e = (f, fs, refl, tail_of e)
 
-comma_start : (close : ℕ) → IsClose close → (k : ℕ) (d : PlainValue) → Within k d → (u : List ℕ) → Starts (Items close k) ((spelling d ++ 44 ∷ []) ++ u) → Starts (Items close k) u
+comma_start : (close : ℕ) → IsClose close → (k : ℕ) (d : PlainValue) → Within k d → (u : List ℕ)
+    → Starts (Items close k) ((spelling d ++ 44 ∷ []) ++ u) → Starts (Items close k) u
 comma_start close i k d w u s =
     let both : spelling d ++ 44 ∷ u ≡ spelling s.thing.0 ++ (behind close s.thing.1 ++ s.rest) =
-    sym (append_assoc (spelling d) (44 ∷ []) u) ∙ s.reads.is ∙ append_assoc (spelling s.thing.0) (behind close s.thing.1) s.rest in
-    let r = one_form k d s.thing.0 (44 ∷ u) (behind close s.thing.1 ++ s.rest) w s.reads.good.0 (value_ends d (44 ∷ u) (inl (omega arith))) (ends_behind close i s.thing.0 s.thing.1 s.rest) both in
+    sym (append_assoc (spelling d) (44 ∷ []) u) ∙ s.reads.is
+    ∙ append_assoc (spelling s.thing.0) (behind close s.thing.1) s.rest in
+    let r = one_form k d s.thing.0 (44 ∷ u) (behind close s.thing.1 ++ s.rest) w s.reads.good.0
+    (value_ends d (44 ∷ u) (inl (omega arith))) (ends_behind close i s.thing.0 s.thing.1 s.rest) both in
     let n = not_closed close i s.thing.1 u s.rest r.1 in
     let all : AllWithin k (more n.0 n.1) = subst (AllWithin k) n.2 s.reads.good.1 in
     record { thing = (n.0, n.1); rest = s.rest; reads = record { good = (all.0, all.1); ends = tt; is = n.3 } }
 
 -- a value and a comma were read
-value_and_comma : (close : ℕ) → IsClose close → (k : ℕ) (d : PlainValue) → Within k d → Behind (spelling d ++ 44 ∷ []) (Items close k) (Items close k)
+value_and_comma : (close : ℕ) → IsClose close → (k : ℕ) (d : PlainValue) → Within k d
+    → Behind (spelling d ++ 44 ∷ []) (Items close k) (Items close k)
 value_and_comma close i k d w = record {
-  forms = λ u t f. (t, record { thing = (d, more f.thing.0 f.thing.1); good = (w, (f.good.0, f.good.1)); is = append_assoc (spelling d) (44 ∷ []) (u ++ t) ∙ ap (λ x. spelling d ++ 44 ∷ x) f.is });
+  forms = λ u t f. (
+    t,
+    record {
+      thing = (d, more f.thing.0 f.thing.1);
+      good = (w, (f.good.0, f.good.1));
+      is =
+          append_assoc (spelling d) (44 ∷ []) (u ++ t) ∙ ap (λ x. spelling d ++ 44 ∷ x) f.is;
+    },
+  );
   starts = λ u s. comma_start close i k d w u s;
 }
 
-pub comma_stops : (close : ℕ) → IsClose close → (k : ℕ) (d : PlainValue) (text next rest : List ℕ) (left : ℕ) → Reads (Values k) text d next → next ≡ 44 ∷ rest → Stops (Items close k) rest left → Stops (Items close k) text left
+pub comma_stops : (close : ℕ) → IsClose close → (k : ℕ) (d : PlainValue) (text next rest : List ℕ) (left : ℕ)
+    → Reads (Values k) text d next → next ≡ 44 ∷ rest → Stops (Items close k) rest left
+    → Stops (Items close k) text left
 comma_stops close i k d text next rest left r e s =
     stops_in (spelling d ++ 44 ∷ []) (Items close k) (Items close k) (value_and_comma close i k d r.good) text rest left
     (r.is ∙ ap (λ x. spelling d ++ x) e ∙ sym (append_assoc (spelling d) (44 ∷ []) rest)) s
@@ -62,16 +91,22 @@ nothing_behind : (close : ℕ) (vs : PlainValues) (y : List ℕ) → [] ≡ behi
 nothing_behind close none y e = cc
 nothing_behind close (more d vs) y e = cc
 
-no_end_way : (close : ℕ) → IsClose close → (k : ℕ) (d : PlainValue) (rest : List ℕ) → Within k d → ValueEnds d rest → First (NoEnd close) rest → NoWay (Items close k) (spelling d) rest
+no_end_way : (close : ℕ) → IsClose close → (k : ℕ) (d : PlainValue) (rest : List ℕ) → Within k d → ValueEnds d rest
+    → First (NoEnd close) rest → NoWay (Items close k) (spelling d) rest
 no_end_way close i k d [] w e n = λ s.
-    let r = one_form k d s.thing.0 [] (behind close s.thing.1 ++ s.rest) w s.reads.good.0 (value_ends d [] tt) (ends_behind close i s.thing.0 s.thing.1 s.rest) (append-nil (spelling d) ∙ s.reads.is ∙ append_assoc (spelling s.thing.0) (behind close s.thing.1) s.rest) in
+    let r = one_form k d s.thing.0 [] (behind close s.thing.1 ++ s.rest) w s.reads.good.0 (value_ends d [] tt)
+    (ends_behind close i s.thing.0 s.thing.1 s.rest)
+    (append-nil (spelling d) ∙ s.reads.is ∙ append_assoc (spelling s.thing.0) (behind close s.thing.1) s.rest) in
     nothing_behind close s.thing.1 s.rest r.1
 no_end_way close i k d (c ∷ rest) w e n = λ more s.
-    let r = one_form k d s.thing.0 (c ∷ more) (behind close s.thing.1 ++ s.rest) w s.reads.good.0 (ends_first d c rest more e) (ends_behind close i s.thing.0 s.thing.1 s.rest) (s.reads.is ∙ append_assoc (spelling s.thing.0) (behind close s.thing.1) s.rest) in
+    let r = one_form k d s.thing.0 (c ∷ more) (behind close s.thing.1 ++ s.rest) w s.reads.good.0
+    (ends_first d c rest more e) (ends_behind close i s.thing.0 s.thing.1 s.rest)
+    (s.reads.is ∙ append_assoc (spelling s.thing.0) (behind close s.thing.1) s.rest) in
     no_end close s.thing.1 c more s.rest n r.1
 
 -- a value was read, and no comma or closing byte comes
-pub no_end_stops : (close : ℕ) → IsClose close → (k : ℕ) (d : PlainValue) (text rest : List ℕ) → Reads (Values k) text d rest → First (NoEnd close) rest → Stops (Items close k) text (length rest)
+pub no_end_stops : (close : ℕ) → IsClose close → (k : ℕ) (d : PlainValue) (text rest : List ℕ)
+    → Reads (Values k) text d rest → First (NoEnd close) rest → Stops (Items close k) text (length rest)
 no_end_stops close i k d text rest r n = record {
   front = spelling d;
   back = rest;
@@ -89,10 +124,12 @@ no_ascii_end close (inr i) (c ∷ x) h = (omega arith, omega arith)
 
 -- INSIDE THE BRACKETS
 
-inside_starts : (close k : ℕ) (vs : PlainValues) (u x : List ℕ) → First (λ c. c ≢ close) u → AllWithin k vs → u ≡ inside close vs ++ x → Starts (Items close k) u
+inside_starts : (close k : ℕ) (vs : PlainValues) (u x : List ℕ) → First (λ c. c ≢ close) u → AllWithin k vs
+    → u ≡ inside close vs ++ x → Starts (Items close k) u
 inside_starts close k none [] x n w e = cc
 inside_starts close k none (c ∷ u) x n w e = absurd (n (head_of e))
-inside_starts close k (more d vs) u x n w e = record { thing = (d, vs); rest = x; reads = record { good = (w.0, w.1); ends = tt; is = e } }
+inside_starts close k (more d vs) u x n w e =
+    record { thing = (d, vs); rest = x; reads = record { good = (w.0, w.1); ends = tt; is = e } }
 
 items_inside : (close k : ℕ) → Among (λ c. c ≢ close) (Items close k) (Insides close k)
 items_inside close k = record {
@@ -101,40 +138,59 @@ items_inside close k = record {
 }
 
 -- the closing byte doesn't come, and the values stop
-pub inside_stops : (close k : ℕ) (text : List ℕ) (left : ℕ) → First (λ c. c ≢ close) text → Stops (Items close k) text left → Stops (Insides close k) text left
-inside_stops close k text left n s = stops_among (λ c. c ≢ close) (Items close k) (Insides close k) (items_inside close k) text left n s
+pub inside_stops : (close k : ℕ) (text : List ℕ) (left : ℕ) → First (λ c. c ≢ close) text
+    → Stops (Items close k) text left → Stops (Insides close k) text left
+inside_stops close k text left n s =
+    stops_among (λ c. c ≢ close) (Items close k) (Insides close k) (items_inside close k) text left n s
 
 deep_way : (close : ℕ) (text : List ℕ) → First (λ c. c ≢ close) text → NoWay (Insides close 0) [] text
-deep_way close [] n = λ s. let t = inside_starts close 0 s.thing [] s.rest n s.reads.good s.reads.is in none_within t.thing.0 t.reads.good.0
-deep_way close (c ∷ u) n = λ more s. let t = inside_starts close 0 s.thing (c ∷ more) s.rest n s.reads.good s.reads.is in none_within t.thing.0 t.reads.good.0
+deep_way close [] n = λ s. let t = inside_starts close 0 s.thing [] s.rest n s.reads.good s.reads.is in
+    none_within t.thing.0 t.reads.good.0
+deep_way close (c ∷ u) n = λ more s. let t =
+    inside_starts close 0 s.thing (c ∷ more) s.rest n s.reads.good s.reads.is in none_within t.thing.0 t.reads.good.0
 
 -- no level is left for what comes in place of the closing byte
 pub deep_stops : (close : ℕ) (text : List ℕ) → First (λ c. c ≢ close) text → Stops (Insides close 0) text (length text)
-deep_stops close text n = stops_now (Insides close 0) (close ∷ []) (record { thing = none; good = tt; is = refl }) text (deep_way close text n)
+deep_stops close text n =
+    stops_now (Insides close 0) (close ∷ []) (record { thing = none; good = tt; is = refl }) text
+    (deep_way close text n)
 
 -- WHAT IS READ
 
 -- what is left decides what is read
 abbrev pub Going : ℕ → ℕ → List ℕ → List ℕ → List PlainValue → Type 0
-Going close k whole rest done = (v : PlainValue) (vs : List PlainValue) (end : List ℕ) → Within k v → AllWithin k (listed vs) → rest ≡ spelling v ++ (behind close (listed vs) ++ end) → Reads (Insides close k) whole (listed (done ++ v ∷ vs)) end
+Going close k whole rest done =
+    (v : PlainValue) (vs : List PlainValue) (end : List ℕ) → Within k v → AllWithin k (listed vs)
+    → rest ≡ spelling v ++ (behind close (listed vs) ++ end)
+    → Reads (Insides close k) whole (listed (done ++ v ∷ vs)) end
 
 pub going_first : (close k : ℕ) (text : List ℕ) → Going close k text text []
-going_first close k text = λ v vs end w a e. record { good = (w, a); ends = tt; is = e ∙ sym (append_assoc (spelling v) (behind close (listed vs)) end) }
+going_first close k text =
+    λ v vs end w a e.
+    record { good = (w, a); ends = tt; is = e ∙ sym (append_assoc (spelling v) (behind close (listed vs)) end) }
 
 -- the closing byte comes
-pub closes : (close k : ℕ) (whole rest next others : List ℕ) (done all : List PlainValue) (v : PlainValue) → Going close k whole rest done → Reads (Values k) rest v next → next ≡ close ∷ others → all ≡ done ++ v ∷ [] → Reads (Insides close k) whole (listed all) others
+pub closes : (close k : ℕ) (whole rest next others : List ℕ) (done all : List PlainValue) (v : PlainValue)
+    → Going close k whole rest done → Reads (Values k) rest v next → next ≡ close ∷ others → all ≡ done ++ v ∷ []
+    → Reads (Insides close k) whole (listed all) others
 closes close k whole rest next others done all v g r e a =
-    subst (λ ds. Reads (Insides close k) whole (listed ds) others) (sym a) (g v [] others r.good tt (r.is ∙ ap (λ x. spelling v ++ x) e))
+    subst (λ ds. Reads (Insides close k) whole (listed ds) others) (sym a)
+    (g v [] others r.good tt (r.is ∙ ap (λ x. spelling v ++ x) e))
 
 -- a comma comes
-pub goes_on : (close k : ℕ) (whole rest next others : List ℕ) (done all : List PlainValue) (v : PlainValue) → Going close k whole rest done → Reads (Values k) rest v next → next ≡ 44 ∷ others → all ≡ done ++ v ∷ [] → Going close k whole others all
+pub goes_on : (close k : ℕ) (whole rest next others : List ℕ) (done all : List PlainValue) (v : PlainValue)
+    → Going close k whole rest done → Reads (Values k) rest v next → next ≡ 44 ∷ others → all ≡ done ++ v ∷ []
+    → Going close k whole others all
 goes_on close k whole rest next others done all v g r e a = λ d ds end w b i.
     let both : rest ≡ spelling v ++ (behind close (listed (d ∷ ds)) ++ end) =
-    r.is ∙ ap (λ x. spelling v ++ x) (e ∙ ap (λ x. 44 ∷ x) (i ∙ sym (append_assoc (spelling d) (behind close (listed ds)) end))) in
+    r.is ∙ ap (λ x. spelling v ++ x)
+    (e ∙ ap (λ x. 44 ∷ x) (i ∙ sym (append_assoc (spelling d) (behind close (listed ds)) end))) in
     let h = g v (d ∷ ds) end r.good (w, b) both in
-    let same : done ++ v ∷ (d ∷ ds) ≡ all ++ d ∷ ds = sym (append_assoc done (v ∷ []) (d ∷ ds)) ∙ ap (λ x. x ++ d ∷ ds) (sym a) in
+    let same : done ++ v ∷ (d ∷ ds) ≡ all ++ d ∷ ds =
+    sym (append_assoc done (v ∷ []) (d ∷ ds)) ∙ ap (λ x. x ++ d ∷ ds) (sym a) in
     subst (λ x. Reads (Insides close k) whole (listed x) end) same h
 
 -- one more value of the program's list
-pub one_more : (done all : List Value) (v : Value) → all ≡ done ++ v ∷ [] → plain_list all ≡ plain_list done ++ plain_value v ∷ []
+pub one_more : (done all : List Value) (v : Value) → all ≡ done ++ v ∷ []
+    → plain_list all ≡ plain_list done ++ plain_value v ∷ []
 one_more done all v e = ap plain_list e ∙ map-append plain_value done (v ∷ [])

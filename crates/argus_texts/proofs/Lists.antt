@@ -37,10 +37,12 @@ and-right true q h = h
 and-right false q h = cc
 
 -- a byte of an ASCII word
-pub ascii_at : (word : List ℕ) (i : ℕ) → list_all (λ b. nat_lt b 128) word ≡ true → i < length word → get_or word i 0 < 128
+pub ascii_at : (word : List ℕ) (i : ℕ) → list_all (λ b. nat_lt b 128) word ≡ true → i < length word
+    → get_or word i 0 < 128
 ascii_at [] i h l = absurd (omega arith)
 ascii_at (b ∷ word) zero h l = ltb-true b 128 (and-left (nat_lt b 128) (list_all (λ b. nat_lt b 128) word) h)
-ascii_at (b ∷ word) (suc i) h l = ascii_at word i (and-right (nat_lt b 128) (list_all (λ b. nat_lt b 128) word) h) (omega arith)
+ascii_at (b ∷ word) (suc i) h l =
+    ascii_at word i (and-right (nat_lt b 128) (list_all (λ b. nat_lt b 128) word) h) (omega arith)
 
 -- a text that doesn't begin with ASCII doesn't begin with such a byte
 pub no_ascii_not : (b : ℕ) (x : List ℕ) → b < 128 → First (λ c. 128 ≤ c) x → IsNot b x

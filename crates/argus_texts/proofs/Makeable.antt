@@ -14,7 +14,8 @@ filled none h = cc
 filled (more name x fs) h = tt
 
 mutual
-  shallow : (k : ℕ) (t : PlainTy) → in_ty has_none t ≡ false → in_ty has_too_many t ≡ false → depth_of t ≤ k → IsNamed t → IsShallow k t
+  shallow : (k : ℕ) (t : PlainTy) → in_ty has_none t ≡ false → in_ty has_too_many t ≡ false → depth_of t ≤ k → IsNamed t
+      → IsShallow k t
   shallow k null e m d n = omega arith
   shallow k bool e m d n = omega arith
   shallow k int e m d n = omega arith
@@ -23,21 +24,36 @@ mutual
   shallow k (sequence x) e m d n = (omega arith, shallow (k - 1) x e m (omega arith) n)
   shallow k (fields fs) e m d n =
       let p = or_parts (has_none (names_of fs)) (in_fields has_none fs) e in
-      let q = or_parts (has_too_many (names_of fs)) (in_fields has_too_many fs) m in
-      (omega arith, filled fs p.0, are_shallow MAX_NAMES (k - 1) fs (ltb-false MAX_NAMES (length (names_of fs)) q.0) p.1 q.1 (omega arith) n)
+      let q = or_parts (has_too_many (names_of fs)) (in_fields has_too_many fs) m in (
+        omega arith,
+        filled fs p.0,
+        are_shallow MAX_NAMES (k - 1) fs (ltb-false MAX_NAMES (length (names_of fs)) q.0)
+            p.1 q.1 (omega arith) n,
+      )
   shallow k (choice fs) e m d n =
       let p = or_parts (has_none (names_of fs)) (in_fields has_none fs) e in
-      let q = or_parts (has_too_many (names_of fs)) (in_fields has_too_many fs) m in
-      (omega arith, filled fs p.0, are_shallow MAX_NAMES (k - 1) fs (ltb-false MAX_NAMES (length (names_of fs)) q.0) p.1 q.1 (omega arith) n)
+      let q = or_parts (has_too_many (names_of fs)) (in_fields has_too_many fs) m in (
+        omega arith,
+        filled fs p.0,
+        are_shallow MAX_NAMES (k - 1) fs (ltb-false MAX_NAMES (length (names_of fs)) q.0)
+            p.1 q.1 (omega arith) n,
+      )
 
-  are_shallow : (n k : ℕ) (fs : PlainFields) → length (names_of fs) ≤ n → in_fields has_none fs ≡ false → in_fields has_too_many fs ≡ false → deepest_of fs ≤ k → AreNamed fs → AreShallow n k fs
+  are_shallow : (n k : ℕ) (fs : PlainFields) → length (names_of fs) ≤ n → in_fields has_none fs ≡ false
+      → in_fields has_too_many fs ≡ false → deepest_of fs ≤ k → AreNamed fs → AreShallow n k fs
   are_shallow n k none l e m d a = tt
   are_shallow n k (more name x fs) l e m d a =
       let p = or_parts (in_ty has_none x) (in_fields has_none fs) e in
-      let q = or_parts (in_ty has_too_many x) (in_fields has_too_many fs) m in
-      (omega arith, a.0, shallow k x p.0 q.0 (omega arith) a.1, are_shallow (n - 1) k fs (omega arith) p.1 q.1 (omega arith) a.2)
+      let q = or_parts (in_ty has_too_many x) (in_fields has_too_many fs) m in (
+        omega arith,
+        a.0,
+        shallow k x p.0 q.0 (omega arith) a.1,
+        are_shallow (n - 1) k fs (omega arith) p.1 q.1
+            (omega arith) a.2,
+      )
 
-no_then : (b : Bool) (x : ShapeFault) (r : Option ShapeFault) → (if b then Some x else r) ≡ None → (b ≡ false) × (r ≡ None)
+no_then : (b : Bool) (x : ShapeFault) (r : Option ShapeFault) → (if b then Some x else r) ≡ None
+    → (b ≡ false) × (r ≡ None)
 no_then true x r e = cc
 no_then false x r e = (refl, e)
 
@@ -55,11 +71,16 @@ no_fault s e =
     let d = no_then (nat_lt MAX_VALUE_DEPTH (depth_in s)) TooDeep None c.1 in
     record { none = b.0; too_many = c.0; depth = ltb-false MAX_VALUE_DEPTH (depth_in s) d.0 }
 
-list_from : (fs : PlainFields) → AreNamed fs → has_none (names_of fs) || in_fields has_none fs ≡ false → has_too_many (names_of fs) || in_fields has_too_many fs ≡ false → deepest_of fs ≤ MAX_VALUE_DEPTH → IsList MAX_NAMES MAX_VALUE_DEPTH fs
+list_from : (fs : PlainFields) → AreNamed fs → has_none (names_of fs) || in_fields has_none fs ≡ false
+    → has_too_many (names_of fs) || in_fields has_too_many fs ≡ false → deepest_of fs ≤ MAX_VALUE_DEPTH
+    → IsList MAX_NAMES MAX_VALUE_DEPTH fs
 list_from fs n e m d =
     let p = or_parts (has_none (names_of fs)) (in_fields has_none fs) e in
-    let q = or_parts (has_too_many (names_of fs)) (in_fields has_too_many fs) m in
-    (filled fs p.0, are_shallow MAX_NAMES MAX_VALUE_DEPTH fs (ltb-false MAX_NAMES (length (names_of fs)) q.0) p.1 q.1 d n)
+    let q = or_parts (has_too_many (names_of fs)) (in_fields has_too_many fs) m in (
+      filled fs p.0,
+      are_shallow MAX_NAMES MAX_VALUE_DEPTH fs (ltb-false MAX_NAMES (length (names_of fs)) q.0)
+          p.1 q.1 d n,
+    )
 
 -- of a record
 pub fields_makeable : (fs : PlainFields) → IsMakeable (rec fs) → IsList MAX_NAMES MAX_VALUE_DEPTH fs

@@ -12,7 +12,8 @@ use Rattle.argus_texts.proofs.Lists.{tail_of, head_of}
 -- NAMES
 
 name_bytes : (name : List ℕ) → is_name name ≡ true → list_all is_name_byte name ≡ true
-name_bytes name h = (and_parts (nat_lt 0 (length name) && nat_le (length name) MAX_NAME_BYTES) (list_all is_name_byte name) h).1
+name_bytes name h =
+    (and_parts (nat_lt 0 (length name) && nat_le (length name) MAX_NAME_BYTES) (list_all is_name_byte name) h).1
 
 first_byte : (b : ℕ) (bs : List ℕ) → list_all is_name_byte (b ∷ bs) ≡ true → is_name_byte b ≡ true
 first_byte b bs h = (and_parts (is_name_byte b) (list_all is_name_byte bs) h).0
@@ -88,7 +89,8 @@ front_of (sequence x) = (115, 101, codes "quence[" ++ (ty_spelling x ++ 93 ∷ [
 front_of (fields fs) = (115, 116, codes "ruct[" ++ names_inside fs, refl)
 front_of (choice fs) = (111, 110, codes "eof[" ++ names_inside fs, refl)
 
-both_lead : (s t : PlainTy) (x y : List ℕ) → ty_spelling s ++ x ≡ ty_spelling t ++ y → (c : ℕ) × (d : ℕ) × Leads s c d × Leads t c d
+both_lead : (s t : PlainTy) (x y : List ℕ) → ty_spelling s ++ x ≡ ty_spelling t ++ y
+    → (c : ℕ) × (d : ℕ) × Leads s c d × Leads t c d
 both_lead s t x y e =
     let f = front_of s in
     let g : f.0 ∷ f.1 ∷ (f.2 ++ x) ≡ ty_spelling s ++ x = sym (ap (λ (z : List ℕ). z ++ x) f.3) in
@@ -96,18 +98,23 @@ both_lead s t x y e =
 
 -- a name, its type and what comes behind are told, where the type and what comes behind are
 one_field : (a b : List ℕ) (s t : PlainTy) (fs gs : PlainFields) (x y : List ℕ) → is_name a ≡ true → is_name b ≡ true
-    → ((u v : List ℕ) → ty_spelling s ++ u ≡ ty_spelling t ++ v → (s ≡ t) × (u ≡ v)) → ((u v : List ℕ) → names_behind fs ++ u ≡ names_behind gs ++ v → (fs ≡ gs) × (u ≡ v))
+    → ((u v : List ℕ) → ty_spelling s ++ u ≡ ty_spelling t ++ v → (s ≡ t) × (u ≡ v))
+    → ((u v : List ℕ) → names_behind fs ++ u ≡ names_behind gs ++ v → (fs ≡ gs) × (u ≡ v))
     → names_inside (more a s fs) ++ x ≡ names_inside (more b t gs) ++ y → (more a s fs ≡ more b t gs) × (x ≡ y)
 one_field a b s t fs gs x y g h ty rest e =
-    let i = sym (append_assoc a (58 ∷ (ty_spelling s ++ names_behind fs)) x) ∙ e ∙ append_assoc b (58 ∷ (ty_spelling t ++ names_behind gs)) y in
+    let i = sym (append_assoc a (58 ∷ (ty_spelling s ++ names_behind fs)) x) ∙ e
+    ∙ append_assoc b (58 ∷ (ty_spelling t ++ names_behind gs)) y in
     let r = name_told a b ((ty_spelling s ++ names_behind fs) ++ x) ((ty_spelling t ++ names_behind gs) ++ y) g h i in
-    let q = ty (names_behind fs ++ x) (names_behind gs ++ y) (sym (append_assoc (ty_spelling s) (names_behind fs) x) ∙ r.1 ∙ append_assoc (ty_spelling t) (names_behind gs) y) in
+    let q = ty (names_behind fs ++ x) (names_behind gs ++ y)
+    (sym (append_assoc (ty_spelling s) (names_behind fs) x) ∙ r.1
+    ∙ append_assoc (ty_spelling t) (names_behind gs) y) in
     let p = rest x y q.1 in
     (ap (λ n. more n s fs) r.0 ∙ ap (λ z. more b z fs) q.0 ∙ ap (λ z. more b t z) p.0, p.1)
 
 mutual
   -- a text begins with the form of one type at most
-  pub one_ty : (s t : PlainTy) (x y : List ℕ) → IsNamed s → IsNamed t → ty_spelling s ++ x ≡ ty_spelling t ++ y → (s ≡ t) × (x ≡ y)
+  pub one_ty : (s t : PlainTy) (x y : List ℕ) → IsNamed s → IsNamed t → ty_spelling s ++ x ≡ ty_spelling t ++ y
+      → (s ≡ t) × (x ≡ y)
   one_ty null null x y g h e = (refl, cc)
   one_ty bool bool x y g h e = (refl, cc)
   one_ty int int x y g h e = (refl, cc)
@@ -115,7 +122,8 @@ mutual
   one_ty atomic atomic x y g h e = (refl, cc)
   one_ty (sequence s) (sequence t) x y g h e =
       let i : (ty_spelling s ++ 93 ∷ []) ++ x ≡ (ty_spelling t ++ 93 ∷ []) ++ y = cc in
-      let r = one_ty s t (93 ∷ x) (93 ∷ y) g h (sym (append_assoc (ty_spelling s) (93 ∷ []) x) ∙ i ∙ append_assoc (ty_spelling t) (93 ∷ []) y) in
+      let r = one_ty s t (93 ∷ x) (93 ∷ y) g h
+      (sym (append_assoc (ty_spelling s) (93 ∷ []) x) ∙ i ∙ append_assoc (ty_spelling t) (93 ∷ []) y) in
       (ap sequence r.0, tail_of r.1)
   one_ty (fields fs) (fields gs) x y g h e =
       let i : names_inside fs ++ x ≡ names_inside gs ++ y = cc in
@@ -127,17 +135,25 @@ mutual
       (ap choice r.0, r.1)
   one_ty s t x y g h e = let b = both_lead s t x y e in absurd (omega arith)
 
-  pub one_inside : (fs gs : PlainFields) (x y : List ℕ) → AreNamed fs → AreNamed gs → names_inside fs ++ x ≡ names_inside gs ++ y → (fs ≡ gs) × (x ≡ y)
+  pub one_inside : (fs gs : PlainFields) (x y : List ℕ) → AreNamed fs → AreNamed gs
+      → names_inside fs ++ x ≡ names_inside gs ++ y → (fs ≡ gs) × (x ≡ y)
   one_inside none none x y g h e = (refl, tail_of e)
-  one_inside none (more b t gs) x y g h e = absurd (name_opens b _ x h.0 (e ∙ append_assoc b (58 ∷ (ty_spelling t ++ names_behind gs)) y))
-  one_inside (more a s fs) none x y g h e = absurd (name_opens a _ y g.0 (sym e ∙ append_assoc a (58 ∷ (ty_spelling s ++ names_behind fs)) x))
-  one_inside (more a s fs) (more b t gs) x y g h e = one_field a b s t fs gs x y g.0 h.0 (λ u v i. one_ty s t u v g.1 h.1 i) (λ u v i. one_behind fs gs u v g.2 h.2 i) e
+  one_inside none (more b t gs) x y g h e =
+      absurd (name_opens b _ x h.0 (e ∙ append_assoc b (58 ∷ (ty_spelling t ++ names_behind gs)) y))
+  one_inside (more a s fs) none x y g h e =
+      absurd (name_opens a _ y g.0 (sym e ∙ append_assoc a (58 ∷ (ty_spelling s ++ names_behind fs)) x))
+  one_inside (more a s fs) (more b t gs) x y g h e =
+      one_field a b s t fs gs x y g.0 h.0 (λ u v i. one_ty s t u v g.1 h.1 i) (λ u v i. one_behind fs gs u v g.2 h.2 i)
+      e
 
-  pub one_behind : (fs gs : PlainFields) (x y : List ℕ) → AreNamed fs → AreNamed gs → names_behind fs ++ x ≡ names_behind gs ++ y → (fs ≡ gs) × (x ≡ y)
+  pub one_behind : (fs gs : PlainFields) (x y : List ℕ) → AreNamed fs → AreNamed gs
+      → names_behind fs ++ x ≡ names_behind gs ++ y → (fs ≡ gs) × (x ≡ y)
   one_behind none none x y g h e = (refl, tail_of e)
   one_behind none (more b t gs) x y g h e = absurd (omega (arith, head_of e))
   one_behind (more a s fs) none x y g h e = absurd (omega (arith, head_of e))
-  one_behind (more a s fs) (more b t gs) x y g h e = one_field a b s t fs gs x y g.0 h.0 (λ u v i. one_ty s t u v g.1 h.1 i) (λ u v i. one_behind fs gs u v g.2 h.2 i) (tail_of e)
+  one_behind (more a s fs) (more b t gs) x y g h e =
+      one_field a b s t fs gs x y g.0 h.0 (λ u v i. one_ty s t u v g.1 h.1 i) (λ u v i. one_behind fs gs u v g.2 h.2 i)
+      (tail_of e)
 
 -- SHAPES
 
@@ -156,18 +172,21 @@ same_kind : (s t : PlainShape) (x y : List ℕ) → shape_spelling s ++ x ≡ sh
 same_kind s t x y e = sym (kind_at s x) ∙ ap (λ z. get_or z 7 0) e ∙ kind_at t y
 
 -- a shape's form has that byte
-pub kind_told : (s : PlainShape) (x rest : List ℕ) (k : ℕ) → get_or x 7 0 ≡ k → x ≡ shape_spelling s ++ rest → Kind s ≡ k
+pub kind_told : (s : PlainShape) (x rest : List ℕ) (k : ℕ) → get_or x 7 0 ≡ k → x ≡ shape_spelling s ++ rest
+    → Kind s ≡ k
 kind_told s x rest k h e = sym (kind_at s rest) ∙ sym (ap (λ z. get_or z 7 0) e) ∙ h
 
 -- a text begins with the form of one shape at most
-pub one_shape : (s t : PlainShape) (x y : List ℕ) → HasNames s → HasNames t → shape_spelling s ++ x ≡ shape_spelling t ++ y → (s ≡ t) × (x ≡ y)
+pub one_shape : (s t : PlainShape) (x y : List ℕ) → HasNames s → HasNames t
+    → shape_spelling s ++ x ≡ shape_spelling t ++ y → (s ≡ t) × (x ≡ y)
 one_shape (rec fs) (rec gs) x y g h e =
     let i : names_inside fs ++ x ≡ names_inside gs ++ y = cc in
     let r = one_inside fs gs x y g h i in
     (ap rec r.0, r.1)
 one_shape (arr s) (arr t) x y g h e =
     let i : (ty_spelling s ++ 93 ∷ []) ++ x ≡ (ty_spelling t ++ 93 ∷ []) ++ y = cc in
-    let r = one_ty s t (93 ∷ x) (93 ∷ y) g h (sym (append_assoc (ty_spelling s) (93 ∷ []) x) ∙ i ∙ append_assoc (ty_spelling t) (93 ∷ []) y) in
+    let r = one_ty s t (93 ∷ x) (93 ∷ y) g h
+    (sym (append_assoc (ty_spelling s) (93 ∷ []) x) ∙ i ∙ append_assoc (ty_spelling t) (93 ∷ []) y) in
     (ap arr r.0, tail_of r.1)
 one_shape (var fs) (var gs) x y g h e =
     let i : names_inside fs ++ x ≡ names_inside gs ++ y = cc in

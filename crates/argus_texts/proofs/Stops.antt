@@ -7,7 +7,8 @@ use Rattle.argus_texts.proofs.Lists.{tail_of, head_of, cancel, split_at}
 
 -- a text is read as one thing at most, and what may follow depends on the first byte alone
 pub record Clear (L : Language) : Type 0 where
-  pub one : (a b : L.Thing) (x y : List ℕ) → L.Good a → L.Good b → L.Ends a x → L.Ends b y → L.form a ++ x ≡ L.form b ++ y → (a ≡ b) × (x ≡ y)
+  pub one : (a b : L.Thing) (x y : List ℕ) → L.Good a → L.Good b → L.Ends a x → L.Ends b y
+      → L.form a ++ x ≡ L.form b ++ y → (a ≡ b) × (x ≡ y)
   pub nil : (a : L.Thing) → L.Ends a []
   pub first : (a : L.Thing) (c : ℕ) (x y : List ℕ) → L.Ends a (c ∷ x) → L.Ends a (c ∷ y)
 
@@ -16,11 +17,14 @@ pub record Behind (a : List ℕ) (L M : Language) : Type 0 where
   pub forms : (u t : List ℕ) → FormOf L (u ++ t) → (v : List ℕ) × FormOf M (a ++ (u ++ v))
   pub starts : (u : List ℕ) → Starts M (a ++ u) → Starts L u
 
-no_way_behind : (a : List ℕ) (L M : Language) → Behind a L M → (front back : List ℕ) → NoWay L front back → NoWay M (a ++ front) back
+no_way_behind : (a : List ℕ) (L M : Language) → Behind a L M → (front back : List ℕ) → NoWay L front back
+    → NoWay M (a ++ front) back
 no_way_behind a L M b front [] h = λ s. h (b.starts front s)
-no_way_behind a L M b front (c ∷ back) h = λ more s. h more (b.starts (front ++ c ∷ more) (subst (Starts M) (append_assoc a front (c ∷ more)) s))
+no_way_behind a L M b front (c ∷ back) h =
+    λ more s. h more (b.starts (front ++ c ∷ more) (subst (Starts M) (append_assoc a front (c ∷ more)) s))
 
-pub stops_behind : (a : List ℕ) (L M : Language) → Behind a L M → (text : List ℕ) (left : ℕ) → Stops L text left → Stops M (a ++ text) left
+pub stops_behind : (a : List ℕ) (L M : Language) → Behind a L M → (text : List ℕ) (left : ℕ) → Stops L text left
+    → Stops M (a ++ text) left
 stops_behind a L M b text left s =
     let f = b.forms s.front s.more s.way in
     record {
@@ -34,7 +38,8 @@ stops_behind a L M b text left s =
     }
 
 -- the same of a text that begins with the bytes
-pub stops_in : (a : List ℕ) (L M : Language) → Behind a L M → (text rest : List ℕ) (left : ℕ) → text ≡ a ++ rest → Stops L rest left → Stops M text left
+pub stops_in : (a : List ℕ) (L M : Language) → Behind a L M → (text rest : List ℕ) (left : ℕ) → text ≡ a ++ rest
+    → Stops L rest left → Stops M text left
 stops_in a L M b text rest left e s = subst (λ x. Stops M x left) (sym e) (stops_behind a L M b rest left s)
 
 -- L is the part of M whose texts begin with such a byte
@@ -42,13 +47,15 @@ pub record Among (P : ℕ → Type 0) (L M : Language) : Type 0 where
   pub forms : (u : List ℕ) → FormOf L u → FormOf M u
   pub starts : (u : List ℕ) → First P u → Starts M u → Starts L u
 
-no_way_among : (P : ℕ → Type 0) (L M : Language) → Among P L M → (front back : List ℕ) → First P (front ++ back) → NoWay L front back → NoWay M front back
+no_way_among : (P : ℕ → Type 0) (L M : Language) → Among P L M → (front back : List ℕ) → First P (front ++ back)
+    → NoWay L front back → NoWay M front back
 no_way_among P L M a [] [] p h = λ s. h (a.starts [] tt s)
 no_way_among P L M a [] (c ∷ back) p h = λ more s. h more (a.starts (c ∷ more) p s)
 no_way_among P L M a (f ∷ front) [] p h = λ s. h (a.starts (f ∷ front) p s)
 no_way_among P L M a (f ∷ front) (c ∷ back) p h = λ more s. h more (a.starts (f ∷ (front ++ c ∷ more)) p s)
 
-pub stops_among : (P : ℕ → Type 0) (L M : Language) → Among P L M → (text : List ℕ) (left : ℕ) → First P text → Stops L text left → Stops M text left
+pub stops_among : (P : ℕ → Type 0) (L M : Language) → Among P L M → (text : List ℕ) (left : ℕ) → First P text
+    → Stops L text left → Stops M text left
 stops_among P L M a text left p s = record {
   front = s.front;
   back = s.back;
@@ -60,7 +67,8 @@ stops_among P L M a text left p s = record {
 }
 
 -- no form begins so
-pub stops_now : (L : Language) (m : List ℕ) → FormOf L m → (text : List ℕ) → NoWay L [] text → Stops L text (length text)
+pub stops_now : (L : Language) (m : List ℕ) → FormOf L m → (text : List ℕ) → NoWay L [] text
+    → Stops L text (length text)
 stops_now L m f text n = record { front = []; back = text; whole = refl; count = refl; more = m; way = f; no_way = n }
 
 -- PAIRS
@@ -71,39 +79,74 @@ Precedes L c = (a : L.Thing) (y : List ℕ) → L.Ends a (c ∷ y)
 
 pub pair_first : (L M : Language) (c : ℕ) → Precedes L c → (m : M.Thing) → M.Good m → Behind [] L (Pairs L c M)
 pair_first L M c p m g = record {
-  forms = λ u t f. (t ++ c ∷ M.form m, record { thing = (f.thing, m); good = (f.good, g); is = sym (append_assoc u t (c ∷ M.form m)) ∙ ap (λ x. x ++ c ∷ M.form m) f.is });
+  forms = λ u t f. (
+    t ++ c ∷ M.form m,
+    record {
+      thing = (f.thing, m);
+      good = (f.good, g);
+      is =
+          sym (append_assoc u t (c ∷ M.form m)) ∙ ap (λ x. x ++ c ∷ M.form m) f.is;
+    },
+  );
   starts = λ u s. record {
     thing = s.thing.0;
     rest = c ∷ (M.form s.thing.1 ++ s.rest);
-    reads = record { good = s.reads.good.0; ends = p s.thing.0 (M.form s.thing.1 ++ s.rest); is = s.reads.is ∙ append_assoc (L.form s.thing.0) (c ∷ M.form s.thing.1) s.rest };
+    reads = record {
+      good = s.reads.good.0;
+      ends = p s.thing.0 (M.form s.thing.1 ++ s.rest);
+      is =
+          s.reads.is ∙ append_assoc (L.form s.thing.0) (c ∷ M.form s.thing.1) s.rest;
+    };
   };
 }
 
-second_starts : (L M : Language) (c : ℕ) → Clear L → Precedes L c → (a : L.Thing) → L.Good a → (u : List ℕ) → Starts (Pairs L c M) ((L.form a ++ c ∷ []) ++ u) → Starts M u
+second_starts : (L M : Language) (c : ℕ) → Clear L → Precedes L c → (a : L.Thing) → L.Good a → (u : List ℕ)
+    → Starts (Pairs L c M) ((L.form a ++ c ∷ []) ++ u) → Starts M u
 second_starts L M c k p a g u s =
     let y : List ℕ = M.form s.thing.1 ++ s.rest in
-    let e : L.form a ++ c ∷ u ≡ L.form s.thing.0 ++ c ∷ y = sym (append_assoc (L.form a) (c ∷ []) u) ∙ s.reads.is ∙ append_assoc (L.form s.thing.0) (c ∷ M.form s.thing.1) s.rest in
+    let e : L.form a ++ c ∷ u ≡ L.form s.thing.0 ++ c ∷ y =
+    sym (append_assoc (L.form a) (c ∷ []) u) ∙ s.reads.is
+    ∙ append_assoc (L.form s.thing.0) (c ∷ M.form s.thing.1) s.rest in
     let r = k.one a s.thing.0 (c ∷ u) (c ∷ y) g s.reads.good.0 (p a u) (p s.thing.0 y) e in
-    record { thing = s.thing.1; rest = s.rest; reads = record { good = s.reads.good.1; ends = s.reads.ends; is = tail_of r.1 } }
+    record {
+      thing = s.thing.1;
+      rest = s.rest;
+      reads =
+          record { good = s.reads.good.1; ends = s.reads.ends; is = tail_of r.1 };
+    }
 
-pub pair_second : (L M : Language) (c : ℕ) → Clear L → Precedes L c → (a : L.Thing) → L.Good a → Behind (L.form a ++ c ∷ []) M (Pairs L c M)
+pub pair_second : (L M : Language) (c : ℕ) → Clear L → Precedes L c → (a : L.Thing) → L.Good a
+    → Behind (L.form a ++ c ∷ []) M (Pairs L c M)
 pair_second L M c k p a g = record {
-  forms = λ u t f. (t, record { thing = (a, f.thing); good = (g, f.good); is = append_assoc (L.form a) (c ∷ []) (u ++ t) ∙ ap (λ x. L.form a ++ c ∷ x) f.is });
+  forms = λ u t f. (
+    t,
+    record {
+      thing = (a, f.thing);
+      good = (g, f.good);
+      is =
+          append_assoc (L.form a) (c ∷ []) (u ++ t) ∙ ap (λ x. L.form a ++ c ∷ x) f.is;
+    },
+  );
   starts = λ u s. second_starts L M c k p a g u s;
 }
 
-between_way : (L M : Language) (c : ℕ) → Clear L → Precedes L c → (a : L.Thing) (rest : List ℕ) → L.Good a → L.Ends a rest → IsNot c rest → NoWay (Pairs L c M) (L.form a) rest
+between_way : (L M : Language) (c : ℕ) → Clear L → Precedes L c → (a : L.Thing) (rest : List ℕ) → L.Good a
+    → L.Ends a rest → IsNot c rest → NoWay (Pairs L c M) (L.form a) rest
 between_way L M c k p a [] g e n = λ s.
     let y : List ℕ = M.form s.thing.1 ++ s.rest in
-    let r = k.one a s.thing.0 [] (c ∷ y) g s.reads.good.0 (k.nil a) (p s.thing.0 y) (append-nil (L.form a) ∙ s.reads.is ∙ append_assoc (L.form s.thing.0) (c ∷ M.form s.thing.1) s.rest) in
+    let r = k.one a s.thing.0 [] (c ∷ y) g s.reads.good.0 (k.nil a) (p s.thing.0 y)
+    (append-nil (L.form a) ∙ s.reads.is ∙ append_assoc (L.form s.thing.0) (c ∷ M.form s.thing.1) s.rest) in
     let x : [] ≡ c ∷ y = r.1 in cc
 between_way L M c k p a (d ∷ rest) g e n = λ more s.
     let y : List ℕ = M.form s.thing.1 ++ s.rest in
-    let r = k.one a s.thing.0 (d ∷ more) (c ∷ y) g s.reads.good.0 (k.first a d rest more e) (p s.thing.0 y) (s.reads.is ∙ append_assoc (L.form s.thing.0) (c ∷ M.form s.thing.1) s.rest) in
+    let r = k.one a s.thing.0 (d ∷ more) (c ∷ y) g s.reads.good.0 (k.first a d rest more e) (p s.thing.0 y)
+    (s.reads.is ∙ append_assoc (L.form s.thing.0) (c ∷ M.form s.thing.1) s.rest) in
     n (head_of r.1)
 
 -- a form of L was read, and c doesn't come
-pub pair_between : (L M : Language) (c : ℕ) → Clear L → Precedes L c → (m : M.Thing) → M.Good m → (text : List ℕ) (a : L.Thing) (rest : List ℕ) → Reads L text a rest → IsNot c rest → Stops (Pairs L c M) text (length rest)
+pub pair_between : (L M : Language) (c : ℕ) → Clear L → Precedes L c → (m : M.Thing) → M.Good m
+    → (text : List ℕ) (a : L.Thing) (rest : List ℕ) → Reads L text a rest → IsNot c rest
+    → Stops (Pairs L c M) text (length rest)
 pair_between L M c k p m g text a rest r n = record {
   front = L.form a;
   back = rest;
@@ -115,7 +158,8 @@ pair_between L M c k p m g text a rest r n = record {
 }
 
 -- both were read
-pub pair_reads : (L M : Language) (c : ℕ) (text : List ℕ) (a : L.Thing) (b : M.Thing) (next mid rest : List ℕ) → Reads L text a next → next ≡ c ∷ mid → Reads M mid b rest → Reads (Pairs L c M) text (a, b) rest
+pub pair_reads : (L M : Language) (c : ℕ) (text : List ℕ) (a : L.Thing) (b : M.Thing) (next mid rest : List ℕ)
+    → Reads L text a next → next ≡ c ∷ mid → Reads M mid b rest → Reads (Pairs L c M) text (a, b) rest
 pair_reads L M c text a b next mid rest r e s = record {
   good = (r.good, s.good);
   ends = s.ends;
@@ -123,23 +167,29 @@ pair_reads L M c text a b next mid rest r e s = record {
 }
 
 -- the text goes on behind a form of L and c
-pub pair_whole : (L : Language) (c : ℕ) (text : List ℕ) (a : L.Thing) (next mid : List ℕ) → Reads L text a next → next ≡ c ∷ mid → text ≡ (L.form a ++ c ∷ []) ++ mid
+pub pair_whole : (L : Language) (c : ℕ) (text : List ℕ) (a : L.Thing) (next mid : List ℕ) → Reads L text a next
+    → next ≡ c ∷ mid → text ≡ (L.form a ++ c ∷ []) ++ mid
 pair_whole L c text a next mid r e = r.is ∙ ap (λ x. L.form a ++ x) e ∙ sym (append_assoc (L.form a) (c ∷ []) mid)
 
 -- WORDS
 
-word_way : (word rest : List ℕ) (i : ℕ) → i < length word → IsNot (get_or word i 0) rest → NoWay (Word word) (take i word) rest
+word_way : (word rest : List ℕ) (i : ℕ) → i < length word → IsNot (get_or word i 0) rest
+    → NoWay (Word word) (take i word) rest
 word_way word [] i h n = λ s.
     let e : take i word ++ [] ≡ take i word ++ ((get_or word i 0 ∷ drop (suc i) word) ++ s.rest) =
-    append-nil (take i word) ∙ s.reads.is ∙ ap (λ w. w ++ s.rest) (split_at word i h) ∙ append_assoc (take i word) (get_or word i 0 ∷ drop (suc i) word) s.rest in
-    let x : [] ≡ get_or word i 0 ∷ (drop (suc i) word ++ s.rest) = cancel (take i word) [] (get_or word i 0 ∷ (drop (suc i) word ++ s.rest)) e in cc
+    append-nil (take i word) ∙ s.reads.is ∙ ap (λ w. w ++ s.rest) (split_at word i h)
+    ∙ append_assoc (take i word) (get_or word i 0 ∷ drop (suc i) word) s.rest in
+    let x : [] ≡ get_or word i 0 ∷ (drop (suc i) word ++ s.rest) =
+    cancel (take i word) [] (get_or word i 0 ∷ (drop (suc i) word ++ s.rest)) e in cc
 word_way word (c ∷ rest) i h n = λ more s.
     let e : take i word ++ c ∷ more ≡ take i word ++ ((get_or word i 0 ∷ drop (suc i) word) ++ s.rest) =
-    s.reads.is ∙ ap (λ w. w ++ s.rest) (split_at word i h) ∙ append_assoc (take i word) (get_or word i 0 ∷ drop (suc i) word) s.rest in
+    s.reads.is ∙ ap (λ w. w ++ s.rest) (split_at word i h)
+    ∙ append_assoc (take i word) (get_or word i 0 ∷ drop (suc i) word) s.rest in
     n (head_of (cancel (take i word) (c ∷ more) (get_or word i 0 ∷ (drop (suc i) word ++ s.rest)) e))
 
 -- the text parts from the word at the index i
-pub word_stops : (word text rest : List ℕ) (i : ℕ) → i < length word → text ≡ take i word ++ rest → IsNot (get_or word i 0) rest → Stops (Word word) text (length rest)
+pub word_stops : (word text rest : List ℕ) (i : ℕ) → i < length word → text ≡ take i word ++ rest
+    → IsNot (get_or word i 0) rest → Stops (Word word) text (length rest)
 word_stops word text rest i h e n = record {
   front = take i word;
   back = rest;
@@ -155,4 +205,5 @@ pub word_reads : (word text rest : List ℕ) → text ≡ word ++ rest → Reads
 word_reads word text rest e = record { good = tt; ends = tt; is = e }
 
 pub word_clear : (word : List ℕ) → Clear (Word word)
-word_clear word = record { one = λ a b x y g h e f i. (refl, cancel word x y i); nil = λ a. tt; first = λ a c x y e. tt }
+word_clear word =
+    record { one = λ a b x y g h e f i. (refl, cancel word x y i); nil = λ a. tt; first = λ a c x y e. tt }

@@ -2,6 +2,7 @@
 use Rattle.std.specs.Prelude.{◌≡◌, ℕ, List, [], ◌∷◌, ◌++◌}
 use Rattle.argus_contents.specs.Value.{PlainValues, none, more}
 use Rattle.argus_texts.specs.Spelling.{spelling}
+use Rattle.argus_texts.specs.Bytes.{comma}
 
 -- new is old and then more
 pub record Grew (old new : List ℕ) : Type 0 where
@@ -11,4 +12,4 @@ pub record Grew (old new : List ℕ) : Type 0 where
 -- a comma and a value, for each of them
 abbrev pub commas : PlainValues → List ℕ
 commas none = []
-commas (more v vs) = 44 ∷ (spelling v ++ commas vs)
+commas (more v vs) = comma ∷ (spelling v ++ commas vs)

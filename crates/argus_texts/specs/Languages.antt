@@ -8,6 +8,7 @@ use Rattle.argus_contents.specs.Content.{PlainContent}
 use Rattle.argus_texts.specs.Spelling.{spelling, escaped, inside, behind, IsI64, Within, AllWithin}
 use Rattle.argus_texts.specs.ContentSpelling.{content_spelling, PartsWithin}
 use Rattle.argus_texts.specs.Language.{Language, First}
+use Rattle.argus_texts.specs.Bytes.{at_sign, close_brace, close_bracket, colon, greater_than, hyphen, letter_f, letter_n, letter_t, open_bracket, quote}
 
 abbrev pub IsNoDigit : ℕ → Type 0
 IsNoDigit c = (c < 48) ⊎ (57 < c)
@@ -18,7 +19,8 @@ NotDigit text = First IsNoDigit text
 
 -- natural numbers from least to most
 abbrev pub Numbers : ℕ → ℕ → Language
-Numbers least most = record { Thing = ℕ; Good = λ n. (least ≤ n) × (n ≤ most); form = decimal; Ends = λ n rest. NotDigit rest }
+Numbers least most =
+    record { Thing = ℕ; Good = λ n. (least ≤ n) × (n ≤ most); form = decimal; Ends = λ n rest. NotDigit rest }
 
 -- integers of 64 bits
 abbrev pub Ints : Language
@@ -30,11 +32,17 @@ Word word = record { Thing = Unit {0}; Good = λ u. Unit {0}; form = λ u. word;
 
 -- texts behind their opening quote
 abbrev pub Quoted : Language
-Quoted = record { Thing = List ℕ; Good = IsUtf8; form = λ t. escaped t ++ 34 ∷ []; Ends = λ t rest. Unit {0} }
+Quoted = record { Thing = List ℕ; Good = IsUtf8; form = λ t. escaped t ++ quote ∷ []; Ends = λ t rest. Unit {0} }
 
 -- a thing of the one language, a byte, and a thing of the other
 abbrev pub Pairs : Language → ℕ → Language → Language
-Pairs L c M = record { Thing = L.Thing × M.Thing; Good = λ p. L.Good p.0 × M.Good p.1; form = λ p. L.form p.0 ++ c ∷ M.form p.1; Ends = λ p rest. M.Ends p.1 rest }
+Pairs L c M =
+    record {
+      Thing = L.Thing × M.Thing;
+      Good = λ p. L.Good p.0 × M.Good p.1;
+      form = λ p. L.form p.0 ++ c ∷ M.form p.1;
+      Ends = λ p rest. M.Ends p.1 rest;
+    }
 
 -- what may come behind a value
 abbrev pub ValueEnds : PlainValue → List ℕ → Type 0
@@ -61,7 +69,7 @@ Items close k = record {
 
 -- a tag and a value, behind the opening angle
 abbrev pub Choices : ℕ → Language
-Choices k = Pairs (Numbers 0 255) 58 (Pairs (Values k) 62 (Word []))
+Choices k = Pairs (Numbers 0 255) colon (Pairs (Values k) greater_than (Word []))
 
 -- contents whose values have depth at most k each
 abbrev pub Contents : ℕ → Language
@@ -69,16 +77,16 @@ Contents k = record { Thing = PlainContent; Good = PartsWithin k; form = content
 
 -- the bytes that close a list of values
 abbrev pub IsClose : ℕ → Type 0
-IsClose c = (c ≡ 93) ⊎ (c ≡ 125)
+IsClose c = (c ≡ close_bracket) ⊎ (c ≡ close_brace)
 
 -- an integer's form begins with the byte: the sign or a digit
 abbrev pub BeginsInt : ℕ → Type 0
-BeginsInt c = (45 ≤ c) × (c ≤ 57) × (c ≢ 46) × (c ≢ 47)
+BeginsInt c = (hyphen ≤ c) × (c ≤ 57) × (c ≢ 46) × (c ≢ 47)
 
 -- no scalar's form begins with the byte
 abbrev pub BeginsNoScalar : ℕ → Type 0
-BeginsNoScalar c = (c ≢ 110) × (c ≢ 116) × (c ≢ 102) × (c ≢ 34) × (c ≢ 64) × (BeginsInt c → ⊥)
+BeginsNoScalar c = (c ≢ letter_n) × (c ≢ letter_t) × (c ≢ letter_f) × (c ≢ quote) × (c ≢ at_sign) × (BeginsInt c → ⊥)
 
 -- arrays whose items have depth at most k each
 abbrev pub Arrays : ℕ → Language
-Arrays k = Pairs Ints 91 (Insides 93 k)
+Arrays k = Pairs Ints open_bracket (Insides close_bracket k)

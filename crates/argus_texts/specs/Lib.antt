@@ -1,3 +1,4 @@
+pub mod Bytes
 pub mod ContentSpelling
 pub mod Fault
 pub mod Grown

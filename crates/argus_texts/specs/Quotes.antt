@@ -1,10 +1,11 @@
 -- The bytes that are written otherwise in a text.
 use Rattle.std.specs.Prelude.{◌≡◌, ◌≢◌, ℕ, ◌⊎◌}
+use Rattle.argus_texts.specs.Bytes.{backslash, letter_n, line_feed, quote}
 
 -- a quote, a backslash or a line feed
 abbrev pub IsSpecial : ℕ → Type 0
-IsSpecial b = (b ≡ 34) ⊎ ((b ≡ 92) ⊎ (b ≡ 10))
+IsSpecial b = (b ≡ quote) ⊎ ((b ≡ backslash) ⊎ (b ≡ line_feed))
 
 -- it doesn't come behind a backslash
 abbrev pub IsNoEscape : ℕ → Type 0
-IsNoEscape b = (b ≢ 34) × (b ≢ 92) × (b ≢ 110)
+IsNoEscape b = (b ≢ quote) × (b ≢ backslash) × (b ≢ letter_n)

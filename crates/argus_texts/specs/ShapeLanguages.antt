@@ -9,6 +9,7 @@ use Rattle.argus_texts.specs.declared.unread.Unread.{Unread}
 use Rattle.argus_texts.specs.declared.unread.Unread.TheVariants as unread
 use Rattle.argus_texts.specs.Language.{Language, Starts}
 use Rattle.argus_texts.specs.ShapeSpelling.{ty_spelling, names_inside, shape_spelling, IsMakeable}
+use Rattle.argus_texts.specs.Bytes.{close_bracket, colon}
 
 -- the text begins with no form of the language
 abbrev pub BeginsNo : Language → List ℕ → Type 0
@@ -21,7 +22,7 @@ OnNoForm unread.Memory P = Unit {0}
 
 -- names with their colon
 abbrev pub Names : Language
-Names = record { Thing = List ℕ; Good = λ n. is_name n ≡ true; form = λ n. n ++ 58 ∷ []; Ends = λ n rest. Unit {0} }
+Names = record { Thing = List ℕ; Good = λ n. is_name n ≡ true; form = λ n. n ++ colon ∷ []; Ends = λ n rest. Unit {0} }
 
 -- such types
 abbrev pub Types : (PlainTy → Type 0) → Language
@@ -29,11 +30,17 @@ Types Good = record { Thing = PlainTy; Good = Good; form = ty_spelling; Ends = �
 
 -- such types with the closing bracket
 abbrev pub Closed : (PlainTy → Type 0) → Language
-Closed Good = record { Thing = PlainTy; Good = Good; form = λ t. ty_spelling t ++ 93 ∷ []; Ends = λ t rest. Unit {0} }
+Closed Good = record { Thing = PlainTy; Good = Good; form = λ t. ty_spelling t ++ close_bracket ∷ []; Ends = λ t rest. Unit {0} }
 
 -- names with such types
 abbrev pub Fields : (PlainTy → Type 0) → Language
-Fields Good = record { Thing = List ℕ × PlainTy; Good = λ f. (is_name f.0 ≡ true) × Good f.1; form = λ f. f.0 ++ 58 ∷ ty_spelling f.1; Ends = λ f rest. Unit {0} }
+Fields Good =
+    record {
+      Thing = List ℕ × PlainTy;
+      Good = λ f. (is_name f.0 ≡ true) × Good f.1;
+      form = λ f. f.0 ++ colon ∷ ty_spelling f.1;
+      Ends = λ f rest. Unit {0};
+    }
 
 -- such lists of names with their types, up to the closing bracket
 abbrev pub Lists : (PlainFields → Type 0) → Language

@@ -4,10 +4,14 @@ use Rattle.std.specs.Fmt.{decimal, signed_decimal}
 use Rattle.std.specs.Str.{IsUtf8}
 use Rattle.argus_contents.specs.Value.{PlainValue, PlainValues}
 use Rattle.argus_contents.specs.Value as value
+use Rattle.argus_texts.specs.Bytes.{at_sign, backslash, close_brace, close_bracket, colon, comma, greater_than, less_than, letter_n, line_feed, open_brace, open_bracket, quote}
 
 -- a byte of a text: the quote, the backslash and the line feed stand behind a backslash, the line feed as `n`
 abbrev pub escape : ℕ → List ℕ
-escape b = if b == 34 then 92 ∷ 34 ∷ [] else (if b == 92 then 92 ∷ 92 ∷ [] else (if b == 10 then 92 ∷ 110 ∷ [] else b ∷ []))
+escape b =
+    if b == quote then backslash ∷ quote ∷ [] else
+    (if b == backslash then backslash ∷ backslash ∷ [] else
+    (if b == line_feed then backslash ∷ letter_n ∷ [] else b ∷ []))
 
 -- the bytes of a text
 abbrev pub escaped : List ℕ → List ℕ
@@ -21,11 +25,11 @@ abbrev mutual
   spelling (value.bool true) = codes "true"
   spelling (value.bool false) = codes "false"
   spelling (value.int n) = signed_decimal n
-  spelling (value.text t) = 34 ∷ (escaped t ++ 34 ∷ [])
-  spelling (value.atomic o) = 64 ∷ decimal o
-  spelling (value.sequence vs) = 91 ∷ inside 93 vs
-  spelling (value.fields vs) = 123 ∷ inside 125 vs
-  spelling (value.choice t v) = 60 ∷ (decimal t ++ 58 ∷ (spelling v ++ 62 ∷ []))
+  spelling (value.text t) = quote ∷ (escaped t ++ quote ∷ [])
+  spelling (value.atomic o) = at_sign ∷ decimal o
+  spelling (value.sequence vs) = open_bracket ∷ inside close_bracket vs
+  spelling (value.fields vs) = open_brace ∷ inside close_brace vs
+  spelling (value.choice t v) = less_than ∷ (decimal t ++ colon ∷ (spelling v ++ greater_than ∷ []))
 
   -- values with commas between them, and the closing byte
   pub inside : ℕ → PlainValues → List ℕ
@@ -35,7 +39,7 @@ abbrev mutual
   -- what comes behind a value, up to the closing byte
   pub behind : ℕ → PlainValues → List ℕ
   behind close value.none = close ∷ []
-  behind close (value.more v vs) = 44 ∷ (spelling v ++ behind close vs)
+  behind close (value.more v vs) = comma ∷ (spelling v ++ behind close vs)
 
 -- an integer of 64 bits
 abbrev pub IsI64 : ℤ → Type 0

@@ -7,6 +7,7 @@ ghost use Rattle.argus_texts.specs.ContentSpelling.{PartsWithin, content_spellin
 ghost use Rattle.argus_texts.specs.Fault.{IsContentText, IsFault, OnFault};
 ghost use Rattle.argus_texts.specs.Language.{IsNot, OnLeft, Reads, Stops};
 ghost use Rattle.argus_texts.specs.Languages.{Contents};
+ghost use Rattle.argus_texts.specs.Bytes.{less_than, open_brace};
 
 use crate::number::int;
 use crate::read_error::ReadError;
@@ -24,7 +25,9 @@ use std::collections::VecDeque;
 /// `Fault` comes exactly where the text is no such form, with the length of its longest prefix that
 /// begins one. `Memory` may come in place of either other answer.
 pub fn read_content(heap: Heap, text: &str) -> Result<Content, ReadError>
-    ensures read { IfOk result (λ c. PartsWithin MAX_VALUE_DEPTH (plain_content c) × (text.now ≡ content_spelling (plain_content c))) }
+    ensures read { IfOk result
+        (λ c. PartsWithin MAX_VALUE_DEPTH (plain_content c)
+        × (text.now ≡ content_spelling (plain_content c))) }
     ensures fault { IfErr result (λ e. OnFault e (λ at. IsFault IsContentText text.now at)) }
 {
     match whole_content(heap, text) {
@@ -37,8 +40,13 @@ pub fn read_content(heap: Heap, text: &str) -> Result<Content, ReadError>
 }
 
 fn whole_content(heap: Heap, text: &str) -> Result<Content, Stop>
-    ensures read { IfOk result (λ c. PartsWithin MAX_VALUE_DEPTH (plain_content c) × (text.now ≡ content_spelling (plain_content c))) }
-    ensures stops { IfErr result (λ e. OnLeft e (λ left. (left ≤ length text.now) × IsFault IsContentText text.now (length text.now - left))) }
+    ensures read { IfOk result
+        (λ c. PartsWithin MAX_VALUE_DEPTH (plain_content c)
+        × (text.now ≡ content_spelling (plain_content c))) }
+    ensures stops { IfErr result
+        (λ e. OnLeft e
+        (λ left. (left ≤ length text.now)
+        × IsFault IsContentText text.now (length text.now - left))) }
 {
     let (content, rest) = one_content(heap, text)?;
     if rest.len() > 0 {
@@ -49,8 +57,10 @@ fn whole_content(heap: Heap, text: &str) -> Result<Content, Stop>
 
 /// The content at the front, and what is behind it.
 fn one_content(heap: Heap, text: &str) -> Result<(Content, &str), Stop>
-    ensures read { IfOk result (λ r. Reads (Contents MAX_VALUE_DEPTH) text.now (plain_content r.0) r.1.now) }
-    ensures stops { IfErr result (λ e. OnLeft e (λ left. Stops (Contents MAX_VALUE_DEPTH) text.now left)) }
+    ensures read { IfOk result
+        (λ r. Reads (Contents MAX_VALUE_DEPTH) text.now (plain_content r.0) r.1.now) }
+    ensures stops { IfErr result
+        (λ e. OnLeft e (λ left. Stops (Contents MAX_VALUE_DEPTH) text.now left)) }
 {
     let Some(others) = strip(text, b'{') else {
         return variant_or_array(heap, text);
@@ -60,9 +70,11 @@ fn one_content(heap: Heap, text: &str) -> Result<(Content, &str), Stop>
 }
 
 fn variant_or_array(heap: Heap, text: &str) -> Result<(Content, &str), Stop>
-    requires { IsNot 123 text.now }
-    ensures read { IfOk result (λ r. Reads (Contents MAX_VALUE_DEPTH) text.now (plain_content r.0) r.1.now) }
-    ensures stops { IfErr result (λ e. OnLeft e (λ left. Stops (Contents MAX_VALUE_DEPTH) text.now left)) }
+    requires { IsNot open_brace text.now }
+    ensures read { IfOk result
+        (λ r. Reads (Contents MAX_VALUE_DEPTH) text.now (plain_content r.0) r.1.now) }
+    ensures stops { IfErr result
+        (λ e. OnLeft e (λ left. Stops (Contents MAX_VALUE_DEPTH) text.now left)) }
 {
     let Some(others) = strip(text, b'<') else {
         return array(heap, text);
@@ -72,9 +84,11 @@ fn variant_or_array(heap: Heap, text: &str) -> Result<(Content, &str), Stop>
 }
 
 fn array(heap: Heap, text: &str) -> Result<(Content, &str), Stop>
-    requires { IsNot 123 text.now × IsNot 60 text.now }
-    ensures read { IfOk result (λ r. Reads (Contents MAX_VALUE_DEPTH) text.now (plain_content r.0) r.1.now) }
-    ensures stops { IfErr result (λ e. OnLeft e (λ left. Stops (Contents MAX_VALUE_DEPTH) text.now left)) }
+    requires { IsNot open_brace text.now × IsNot less_than text.now }
+    ensures read { IfOk result
+        (λ r. Reads (Contents MAX_VALUE_DEPTH) text.now (plain_content r.0) r.1.now) }
+    ensures stops { IfErr result
+        (λ e. OnLeft e (λ left. Stops (Contents MAX_VALUE_DEPTH) text.now left)) }
 {
     let (low, rest) = int(text)?;
     let rest = expect(rest, b'[')?;

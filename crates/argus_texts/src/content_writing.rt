@@ -6,6 +6,7 @@ ghost use Rattle.argus_contents.specs.Value.{listed, plain_list};
 ghost use Rattle.argus_texts.specs.ContentSpelling.{content_spelling};
 ghost use Rattle.argus_texts.specs.Grown.{Grew, commas};
 ghost use Rattle.argus_texts.specs.Spelling.{inside};
+ghost use Rattle.argus_texts.specs.Bytes.{close_bracket};
 
 use crate::writing::{append, append_inside, append_int, append_tag, append_value};
 use argus_contents::{Content, Value};
@@ -15,7 +16,9 @@ use std::collections::VecDeque;
 /// Appends the written form of the content, whatever its depth. Where memory runs out the text is
 /// cut back to what it was.
 pub fn write_content(content: &Content, out: &mut String<Heap>) -> Result<(), OutOfMemory>
-    ensures written { OnOk result (string_bytes out.new ≡ string_bytes out.old ++ content_spelling (plain_content content.now)) }
+    ensures written { OnOk result
+        (string_bytes out.new
+        ≡ string_bytes out.old ++ content_spelling (plain_content content.now)) }
     ensures unchanged { OnErr result (string_bytes out.new ≡ string_bytes out.old) }
 {
     let start = out.len();
@@ -28,7 +31,9 @@ pub fn write_content(content: &Content, out: &mut String<Heap>) -> Result<(), Ou
 
 fn append_content(content: &Content, out: &mut String<Heap>) -> Result<(), OutOfMemory>
     ensures grew { Grew (string_bytes out.old) (string_bytes out.new) }
-    ensures written { OnOk result (string_bytes out.new ≡ string_bytes out.old ++ content_spelling (plain_content content.now)) }
+    ensures written { OnOk result
+        (string_bytes out.new
+        ≡ string_bytes out.old ++ content_spelling (plain_content content.now)) }
 {
     match content {
         Content::Rec(fields) => {
@@ -51,7 +56,9 @@ fn append_content(content: &Content, out: &mut String<Heap>) -> Result<(), OutOf
 /// The items with commas between them, and the closing bracket.
 fn append_items(items: &VecDeque<Value, Heap>, out: &mut String<Heap>) -> Result<(), OutOfMemory>
     ensures grew { Grew (string_bytes out.old) (string_bytes out.new) }
-    ensures written { OnOk result (string_bytes out.new ≡ string_bytes out.old ++ inside 93 (listed (plain_list items.now.items))) }
+    ensures written { OnOk result
+        (string_bytes out.new
+        ≡ string_bytes out.old ++ inside close_bracket (listed (plain_list items.now.items))) }
 {
     let (front, back) = items.as_slices();
     let Some((first, others)) = front.split_first() else {
@@ -66,7 +73,8 @@ fn append_items(items: &VecDeque<Value, Heap>, out: &mut String<Heap>) -> Result
 /// A comma and a value, for each of them.
 fn append_more(values: &[Value], out: &mut String<Heap>) -> Result<(), OutOfMemory>
     ensures grew { Grew (string_bytes out.old) (string_bytes out.new) }
-    ensures written { OnOk result (string_bytes out.new ≡ string_bytes out.old ++ commas (listed (plain_list values.now))) }
+    ensures written { OnOk result
+        (string_bytes out.new ≡ string_bytes out.old ++ commas (listed (plain_list values.now))) }
 {
     for value in values {
         append(",", out)?;

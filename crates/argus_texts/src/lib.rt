@@ -1,15 +1,15 @@
-//! The written forms of values, contents and shapes: each has exactly one, which is written and read.
+//! The written forms of values, contents and shapes: each has exactly one, written and read.
 //!
 //! | Written form | Stands for |
 //! |---|---|
 //! | `null`, `true`, `-5` | a scalar |
-//! | `"a\"b"` | a text; the quote, the backslash and the line feed are written `\"`, `\\` and `\n` |
+//! | `"a\"b"` | a text; quote, backslash and line feed are written `\"`, `\\` and `\n` |
 //! | `@3` | a reference to object number 3 |
 //! | `[1,2]` | a sequence |
 //! | `{1,"a"}` | the fields of a struct; as a content, of a record |
 //! | `<1:"no">` | tag 1 of a oneof and its value; as a content, of a variant |
 //! | `1[10,20]` | as a content, an array with low bound 1 |
-//! | `atomic_record[n:int,s:sequence[text]]` | the shape of a record; likewise of an array and a variant |
+//! | `atomic_record[n:int,s:sequence[text]]` | the shape of a record; others likewise |
 #![tactic(auto)]
 
 mod content_reading;

@@ -31,7 +31,8 @@ fn negative(number: u64) -> i64
 pub(crate) fn number(text: &str, least: u8, most: u64) -> Result<(u64, &str), Stop>
     requires { (least ≤ 1) × (9 ≤ most) }
     ensures read { IfOk result (λ r. Reads (Numbers least most) text.now r.0 r.1.now) }
-    ensures stops { IfErr result (λ e. OnLeft e (λ left. Stops (Numbers least most) text.now left)) }
+    ensures stops { IfErr result
+        (λ e. OnLeft e (λ left. Stops (Numbers least most) text.now left)) }
 {
     let Some((first, others)) = split_ascii(text) else {
         return Err(Stop::Left(text.len()));
@@ -60,7 +61,8 @@ pub(crate) fn number(text: &str, least: u8, most: u64) -> Result<(u64, &str), St
 /// The number with one more digit, where that has a form and isn't above the most.
 fn with_digit(number: u64, digit: u8, most: u64) -> Option<u64>
     requires { (digit < 10) × (number ≤ most) }
-    ensures some { IfSome result (λ more. (0 < number) × (more ≡ 10 * number + digit) × (more ≤ most)) }
+    ensures some { IfSome result
+        (λ more. (0 < number) × (more ≡ 10 * number + digit) × (more ≤ most)) }
     ensures none { IfNone result ((number ≡ 0) ⊎ (most < 10 * number + digit)) }
 {
     if number == 0 {

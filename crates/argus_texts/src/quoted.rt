@@ -40,7 +40,8 @@ pub(crate) fn quoted(heap: Heap, text: &str) -> Result<(String<Heap>, &str), Sto
 fn after_backslash(text: &str) -> Result<(&'static str, &str), Stop>
     ensures read { IfOk result (λ r. 92 ∷ text.now ≡ escaped r.0.now ++ r.1.now) }
     ensures shorter { IfOk result (λ r. (length r.1.now < length text.now) × IsUtf8 r.1.now) }
-    ensures stops { IfErr result (λ e. OnLeft e (λ left. (left ≡ length text.now) × First IsNoEscape text.now)) }
+    ensures stops { IfErr result
+        (λ e. OnLeft e (λ left. (left ≡ length text.now) × First IsNoEscape text.now)) }
 {
     let Some((first, others)) = split_ascii(text) else {
         return Err(Stop::Left(text.len()));

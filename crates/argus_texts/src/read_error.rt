@@ -8,7 +8,7 @@ use thiserror::Error;
 /// ```text
 /// match read_value(heap, text) {
 ///     Ok(value) => ..,
-///     Err(ReadError::Fault(fault)) => ..,      // no accepted form: the text is wrong from byte fault.at on
+///     Err(ReadError::Fault(fault)) => ..,   // the text is wrong from byte fault.at on
 ///     Err(ReadError::Memory) => ..,            // nothing is said of the text
 /// }
 /// ```

@@ -23,7 +23,8 @@ use argus_memory::Heap;
 /// `Fault` comes exactly where the text is no such form, with the length of its longest prefix that
 /// begins one. `Memory` may come in place of either other answer.
 pub fn read_value(heap: Heap, text: &str) -> Result<Value, ReadError>
-    ensures read { IfOk result (λ v. Within MAX_VALUE_DEPTH (plain_value v) × (text.now ≡ spelling (plain_value v))) }
+    ensures read { IfOk result
+        (λ v. Within MAX_VALUE_DEPTH (plain_value v) × (text.now ≡ spelling (plain_value v))) }
     ensures fault { IfErr result (λ e. OnFault e (λ at. IsFault IsValueText text.now at)) }
 {
     match whole_value(heap, text) {
@@ -36,8 +37,12 @@ pub fn read_value(heap: Heap, text: &str) -> Result<Value, ReadError>
 }
 
 fn whole_value(heap: Heap, text: &str) -> Result<Value, Stop>
-    ensures read { IfOk result (λ v. Within MAX_VALUE_DEPTH (plain_value v) × (text.now ≡ spelling (plain_value v))) }
-    ensures stops { IfErr result (λ e. OnLeft e (λ left. (left ≤ length text.now) × IsFault IsValueText text.now (length text.now - left))) }
+    ensures read { IfOk result
+        (λ v. Within MAX_VALUE_DEPTH (plain_value v) × (text.now ≡ spelling (plain_value v))) }
+    ensures stops { IfErr result
+        (λ e. OnLeft e
+        (λ left. (left ≤ length text.now)
+        × IsFault IsValueText text.now (length text.now - left))) }
 {
     let (value, rest) = one_value(heap, text, MAX_VALUE_DEPTH)?;
     if rest.len() > 0 {
@@ -122,7 +127,8 @@ fn compound(heap: Heap, text: &str, levels: usize) -> Result<(Value, &str), Stop
 #[cycle(reading)]
 pub(crate) fn choice(heap: Heap, text: &str, levels: usize) -> Result<(u8, Value, &str), Stop>
     requires { 0 < levels }
-    ensures read { IfOk result (λ r. Reads (Choices levels) text.now (r.0, (plain_value r.1, tt)) r.2.now) }
+    ensures read { IfOk result
+        (λ r. Reads (Choices levels) text.now (r.0, (plain_value r.1, tt)) r.2.now) }
     ensures stops { IfErr result (λ e. OnLeft e (λ left. Stops (Choices levels) text.now left)) }
 {
     let (tag, rest) = number(text, 0, 255)?;
@@ -141,8 +147,10 @@ pub(crate) fn inside(
     close: u8,
 ) -> Result<(Vec<Value, Heap>, &str), Stop>
     requires { IsClose close }
-    ensures read { IfOk result (λ r. Reads (Insides close levels) text.now (listed (plain_list r.0.items)) r.1.now) }
-    ensures stops { IfErr result (λ e. OnLeft e (λ left. Stops (Insides close levels) text.now left)) }
+    ensures read { IfOk result
+        (λ r. Reads (Insides close levels) text.now (listed (plain_list r.0.items)) r.1.now) }
+    ensures stops { IfErr result
+        (λ e. OnLeft e (λ left. Stops (Insides close levels) text.now left)) }
 {
     let Some(others) = strip(text, close) else {
         if levels == 0 {
@@ -157,8 +165,10 @@ pub(crate) fn inside(
 #[cycle(reading)]
 fn items(heap: Heap, text: &str, levels: usize, close: u8) -> Result<(Vec<Value, Heap>, &str), Stop>
     requires { (0 < levels) × IsClose close }
-    ensures read { IfOk result (λ r. Reads (Insides close levels) text.now (listed (plain_list r.0.items)) r.1.now) }
-    ensures stops { IfErr result (λ e. OnLeft e (λ left. Stops (Items close levels) text.now left)) }
+    ensures read { IfOk result
+        (λ r. Reads (Insides close levels) text.now (listed (plain_list r.0.items)) r.1.now) }
+    ensures stops { IfErr result
+        (λ e. OnLeft e (λ left. Stops (Items close levels) text.now left)) }
 {
     let mut items = Vec::new(heap);
     let mut rest = text;

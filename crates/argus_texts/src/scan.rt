@@ -42,7 +42,8 @@ pub(crate) fn strip(text: &str, wanted: u8) -> Option<&str>
 pub(crate) fn expect(text: &str, wanted: u8) -> Result<&str, Stop>
     requires { wanted < 128 }
     ensures read { IfOk result (λ rest. text.now ≡ wanted ∷ rest.now) }
-    ensures stops { IfErr result (λ e. OnLeft e (λ left. (left ≡ length text.now) × IsNot wanted text.now)) }
+    ensures stops { IfErr result
+        (λ e. OnLeft e (λ left. (left ≡ length text.now) × IsNot wanted text.now)) }
 {
     match strip(text, wanted) {
         Some(rest) => Ok(rest),

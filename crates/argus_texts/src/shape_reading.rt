@@ -13,12 +13,13 @@ use argus_contents::limits::{MAX_NAMES, MAX_VALUE_DEPTH};
 use argus_contents::{Name, NameError, Shape, Ty};
 use argus_memory::{Heap, OutOfMemory};
 
-/// The shape whose written form the text is; None exactly where the text is the form of no shape that
-/// can be made: each list has 1 to 64 distinct names, and types have a depth of at most 16.
+/// The shape whose written form the text is; None exactly where the text is the form of no shape
+/// that can be made: each list has 1 to 64 distinct names, and types have a depth of at most 16.
 ///
 /// `OutOfMemory` may come in place of either answer.
 pub fn read_shape(heap: Heap, text: &str) -> Result<Option<Shape>, OutOfMemory>
-    ensures read { IfOk result (λ answer. IfSome answer (λ shape. IsMakeable shape × (text.now ≡ shape_spelling shape))) }
+    ensures read { IfOk result
+        (λ answer. IfSome answer (λ shape. IsMakeable shape × (text.now ≡ shape_spelling shape))) }
     ensures refused { IfOk result (λ answer. IfNone answer (IsShapeText text.now → ⊥)) }
 {
     match whole_shape(heap, text) {
@@ -72,7 +73,8 @@ fn one_shape(heap: Heap, text: &str) -> Result<(Shape, &str), Unread>
 #[cycle(shape_reading)]
 fn one_ty(heap: Heap, text: &str, levels: usize) -> Result<(Ty, &str), Unread>
     ensures read { IfOk result (λ r. Reads (Types IsNamed) text.now (plain_ty r.0) r.1.now) }
-    ensures refused { IfErr result (λ e. OnNoForm e (BeginsNo (Types (IsShallow levels)) text.now)) }
+    ensures refused { IfErr result
+        (λ e. OnNoForm e (BeginsNo (Types (IsShallow levels)) text.now)) }
 {
     if levels == 0 {
         return Err(Unread::NoForm);
@@ -110,7 +112,8 @@ fn scalar(text: &str) -> Option<(Ty, &str)>
 fn compound(heap: Heap, text: &str, levels: usize) -> Result<(Ty, &str), Unread>
     requires { (0 < levels) × BeginsNo (Types IsScalar) text.now }
     ensures read { IfOk result (λ r. Reads (Types IsNamed) text.now (plain_ty r.0) r.1.now) }
-    ensures refused { IfErr result (λ e. OnNoForm e (BeginsNo (Types (IsShallow levels)) text.now)) }
+    ensures refused { IfErr result
+        (λ e. OnNoForm e (BeginsNo (Types (IsShallow levels)) text.now)) }
 {
     if let Some(others) = strip_word(text, "sequence[") {
         let (item, rest) = closed_ty(heap, others, levels - 1)?;
@@ -131,7 +134,8 @@ fn compound(heap: Heap, text: &str, levels: usize) -> Result<(Ty, &str), Unread>
 #[cycle(shape_reading)]
 fn closed_ty(heap: Heap, text: &str, levels: usize) -> Result<(Ty, &str), Unread>
     ensures read { IfOk result (λ r. Reads (Closed IsNamed) text.now (plain_ty r.0) r.1.now) }
-    ensures refused { IfErr result (λ e. OnNoForm e (BeginsNo (Closed (IsShallow levels)) text.now)) }
+    ensures refused { IfErr result
+        (λ e. OnNoForm e (BeginsNo (Closed (IsShallow levels)) text.now)) }
 {
     let (ty, others) = one_ty(heap, text, levels)?;
     let Some(rest) = strip(others, b']') else {
@@ -143,8 +147,10 @@ fn closed_ty(heap: Heap, text: &str, levels: usize) -> Result<(Ty, &str), Unread
 /// The names with their types before the closing bracket, and what is behind that.
 #[cycle(shape_reading)]
 fn names(heap: Heap, text: &str, levels: usize) -> Result<(Vec<(Name, Ty), Heap>, &str), Unread>
-    ensures read { IfOk result (λ r. Reads (Lists AreNamed) text.now (plain_fields r.0.items) r.1.now) }
-    ensures refused { IfErr result (λ e. OnNoForm e (BeginsNo (Lists (IsList MAX_NAMES levels)) text.now)) }
+    ensures read { IfOk result
+        (λ r. Reads (Lists AreNamed) text.now (plain_fields r.0.items) r.1.now) }
+    ensures refused { IfErr result
+        (λ e. OnNoForm e (BeginsNo (Lists (IsList MAX_NAMES levels)) text.now)) }
 {
     let mut names = Vec::new(heap);
     let mut rest = text;
@@ -169,7 +175,8 @@ fn names(heap: Heap, text: &str, levels: usize) -> Result<(Vec<(Name, Ty), Heap>
 #[cycle(shape_reading)]
 fn field(heap: Heap, text: &str, levels: usize) -> Result<(Name, Ty, &str), Unread>
     ensures read { IfOk result (λ r. Reads (Fields IsNamed) text.now (r.0, plain_ty r.1) r.2.now) }
-    ensures refused { IfErr result (λ e. OnNoForm e (BeginsNo (Fields (IsShallow levels)) text.now)) }
+    ensures refused { IfErr result
+        (λ e. OnNoForm e (BeginsNo (Fields (IsShallow levels)) text.now)) }
 {
     let (name, others) = one_name(heap, text)?;
     let (ty, rest) = one_ty(heap, others, levels)?;

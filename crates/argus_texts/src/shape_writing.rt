@@ -4,18 +4,21 @@ ghost use Rattle.std.specs.Prelude.{◌≡◌, ◌∷◌, [], ◌++◌, OnOk, On
 ghost use Rattle.argus_contents.specs.Ty.{plain_fields, plain_ty};
 ghost use Rattle.argus_texts.specs.Grown.{Grew};
 ghost use Rattle.argus_texts.specs.ShapeSpelling.{names_inside, shape_spelling, ty_spelling};
+ghost use Rattle.argus_texts.specs.Bytes.{colon};
 
 use crate::writing::append;
 use argus_contents::{Name, Shape, ShapeView, Ty};
 use argus_memory::{Heap, OutOfMemory};
 
-/// Appends the written form of the shape. Where memory runs out the text is cut back to what it was.
+/// Appends the written form of the shape. Where memory runs out the text is cut back to what it
+/// was.
 ///
 /// ```text
 /// write_shape(&shape, &mut out)?;          // atomic_record[balance:int]
 /// ```
 pub fn write_shape(shape: &Shape, out: &mut String<Heap>) -> Result<(), OutOfMemory>
-    ensures written { OnOk result (string_bytes out.new ≡ string_bytes out.old ++ shape_spelling shape.now) }
+    ensures written { OnOk result
+        (string_bytes out.new ≡ string_bytes out.old ++ shape_spelling shape.now) }
     ensures unchanged { OnErr result (string_bytes out.new ≡ string_bytes out.old) }
 {
     let start = out.len();
@@ -28,7 +31,8 @@ pub fn write_shape(shape: &Shape, out: &mut String<Heap>) -> Result<(), OutOfMem
 
 fn append_shape(shape: &Shape, out: &mut String<Heap>) -> Result<(), OutOfMemory>
     ensures grew { Grew (string_bytes out.old) (string_bytes out.new) }
-    ensures written { OnOk result (string_bytes out.new ≡ string_bytes out.old ++ shape_spelling shape.now) }
+    ensures written { OnOk result
+        (string_bytes out.new ≡ string_bytes out.old ++ shape_spelling shape.now) }
 {
     match shape.view() {
         ShapeView::Rec(fields) => {
@@ -50,7 +54,8 @@ fn append_shape(shape: &Shape, out: &mut String<Heap>) -> Result<(), OutOfMemory
 #[cycle(shape_writing)]
 fn append_ty(ty: &Ty, out: &mut String<Heap>) -> Result<(), OutOfMemory>
     ensures grew { Grew (string_bytes out.old) (string_bytes out.new) }
-    ensures written { OnOk result (string_bytes out.new ≡ string_bytes out.old ++ ty_spelling (plain_ty ty.now)) }
+    ensures written { OnOk result
+        (string_bytes out.new ≡ string_bytes out.old ++ ty_spelling (plain_ty ty.now)) }
 {
     match ty {
         Ty::Null => append("null", out),
@@ -78,7 +83,8 @@ fn append_ty(ty: &Ty, out: &mut String<Heap>) -> Result<(), OutOfMemory>
 #[cycle(shape_writing)]
 fn append_names(names: &[(Name, Ty)], out: &mut String<Heap>) -> Result<(), OutOfMemory>
     ensures grew { Grew (string_bytes out.old) (string_bytes out.new) }
-    ensures written { OnOk result (string_bytes out.new ≡ string_bytes out.old ++ names_inside (plain_fields names.now)) }
+    ensures written { OnOk result
+        (string_bytes out.new ≡ string_bytes out.old ++ names_inside (plain_fields names.now)) }
 {
     let Some(((name, ty), others)) = names.split_first() else {
         return append("]", out);
@@ -95,7 +101,9 @@ fn append_names(names: &[(Name, Ty)], out: &mut String<Heap>) -> Result<(), OutO
 #[cycle(shape_writing)]
 fn append_field(name: &Name, ty: &Ty, out: &mut String<Heap>) -> Result<(), OutOfMemory>
     ensures grew { Grew (string_bytes out.old) (string_bytes out.new) }
-    ensures written { OnOk result (string_bytes out.new ≡ string_bytes out.old ++ (name.now ++ 58 ∷ ty_spelling (plain_ty ty.now))) }
+    ensures written { OnOk result
+        (string_bytes out.new
+        ≡ string_bytes out.old ++ (name.now ++ colon ∷ ty_spelling (plain_ty ty.now))) }
 {
     append(name.as_str(), out)?;
     append(":", out)?;

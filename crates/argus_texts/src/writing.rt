@@ -6,6 +6,7 @@ ghost use Rattle.argus_contents.specs.Value.{listed, plain_list, plain_value};
 ghost use Rattle.argus_texts.specs.Grown.{Grew};
 ghost use Rattle.argus_texts.specs.Quotes.{IsSpecial};
 ghost use Rattle.argus_texts.specs.Spelling.{escape, escaped, inside, spelling};
+ghost use Rattle.argus_texts.specs.Bytes.{colon, less_than, quote};
 
 use crate::quoted::split_plain;
 use crate::scan::split_ascii;
@@ -15,7 +16,8 @@ use argus_memory::{Heap, OutOfMemory};
 /// Appends the written form of the value, whatever its depth. Where memory runs out the text is cut
 /// back to what it was.
 pub fn write_value(value: &Value, out: &mut String<Heap>) -> Result<(), OutOfMemory>
-    ensures written { OnOk result (string_bytes out.new ≡ string_bytes out.old ++ spelling (plain_value value.now)) }
+    ensures written { OnOk result
+        (string_bytes out.new ≡ string_bytes out.old ++ spelling (plain_value value.now)) }
     ensures unchanged { OnErr result (string_bytes out.new ≡ string_bytes out.old) }
 {
     let start = out.len();
@@ -29,7 +31,8 @@ pub fn write_value(value: &Value, out: &mut String<Heap>) -> Result<(), OutOfMem
 #[cycle(writing)]
 pub(crate) fn append_value(value: &Value, out: &mut String<Heap>) -> Result<(), OutOfMemory>
     ensures grew { Grew (string_bytes out.old) (string_bytes out.new) }
-    ensures written { OnOk result (string_bytes out.new ≡ string_bytes out.old ++ spelling (plain_value value.now)) }
+    ensures written { OnOk result
+        (string_bytes out.new ≡ string_bytes out.old ++ spelling (plain_value value.now)) }
 {
     match value {
         Value::Null => append("null", out),
@@ -66,7 +69,9 @@ pub(crate) fn append_inside(
 ) -> Result<(), OutOfMemory>
     requires { close < 128 }
     ensures grew { Grew (string_bytes out.old) (string_bytes out.new) }
-    ensures written { OnOk result (string_bytes out.new ≡ string_bytes out.old ++ inside close (listed (plain_list values.now))) }
+    ensures written { OnOk result
+        (string_bytes out.new
+        ≡ string_bytes out.old ++ inside close (listed (plain_list values.now))) }
 {
     let Some((first, others)) = values.split_first() else {
         return append_char(close, out);
@@ -82,7 +87,8 @@ pub(crate) fn append_inside(
 /// The opening angle, the tag and the colon.
 pub(crate) fn append_tag(tag: u8, out: &mut String<Heap>) -> Result<(), OutOfMemory>
     ensures grew { Grew (string_bytes out.old) (string_bytes out.new) }
-    ensures written { OnOk result (string_bytes out.new ≡ string_bytes out.old ++ 60 ∷ (decimal tag ++ 58 ∷ [])) }
+    ensures written { OnOk result
+        (string_bytes out.new ≡ string_bytes out.old ++ less_than ∷ (decimal tag ++ colon ∷ [])) }
 {
     append("<", out)?;
     append_nat(u32::from(tag), out)?;
@@ -91,7 +97,8 @@ pub(crate) fn append_tag(tag: u8, out: &mut String<Heap>) -> Result<(), OutOfMem
 
 pub(crate) fn append_int(number: i64, out: &mut String<Heap>) -> Result<(), OutOfMemory>
     ensures grew { Grew (string_bytes out.old) (string_bytes out.new) }
-    ensures written { OnOk result (string_bytes out.new ≡ string_bytes out.old ++ signed_decimal number) }
+    ensures written { OnOk result
+        (string_bytes out.new ≡ string_bytes out.old ++ signed_decimal number) }
 {
     let mut digits = itoa::Buffer::new();
     append(digits.format(number), out)
@@ -108,7 +115,8 @@ fn append_nat(number: u32, out: &mut String<Heap>) -> Result<(), OutOfMemory>
 /// The text between quotes.
 fn append_quoted(text: &str, out: &mut String<Heap>) -> Result<(), OutOfMemory>
     ensures grew { Grew (string_bytes out.old) (string_bytes out.new) }
-    ensures written { OnOk result (string_bytes out.new ≡ string_bytes out.old ++ 34 ∷ (escaped text.now ++ 34 ∷ [])) }
+    ensures written { OnOk result
+        (string_bytes out.new ≡ string_bytes out.old ++ quote ∷ (escaped text.now ++ quote ∷ [])) }
 {
     append("\"", out)?;
     let mut rest = text;

@@ -1,13 +1,14 @@
 -- Who is above the place of the climb is above the action, and no other is.
-use Rattle.std.proofs.Common.{◌≡◌, ◌<◌, length}
+use Rattle.std.proofs.Common.{◌≡◌, ◌<◌, ◌≤◌, ◌+◌, length}
 use Rattle.argus_actions.specs.Rows.{is_above}
 use Rattle.argus_actions.specs.Nodes.{rows_of}
 use Rattle.argus_actions.proofs.walk.climbs.Given as goal
 
 abbrev pub invariant-loop-at : goal.invariant-loop-at
 invariant-loop-at l = record {
-  begun : l.at < length l.nodes;
-  same : is_above 0 (rows_of l.nodes) l.x l.at ≡ is_above 0 (rows_of l.nodes) l.x l.y;
+  held : l.first ≤ l.at;
+  begun : l.at < l.first + length l.nodes;
+  same : is_above l.first (rows_of l.nodes) l.x l.at ≡ is_above l.first (rows_of l.nodes) l.x l.y;
 }
 
 abbrev pub decreases-loop-at : goal.decreases-loop-at

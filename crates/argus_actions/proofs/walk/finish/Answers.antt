@@ -1,5 +1,5 @@
 -- What ending one action does to the nodes.
-use Rattle.std.proofs.Common.{◌≡◌, ◌<◌, ◌+◌, ℕ, Option, Some, None, length, get_or, set, refl, sym, ◌∙◌, arith, inl, inr}
+use Rattle.std.proofs.Common.{◌≡◌, ◌<◌, ◌+◌, ◌-◌, ℕ, Option, Some, None, length, get_or, set, refl, sym, ◌∙◌, arith, inl, inr}
 use Rattle.std.proofs.lemmas.List.{length-set}
 use Rattle.argus_actions.specs.declared.node.Node.{Node}
 use Rattle.argus_actions.proofs.NodesLemmas.{some_node, under_is_there, under_has_live}
@@ -7,14 +7,24 @@ use Rattle.argus_actions.proofs.Finished.{finished, finished_under, finished_alo
 use Rattle.argus_actions.proofs.walk.finish.Goals as goal
 use Rattle.argus_actions.proofs.walk.finish.Goals.{then-is_live+in-Some, then-is_live+in_default, else-is_live}
 
-pub bounds-nodes-under : goal.bounds-nodes-under
-bounds-nodes-under c = under_is_there c.args.nodes.now c.args.a c.in-Some.under some_node c.requires.nodes c.requires.begun (sym c.in-Some.ensures)
-
-pub bounds-nodes-under-in-Some : goal.bounds-nodes-under-in-Some
-bounds-nodes-under-in-Some c = under_is_there c.args.nodes.now c.args.a c.in-Some.under some_node c.requires.nodes c.requires.begun (sym c.in-Some.ensures)
+pub overflow_sub-above : goal.overflow_sub-above
+overflow_sub-above c =
+    (under_is_there c.args.first c.args.nodes.now c.args.a (c.args.a - c.args.first) c.in-Some.under some_node c.requires.nodes (omega arith) (omega arith) (sym c.in-Some.ensures)).0
 
 pub overflow_sub-nodes : goal.overflow_sub-nodes
-overflow_sub-nodes c = under_has_live c.args.nodes.now c.args.a c.in-Some.under some_node some_node c.requires.nodes c.requires.begun (sym c.in-Some.ensures) (sym c.if-is_live.ensures)
+overflow_sub-nodes c =
+    let there = under_is_there c.args.first c.args.nodes.now c.args.a (c.args.a - c.args.first) c.in-Some.under some_node c.requires.nodes (omega arith) (omega arith) (sym c.in-Some.ensures) in
+    under_has_live c.args.first c.args.nodes.now c.args.a (c.args.a - c.args.first) c.in-Some.under (c.in-Some.under - c.args.first) some_node some_node c.requires.nodes (omega arith) (omega arith) (omega (arith, there.0)) (sym c.in-Some.ensures) (sym c.if-is_live.ensures)
+
+pub bounds-nodes-above : goal.bounds-nodes-above
+bounds-nodes-above c =
+    let there = under_is_there c.args.first c.args.nodes.now c.args.a (c.args.a - c.args.first) c.in-Some.under some_node c.requires.nodes (omega arith) (omega arith) (sym c.in-Some.ensures) in
+    omega (arith, there.0, there.1)
+
+pub bounds-nodes-above-in-Some : goal.bounds-nodes-above-in-Some
+bounds-nodes-above-in-Some c =
+    let there = under_is_there c.args.first c.args.nodes.now c.args.a (c.args.a - c.args.first) c.in-Some.under some_node c.requires.nodes (omega arith) (omega arith) (sym c.in-Some.ensures) in
+    omega (arith, there.0, there.1)
 
 none_of : (o : Option ℕ) → ((p : ℕ) → o ≡ Some p → ⊥) → o ≡ None
 none_of None other = refl
@@ -22,22 +32,25 @@ none_of (Some p) other = absurd (other p refl)
 
 pub returns : goal.returns
 returns c =
-    let nodes = c.args.nodes.now in
-    let each : (a k : ℕ) (d : Node) → a ≡ 0 + k → k < length c.args.nodes.now
-    → get_or (set c.if-is_live.nodes c.args.a (with_end c.args.status (get_or c.if-is_live.nodes c.args.a some_node))) k d ≡ finished c.args.status c.args.a (get_or c.args.nodes.now c.args.a some_node) a (get_or c.args.nodes.now k d)
+    let i : ℕ = c.args.a - c.args.first in
+    let at_i : c.args.a ≡ c.args.first + (c.args.a - c.args.first) = omega arith in
+    let in_a : c.args.a - c.args.first < length c.args.nodes.now = omega arith in
+    let each : (a k : ℕ) (d : Node) → a ≡ c.args.first + k → k < length c.args.nodes.now
+    → get_or (set c.if-is_live.nodes (c.args.a - c.args.first) (with_end c.args.status (get_or c.if-is_live.nodes (c.args.a - c.args.first) some_node))) k d ≡ finished c.args.status c.args.a (get_or c.args.nodes.now (c.args.a - c.args.first) some_node) a (get_or c.args.nodes.now k d)
     = elim c.if-is_live.branch [
-      | then-is_live+in-Some w ↦ rw w.nodes-is
-          (finished_under c.args.nodes.now c.args.a w.in-Some.under c.args.status some_node some_node c.requires.begun
-          (under_is_there c.args.nodes.now c.args.a w.in-Some.under some_node c.requires.nodes c.requires.begun (sym w.in-Some.ensures))
+      | then-is_live+in-Some w ↦
+          let there = under_is_there c.args.first c.args.nodes.now c.args.a (c.args.a - c.args.first) w.in-Some.under some_node c.requires.nodes at_i in_a (sym w.in-Some.ensures) in
+          rw w.nodes-is
+          (finished_under c.args.first c.args.nodes.now c.args.a (c.args.a - c.args.first) c.args.status some_node at_i in_a w.in-Some.under (w.in-Some.under - c.args.first) some_node (omega (arith, there.0)) (omega (arith, there.0, there.1))
           (sym w.in-Some.ensures) (sym w.if-is_live.ensures))
       | then-is_live+in_default w ↦ rw w.nodes-is
-          (finished_alone c.args.nodes.now c.args.a c.args.status some_node c.requires.begun (inl (sym w.under.ensures ∙ none_of w.under.result w.in_default.not-Some)))
+          (finished_alone c.args.first c.args.nodes.now c.args.a (c.args.a - c.args.first) c.args.status some_node at_i in_a (inl (sym w.under.ensures ∙ none_of w.under.result w.in_default.not-Some)))
       | else-is_live w ↦ rw w.nodes-is
-          (finished_alone c.args.nodes.now c.args.a c.args.status some_node c.requires.begun (inr (sym w.if-is_live.ensures)))
+          (finished_alone c.args.first c.args.nodes.now c.args.a (c.args.a - c.args.first) c.args.status some_node at_i in_a (inr (sym w.if-is_live.ensures)))
     ] in
-    let long : length (set c.if-is_live.nodes c.args.a (with_end c.args.status (get_or c.if-is_live.nodes c.args.a some_node))) ≡ length c.args.nodes.now
-    = length-set c.if-is_live.nodes c.args.a (with_end c.args.status (get_or c.if-is_live.nodes c.args.a some_node)) ∙ omega arith in
+    let long : length (set c.if-is_live.nodes (c.args.a - c.args.first) (with_end c.args.status (get_or c.if-is_live.nodes (c.args.a - c.args.first) some_node))) ≡ length c.args.nodes.now
+    = length-set c.if-is_live.nodes (c.args.a - c.args.first) (with_end c.args.status (get_or c.if-is_live.nodes (c.args.a - c.args.first) some_node)) ∙ omega arith in
     record {
-      nodes = finished_nodes 0 c.args.nodes.now _ c.args.a c.args.a c.args.status (omega arith) c.requires.begun c.requires.over long each c.requires.nodes;
-      rows = finished_rows 0 c.args.nodes.now _ c.args.a c.args.a c.args.status (omega arith) c.requires.begun c.requires.over long each;
+      nodes = finished_nodes c.args.first c.args.nodes.now _ c.args.a (c.args.a - c.args.first) c.args.status at_i in_a c.requires.over long each c.requires.nodes;
+      rows = finished_rows c.args.first c.args.nodes.now _ c.args.a (c.args.a - c.args.first) c.args.status at_i in_a c.requires.over long each;
     }

@@ -1,13 +1,14 @@
 -- What was read is the front of what the reader had.
 use Rattle.std.proofs.Common.{◌≡◌, ◌≤◌, ◌-◌, false, length}
 use Rattle.std.specs.Io.KnownBytes.{Consumes}
+use Rattle.argus_cli.specs.Watched.{has_failed, inner_of}
 use Rattle.argus_cli.proofs.input.read_up_to.Given as goal
 
 abbrev pub invariant-loop-chunk : goal.invariant-loop-chunk
 invariant-loop-chunk g l = record {
   most : length l.all.items ≤ l.limit;
-  fine : l.reader.failed ≡ false;
-  consumed : Consumes (g.R.Read.remaining l.initial.reader.inner) (g.R.Read.remaining l.reader.inner) l.all.items;
+  fine : has_failed l.reader ≡ false;
+  consumed : Consumes (g.R.Read.remaining (inner_of l.initial.reader)) (g.R.Read.remaining (inner_of l.reader)) l.all.items;
 }
 
 abbrev pub decreases-loop-chunk : goal.decreases-loop-chunk

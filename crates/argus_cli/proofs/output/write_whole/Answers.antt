@@ -1,6 +1,7 @@
 use Rattle.std.proofs.Common.{length-drop, arith}
 use Rattle.std.proofs.lemmas.List.{take_rest}
 use Rattle.argus_cli.proofs.Bytes.{appends_more}
+use Rattle.argus_cli.specs.Watched.{inner_of}
 use Rattle.argus_cli.proofs.output.write_whole.Goals as goal
 
 pub loop-at-preserved : goal.loop-at-preserved
@@ -9,6 +10,7 @@ loop-at-preserved g c =
     record {
       within = omega (arith, some.1, length-drop c.loop-at.at c.args.bytes.now);
       fine = c.in-Some.ensures.fine;
-      written = appends_more (g.W.Write.contents c.args.writer.now.inner) (g.W.Write.contents c.loop-at.writer.inner) (g.W.Write.contents c.write_once.new.self.inner)
+      written = appends_more (g.W.Write.contents (inner_of c.args.writer.now)) (g.W.Write.contents (inner_of c.loop-at.writer))
+          (g.W.Write.contents (inner_of c.write_once.new.self))
           c.args.bytes.now c.loop-at.at c.in-Some.n c.loop-at.invariant.written some.2;
     }

@@ -1,21 +1,22 @@
 -- The proof of the laws that stand on `live_work_runs_again`.
-use Rattle.std.proofs.Common.{ap, ◌+◌, ◌∙◌}
-use Rattle.argus_entries.specs.Reply.{answered}
+use Rattle.std.proofs.Common.{◌+◌}
 use Rattle.argus_model.specs.Work.{content_before}
-use Rattle.argus_model.proofs.Theorems.{live_answers, live_each, live_leaves}
-use Rattle.argus_journal.specs.Entries.{entries, said_by}
+use Rattle.argus_model.proofs.Recorded.{serial_to_recorded}
+use Rattle.argus_model.proofs.Theorems.{live_answers, live_begins, live_each, live_leaves}
+use Rattle.argus_journal.specs.Entries.{entries}
 use Rattle.argus_journal.specs.Events.{history}
 use Rattle.argus_journal.specs.Opening.{content_in, opened}
 use Rattle.argus_journal.proofs.Legal.{lawful}
+use Rattle.argus_journal.proofs.Serial.{access_named, answered_at}
 use Rattle.argus_journal.proofs.laws.live_work_runs_again.Goals as goal
 
 pub returns : goal.returns
 returns c = record {
+  begins = λ s j a l. live_begins entries (opened s) (history s j) (a + 1) (lawful s j l);
   answers = λ s j a l. live_answers entries (opened s) (history s j) (a + 1) (lawful s j l);
-  each = λ s j a later e earlier l. live_each entries (opened s) (history s j) (a + 1) later e earlier (lawful s j l);
-  ask = λ s j x later e earlier a o query l live q k. live_each entries (opened s) (history s j) (x + 1) later e earlier (lawful s j l) live q
-      ∙ ap (λ call. answered (said_by call (content_before entries (content_in s.objects) e earlier))) k;
-  alter = λ s j x later e earlier a o change l live q k. live_each entries (opened s) (history s j) (x + 1) later e earlier (lawful s j l) live q
-      ∙ ap (λ call. answered (said_by call (content_before entries (content_in s.objects) e earlier))) k;
+  each = λ s j a later e earlier l live q.
+      answered_at e.what.call e.what.reply e.object (content_before entries (content_in s.objects) e earlier)
+      (access_named s j e (serial_to_recorded (history s j) (a + 1) later e earlier q))
+      (live_each entries (opened s) (history s j) (a + 1) later e earlier (lawful s j l) live q);
   leaves = λ s j a o l. live_leaves entries (opened s) (history s j) (a + 1) o (lawful s j l);
 }

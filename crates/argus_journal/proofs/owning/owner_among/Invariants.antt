@@ -5,4 +5,4 @@ use Rattle.argus_journal.specs.Told.{told_owner}
 use Rattle.argus_journal.proofs.owning.owner_among.Given as goal
 
 abbrev pub invariant-loop-i : goal.invariant-loop-i
-invariant-loop-i l = l.owner ≡ told_owner (newest_first (take l.i l.entries)) l.a.0
+invariant-loop-i l = l.owner ≡ told_owner l.first (newest_first (take l.i l.entries)) l.a.0

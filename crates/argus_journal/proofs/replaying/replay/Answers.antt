@@ -9,5 +9,6 @@ replay_entry-requires c =
     let s = opening_of c.args.journal.now in
     let entries = c.entries-entries.result.now in
     rw c.loop-entry.invariant
-    (replayed_keeps s (entries_of c.args.journal.now) c.args.reader c.args.o.0 (newest_first (take c.loop-entry.entry-index entries)) c.args.journal.now.sound
+    (replayed_keeps s (entries_of c.args.journal.now) c.args.reader c.args.o.0
+    (newest_first (take c.loop-entry.entry-index entries)) c.args.journal.now.sound
     (taken_legal s entries c.loop-entry.entry-index (rw c.entries-entries.ensures c.requires)))

@@ -8,4 +8,5 @@ use Rattle.argus_journal.proofs.replaying.replay_base.Goals as goal
 pub returns : goal.returns
 returns c =
     subst (λ x. IfOk c.replay.result (λ content. plain_option content ≡ x))
-    (replayed_base (opening_of c.args.journal.now) (entries_of c.args.journal.now) c.requires c.args.o.0) c.replay.ensures
+    (replayed_base (opening_of c.args.journal.now) (entries_of c.args.journal.now) c.requires c.args.o.0)
+    c.replay.ensures

@@ -8,4 +8,5 @@ use Rattle.argus_journal.proofs.replaying.replay_for.Goals as goal
 pub returns : goal.returns
 returns c =
     subst (λ x. IfOk c.replay.result (λ content. plain_option content ≡ x))
-    (replayed_seen (opening_of c.args.journal.now) (entries_of c.args.journal.now) c.requires c.args.h c.args.o.0) c.replay.ensures
+    (replayed_seen (opening_of c.args.journal.now) (entries_of c.args.journal.now) c.requires c.args.h c.args.o.0)
+    c.replay.ensures

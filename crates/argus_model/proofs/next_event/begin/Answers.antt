@@ -18,10 +18,16 @@ returns g c = record {
   lineages = lineage_old;
   owner = λ meaning opening h from l. new_owner h from (lawful_orderly meaning opening (Began from ▹ h) l);
   owners = λ meaning opening h from x l. owner_after_begin h from (lawful_orderly meaning opening (Began from ▹ h) l) x;
-  readers = λ meaning opening h from o l. holders_after_begin (reads meaning) h from (lawful_orderly meaning opening (Began from ▹ h) l) o;
-  writers = λ meaning opening h from o l. holders_after_begin meaning.writes h from (lawful_orderly meaning opening (Began from ▹ h) l) o;
-  sees = λ meaning opening h from o l. sees_after_begin_new meaning opening h from (lawful_orderly meaning opening (Began from ▹ h) l) o;
-  others_see = λ meaning opening h from x o l. sees_after_begin meaning opening h from (lawful_orderly meaning opening (Began from ▹ h) l) x o;
+  readers = λ meaning opening h from o l.
+      holders_after_begin (reads meaning) h from (lawful_orderly meaning opening (Began from ▹ h) l) o;
+  writers = λ meaning opening h from o l.
+      holders_after_begin meaning.writes h from (lawful_orderly meaning opening (Began from ▹ h) l) o;
+  sees = λ meaning opening h from o l.
+      sees_after_begin_new meaning opening h from (lawful_orderly meaning opening (Began from ▹ h) l) o;
+  others_see =
+      λ meaning opening h from x o l.
+      sees_after_begin meaning opening h from (lawful_orderly meaning opening (Began from ▹ h) l) x o;
   work = λ meaning opening h from l. no_work h (lawful_orderly meaning opening h l.1) (next_action h) (omega arith);
-  base = λ meaning opening h from o l. base_after_begin meaning opening h from (lawful_orderly meaning opening (Began from ▹ h) l) o;
+  base = λ meaning opening h from o l.
+      base_after_begin meaning opening h from (lawful_orderly meaning opening (Began from ▹ h) l) o;
 }

@@ -1,14 +1,12 @@
 -- The proof of the laws that stand on `effect_of_commit`.
 use Rattle.argus_model.specs.Effects.{written_objects}
-use Rattle.argus_model.proofs.Commits.{effect_added, no_effect, written_are_held}
+use Rattle.argus_model.proofs.Commits.{written_are_held}
 use Rattle.argus_model.proofs.Effects.{written-IsRising}
 use Rattle.argus_model.proofs.Numbers.{increasing}
 use Rattle.argus_model.proofs.tables.effect_of_commit.Goals as goal
 
 pub returns : goal.returns
 returns g c = record {
-  topaction = effect_added;
   written = written_are_held;
   in_order = λ meaning done. increasing (written_objects meaning done) (written-IsRising meaning done);
-  subaction = no_effect;
 }

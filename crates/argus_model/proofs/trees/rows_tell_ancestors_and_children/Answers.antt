@@ -1,4 +1,5 @@
 -- The proof of the laws that stand on `rows_tell_ancestors_and_children`.
+use Rattle.argus_model.proofs.Depth.{depth_is}
 use Rattle.argus_model.proofs.Lawful.{lawful_orderly}
 use Rattle.argus_model.proofs.Rows.{has_live_row_is, is_above_exactly}
 use Rattle.argus_model.proofs.trees.rows_tell_ancestors_and_children.Goals as goal
@@ -6,5 +7,6 @@ use Rattle.argus_model.proofs.trees.rows_tell_ancestors_and_children.Goals as go
 pub returns : goal.returns
 returns g c = record {
   ancestor = λ meaning opening h x a l. is_above_exactly h (lawful_orderly meaning opening h l) x a;
+  depth = λ meaning opening h a l. depth_is h (lawful_orderly meaning opening h l) a;
   child = λ meaning opening h a l. has_live_row_is h (lawful_orderly meaning opening h l) a;
 }

@@ -6,7 +6,9 @@ use Rattle.argus_model.proofs.what_counts.nothing_comes_back.Goals as goal
 
 pub returns : goal.returns
 returns g c = record {
-  undone = λ meaning opening h e a l. gone_stays h e (lawful_orderly meaning opening h l.1) (lawful_orderly meaning opening (e ▹ h) l) a;
-  for_good = λ meaning opening h e a l. good_stays h e (lawful_orderly meaning opening h l.1) (lawful_orderly meaning opening (e ▹ h) l) a;
+  undone = λ meaning opening h e a l.
+      gone_stays h e (lawful_orderly meaning opening h l.1) (lawful_orderly meaning opening (e ▹ h) l) a;
+  for_good = λ meaning opening h e a l.
+      good_stays h e (lawful_orderly meaning opening h l.1) (lawful_orderly meaning opening (e ▹ h) l) a;
   over = λ meaning opening h e a l. over_stays h e (lawful_orderly meaning opening (e ▹ h) l) a;
 }

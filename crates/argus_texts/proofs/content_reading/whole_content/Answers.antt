@@ -11,7 +11,12 @@ use Rattle.argus_texts.proofs.content_reading.whole_content.Goals as goal
 pub returns-in_err-content-clause-stops : goal.returns-in_err-content-clause-stops
 returns-in_err-content-clause-stops c =
     let p = err_from_is_err_and c.from_residual.result c.from_residual.ensures.1 in
-    rw (p.1, p.2) (passed c.in_err-content.field-0.0 _ _ (λ left s. stopped (Contents 16) IsContentText (contents_clear 16) content_texts c.args.text.now left s) c.in_err-content.ensures.stops)
+    rw (p.1, p.2)
+    (passed c.in_err-content.field-0.0 _ _
+    (λ left s. stopped (Contents 16) IsContentText (contents_clear 16) content_texts c.args.text.now left s)
+    c.in_err-content.ensures.stops)
 
 pub returns-then-rest-gt0-clause-stops : goal.returns-then-rest-gt0-clause-stops
-returns-then-rest-gt0-clause-stops c = left_behind (Contents 16) IsContentText (contents_clear 16) content_texts (plain_content c.in_ok-content.content) c.args.text.now c.in_ok-content.rest.now c.in_ok-content.ensures.read c.if-rest-gt0.true
+returns-then-rest-gt0-clause-stops c =
+    left_behind (Contents 16) IsContentText (contents_clear 16) content_texts (plain_content c.in_ok-content.content)
+    c.args.text.now c.in_ok-content.rest.now c.in_ok-content.ensures.read c.if-rest-gt0.true

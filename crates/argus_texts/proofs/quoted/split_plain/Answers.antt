@@ -9,5 +9,7 @@ loop-at-preserved c =
     let t = c.args.text.now in
     let e = c.as_bytes-bytes.ensures.value in
     let h : c.loop-at.at < length t = subst (λ x. c.loop-at.at < length x) e c.loop-at-test.true in
-    let p : escape (get_or t c.loop-at.at 0) ≡ get_or t c.loop-at.at 0 ∷ [] = subst (λ x. escape (get_or x c.loop-at.at 0) ≡ get_or x c.loop-at.at 0 ∷ []) e (c.is_special.ensures.no c.if-is_special.false) in
+    let p : escape (get_or t c.loop-at.at 0) ≡ get_or t c.loop-at.at 0 ∷ [] =
+    subst (λ x. escape (get_or x c.loop-at.at 0) ≡ get_or x c.loop-at.at 0 ∷ []) e
+    (c.is_special.ensures.no c.if-is_special.false) in
     record { within = omega arith; plain = plain_step t c.loop-at.at h c.loop-at.invariant.plain p }

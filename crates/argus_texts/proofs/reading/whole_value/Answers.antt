@@ -12,7 +12,12 @@ use Rattle.argus_texts.proofs.reading.whole_value.Goals as goal
 pub returns-in_err-value-clause-stops : goal.returns-in_err-value-clause-stops
 returns-in_err-value-clause-stops c =
     let p = err_from_is_err_and c.from_residual.result c.from_residual.ensures.1 in
-    rw (p.1, p.2) (passed c.in_err-value.field-0.0 _ _ (λ left s. stopped (Values 16) IsValueText (values_clear 16) value_texts c.args.text.now left s) c.in_err-value.ensures.stops)
+    rw (p.1, p.2)
+    (passed c.in_err-value.field-0.0 _ _
+    (λ left s. stopped (Values 16) IsValueText (values_clear 16) value_texts c.args.text.now left s)
+    c.in_err-value.ensures.stops)
 
 pub returns-then-rest-gt0-clause-stops : goal.returns-then-rest-gt0-clause-stops
-returns-then-rest-gt0-clause-stops c = left_behind (Values 16) IsValueText (values_clear 16) value_texts (plain_value c.in_ok-value.value) c.args.text.now c.in_ok-value.rest.now c.in_ok-value.ensures.read c.if-rest-gt0.true
+returns-then-rest-gt0-clause-stops c =
+    left_behind (Values 16) IsValueText (values_clear 16) value_texts (plain_value c.in_ok-value.value)
+    c.args.text.now c.in_ok-value.rest.now c.in_ok-value.ensures.read c.if-rest-gt0.true

@@ -8,11 +8,14 @@ use Rattle.argus_texts.proofs.scan.word.Goals as goal
 pub returns-in_default-clause-stops : goal.returns-in_default-clause-stops
 returns-in_default-clause-stops c =
     let h = subst (λ w. c.loop-byte.byte-index < length w) c.as_bytes-byte-items.ensures.value c.loop-byte-test.true in
-    word_stops c.args.word.now c.args.text.now c.loop-byte.rest.now c.loop-byte.byte-index h c.loop-byte.invariant.read (no_ascii_not (get_or c.args.word.now c.loop-byte.byte-index 0) c.loop-byte.rest.now (ascii_at c.args.word.now c.loop-byte.byte-index c.requires h) c.in_default.ensures.none)
+    word_stops c.args.word.now c.args.text.now c.loop-byte.rest.now c.loop-byte.byte-index h c.loop-byte.invariant.read
+    (no_ascii_not (get_or c.args.word.now c.loop-byte.byte-index 0) c.loop-byte.rest.now
+    (ascii_at c.args.word.now c.loop-byte.byte-index c.requires h) c.in_default.ensures.none)
 
 pub returns-then-first-byte-clause-stops : goal.returns-then-first-byte-clause-stops
 returns-then-first-byte-clause-stops c =
     let w = c.as_bytes-byte-items.ensures.value in
     let h = subst (λ w. c.loop-byte.byte-index < length w) w c.loop-byte-test.true in
     word_stops c.args.word.now c.args.text.now c.loop-byte.rest.now c.loop-byte.byte-index h c.loop-byte.invariant.read
-    (subst (λ b. IsNot b c.loop-byte.rest.now) (ap (λ v. get_or v c.loop-byte.byte-index 0) w) (subst (IsNot _) (sym c.in-Some.ensures.some.0) c.if-first-byte.true))
+    (subst (λ b. IsNot b c.loop-byte.rest.now) (ap (λ v. get_or v c.loop-byte.byte-index 0) w)
+    (subst (IsNot _) (sym c.in-Some.ensures.some.0) c.if-first-byte.true))

@@ -27,6 +27,7 @@ decreases-names l = 5 * l.levels + 4
 abbrev pub invariant-names-loop : goal.invariant-names-loop
 invariant-names-loop l = record {
   read : Going l.fn.text l.rest (map plain_field l.names.items);
-  left : Starts (Lists (IsList MAX_NAMES l.levels)) l.fn.text → Starts (Lists (IsList (MAX_NAMES - l.counter) l.levels)) l.rest;
+  left : Starts (Lists (IsList MAX_NAMES l.levels)) l.fn.text
+      → Starts (Lists (IsList (MAX_NAMES - l.counter) l.levels)) l.rest;
   utf8 : IsUtf8 l.rest;
 }

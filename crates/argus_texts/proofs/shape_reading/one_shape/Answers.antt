@@ -10,35 +10,48 @@ use Rattle.argus_texts.proofs.shape_reading.one_shape.Goals as goal
 pub returns-in_err-fields-clause-refused : goal.returns-in_err-fields-clause-refused
 returns-in_err-fields-clause-refused c =
     let p = err_from_is_err_and c.from_residual.result c.from_residual.ensures.1 in
-    rw (p.1, p.2) (refused c.in_err-fields.field-0.0 _ _ (no_record c.args.text.now c.in-Some.others.now c.in-Some.ensures.some) c.in_err-fields.ensures.refused)
+    rw (p.1, p.2)
+    (refused c.in_err-fields.field-0.0 _ _ (no_record c.args.text.now c.in-Some.others.now c.in-Some.ensures.some)
+    c.in_err-fields.ensures.refused)
 
 pub returns-in_err-item-clause-refused : goal.returns-in_err-item-clause-refused
 returns-in_err-item-clause-refused c =
     let p = err_from_is_err_and c.from_residual-in_err-item.result c.from_residual-in_err-item.ensures.1 in
-    rw (p.1, p.2) (refused c.in_err-item.field-0.0 _ _ (no_array c.args.text.now c.in-Some-strip_word.others.now c.in-Some-strip_word.ensures.some) c.in_err-item.ensures.refused)
+    rw (p.1, p.2)
+    (refused c.in_err-item.field-0.0 _ _
+    (no_array c.args.text.now c.in-Some-strip_word.others.now c.in-Some-strip_word.ensures.some)
+    c.in_err-item.ensures.refused)
 
 pub returns-in_err-tags-clause-refused : goal.returns-in_err-tags-clause-refused
 returns-in_err-tags-clause-refused c =
     let p = err_from_is_err_and c.from_residual-in_err-tags.result c.from_residual-in_err-tags.ensures.1 in
-    rw (p.1, p.2) (refused c.in_err-tags.field-0.0 _ _ (no_variant c.args.text.now c.in-Some-strip_word-2.others.now c.in-Some-strip_word-2.ensures.some) c.in_err-tags.ensures.refused)
+    rw (p.1, p.2)
+    (refused c.in_err-tags.field-0.0 _ _
+    (no_variant c.args.text.now c.in-Some-strip_word-2.others.now c.in-Some-strip_word-2.ensures.some)
+    c.in_err-tags.ensures.refused)
 
 pub returns-in_default-rec-clause-refused : goal.returns-in_default-rec-clause-refused
 returns-in_default-rec-clause-refused c =
     let r = c.in_ok-fields.ensures.read in
-    at_fault c.args.text.now c.in_ok-fields.rest.now (rec (plain_fields c.in_ok-fields.fields.items)) r.good (c.in-Some.ensures.some ∙ ap (λ x. codes "atomic_record[" ++ x) r.is)
+    at_fault c.args.text.now c.in_ok-fields.rest.now (rec (plain_fields c.in_ok-fields.fields.items)) r.good
+    (c.in-Some.ensures.some ∙ ap (λ x. codes "atomic_record[" ++ x) r.is)
     (λ n. let x = c.in_default-rec.ensures.fault ∙ n in cc)
 
 pub returns-in_default-arr-clause-refused : goal.returns-in_default-arr-clause-refused
 returns-in_default-arr-clause-refused c =
     let r = c.in_ok-item.ensures.read in
-    at_fault c.args.text.now c.in_ok-item.rest.now (arr (plain_ty c.in_ok-item.item)) r.good (c.in-Some-strip_word.ensures.some ∙ ap (λ x. codes "atomic_array[" ++ x) r.is)
+    at_fault c.args.text.now c.in_ok-item.rest.now (arr (plain_ty c.in_ok-item.item)) r.good
+    (c.in-Some-strip_word.ensures.some ∙ ap (λ x. codes "atomic_array[" ++ x) r.is)
     (λ n. let x = c.in_default-arr.ensures.fault ∙ n in cc)
 
 pub returns-in_default-var-clause-refused : goal.returns-in_default-var-clause-refused
 returns-in_default-var-clause-refused c =
     let r = c.in_ok-tags.ensures.read in
-    at_fault c.args.text.now c.in_ok-tags.rest.now (var (plain_fields c.in_ok-tags.tags.items)) r.good (c.in-Some-strip_word-2.ensures.some ∙ ap (λ x. codes "atomic_variant[" ++ x) r.is)
+    at_fault c.args.text.now c.in_ok-tags.rest.now (var (plain_fields c.in_ok-tags.tags.items)) r.good
+    (c.in-Some-strip_word-2.ensures.some ∙ ap (λ x. codes "atomic_variant[" ++ x) r.is)
     (λ n. let x = c.in_default-var.ensures.fault ∙ n in cc)
 
 pub returns-clause-refused : goal.returns-clause-refused
-returns-clause-refused c = no_word c.args.text.now c.in_default.ensures.none c.in_default-strip_word.ensures.none c.in_default-strip_word-2.ensures.none
+returns-clause-refused c =
+    no_word c.args.text.now c.in_default.ensures.none c.in_default-strip_word.ensures.none
+    c.in_default-strip_word-2.ensures.none

@@ -10,4 +10,6 @@ returns-in_err-shape-clause-refused c =
     rw (p.1, p.2) (refused c.in_err-shape.field-0.0 _ _ (no_shape_text c.args.text.now) c.in_err-shape.ensures.refused)
 
 pub returns-then-rest-gt0-clause-refused : goal.returns-then-rest-gt0-clause-refused
-returns-then-rest-gt0-clause-refused c = more_than_shape c.args.text.now c.in_ok-shape.rest.now c.in_ok-shape.shape c.in_ok-shape.ensures.read c.if-rest-gt0.true
+returns-then-rest-gt0-clause-refused c =
+    more_than_shape c.args.text.now c.in_ok-shape.rest.now c.in_ok-shape.shape c.in_ok-shape.ensures.read
+    c.if-rest-gt0.true

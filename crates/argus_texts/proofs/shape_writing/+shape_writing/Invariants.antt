@@ -8,5 +8,6 @@ use Rattle.argus_texts.proofs.shape_writing.+shape_writing.Given as goal
 abbrev pub invariant-append_names-loop-name : goal.invariant-append_names-loop-name
 invariant-append_names-loop-name l = record {
   grew : Grew (string_bytes l.fn.out) (string_bytes l.out);
-  completes : string_bytes l.out ++ names_behind (plain_fields (drop l.name-index l.others)) ≡ string_bytes l.fn.out ++ names_inside (plain_fields l.fn.names);
+  completes : string_bytes l.out ++ names_behind (plain_fields (drop l.name-index l.others))
+      ≡ string_bytes l.fn.out ++ names_inside (plain_fields l.fn.names);
 }

@@ -8,5 +8,6 @@ use Rattle.argus_texts.proofs.writing.+writing.Given as goal
 abbrev pub invariant-append_inside-loop-value : goal.invariant-append_inside-loop-value
 invariant-append_inside-loop-value l = record {
   grew : Grew (string_bytes l.fn.out) (string_bytes l.out);
-  completes : string_bytes l.out ++ behind l.close (listed (plain_list (drop l.value-index l.others))) ≡ string_bytes l.fn.out ++ inside l.close (listed (plain_list l.fn.values));
+  completes : string_bytes l.out ++ behind l.close (listed (plain_list (drop l.value-index l.others)))
+      ≡ string_bytes l.fn.out ++ inside l.close (listed (plain_list l.fn.values));
 }

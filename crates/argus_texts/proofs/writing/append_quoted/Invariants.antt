@@ -8,7 +8,8 @@ use Rattle.argus_texts.proofs.writing.append_quoted.Given as goal
 abbrev pub invariant-loop-first : goal.invariant-loop-first
 invariant-loop-first l = record {
   grew : Grew (string_bytes l.fn.out) (string_bytes l.out);
-  completes : string_bytes l.out ++ (escaped l.rest ++ 34 ∷ []) ≡ string_bytes l.fn.out ++ 34 ∷ (escaped l.text ++ 34 ∷ []);
+  completes : string_bytes l.out ++ (escaped l.rest ++ 34 ∷ [])
+      ≡ string_bytes l.fn.out ++ 34 ∷ (escaped l.text ++ 34 ∷ []);
   utf8 : IsUtf8 l.rest;
 }
 

@@ -1,0 +1,16 @@
+-- In the midst of the walk the live siblings so far are Aborted, with all below them.
+use Rattle.std.proofs.Common.{◌≡◌, length}
+use Rattle.argus_actions.specs.Nodes.{AreNodes}
+use Rattle.argus_actions.proofs.Walks.{steps_left}
+use Rattle.argus_actions.proofs.Siblings.{IsSwept}
+use Rattle.argus_actions.proofs.walk.abort_siblings.Given as goal
+
+abbrev pub invariant-loop-child : goal.invariant-loop-child
+invariant-loop-child l = record {
+  nodes : AreNodes l.first l.nodes;
+  long : length l.nodes ≡ length l.fn.nodes;
+  swept : IsSwept l.first l.fn.nodes l.nodes l.a l.under l.child;
+}
+
+abbrev pub decreases-loop-child : goal.decreases-loop-child
+decreases-loop-child l = steps_left l.child

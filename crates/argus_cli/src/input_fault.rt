@@ -1,8 +1,0 @@
-//! `InputFault`: why an input was not read.
-
-/// Why an input was not read.
-#[derive(Clone, Copy)]
-pub(crate) enum InputFault {
-    Memory,
-    Read,
-}

@@ -1,0 +1,7 @@
+-- The test tells where two tys say the same.
+use Rattle.argus_contents.specs.Decided.{ty_decided}
+use Rattle.argus_contents.specs.Ty.{plain_ty}
+use Rattle.argus_contents.proofs.ty.TyPartialEq.eq.Goals as goal
+
+pub returns : goal.returns
+returns c = rw c.is_same.ensures (ty_decided (plain_ty c.args.self.now) (plain_ty c.args.other.now))

@@ -1,0 +1,141 @@
+//! `change_answer`: what a change answers, without making it.
+
+ghost use Rattle.std.specs.Prelude.{◌≡◌, if◌then◌else◌, length, IfOk};
+ghost use Rattle.argus_contents.specs.Answer.{done, plain_answer, signal};
+ghost use Rattle.argus_contents.specs.Change.{absent_result, array_result, plain_change, record_result, reml, result as outcome_of, store, trimmed, variant_result};
+ghost use Rattle.argus_contents.specs.Content.{KeepsBounds, KeepsLimits, plain_option};
+ghost use Rattle.argus_contents.specs.Value.{plain_value, plain_list};
+
+use crate::answer::Answer;
+use crate::array::{is_full_high, is_full_low, is_out_of_limits};
+use crate::asking::{place_in, value_or_signal};
+use crate::change::Change;
+use crate::content::Content;
+use crate::limits::MAX_BOUND;
+use crate::signal::Signal;
+use crate::value::Value;
+use argus_memory::{Heap, OutOfMemory};
+use std::collections::VecDeque;
+
+/// What [`alter`](crate::alter) answers, without the content that it leaves; [`Change`] has the
+/// table. So an answer can be had before the change is made.
+///
+/// A present array has to keep the limits, as `fits` tests. Nothing is changed. The answer owns what
+/// it holds: it's a copy, which only `Remh` and `Reml` make.
+/// `OutOfMemory`: there was no memory for it.
+pub fn change_answer(
+    heap: Heap,
+    content: &Option<Content>,
+    change: &Change,
+) -> Result<Answer, OutOfMemory>
+    requires { KeepsLimits (plain_option content.now) }
+    ensures { IfOk result (λ answer. plain_answer answer ≡ (outcome_of (plain_change change.now) (plain_option content.now)).1) }
+{
+    match content {
+        None => Ok(absent_answer(change)),
+        Some(Content::Rec(fields)) => Ok(record_answer(fields, change)),
+        Some(Content::Arr { low, items }) => array_answer(heap, *low, items, change),
+        Some(Content::Var { tag, value }) => Ok(variant_answer(*tag, value, change)),
+    }
+}
+
+fn absent_answer(change: &Change) -> Answer
+    ensures { plain_answer result ≡ (absent_result (plain_change change.now)).1 }
+{
+    match change {
+        Change::Create(_) | Change::Touch => Answer::Done,
+        _ => Answer::Signal(Signal::Absent),
+    }
+}
+
+fn record_answer(fields: &[Value], change: &Change) -> Answer
+    ensures { plain_answer result ≡ (record_result (plain_change change.now) (plain_list fields.now)).1 }
+{
+    match change {
+        Change::Create(_) => Answer::Signal(Signal::Exists),
+        Change::Touch => Answer::Done,
+        Change::SetField(field, _) => done_unless(*field as usize >= fields.len(), Signal::Absent),
+        _ => Answer::Signal(Signal::Absent),
+    }
+}
+
+// The variant's own tag and value decide nothing.
+fn variant_answer(tag: u8, value: &Value, change: &Change) -> Answer
+    ensures { plain_answer result ≡ (variant_result (plain_change change.now) tag (plain_value value.now)).1 }
+{
+    match change {
+        Change::Create(_) => Answer::Signal(Signal::Exists),
+        Change::Touch | Change::ChangeTag(_, _) => Answer::Done,
+        _ => Answer::Signal(Signal::Absent),
+    }
+}
+
+fn array_answer(
+    heap: Heap,
+    low: i64,
+    items: &VecDeque<Value, Heap>,
+    change: &Change,
+) -> Result<Answer, OutOfMemory>
+    requires { KeepsBounds low (length items.now.items) }
+    ensures { IfOk result (λ answer. plain_answer answer ≡ (array_result (plain_change change.now) low (plain_list items.now.items)).1) }
+{
+    let size = items.len();
+    match change {
+        Change::Create(_) => Ok(Answer::Signal(Signal::Exists)),
+        Change::Touch => Ok(Answer::Done),
+        Change::Store(index, value) => Ok(store_answer(low, items, *index, value)),
+        Change::Addh(_) => Ok(done_unless(is_full_high(low, size), Signal::Limits)),
+        Change::Addl(_) => Ok(done_unless(is_full_low(low, size), Signal::Limits)),
+        Change::Remh => value_or_signal(heap, items.back(), Signal::Bounds),
+        Change::Reml => first_answer(heap, low, items),
+        Change::SetLow(bound) => Ok(done_unless(is_out_of_limits(*bound, size), Signal::Limits)),
+        Change::Trim(from, count) => Ok(trim_answer(low, items, *from, *count)),
+        _ => Ok(Answer::Signal(Signal::Absent)),
+    }
+}
+
+fn done_unless(is_refused: bool, why: Signal) -> Answer
+    ensures { plain_answer result ≡ (if is_refused then signal why else done) }
+{
+    if is_refused {
+        Answer::Signal(why)
+    } else {
+        Answer::Done
+    }
+}
+
+fn store_answer(low: i64, items: &VecDeque<Value, Heap>, index: i64, value: &Value) -> Answer
+    requires { KeepsBounds low (length items.now.items) }
+    ensures { plain_answer result ≡ (array_result (store index (plain_value value.now)) low (plain_list items.now.items)).1 }
+{
+    match place_in(low, items.len(), index) {
+        None => Answer::Signal(Signal::Bounds),
+        Some(_) => Answer::Done,
+    }
+}
+
+fn first_answer(heap: Heap, low: i64, items: &VecDeque<Value, Heap>) -> Result<Answer, OutOfMemory>
+    requires { KeepsBounds low (length items.now.items) }
+    ensures { IfOk result (λ answer. plain_answer answer ≡ (array_result reml low (plain_list items.now.items)).1) }
+{
+    if !items.is_empty() && low == MAX_BOUND {
+        return Ok(Answer::Signal(Signal::Limits));
+    }
+    value_or_signal(heap, items.front(), Signal::Bounds)
+}
+
+fn trim_answer(low: i64, items: &VecDeque<Value, Heap>, from: i64, count: i64) -> Answer
+    requires { KeepsBounds low (length items.now.items) }
+    ensures { plain_answer result ≡ (trimmed from count low (plain_list items.now.items)).1 }
+{
+    if count < 0 {
+        return Answer::Signal(Signal::NegativeSize);
+    }
+    if from < low || from > low + items.len() as i64 {
+        return Answer::Signal(Signal::Bounds);
+    }
+    if from > MAX_BOUND {
+        return Answer::Signal(Signal::Limits);
+    }
+    Answer::Done
+}

@@ -1,0 +1,74 @@
+-- The law of lines, and the entries that it speaks of: those such as a program can hold.
+use Rattle.std.specs.Prelude.{ℕ, ◌<◌, ◌^◌, ◌≡◌}
+use Rattle.argus_contents.specs.Answer.{PlainAnswer}
+use Rattle.argus_contents.specs.Answer as answer
+use Rattle.argus_contents.specs.Change.{PlainChange}
+use Rattle.argus_contents.specs.Change as change
+use Rattle.argus_contents.specs.declared.query.Query.{Query}
+use Rattle.argus_contents.specs.declared.query.Query.TheVariants as query
+use Rattle.argus_texts.specs.ContentSpelling.{PartsWithin}
+use Rattle.argus_texts.specs.ShapeSpelling.{HasNames}
+use Rattle.argus_texts.specs.Spelling.{IsI64, Within}
+use Rattle.argus_entries.specs.Call.{PlainCall}
+use Rattle.argus_entries.specs.Call as call
+use Rattle.argus_entries.specs.Entry.{PlainEntry}
+use Rattle.argus_entries.specs.EntrySpelling.{entry_spelling}
+use Rattle.argus_entries.specs.Reply.{PlainReply}
+use Rattle.argus_entries.specs.Reply as reply
+
+-- a query whose numbers are in range
+abbrev pub QueryWithin : Query → Type 0
+QueryWithin (query.Field i) = i < 2 ^ 8
+QueryWithin (query.Fetch i) = IsI64 i
+QueryWithin (query.IsTag t) = t < 2 ^ 8
+QueryWithin (query.TagValue t) = t < 2 ^ 8
+QueryWithin _ = Unit {0}
+
+-- a change whose numbers are in range, with values of depth at most k
+abbrev pub ChangeWithin : ℕ → PlainChange → Type 0
+ChangeWithin k (change.create c) = PartsWithin k c
+ChangeWithin k (change.set_field i v) = (i < 2 ^ 8) × Within k v
+ChangeWithin k (change.store i v) = IsI64 i × Within k v
+ChangeWithin k (change.addh v) = Within k v
+ChangeWithin k (change.addl v) = Within k v
+ChangeWithin k (change.set_low i) = IsI64 i
+ChangeWithin k (change.trim i n) = IsI64 i × IsI64 n
+ChangeWithin k (change.change_tag t v) = (t < 2 ^ 8) × Within k v
+ChangeWithin k _ = Unit {0}
+
+-- a call whose numbers are in range, with values of depth at most k; in a shape each name has a name's form
+abbrev pub CallWithin : ℕ → PlainCall → Type 0
+CallWithin k (call.declare s) = HasNames s
+CallWithin k call.begin_top = Unit {0}
+CallWithin k (call.begin_sub a) = a < 2 ^ 32
+CallWithin k (call.begin_nested a) = a < 2 ^ 32
+CallWithin k (call.commit a) = a < 2 ^ 32
+CallWithin k (call.abort a) = a < 2 ^ 32
+CallWithin k (call.abort_others a) = a < 2 ^ 32
+CallWithin k (call.ask a o q) = (a < 2 ^ 32) × (o < 2 ^ 32) × QueryWithin q
+CallWithin k (call.alter a o c) = (a < 2 ^ 32) × (o < 2 ^ 32) × ChangeWithin k c
+CallWithin k (call.test_read a o) = (a < 2 ^ 32) × (o < 2 ^ 32)
+CallWithin k (call.test_write a o) = (a < 2 ^ 32) × (o < 2 ^ 32)
+
+-- an answer whose number is in range, with values of depth at most k
+abbrev pub AnswerWithin : ℕ → PlainAnswer → Type 0
+AnswerWithin k (answer.val v) = Within k v
+AnswerWithin k (answer.num n) = IsI64 n
+AnswerWithin k (answer.body c) = PartsWithin k c
+AnswerWithin k _ = Unit {0}
+
+-- a reply whose number is in range, with values of depth at most k
+abbrev pub ReplyWithin : ℕ → PlainReply → Type 0
+ReplyWithin k (reply.object o) = o < 2 ^ 32
+ReplyWithin k (reply.begun a) = a < 2 ^ 32
+ReplyWithin k (reply.answered a) = AnswerWithin k a
+ReplyWithin k (reply.refused r) = Unit {0}
+
+-- an entry whose numbers are in range, with values of depth at most k
+abbrev pub EntryWithin : ℕ → PlainEntry → Type 0
+EntryWithin k e = CallWithin k e.call × ReplyWithin k e.reply
+
+-- numbered entries, with values of whatever depth, with one line are the same, and have the same number
+abbrev pub EachEntryIsTold : Type 0
+EachEntryIsTold = (k m n : ℕ) (d e : PlainEntry) → m < 2 ^ 64 → n < 2 ^ 64 → EntryWithin k d → EntryWithin k e
+    → entry_spelling m d ≡ entry_spelling n e → (m ≡ n) × (d ≡ e)

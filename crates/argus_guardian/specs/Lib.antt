@@ -1,0 +1,5 @@
+pub mod Accessing
+pub mod Keeping
+pub mod Moving
+pub mod Step
+pub mod Sweeping

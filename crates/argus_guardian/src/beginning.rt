@@ -1,0 +1,84 @@
+//! How actions begin.
+
+ghost use Rattle.std.specs.Prelude.{◌≡◌, IfOk, OnErr, OnOk};
+ghost use Rattle.argus_entries.specs.Call.{begin_nested, begin_sub, begin_top};
+ghost use Rattle.argus_entries.specs.Reply.{plain_reply};
+ghost use Rattle.argus_guardian.specs.Step.{after, reply_to};
+
+use crate::guardian::Guardian;
+use crate::refusing::refusal_of;
+use argus_actions::ActionId;
+use argus_entries::{Call, Entry, Reply};
+use argus_memory::OutOfMemory;
+
+impl Guardian {
+    /// Begins a topaction, and answers its number.
+    ///
+    /// Refusal: `TooMany`. After `OutOfMemory` all is as before.
+    pub fn begin_top(&mut self) -> Result<Reply, OutOfMemory>
+        ensures reply { IfOk result (λ reply. plain_reply reply ≡ reply_to self.old begin_top) }
+        ensures ok { OnOk result (self.new ≡ after self.old begin_top) }
+        ensures err { OnErr result (self.new ≡ self.old) }
+    {
+        match self.tree.begin_top_refusal() {
+            Some(refusal) => return self.refuse(Call::BeginTop, refusal_of(refusal)),
+            None => {}
+        }
+        self.journal.reserve()?;
+        self.tree.reserve()?;
+        let a = self.tree.begin_top_reserved();
+        self.journal.push(Entry {
+            call: Call::BeginTop,
+            reply: Reply::Begun(a),
+        });
+        Ok(Reply::Begun(a))
+    }
+
+    /// Begins a subaction of this parent, and answers its number.
+    ///
+    /// Refusals: `NoAction`, `Over`, `TooDeep` where the parent has 64 ancestors, `TooMany`. After
+    /// `OutOfMemory` all is as before.
+    pub fn begin_sub(&mut self, parent: ActionId) -> Result<Reply, OutOfMemory>
+        ensures reply { IfOk result (λ reply. plain_reply reply
+            ≡ reply_to self.old (begin_sub parent.0)) }
+        ensures ok { OnOk result (self.new ≡ after self.old (begin_sub parent.0)) }
+        ensures err { OnErr result (self.new ≡ self.old) }
+    {
+        match self.tree.begin_sub_refusal(parent) {
+            Some(refusal) => return self.refuse(Call::BeginSub(parent), refusal_of(refusal)),
+            None => {}
+        }
+        self.journal.reserve()?;
+        self.tree.reserve()?;
+        let a = self.tree.begin_sub_reserved(parent);
+        self.journal.push(Entry {
+            call: Call::BeginSub(parent),
+            reply: Reply::Begun(a),
+        });
+        Ok(Reply::Begun(a))
+    }
+
+    /// Begins a nested topaction that this action creates, and answers its number. It has no
+    /// privilege from its creator.
+    ///
+    /// Refusals: `NoAction`, `Over`, `TooMany`. After `OutOfMemory` all is as before.
+    pub fn begin_nested(&mut self, creator: ActionId) -> Result<Reply, OutOfMemory>
+        ensures reply { IfOk result (λ reply. plain_reply reply
+            ≡ reply_to self.old (begin_nested creator.0)) }
+        ensures ok { OnOk result (self.new ≡ after self.old (begin_nested creator.0)) }
+        ensures err { OnErr result (self.new ≡ self.old) }
+    {
+        match self.tree.begin_nested_refusal(creator) {
+            Some(refusal) => return self.refuse(Call::BeginNested(creator), refusal_of(refusal)),
+            None => {}
+        }
+        self.journal.reserve()?;
+        self.tree.reserve()?;
+        let a = self.tree.begin_nested_reserved(creator);
+        self.journal.push(Entry {
+            call: Call::BeginNested(creator),
+            reply: Reply::Begun(a),
+        });
+        Ok(Reply::Begun(a))
+    }
+}

@@ -1,0 +1,93 @@
+//! `Guardian`: the objects of one guardian, the actions on them, and the journal of its calls.
+
+ghost use Rattle.std.specs.Prelude.{◌≡◌, [], IfOk, OnErr, OnOk};
+ghost use Rattle.argus_entries.specs.Call.{plain_call};
+ghost use Rattle.argus_entries.specs.Reply.{plain_reply, refused};
+ghost use Rattle.argus_guardian.specs.Step.{after, reply_to};
+ghost use Rattle.argus_journal.specs.LegalJournal.{entries_in, opening_in};
+ghost use Rattle.argus_journal.specs.Opening.{empty};
+
+use crate::atomic_object::AtomicObject;
+use argus_actions::ActionTree;
+use argus_entries::{Call, Entry, Refusal, Reply};
+use argus_journal::LegalJournal;
+use argus_memory::{Heap, OutOfMemory};
+use argus_objects::Holdings;
+use std::marker::Model;
+
+/// A guardian: atomic objects, the actions that use them, and the journal of all calls.
+///
+/// Contracts see it as its journal: the opening, and the entries, the newest first. Each call is
+/// answered as the journal before it says, and adds one entry; or it answers `OutOfMemory`, and all
+/// is as before.
+///
+/// Source: guardians, atomic objects and actions of the Argus Reference Manual (MIT/LCS/TR-400,
+/// 1987); nested actions and their locks of Moss, Nested Transactions (MIT/LCS/TR-260, 1981).
+///
+/// ```text
+/// let mut guardian = Guardian::new(heap);
+/// assert_eq!(rt; guardian.begin_top()?, Reply::Begun(ActionId(0)));
+/// assert_eq!(rt; guardian.commit(ActionId(0))?, Reply::Answered(Answer::Done));
+/// ```
+#[derive(Drop)]
+pub struct Guardian {
+    pub(crate) heap: Heap,
+    pub(crate) tree: ActionTree,
+    pub(crate) objects: Vec<AtomicObject, Heap>,
+    pub(crate) holdings: Holdings,
+    pub(crate) journal: LegalJournal,
+}
+
+impl Model for Guardian {
+    ghost use Rattle.argus_guardian.specs.Keeping.{IsKept};
+    ghost use Rattle.argus_guardian.specs.Step.{Said, said_coded};
+    ghost use Rattle.argus_journal.specs.LegalJournal.{entries_in, opening_in};
+
+    ghost Value = { Said };
+
+    ghost coded = { said_coded };
+
+    ghost view = { λ g. record { opening = opening_in g.journal; entries = entries_in g.journal } };
+
+    ghost invariant = { λ g. IsKept g.tree g.objects.items g.holdings (opening_in g.journal) (entries_in g.journal) };
+}
+
+impl Guardian {
+    /// A guardian with no object, no action and no entry. It takes no memory.
+    pub fn new(heap: Heap) -> Guardian
+        ensures opening { result.opening ≡ empty }
+        ensures entries { result.entries ≡ [] }
+    {
+        Guardian {
+            heap,
+            tree: ActionTree::new(heap),
+            objects: Vec::new(heap),
+            holdings: Holdings::new(heap),
+            journal: LegalJournal::new(heap),
+        }
+    }
+
+    /// The journal, to be read: all calls since the opening, in order, each with its reply.
+    pub fn journal(&self) -> &LegalJournal
+        ensures opening { opening_in result.now ≡ self.now.opening }
+        ensures entries { entries_in result.now ≡ self.now.entries }
+    {
+        &self.journal
+    }
+
+    // Records a refusal.
+    pub(crate) fn refuse(&mut self, call: Call, why: Refusal) -> Result<Reply, OutOfMemory>
+        requires { reply_to self.old (plain_call call) ≡ refused why }
+        ensures reply { IfOk result (λ reply. plain_reply reply
+            ≡ reply_to self.old (plain_call call)) }
+        ensures ok { OnOk result (self.new ≡ after self.old (plain_call call)) }
+        ensures err { OnErr result (self.new ≡ self.old) }
+    {
+        self.journal.reserve()?;
+        self.journal.push(Entry {
+            call,
+            reply: Reply::Refused(why),
+        });
+        Ok(Reply::Refused(why))
+    }
+}

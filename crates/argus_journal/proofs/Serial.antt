@@ -1,0 +1,101 @@
+-- The serial runs and the effects of a legal journal.
+use Rattle.std.proofs.Common.{Bool, List, None, Option, Some, [], append-nil, false, refl, subst, sym, true, ℕ, ⊎_elim, ◌++◌, ◌+◌, ◌∷◌, ◌≡◌}
+use Rattle.argus_contents.specs.Content.{PlainContent}
+use Rattle.argus_entries.specs.Call.{PlainCall, abort, abort_others, alter, ask, begin_nested, begin_sub, begin_top, commit, declare, test_read, test_write}
+use Rattle.argus_entries.specs.Entry.{PlainEntry}
+use Rattle.argus_entries.specs.Reply.{PlainReply, answered}
+use Rattle.argus_model.specs.Effects.{effects}
+use Rattle.argus_model.specs.Event.{Accessed, Event}
+use Rattle.argus_model.specs.History.{History, ◌▹◌}
+use Rattle.argus_model.specs.Lawful.{Lawful}
+use Rattle.argus_model.specs.Work.{Access, IsOnRecord}
+use Rattle.argus_model.proofs.Commits.{effects_step}
+use Rattle.argus_journal.specs.Effects.{added_by}
+use Rattle.argus_journal.specs.Entries.{entries, said_by}
+use Rattle.argus_journal.specs.Events.{event_if, event_of, happens, history, is_answered, is_begun_reply, says_yes, with_event}
+use Rattle.argus_journal.specs.Legal.{Legal}
+use Rattle.argus_journal.specs.Opening.{Opening, opened}
+use Rattle.argus_journal.specs.Serial.{IsAnsweredAt}
+use Rattle.argus_journal.specs.Words.{effects_of}
+use Rattle.argus_journal.proofs.Legal.{lawful}
+
+-- what one more entry adds to the effects
+
+one_more : (s : Opening) (j : List PlainEntry) (e : Option (Event PlainEntry))
+    → Lawful entries (opened s) (with_event e (history s j))
+    → effects entries (opened s) (with_event e (history s j)) ≡ effects_of s j ++ added_by s e j
+one_more s j None l = sym (append-nil (effects_of s j))
+one_more s j (Some e) l = effects_step entries (opened s) (history s j) e l
+
+pub effects_added : (s : Opening) (e : PlainEntry) (j : List PlainEntry) → Legal s (e ∷ j)
+    → effects_of s (e ∷ j) ≡ effects_of s j ++ added_by s (happens s e j) j
+effects_added s e j l = one_more s j (happens s e j) (lawful s (e ∷ j) l)
+
+-- each access on record is of the object that its call names
+
+abbrev pub IsAccessOf : PlainCall → ℕ → Type 0
+IsAccessOf (ask a o q) i = i ≡ o
+IsAccessOf (alter a o x) i = i ≡ o
+IsAccessOf (test_read a o) i = i ≡ o
+IsAccessOf (test_write a o) i = i ≡ o
+IsAccessOf (declare x) i = ⊥
+IsAccessOf begin_top i = ⊥
+IsAccessOf (begin_sub p) i = ⊥
+IsAccessOf (begin_nested p) i = ⊥
+IsAccessOf (commit a) i = ⊥
+IsAccessOf (abort a) i = ⊥
+IsAccessOf (abort_others a) i = ⊥
+
+module _ (P : PlainEntry → ℕ → Type 0) (x : Access PlainEntry) where
+  -- an event that is no access
+  passed : (b : Bool) (event : Event PlainEntry) (h : History PlainEntry) → (IsOnRecord (event ▹ h) x → IsOnRecord h x)
+      → (IsOnRecord h x → P x.what x.object) → IsOnRecord (with_event (event_if b event) h) x → P x.what x.object
+  passed true event h same f m = f (same m)
+  passed false event h same f m = f m
+
+  met : (b : Bool) (a o : ℕ) (v : PlainEntry) (h : History PlainEntry) → P v o → (IsOnRecord h x → P x.what x.object)
+      → IsOnRecord (with_event (event_if b (Accessed a o v)) h) x → P x.what x.object
+  met true a o v h here f m = ⊎_elim (λ e. subst (λ y. P y.what y.object) e here) f m
+  met false a o v h here f m = f m
+
+abbrev Named : PlainEntry → ℕ → Type 0
+Named v i = IsAccessOf v.call i
+
+named_step : (c : PlainCall) (r : PlainReply) (h : History PlainEntry) (x : Access PlainEntry)
+    → (IsOnRecord h x → Named x.what x.object)
+    → IsOnRecord (with_event (event_of h c r (record { call = c; reply = r })) h) x → Named x.what x.object
+named_step (declare y) r h x f m = f m
+named_step begin_top r h x f m = passed Named x (is_begun_reply r) _ h (λ k. k) f m
+named_step (begin_sub p) r h x f m = passed Named x (is_begun_reply r) _ h (λ k. k) f m
+named_step (begin_nested p) r h x f m = passed Named x (is_begun_reply r) _ h (λ k. k) f m
+named_step (commit a) r h x f m = passed Named x (is_answered r) _ h (λ k. k) f m
+named_step (abort a) r h x f m = passed Named x (is_answered r) _ h (λ k. k) f m
+named_step (abort_others a) r h x f m = passed Named x (is_answered r) _ h (λ k. k) f m
+named_step (ask a o q) r h x f m =
+    met Named x (is_answered r) (a + 1) o (record { call = ask a o q; reply = r }) h refl f m
+named_step (alter a o y) r h x f m =
+    met Named x (is_answered r) (a + 1) o (record { call = alter a o y; reply = r }) h refl f m
+named_step (test_read a o) r h x f m =
+    met Named x (says_yes r) (a + 1) o (record { call = test_read a o; reply = r }) h refl f m
+named_step (test_write a o) r h x f m =
+    met Named x (says_yes r) (a + 1) o (record { call = test_write a o; reply = r }) h refl f m
+
+pub access_named : (s : Opening) (j : List PlainEntry) (x : Access PlainEntry) → IsOnRecord (history s j) x
+    → IsAccessOf x.what.call x.object
+access_named s [] x m = absurd m
+access_named s (e ∷ older) x m = named_step e.call e.reply (history s older) x (access_named s older x) m
+
+-- an access of the object that its call names, answered as the content says
+pub answered_at : (c : PlainCall) (r : PlainReply) (i : ℕ) (v : Option PlainContent) → IsAccessOf c i
+    → r ≡ answered (said_by c v) → IsAnsweredAt c r i v
+answered_at (ask a o q) r i v n e = (n, e)
+answered_at (alter a o x) r i v n e = (n, e)
+answered_at (test_read a o) r i v n e = (n, e)
+answered_at (test_write a o) r i v n e = (n, e)
+answered_at (declare x) r i v n e = n
+answered_at begin_top r i v n e = n
+answered_at (begin_sub p) r i v n e = n
+answered_at (begin_nested p) r i v n e = n
+answered_at (commit a) r i v n e = n
+answered_at (abort a) r i v n e = n
+answered_at (abort_others a) r i v n e = n

@@ -1,0 +1,125 @@
+//! Parents, creators and ancestors, as the entries tell: the entries from the newest to the begin
+//! of the topmost action that is asked for are gone through.
+
+ghost use Rattle.std.specs.Prelude.{◌≡◌, None, Option, Some, ℕ};
+ghost use Rattle.argus_actions.specs.declared.action_id.ActionId.{ActionId};
+ghost use Rattle.argus_entries.specs.Call.{plain_call};
+ghost use Rattle.argus_entries.specs.Reply.{plain_reply};
+ghost use Rattle.argus_journal.specs.Journal.{newest_first, number_of};
+ghost use Rattle.argus_journal.specs.Told as told;
+
+use argus_actions::ActionId;
+use argus_entries::{Call, Entry, Reply};
+
+pub(crate) fn begins(reply: &Reply, a: ActionId) -> bool
+    ensures { result ≡ told.begins (plain_reply reply.now) a.0 }
+{
+    match reply {
+        Reply::Begun(n) => n.0 == a.0,
+        Reply::Object(_) | Reply::Answered(_) | Reply::Refused(_) => false,
+    }
+}
+
+fn parent_by(call: &Call) -> Option<ActionId>
+    ensures { number_of result ≡ told.parent_by (plain_call call.now) }
+{
+    match call {
+        Call::BeginSub(parent) => Some(*parent),
+        Call::Declare(_) | Call::BeginTop | Call::BeginNested(_) => None,
+        Call::Commit(_) | Call::Abort(_) | Call::AbortOthers(_) => None,
+        Call::Ask(_, _, _) | Call::Alter(_, _, _) => None,
+        Call::TestRead(_, _) | Call::TestWrite(_, _) => None,
+    }
+}
+
+fn creator_by(call: &Call) -> Option<ActionId>
+    ensures { number_of result ≡ told.creator_by (plain_call call.now) }
+{
+    match call {
+        Call::BeginSub(parent) => Some(*parent),
+        Call::BeginNested(creator) => Some(*creator),
+        Call::Declare(_) | Call::BeginTop => None,
+        Call::Commit(_) | Call::Abort(_) | Call::AbortOthers(_) => None,
+        Call::Ask(_, _, _) | Call::Alter(_, _, _) => None,
+        Call::TestRead(_, _) | Call::TestWrite(_, _) => None,
+    }
+}
+
+/// The parent of the action; none of a topaction.
+pub(crate) fn parent_of(entries: &[Entry], a: ActionId) -> Option<ActionId>
+    ensures { number_of result ≡ told.told_parent (newest_first entries.now) a.0 }
+{
+    let mut rest = entries;
+    while let Some((entry, older)) = rest.split_last() {
+        if begins(&entry.reply, a) {
+            return parent_by(&entry.call);
+        }
+        rest = older;
+    }
+    None
+}
+
+/// Who began the action: its parent or its creator.
+pub(crate) fn creator_of(entries: &[Entry], a: ActionId) -> Option<ActionId>
+    ensures { number_of result ≡ told.told_creator (newest_first entries.now) a.0 }
+{
+    let mut rest = entries;
+    while let Some((entry, older)) = rest.split_last() {
+        if begins(&entry.reply, a) {
+            return creator_by(&entry.call);
+        }
+        rest = older;
+    }
+    None
+}
+
+/// Whether `x` is `a` or an ancestor of it.
+pub(crate) fn is_above(entries: &[Entry], x: ActionId, a: ActionId) -> bool
+    ensures { result ≡ told.told_above (newest_first entries.now) x.0 a.0 }
+{
+    let mut at = a;
+    let mut rest = entries;
+    while let Some((entry, older)) = rest.split_last() {
+        if begins(&entry.reply, at) {
+            if at.0 == x.0 {
+                return true;
+            }
+            match parent_by(&entry.call) {
+                Some(parent) => at = parent,
+                None => return false,
+            }
+        }
+        rest = older;
+    }
+    x.0 == at.0
+}
+
+/// Whether `x`, or an ancestor of it, is another than `b` and was begun by `c`.
+pub(crate) fn is_beside(entries: &[Entry], c: ActionId, b: ActionId, x: ActionId) -> bool
+    ensures { result ≡ told.told_beside (newest_first entries.now) c.0 b.0 x.0 }
+{
+    let mut at = x;
+    let mut rest = entries;
+    while let Some((entry, older)) = rest.split_last() {
+        if begins(&entry.reply, at) {
+            if at.0 != b.0 && is_the(creator_by(&entry.call), c) {
+                return true;
+            }
+            let Some(parent) = parent_by(&entry.call) else {
+                return false;
+            };
+            at = parent;
+        }
+        rest = older;
+    }
+    false
+}
+
+fn is_the(creator: Option<ActionId>, c: ActionId) -> bool
+    ensures { result ≡ told.is_the (number_of creator) c.0 }
+{
+    match creator {
+        Some(x) => x.0 == c.0,
+        None => false,
+    }
+}

@@ -1,0 +1,92 @@
+//! Journals worked out: which refusal comes first where several apply, what a lone question and a
+//! lone test hold, and calls at the limits. Objects 0 and 1 are as in `worked`.
+ghost use Rattle.std.specs.Prelude.{◌≡◌, ◌-◌, ◌∷◌, ◌++◌, [], List, Some, length, pos, true, ℕ};
+ghost use Rattle.argus_contents.specs.Answer.{done, flag, signal, val};
+ghost use Rattle.argus_contents.specs.Shape.{PlainShape};
+ghost use Rattle.argus_contents.specs.Value.{int};
+ghost use Rattle.argus_contents.specs.declared.limits.TheConstants.{MAX_ACTIONS, MAX_ACTION_DEPTH};
+ghost use Rattle.argus_contents.specs.declared.limits.TheConstants.{MAX_OBJECTS};
+ghost use Rattle.argus_contents.specs.declared.signal.Signal.TheVariants.{Absent};
+ghost use Rattle.argus_entries.specs.Call.{declare};
+ghost use Rattle.argus_entries.specs.Reply.{answered, begun, object, refused};
+ghost use Rattle.argus_entries.specs.declared.refusal.Refusal.TheVariants.{Conflict, IllTyped};
+ghost use Rattle.argus_entries.specs.declared.refusal.Refusal.TheVariants.{NoAction, NoObject};
+ghost use Rattle.argus_entries.specs.declared.refusal.Refusal.TheVariants.{Over, Suspended};
+ghost use Rattle.argus_entries.specs.declared.refusal.Refusal.TheVariants.{TooDeep, TooMany};
+ghost use Rattle.argus_journal.specs.Words.{effects_of, readers_of, versions_of};
+ghost use Rattle.argus_journal.specs.Opening.{Opening, empty};
+ghost use Rattle.argus_journal.specs.Worked.{holding, journal, prepared, replies, then_calls};
+ghost use Rattle.argus_journal.specs.WorkedOrders.{a_reader, a_signalled_question};
+ghost use Rattle.argus_journal.specs.WorkedOrders.{a_test_below_a_write, going_on_at};
+ghost use Rattle.argus_journal.specs.WorkedOrders.{ill_typed_and_held, over_and_suspended};
+ghost use Rattle.argus_journal.specs.WorkedOrders.{suspended_and_undeclared, tests_in_order};
+ghost use Rattle.argus_journal.specs.WorkedOrders.{the_last_action, the_last_chain};
+ghost use Rattle.argus_journal.specs.WorkedOrders.{under_the_deepest};
+
+/// A change that doesn't suit the object's shape is refused for that, whoever holds the object; so is
+/// a question for another kind of object.
+pub fn ill_typed_before_conflict()
+    ensures { replies empty (journal prepared) ill_typed_and_held
+        ≡ begun 1 ∷ answered done ∷ begun 2 ∷ refused IllTyped ∷ refused IllTyped ∷ refused Conflict ∷ [] }
+{}
+
+/// An action that was aborted is over, though its nested topaction lives.
+pub fn over_before_suspended()
+    ensures { replies empty (journal prepared) over_and_suspended
+        ≡ begun 1 ∷ begun 2 ∷ answered done ∷ refused Over ∷ refused Over ∷ refused Over ∷ [] }
+{}
+
+/// A suspended action is refused before its object is looked for; it may begin another child.
+pub fn suspended_before_no_object()
+    ensures { replies empty (journal prepared) suspended_and_undeclared
+        ≡ begun 1 ∷ begun 2 ∷ refused Suspended ∷ refused Suspended ∷ refused Suspended
+        ∷ refused Suspended ∷ begun 3 ∷ [] }
+{}
+
+/// Tests are refused in the same order.
+pub fn tests_are_refused_in_order()
+    ensures { replies empty (journal prepared) tests_in_order
+        ≡ begun 1 ∷ answered done ∷ refused Over ∷ refused Over ∷ refused NoAction ∷ refused NoAction
+        ∷ begun 2 ∷ refused NoObject ∷ refused NoObject ∷ [] }
+{}
+
+/// A question that was signalled holds its read lock.
+pub fn a_signalled_question_reads()
+    ensures replies { replies empty (journal prepared) a_signalled_question
+        ≡ object 2 ∷ begun 1 ∷ answered (signal Absent) ∷ begun 2 ∷ refused Conflict ∷ [] }
+    ensures reader { readers_of empty (journal (prepared ++ a_signalled_question)) 2 ≡ 1 ∷ [] }
+{}
+
+/// A test for writing that says yes makes a version with what its action sees.
+pub fn a_test_copies_what_an_ancestor_wrote()
+    ensures replies { replies empty (journal prepared) a_test_below_a_write
+        ≡ begun 1 ∷ answered done ∷ begun 2 ∷ answered (flag true) ∷ [] }
+    ensures versions { versions_of empty (journal (prepared ++ a_test_below_a_write)) 0
+        ≡ (1, Some (holding 1)) ∷ (2, Some (holding 1)) ∷ [] }
+{}
+
+/// A topaction that only reads has an effect, the empty one.
+pub fn a_reader_leaves_an_empty_effect()
+    ensures replies { replies empty (journal prepared) a_reader
+        ≡ begun 1 ∷ answered (val (int (pos 0))) ∷ answered done ∷ [] }
+    ensures effects { effects_of empty (journal (prepared ++ a_reader))
+        ≡ ((0, Some (holding 0)) ∷ (1, Some (holding 0)) ∷ []) ∷ [] ∷ [] }
+{}
+
+/// The last action that there may be begins, and no other; who is over or hasn't begun is refused for
+/// that, and who is too deep for that.
+pub fn the_last_action_begins()
+    ensures last { replies (going_on_at (MAX_ACTIONS - 1)) [] the_last_action
+        ≡ begun (MAX_ACTIONS - 1) ∷ answered done ∷ refused Over ∷ refused Over
+        ∷ refused NoAction ∷ refused NoAction ∷ refused TooMany ∷ [] }
+    ensures deepest { let s = going_on_at (MAX_ACTIONS - MAX_ACTION_DEPTH) in
+        replies s (then_calls s [] the_last_chain) under_the_deepest
+        ≡ refused TooDeep ∷ refused TooMany ∷ [] }
+{}
+
+/// The last object that there may be is declared, and no other.
+pub fn the_last_object_is_declared()
+    ensures { (s : Opening) (shape : PlainShape) → length s.objects ≡ MAX_OBJECTS - 1
+        → replies s [] (declare shape ∷ declare shape ∷ [])
+        ≡ object (MAX_OBJECTS - 1) ∷ refused TooMany ∷ [] }
+{}

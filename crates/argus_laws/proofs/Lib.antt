@@ -1,0 +1,12 @@
+pub mod TreeRows
+pub mod TreeAnswers
+pub mod TreeSteps
+pub mod TreeRefusals
+pub mod CellLists
+pub mod CellHolders
+pub mod CellSeen
+pub mod CellBegins
+pub mod CellAccesses
+pub mod CellCommits
+pub mod CellAborts
+pub mod CellOrder

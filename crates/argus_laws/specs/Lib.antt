@@ -1,0 +1,2 @@
+pub mod TreeWords
+pub mod CellWords

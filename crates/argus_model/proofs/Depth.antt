@@ -1,0 +1,78 @@
+-- The depth that is read off the rows is that of the lineage.
+use Rattle.std.proofs.Common.{Bool, List, [], ap, arith, cond, false, length, refl, suc, sym, true, ℕ, ⊎_elim, inl, inr, ◌+◌, ◌-◌, ◌∙◌, ◌∷◌, ◌≡◌, ◌≢◌}
+use Rattle.std.specs.List.{list_any}
+use Rattle.std.specs.Prelude.{◌==◌, ◌⊎◌}
+use Rattle.std.proofs.lemmas.Bool.{cases_eq, eq-eqb, ne_eqb}
+use Rattle.argus_model.specs.Ancestors.{lineage, to_base}
+use Rattle.argus_model.specs.Event.{Aborted, Accessed, Began, Committed, parent_of}
+use Rattle.argus_model.specs.History.{History, Opened, folded, next_action, ◌▹◌}
+use Rattle.argus_model.specs.OwnerSteps.{stands}
+use Rattle.argus_model.specs.Rows.{Row, depth_at, is_above, mark, rows, with_status}
+use Rattle.argus_model.specs.Status.{IsAborted, IsCommitted, Status, is_begun}
+use Rattle.argus_model.proofs.Live.{is_begun_from, is_begun_parts}
+use Rattle.argus_model.proofs.Rows.{length-mark, rows_length}
+use Rattle.argus_model.proofs.Standing.{Orderly, stands_begun, stands_unfolded}
+
+depth_at-mark : (n : ℕ) (which : ℕ → Bool) (s : Status) (rs : List Row) (a : ℕ)
+    → depth_at n (mark n which s rs) a ≡ depth_at n rs a
+depth_at-mark n which s [] a = refl
+depth_at-mark n which s (r ∷ rs) a =
+    ap (λ k. cond (a == n + k + 1)
+    (depth_at n (mark n which s rs) (parent_of (cond (which (n + length rs + 1)) (with_status s r) r).origin) + 1)
+    (depth_at n (mark n which s rs) a)) (length-mark n which s rs)
+    ∙ ap (λ d. cond (a == n + length rs + 1) (d + 1) (depth_at n (mark n which s rs) a))
+    (ap (λ o. depth_at n (mark n which s rs) o) (same (which (n + length rs + 1)))
+    ∙ depth_at-mark n which s rs (parent_of r.origin))
+    ∙ ap (λ d. cond (a == n + length rs + 1) (depth_at n rs (parent_of r.origin) + 1) d) (depth_at-mark n which s rs a)
+  where
+    same : (b : Bool) → parent_of (cond b (with_status s r) r).origin ≡ parent_of r.origin
+    same true = refl
+    same false = refl
+
+-- the base, or an action that has begun
+abbrev IsKnown : {V : Type 0} → History V → ℕ → Type 0
+IsKnown h a = (a ≡ 0) ⊎ (is_begun h a ≡ true)
+
+stands_known : {V : Type 0} (h : History V) (a : ℕ) → stands h a ≡ true → IsKnown h a
+stands_known h a l =
+    ⊎_elim (λ e. inl e) (λ n. inr (is_begun_from h a (stands_unfolded h a n l) (stands_begun h a l))) (cases_eq a 0)
+
+depth_up : {V : Type 0} (h : History V) → Orderly h → (a : ℕ) → IsKnown h a
+    → depth_at (folded h) (rows h) a + 1 ≡ length (lineage h a)
+depth_up {V} (Opened n) w a k =
+    ⊎_elim
+    (λ e. ap (λ b. length (to_base b)) (sym e))
+    (λ m. let q = is_begun_parts {V = V} (Opened n) a m in absurd (omega (arith, q.0, q.1)))
+    k
+depth_up (Began from ▹ h) w a k =
+    let top = rows_length h in
+    let up = depth_at (folded h) (rows h) (parent_of from) in
+    let old = depth_at (folded h) (rows h) a in
+    ⊎_elim
+    (λ e. ap (λ b. cond b (up + 1) old + 1) (eq-eqb a (folded h + length (rows h) + 1) (e ∙ sym top))
+    ∙ more up (length (lineage h (parent_of from)))
+    (depth_up h w.1 (parent_of from) (stands_known h (parent_of from) w.0))
+    ∙ sym (ap (λ b. length (cond b (a ∷ lineage h (parent_of from)) (lineage h a))) (eq-eqb a (next_action h) e)))
+    (λ n. ap (λ b. cond b (up + 1) old + 1) (ne_eqb a (folded h + length (rows h) + 1) (λ e. n (e ∙ top)))
+    ∙ depth_up h w.1 a (before n k)
+    ∙ sym (ap (λ b. length (cond b (a ∷ lineage h (parent_of from)) (lineage h a))) (ne_eqb a (next_action h) n)))
+    (cases_eq a (next_action h))
+  where
+    more : (d l : ℕ) → d + 1 ≡ l → d + 1 + 1 ≡ suc l
+    more d l e = omega (arith, e)
+
+    before : a ≢ next_action h → IsKnown (Began from ▹ h) a → IsKnown h a
+    before n (inl e) = inl e
+    before n (inr m) = let q = is_begun_parts (Began from ▹ h) a m in
+        inr (is_begun_from h a q.0 (let u = q.1 in omega arith))
+depth_up (Committed s ▹ h) w a k =
+    ap (λ d. d + 1) (depth_at-mark (folded h) (λ x. x == s) IsCommitted (rows h) a) ∙ depth_up h w.3 a k
+depth_up (Aborted zs ▹ h) w a k =
+    ap (λ d. d + 1)
+    (depth_at-mark (folded h) (λ x. list_any (λ z. is_above (folded h) (rows h) z x) zs) IsAborted (rows h) a)
+    ∙ depth_up h w.1 a k
+depth_up (Accessed d o v ▹ h) w a k = depth_up h w.3 a k
+
+pub depth_is : {V : Type 0} (h : History V) → Orderly h → (a : ℕ) → is_begun h a ≡ true
+    → depth_at (folded h) (rows h) a ≡ length (lineage h a) - 1
+depth_is h w a k = let e = depth_up h w a (inr k) in omega (arith, e)

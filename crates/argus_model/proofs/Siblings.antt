@@ -1,0 +1,60 @@
+-- Creators are older, and who stands under the live siblings of an action.
+use Rattle.std.proofs.Common.{arith, cond, subst, sym, true, ℕ, ⊎_elim, ◌<◌, ◌∙◌, ◌≡◌, ◌≢◌}
+use Rattle.std.specs.List.{list_any}
+use Rattle.std.specs.List.Sorted.{IsStrictlyIncreasing}
+use Rattle.std.specs.Prelude.{not, ◌&&◌, ◌==◌}
+use Rattle.std.proofs.lemmas.Bool.{and_from, and_parts, both_ways, cases_eq, eq-eqb, eqb-true, ne_eqb, not-true, or_cases}
+use Rattle.argus_model.specs.Ancestors.{creator, is_ancestor, is_under, lineage}
+use Rattle.argus_model.specs.Event.{Aborted, Accessed, Began, Committed, creator_of}
+use Rattle.argus_model.specs.History.{History, Opened, Opening, begun_actions, next_action, ◌▹◌}
+use Rattle.argus_model.specs.Lawful.{Lawful}
+use Rattle.argus_model.specs.Meaning.{Meaning}
+use Rattle.argus_model.specs.Status.{has_committed, is_begun, is_doomed, is_live, is_sibling, live_siblings}
+use Rattle.argus_model.proofs.Ancestors.{next_pos}
+use Rattle.argus_model.proofs.Bools.{same_bool}
+use Rattle.argus_model.proofs.Live.{begun_rising, contains_siblings, is_begun_from, is_begun_parts}
+use Rattle.argus_model.proofs.Numbers.{any_found, any_from, increasing, rising_filter}
+use Rattle.argus_model.proofs.Theorems.{ancestor_live}
+
+pub live_begun : {V : Type 0} (h : History V) (a : ℕ) → is_live h a ≡ true → is_begun h a ≡ true
+live_begun h a l = (and_parts (is_begun h a) (not (has_committed h a) && not (is_doomed h a)) l).0
+
+-- siblings are listed in increasing number
+pub siblings_increase : {V : Type 0} (h : History V) (a : ℕ) → IsStrictlyIncreasing (live_siblings h a)
+siblings_increase h a =
+    increasing (live_siblings h a)
+    (rising_filter (λ x. is_live h x && is_sibling h a x) (begun_actions h) (begun_rising h))
+
+module _ {V C A : Type 0} (meaning : Meaning V C A) (opening : Opening C) where
+  pub creator_older : (h : History V) (a : ℕ) → Lawful meaning opening h → is_begun h a ≡ true → creator h a < a
+  creator_older (Opened n) a l k = let q = is_begun_parts {V = V} (Opened n) a k in omega (arith, q.0)
+  creator_older (Began from ▹ h) a l k =
+      let q = is_begun_parts (Began from ▹ h) a k in
+      ⊎_elim
+      (λ e. let before : creator_of from < next_action h =
+      ⊎_elim (λ z. let c = eqb-true (creator_of from) 0 z in let n = next_pos h in omega arith)
+      (λ z. (is_begun_parts h (creator_of from) (live_begun h (creator_of from) z)).1)
+      (or_cases (creator_of from == 0) (is_live h (creator_of from)) l.0) in
+      subst (λ b. cond b (creator_of from) (creator h a) < a) (sym (eq-eqb a (next_action h) e))
+      (omega (arith, before)))
+      (λ n. subst (λ b. cond b (creator_of from) (creator h a) < a) (sym (ne_eqb a (next_action h) n))
+      (creator_older h a l.1 (is_begun_from h a q.0 (let u = q.1 in omega arith))))
+      (cases_eq a (next_action h))
+  creator_older (Committed s ▹ h) a l k = creator_older h a l.1 k
+  creator_older (Aborted zs ▹ h) a l k = creator_older h a l.1 k
+  creator_older (Accessed d o v ▹ h) a l k = creator_older h a l.1 k
+
+  pub under_siblings : (h : History V) (a x : ℕ) → Lawful meaning opening h → is_live h x ≡ true
+      → is_under h (live_siblings h a) x ≡ list_any (is_sibling h a) (lineage h x)
+  under_siblings h a x l k =
+      same_bool (is_under h (live_siblings h a) x) (list_any (is_sibling h a) (lineage h x))
+      (λ m. let q = any_found (λ z. is_ancestor h z x) (live_siblings h a) m in
+      any_from (is_sibling h a) (lineage h x) q.0 q.2
+      (and_parts (is_live h q.0) (is_sibling h a q.0) (sym (contains_siblings h a q.0) ∙ q.1)).1)
+      (λ m. let q = any_found (is_sibling h a) (lineage h x) m in
+      let s = and_parts (not (q.0 == 0)) (not (q.0 == a) && creator h q.0 == creator h a) q.2 in
+      let n : q.0 ≢ 0 = λ e. absurd (both_ways (q.0 == 0) (not-true (q.0 == 0) s.0) (eq-eqb q.0 0 e)) in
+      any_from (λ z. is_ancestor h z x) (live_siblings h a) q.0
+      (contains_siblings h a q.0
+      ∙ and_from (is_live h q.0) (is_sibling h a q.0) (ancestor_live meaning opening h q.0 x l k q.1 n) q.2)
+      q.1)

@@ -1,0 +1,58 @@
+//! What follows of cells as actions begin and end. These functions do nothing: each contract is a law for proofs.
+
+ghost use Rattle.std.specs.Prelude.{◌≡◌, ◌≢◌, true, ◌==◌, if◌then◌else◌, List, [], ◌∷◌};
+ghost use Rattle.argus_actions.specs.declared.action_id.ActionId.{ActionId};
+ghost use Rattle.argus_actions.specs.declared.origin.Origin.{Origin};
+ghost use Rattle.argus_actions.specs.Tree.{Tree, after_begin, after_commit, after_abort, after_abort_others};
+ghost use Rattle.argus_objects.specs.Object.{Object, PlainVersion};
+ghost use Rattle.argus_objects.specs.Rules.{is_lawful, may_read, may_write, KeepsAncestors};
+ghost use Rattle.argus_objects.specs.Moves.{is_reader, has_version, version_of, is_handed, readers_inherited, versions_inherited};
+ghost use Rattle.argus_objects.specs.Moves.{readers_discarded, versions_discarded, readers_left, versions_left};
+
+/// Who is an ancestor of whom stays so, whatever begins or ends.
+pub fn ancestors_stay()
+    ensures begin { (tree : Tree) (origin : Origin) → KeepsAncestors tree (after_begin tree origin) }
+    ensures commit { (tree : Tree) (a : ActionId) → KeepsAncestors tree (after_commit tree a.0) }
+    ensures abort { (tree : Tree) (a : ActionId) → KeepsAncestors tree (after_abort tree a.0) }
+    ensures abort_others { (tree : Tree) (a : ActionId) → KeepsAncestors tree (after_abort_others tree a.0) }
+{}
+
+/// Where ancestors stay, a lawful cell stays lawful, and who may have a lock still may.
+pub fn lawful_stays()
+    ensures lawful { (tree later : Tree) (object : Object) → KeepsAncestors tree later
+        → is_lawful tree object ≡ true → is_lawful later object ≡ true }
+    ensures read { (tree later : Tree) (object : Object) (a : ActionId) → KeepsAncestors tree later
+        → may_read tree object a ≡ true → may_read later object a ≡ true }
+    ensures write { (tree later : Tree) (object : Object) (a : ActionId) → KeepsAncestors tree later
+        → may_write tree object a ≡ true → may_write later object a ≡ true }
+{}
+
+/// Who holds locks once a subaction has handed its own to its parent, and with which content.
+pub fn members_after_inherit()
+    ensures readers { (s parent x : ActionId) (readers : List ActionId) → s.0 ≢ parent.0
+        → is_reader x (readers_inherited s parent readers)
+        ≡ is_handed s parent x (is_reader x readers) (is_reader s readers) }
+    ensures versions { (s parent x : ActionId) (versions : List PlainVersion) → s.0 ≢ parent.0
+        → has_version x (versions_inherited s parent versions)
+        ≡ is_handed s parent x (has_version x versions) (has_version s versions) }
+    ensures content { (s parent : ActionId) (versions : List PlainVersion) → s.0 ≢ parent.0
+        → has_version s versions ≡ true
+        → version_of parent (versions_inherited s parent versions) ≡ version_of s versions }
+    ensures others { (s parent x : ActionId) (versions : List PlainVersion)
+        → x.0 ≢ s.0 → x.0 ≢ parent.0
+        → version_of x (versions_inherited s parent versions) ≡ version_of x versions }
+{}
+
+/// What discards of several actions, one after another, leave: what none of them takes along.
+pub fn discards_in_turn()
+    ensures none { (tree : Tree) (readers : List ActionId) → readers_left tree [] readers ≡ readers }
+    ensures no_more { (tree : Tree) (versions : List PlainVersion)
+        → versions_left tree [] versions ≡ versions }
+    ensures readers { (tree : Tree) (a : ActionId) (actions readers : List ActionId)
+        → readers_discarded tree a (readers_left tree actions readers)
+        ≡ readers_left tree (a ∷ actions) readers }
+    ensures versions { (tree : Tree) (a : ActionId) (actions : List ActionId)
+        (versions : List PlainVersion)
+        → versions_discarded tree a (versions_left tree actions versions)
+        ≡ versions_left tree (a ∷ actions) versions }
+{}

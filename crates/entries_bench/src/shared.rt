@@ -1,0 +1,105 @@
+//! Entries in which what is large lies behind a pointer, which a duplicate shares.
+
+use crate::mix::{Mix, Part};
+use argus_contents::{Change, Content, Heap, OutOfMemory, Query, Shape, Signal, Value};
+use std::sync::Arc;
+
+/// A call, with its action and its object.
+///
+/// ```text
+/// let call = Call::Ask(1, 0, Query::Field(0));
+/// ```
+#[derive(Drop)]
+pub(crate) enum Call {
+    Declare(Arc<Shape, Heap>),
+    Begin,
+    Commit(u32),
+    Ask(u32, u32, Query),
+    Alter(u32, u32, Arc<Change, Heap>),
+}
+
+/// What a call is answered.
+///
+/// ```text
+/// let reply = Reply::Done;
+/// ```
+#[derive(Drop)]
+pub(crate) enum Reply {
+    Begun(u32),
+    Done,
+    Val(Arc<Value, Heap>),
+    Num(i64),
+    Flag(bool),
+    Body(Arc<Content, Heap>),
+    Signal(Signal),
+    Refused(u8),
+}
+
+/// A call with its reply.
+///
+/// ```text
+/// let entry = Entry { call: Call::Begin, reply: Reply::Begun(1) };
+/// ```
+#[derive(Drop)]
+pub(crate) struct Entry {
+    pub(crate) call: Call,
+    pub(crate) reply: Reply,
+}
+
+/// Makes so many entries, keeps them and drops them; how many were kept.
+pub(crate) fn keep(heap: Heap, mix: Mix, count: u32, text: &str) -> Result<usize, OutOfMemory> {
+    let mut journal = Vec::new(heap);
+    let mut receipts = Vec::new(heap);
+    for number in 0..count {
+        let entry = made(heap, mix, number, text)?;
+        if let Mix::Receipts = mix {
+            receipts.push(duplicate(&entry)?)?;
+        }
+        journal.push(entry)?;
+    }
+    Ok(journal.len() + receipts.len())
+}
+
+fn made(heap: Heap, mix: Mix, number: u32, text: &str) -> Result<Entry, OutOfMemory> {
+    let (call, reply) = match mix.part(number) {
+        Part::Begin => (Call::Begin, Reply::Begun(number)),
+        Part::Commit => (Call::Commit(number), Reply::Done),
+        Part::Ask => {
+            let reply = Reply::Val(Arc::new(heap, value(heap, mix, number, text)?)?);
+            (Call::Ask(1, 0, Query::Field(0)), reply)
+        }
+        Part::Change => {
+            let change = Change::SetField(0, value(heap, mix, number, text)?);
+            (Call::Alter(1, 0, Arc::new(heap, change)?), Reply::Done)
+        }
+    };
+    Ok(Entry { call, reply })
+}
+
+fn value(heap: Heap, mix: Mix, number: u32, text: &str) -> Result<Value, OutOfMemory> {
+    match mix {
+        Mix::Flat | Mix::Asks => Ok(Value::Int(number as i64)),
+        Mix::Receipts => Ok(Value::Text(String::from_str(heap, text)?)),
+    }
+}
+
+fn duplicate(entry: &Entry) -> Result<Entry, OutOfMemory> {
+    let call = match &entry.call {
+        Call::Declare(shape) => Call::Declare(Arc::try_clone(shape)?),
+        Call::Begin => Call::Begin,
+        Call::Commit(a) => Call::Commit(*a),
+        Call::Ask(a, o, query) => Call::Ask(*a, *o, *query),
+        Call::Alter(a, o, change) => Call::Alter(*a, *o, Arc::try_clone(change)?),
+    };
+    let reply = match &entry.reply {
+        Reply::Begun(a) => Reply::Begun(*a),
+        Reply::Done => Reply::Done,
+        Reply::Val(value) => Reply::Val(Arc::try_clone(value)?),
+        Reply::Num(number) => Reply::Num(*number),
+        Reply::Flag(truth) => Reply::Flag(*truth),
+        Reply::Body(content) => Reply::Body(Arc::try_clone(content)?),
+        Reply::Signal(signal) => Reply::Signal(*signal),
+        Reply::Refused(why) => Reply::Refused(*why),
+    };
+    Ok(Entry { call, reply })
+}
