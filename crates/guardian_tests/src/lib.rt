@@ -3,9 +3,19 @@
 #![tactic(auto)]
 
 #[cfg(test)]
+mod actions;
+#[cfg(test)]
 mod ends;
 #[cfg(test)]
 mod limits;
+#[cfg(test)]
+mod locks;
+#[cfg(test)]
+mod many;
+#[cfg(test)]
+mod objects;
+#[cfg(test)]
+mod order;
 #[cfg(test)]
 mod reading;
 #[cfg(test)]

@@ -4,6 +4,7 @@ ghost use Rattle.std.specs.Prelude.{◌≡◌, ◌∷◌, OnErr, OnOk};
 ghost use Rattle.argus_entries.specs.Entry.{plain_entry};
 ghost use Rattle.argus_journal.specs.Answers.{answer};
 ghost use Rattle.argus_journal.specs.LegalJournal.{entries_in, opening_in};
+ghost use Rattle.argus_journal.specs.Words.{owner_in};
 
 use argus_actions::ActionId;
 use argus_entries::Entry;
@@ -24,6 +25,8 @@ pub fn say(kept: &mut LegalJournal, entry: Entry) -> Result<(), OutOfMemory>
 }
 
 /// Who answers for what the action did.
-pub fn owner_in(kept: &LegalJournal, a: ActionId) -> Option<Owner> {
+pub fn owner_in(kept: &LegalJournal, a: ActionId) -> Option<Owner>
+    ensures { result ≡ owner_in (opening_in kept.now) (entries_in kept.now) a.0 }
+{
     owner_of(kept.journal(), a)
 }

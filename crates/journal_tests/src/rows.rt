@@ -55,7 +55,9 @@ pub const PREPARED: [(Step, Said); 6] = [
 /// The journal of these rows.
 pub fn journal_of(heap: Heap, rows: &[(Step, Said)]) -> Result<Journal, OutOfMemory>
     requires { Legal empty (entries_in rows.now) }
-    ensures { IfOk result (λ journal. Legal (opening_of journal) (entries_of journal)) }
+    ensures opening { IfOk result (λ journal. opening_of journal ≡ empty) }
+    ensures entries { IfOk result (λ journal. entries_of journal ≡ entries_in rows.now) }
+    ensures legal { IfOk result (λ journal. Legal (opening_of journal) (entries_of journal)) }
 {
     let mut journal = Journal::new(heap);
     add_rows(heap, &mut journal, rows)?;
@@ -65,7 +67,10 @@ pub fn journal_of(heap: Heap, rows: &[(Step, Said)]) -> Result<Journal, OutOfMem
 /// The journal of `PREPARED` and then these rows.
 pub fn prepared_then(heap: Heap, rows: &[(Step, Said)]) -> Result<Journal, OutOfMemory>
     requires { Legal empty (entries_in rows.now ++ entries_in PREPARED) }
-    ensures { IfOk result (λ journal. Legal (opening_of journal) (entries_of journal)) }
+    ensures opening { IfOk result (λ journal. opening_of journal ≡ empty) }
+    ensures entries { IfOk result (λ journal. entries_of journal
+        ≡ entries_in rows.now ++ entries_in PREPARED) }
+    ensures legal { IfOk result (λ journal. Legal (opening_of journal) (entries_of journal)) }
 {
     let mut journal = Journal::new(heap);
     add_rows(heap, &mut journal, &PREPARED)?;
@@ -75,7 +80,8 @@ pub fn prepared_then(heap: Heap, rows: &[(Step, Said)]) -> Result<Journal, OutOf
 
 fn add_rows(heap: Heap, journal: &mut Journal, rows: &[(Step, Said)]) -> Result<(), OutOfMemory>
     ensures opening { opening_of journal.new ≡ opening_of journal.old }
-    ensures entries { OnOk result (entries_of journal.new ≡ entries_in rows.now ++ entries_of journal.old) }
+    ensures entries { OnOk result (entries_of journal.new
+        ≡ entries_in rows.now ++ entries_of journal.old) }
 {
     for row in rows {
         let entry = entry_of(heap, *row)?;
