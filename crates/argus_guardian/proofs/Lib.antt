@@ -1,5 +1,6 @@
 pub mod Changes
 pub mod Declared
+pub mod Effects
 pub mod Sweeps
 pub mod SweepSiblings
 pub mod Begun
@@ -17,3 +18,4 @@ pub mod Asks
 pub mod Alters
 pub mod Tests
 pub mod WriteTests
+pub mod Written

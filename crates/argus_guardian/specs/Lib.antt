@@ -1,5 +1,6 @@
 pub mod Accessing
 pub mod Keeping
+pub mod Leaving
 pub mod Moving
 pub mod Step
 pub mod Sweeping

@@ -11,6 +11,7 @@ mod discarding;
 mod ending;
 mod granting;
 mod guardian;
+mod leaving;
 mod moving;
 mod recording;
 mod refusing;

@@ -72,7 +72,7 @@ top_alone n (r ∷ older) x y e up =
     alone (begun_as.Nested c) e = refl
 
 -- what the version of a holder has
-seen_at : (s : Opening) (h : History PlainEntry) (o : ℕ) (a : ActionId) (vs : List PlainVersion) → AreSeen s h o vs → has_version a vs ≡ true → version_of a vs ≡ Some (sees entries (opened s) h (a.0 + 1) o)
+pub seen_at : (s : Opening) (h : History PlainEntry) (o : ℕ) (a : ActionId) (vs : List PlainVersion) → AreSeen s h o vs → has_version a vs ≡ true → version_of a vs ≡ Some (sees entries (opened s) h (a.0 + 1) o)
 seen_at s h o a [] k e = absurd (false≢true e)
 seen_at s h o a (v ∷ vs) k e =
     elim (cases_eq v.holder.0 a.0) [

@@ -1,0 +1,35 @@
+-- What an action would leave for good.
+use Rattle.std.specs.Option.{option_map, unwrap_or}
+use Rattle.std.specs.Prelude.{List, None, Option, Some, if◌then◌else◌, map, slice_index_or, ℕ, ◌∷◌, []}
+use Rattle.argus_actions.specs.declared.action_id.ActionId.{ActionId}
+use Rattle.argus_contents.specs.Content.{PlainContent, plain_option}
+use Rattle.argus_contents.specs.declared.content.Content.{Content}
+use Rattle.argus_contents.specs.declared.obj_id.ObjId.{ObjId}
+use Rattle.argus_guardian.specs.Step.{Said}
+use Rattle.argus_guardian.specs.declared.atomic_object.AtomicObject.{AtomicObject}
+use Rattle.argus_journal.specs.Words.{is_live_in, seen_by, written_by}
+use Rattle.argus_objects.specs.Moves.{has_version, version_of}
+
+-- objects with contents, as the model numbers and says them
+abbrev pub effect_told : List (ObjId × Option Content) → List (ℕ × Option PlainContent)
+effect_told effect = map (λ pair. (pair.0.0, plain_option pair.1)) effect
+
+-- what the action sees in each object that it or a committed subaction has written, in increasing number of the objects
+abbrev pub effect_of : Said → ℕ → List (ℕ × Option PlainContent)
+effect_of said a = map (λ o. (o, seen_by said.opening said.entries a o)) (written_by said.opening said.entries a)
+
+-- the same of a live action, and none of others
+abbrev pub effect_if_live : Said → ℕ → Option (List (ℕ × Option PlainContent))
+effect_if_live said a =
+    if is_live_in said.opening said.entries a then Some (effect_of said a) else None
+
+-- the numbers of the objects on the list of which the action has a version
+abbrev pub written_in : ActionId → List AtomicObject → AtomicObject → List ObjId → List ℕ
+written_in a objects d [] = []
+written_in a objects d (o ∷ list) =
+    if has_version a (slice_index_or objects o.0 d).cell.versions then o.0 ∷ written_in a objects d list
+    else written_in a objects d list
+
+-- the content of the action's version of an object, absent where it has none
+abbrev pub version_in : ActionId → List AtomicObject → AtomicObject → ℕ → Option PlainContent
+version_in a objects d o = unwrap_or (version_of a (slice_index_or objects o d).cell.versions) None
