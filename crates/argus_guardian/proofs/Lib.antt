@@ -16,3 +16,4 @@ pub mod Asks
 pub mod Alters
 pub mod Tests
 pub mod WriteTests
+pub mod Told

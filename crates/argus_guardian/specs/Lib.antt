@@ -3,3 +3,4 @@ pub mod Keeping
 pub mod Moving
 pub mod Step
 pub mod Sweeping
+pub mod Telling

@@ -9,9 +9,11 @@ mod discarding;
 mod ending;
 mod granting;
 mod guardian;
+mod laws;
 mod moving;
 mod recording;
 mod refusing;
+mod telling;
 mod testing;
 
 pub use guardian::Guardian;
