@@ -17,3 +17,4 @@ pub mod Alters
 pub mod Tests
 pub mod WriteTests
 pub mod Told
+pub mod Checkpoints

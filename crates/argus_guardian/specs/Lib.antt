@@ -1,4 +1,5 @@
 pub mod Accessing
+pub mod Checkpoint
 pub mod Keeping
 pub mod Moving
 pub mod Step

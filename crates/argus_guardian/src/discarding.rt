@@ -123,7 +123,8 @@ fn begun_under(tree: &ActionTree, a: ActionId) -> Option<ActionId>
     }
 }
 
-fn is_live(tree: &ActionTree, a: ActionId) -> bool
+/// Whether the action is live.
+pub(crate) fn is_live(tree: &ActionTree, a: ActionId) -> bool
     ensures { result ≡ is_live_at tree.now.folded tree.now.rows a.0 }
 {
     match tree.status(a) {

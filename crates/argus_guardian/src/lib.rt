@@ -5,6 +5,8 @@ mod accessing;
 mod answering;
 mod atomic_object;
 mod beginning;
+mod checkpoint_error;
+mod checkpointing;
 mod discarding;
 mod ending;
 mod granting;
@@ -16,4 +18,5 @@ mod refusing;
 mod telling;
 mod testing;
 
+pub use checkpoint_error::CheckpointError;
 pub use guardian::Guardian;
