@@ -19,3 +19,5 @@ pub mod Alters
 pub mod Tests
 pub mod WriteTests
 pub mod Written
+pub mod Told
+pub mod Checkpoints

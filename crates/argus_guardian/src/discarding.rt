@@ -123,6 +123,7 @@ fn begun_under(tree: &ActionTree, a: ActionId) -> Option<ActionId>
     }
 }
 
+/// Whether the action is live.
 pub(crate) fn is_live(tree: &ActionTree, a: ActionId) -> bool
     ensures { result ≡ is_live_at tree.now.folded tree.now.rows a.0 }
 {

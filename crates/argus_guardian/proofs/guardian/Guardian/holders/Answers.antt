@@ -1,0 +1,21 @@
+use Rattle.std.proofs.Common.{Some, ap, map, ◌∙◌, ◌≡◌}
+use Rattle.argus_actions.specs.declared.action_id.ActionId.{ActionId}
+use Rattle.argus_guardian.proofs.Told.{cell_there, there}
+use Rattle.argus_guardian.proofs.guardian.Guardian.holders.Goals as goal
+use Rattle.argus_journal.specs.LegalJournal.{entries_in, opening_in}
+use Rattle.argus_journal.specs.Words.{readers_of}
+
+pub returns-in-Some : goal.returns-in-Some
+returns-in-Some c =
+    let g = c.self.inside in
+    let s = opening_in g.journal in
+    let j = entries_in g.journal in
+    let x = c.in-Some.object.now in
+    let found = rw (c.deref.ensures.value) at c.in-Some.ensures.lookup in
+    let cell = cell_there g.tree g.objects.items g.holdings s j c.self.invariant c.args.o.0 x _ found.0 found.1 in
+    let told : map (λ (a : ActionId). a.0) c.readers.result.now ≡ readers_of s j c.args.o.0 =
+    ap (λ ids. map (λ (a : ActionId). a.0) ids) c.readers.ensures
+    ∙ c.a_cell_tells_the_history.ensures.readers s j g.tree c.args.o.0 x.cell cell in
+    rw (← c.self.view_is)
+    (ap Some told ∙ there g.tree g.objects.items g.holdings s j c.self.invariant c.args.o.0 x _ found.0 found.1
+    (readers_of s j c.args.o.0))

@@ -1,0 +1,40 @@
+-- What a guardian tells of its objects, as contracts see it.
+use Rattle.std.specs.Borrow.{Bor}
+use Rattle.std.specs.Prelude.{List, None, Option, Some, if◌then◌else◌, map, nat_lt, ℕ}
+use Rattle.argus_actions.specs.declared.action_id.ActionId.{ActionId}
+use Rattle.argus_contents.specs.Content.{PlainContent, plain_option}
+use Rattle.argus_contents.specs.Shape.{PlainShape}
+use Rattle.argus_contents.specs.declared.content.Content.{Content}
+use Rattle.argus_contents.specs.declared.shape.Shape.{Shape}
+use Rattle.argus_guardian.specs.Step.{Said}
+use Rattle.argus_journal.specs.Objects.{declared}
+use Rattle.argus_objects.specs.declared.version.Version.{Version}
+
+-- the fact of the object, where it is declared
+abbrev pub where_declared : {A : Type 0} → Said → ℕ → A → Option A
+where_declared said o fact =
+    if nat_lt o (declared said.opening said.entries) then Some fact else None
+
+-- the shape that is told, if any
+abbrev pub shape_told : Option (Bor Shape) → Option PlainShape
+shape_told None = None
+shape_told (Some shape) = Some shape.now
+
+-- the content that is told, which may be absent, if any is
+abbrev pub content_told : Option (Bor (Option Content)) → Option (Option PlainContent)
+content_told None = None
+content_told (Some content) = Some (plain_option content.now)
+
+-- the numbers of the actions that are told, in their order
+abbrev pub actions_told : Option (Bor (List ActionId)) → Option (List ℕ)
+actions_told None = None
+actions_told (Some actions) = Some (map (λ a. a.0) actions.now)
+
+-- a version: the number of its holder, and the content
+abbrev pub version_told : Version → ℕ × Option PlainContent
+version_told v = (v.holder.0, plain_option v.content)
+
+-- the versions that are told, in their order
+abbrev pub versions_told : Option (Bor (List Version)) → Option (List (ℕ × Option PlainContent))
+versions_told None = None
+versions_told (Some versions) = Some (map version_told versions.now)

@@ -1,0 +1,112 @@
+//! How the journal's past is folded into its opening.
+
+ghost use Rattle.std.specs.Prelude.{◌≡◌, ◌↔◌, ◌<◌, ◌≤◌, Some, false, map, true, ℕ};
+ghost use Rattle.std.specs.Prelude.{IfOk, IsFalse, IsTrue, OnErr, OnOk};
+ghost use Rattle.std.specs.Result.{result_err};
+ghost use Rattle.argus_actions.specs.Rows.{is_live_at};
+ghost use Rattle.argus_actions.specs.Tree.{next};
+ghost use Rattle.argus_contents.specs.Content.{plain_option};
+ghost use Rattle.argus_guardian.specs.Checkpoint.{folded, is_quiet, length_of, opened_objects};
+ghost use Rattle.argus_guardian.specs.declared.checkpoint_error.CheckpointError.TheVariants.{Busy};
+ghost use Rattle.argus_guardian.specs.declared.checkpoint_error.CheckpointError.TheVariants.{Full};
+ghost use Rattle.argus_journal.specs.Objects.{shapes};
+ghost use Rattle.argus_journal.specs.Opening.{plain_object};
+ghost use Rattle.argus_journal.specs.Words.{base_of};
+ghost use Rattle.argus_journal.specs.declared.limits.TheConstants.{MAX_FIRST_ENTRY};
+
+use crate::atomic_object::AtomicObject;
+use crate::checkpoint_error::CheckpointError;
+use crate::discarding::is_live;
+use crate::guardian::Guardian;
+use argus_actions::{ActionId, ActionTree};
+use argus_contents::{Content, Shape};
+use argus_journal::limits::MAX_FIRST_ENTRY;
+use argus_memory::{Heap, OutOfMemory};
+use argus_objects::Holdings;
+
+/// Whether an action is live, of those from this number on.
+fn is_busy(tree: &ActionTree, first: u32) -> bool
+    ensures live { IsTrue result
+        → (a : ℕ) × (is_live_at tree.now.folded tree.now.rows a ≡ true) }
+    ensures quiet { IsFalse result → (a : ℕ) → first ≤ a → a < next tree.now
+        → is_live_at tree.now.folded tree.now.rows a ≡ false }
+{
+    for a in first..tree.len() {
+        if is_live(tree, ActionId(a)) {
+            return true;
+        }
+    }
+    false
+}
+
+/// A copy of a content that may be absent.
+fn copy_of(heap: Heap, content: &Option<Content>) -> Result<Option<Content>, OutOfMemory>
+    ensures { IfOk result (λ copy. plain_option copy ≡ plain_option content.now) }
+{
+    match content {
+        None => Ok(None),
+        Some(content) => Ok(Some(content.duplicate(heap)?)),
+    }
+}
+
+/// Copies of the shapes and of what is in the objects for good.
+fn opened(
+    heap: Heap,
+    objects: &[AtomicObject],
+) -> Result<Vec<(Shape, Option<Content>), Heap>, OutOfMemory>
+    ensures { IfOk result (λ copies. map plain_object copies.items ≡ opened_objects objects.now) }
+{
+    let mut copies = Vec::new(heap);
+    for object in objects {
+        let shape = object.shape.duplicate(heap)?;
+        let base = copy_of(heap, object.cell.base())?;
+        copies.push((shape, base))?;
+    }
+    Ok(copies)
+}
+
+impl Guardian {
+    /// Folds the journal's past into its opening: the objects with their shapes and what is in them
+    /// for good, the number of the next action and that of the next entry. All actions so far are
+    /// over and forgotten, the entries are let go, and their list keeps its room. Objects, shapes
+    /// and what is in them for good stay. It makes no entry.
+    ///
+    /// Errors, in this order: `Busy` where an action is live, `Full` where the next entry's number
+    /// is above `MAX_FIRST_ENTRY`, `OutOfMemory`. After an error all is as before.
+    ///
+    /// Source: the stable state that a guardian is restored from, Argus Reference Manual
+    /// (MIT/LCS/TR-400, 1987).
+    ///
+    /// ```text
+    /// guardian.checkpoint()?;
+    /// assert_eq!(rt; guardian.journal().journal().get(0), None);
+    /// ```
+    pub fn checkpoint(&mut self) -> Result<(), CheckpointError>
+        ensures ok { OnOk result (self.new ≡ folded self.old) }
+        ensures busy { (result_err result ≡ Some Busy) ↔ (is_quiet self.old ≡ false) }
+        ensures full { (result_err result ≡ Some Full)
+            ↔ ((is_quiet self.old ≡ true) × (MAX_FIRST_ENTRY < length_of self.old)) }
+        ensures err { OnErr result (self.new ≡ self.old) }
+        ensures shapes { shapes self.new.opening self.new.entries
+            ≡ shapes self.old.opening self.old.entries }
+        ensures bases { (o : ℕ) → base_of self.new.opening self.new.entries o
+            ≡ base_of self.old.opening self.old.entries o }
+    {
+        if is_busy(&self.tree, self.journal.journal().first_action()) {
+            return Err(CheckpointError::Busy);
+        }
+        if self.journal.journal().len() > MAX_FIRST_ENTRY {
+            return Err(CheckpointError::Full);
+        }
+        match opened(self.heap, self.objects.as_slice()) {
+            Err(OutOfMemory) => Err(CheckpointError::OutOfMemory),
+            Ok(objects) => {
+                let first = self.tree.len();
+                self.journal.fold(objects, first);
+                self.tree = ActionTree::starting_at(self.heap, first);
+                self.holdings = Holdings::new(self.heap);
+                Ok(())
+            }
+        }
+    }
+}
