@@ -3,7 +3,8 @@
 use crate::rows::say;
 use crate::states::picture;
 use argus_actions::ActionId;
-use argus_entries::{Answer, Call, Reply};
+use argus_contents::Answer;
+use argus_entries::{Call, Reply};
 use argus_guardian::Guardian;
 use argus_memory::{Budget, Heap, Limited};
 use std::process::Abort;
