@@ -6,7 +6,7 @@ use Rattle.argus_contents.specs.Shape.{PlainShape}
 use Rattle.argus_guardian.specs.Step.{Said}
 use Rattle.argus_guardian.specs.declared.atomic_object.AtomicObject.{AtomicObject}
 use Rattle.argus_journal.specs.Events.{history}
-use Rattle.argus_journal.specs.Folding.{fold, next_entry_number}
+use Rattle.argus_journal.specs.Folding.{fold}
 use Rattle.argus_model.specs.History.{begun_actions}
 use Rattle.argus_model.specs.Status.{is_live}
 
@@ -16,13 +16,9 @@ is_quiet said =
     not (list_any (is_live (history said.opening said.entries))
     (begun_actions (history said.opening said.entries)))
 
--- the number that the next entry gets
-abbrev pub length_of : Said → ℕ
-length_of said = next_entry_number said.opening said.entries
-
 -- the journal with all its entries folded into the opening
-abbrev pub folded : Said → Said
-folded said = record { opening = fold said.opening said.entries; entries = [] }
+abbrev pub after_checkpoint : Said → Said
+after_checkpoint said = record { opening = fold said.opening said.entries; entries = [] }
 
 -- an object as an opening has it: its shape, and what is in it for good
 abbrev pub opened_object : AtomicObject → PlainShape × Option PlainContent

@@ -34,7 +34,7 @@ actions_told (Some actions) = Some (map (λ a. a.0) actions.now)
 abbrev pub version_told : Version → ℕ × Option PlainContent
 version_told v = (v.holder.0, plain_option v.content)
 
--- the versions that are told, in their order
-abbrev pub versions_told : Option (Bor (List Version)) → Option (List (ℕ × Option PlainContent))
-versions_told None = None
-versions_told (Some versions) = Some (map version_told versions.now)
+-- the stack of versions that is told, in its order
+abbrev pub stack_told : Option (Bor (List Version)) → Option (List (ℕ × Option PlainContent))
+stack_told None = None
+stack_told (Some versions) = Some (map version_told versions.now)

@@ -6,9 +6,10 @@ ghost use Rattle.std.specs.Result.{result_err};
 ghost use Rattle.argus_actions.specs.Rows.{is_live_at};
 ghost use Rattle.argus_actions.specs.Tree.{next};
 ghost use Rattle.argus_contents.specs.Content.{plain_option};
-ghost use Rattle.argus_guardian.specs.Checkpoint.{folded, is_quiet, length_of, opened_objects};
+ghost use Rattle.argus_guardian.specs.Checkpoint.{after_checkpoint, is_quiet, opened_objects};
 ghost use Rattle.argus_guardian.specs.declared.checkpoint_error.CheckpointError.TheVariants.{Busy};
 ghost use Rattle.argus_guardian.specs.declared.checkpoint_error.CheckpointError.TheVariants.{Full};
+ghost use Rattle.argus_journal.specs.Folding.{next_entry_number};
 ghost use Rattle.argus_journal.specs.Objects.{shapes};
 ghost use Rattle.argus_journal.specs.Opening.{plain_object};
 ghost use Rattle.argus_journal.specs.Words.{base_of};
@@ -50,7 +51,7 @@ fn copy_of(heap: Heap, content: &Option<Content>) -> Result<Option<Content>, Out
 }
 
 /// Copies of the shapes and of what is in the objects for good.
-fn opened(
+fn copies_of(
     heap: Heap,
     objects: &[AtomicObject],
 ) -> Result<Vec<(Shape, Option<Content>), Heap>, OutOfMemory>
@@ -82,10 +83,11 @@ impl Guardian {
     /// assert_eq!(rt; guardian.journal().journal().get(0), None);
     /// ```
     pub fn checkpoint(&mut self) -> Result<(), CheckpointError>
-        ensures ok { OnOk result (self.new ≡ folded self.old) }
+        ensures ok { OnOk result (self.new ≡ after_checkpoint self.old) }
         ensures busy { (result_err result ≡ Some Busy) ↔ (is_quiet self.old ≡ false) }
         ensures full { (result_err result ≡ Some Full)
-            ↔ ((is_quiet self.old ≡ true) × (MAX_FIRST_ENTRY < length_of self.old)) }
+            ↔ ((is_quiet self.old ≡ true) × (MAX_FIRST_ENTRY
+            < next_entry_number self.old.opening self.old.entries)) }
         ensures err { OnErr result (self.new ≡ self.old) }
         ensures shapes { shapes self.new.opening self.new.entries
             ≡ shapes self.old.opening self.old.entries }
@@ -98,7 +100,7 @@ impl Guardian {
         if self.journal.journal().len() > MAX_FIRST_ENTRY {
             return Err(CheckpointError::Full);
         }
-        match opened(self.heap, self.objects.as_slice()) {
+        match copies_of(self.heap, self.objects.as_slice()) {
             Err(OutOfMemory) => Err(CheckpointError::OutOfMemory),
             Ok(objects) => {
                 let first = self.tree.len();

@@ -6,7 +6,7 @@ ghost use Rattle.argus_entries.specs.Call.{test_read, test_write};
 ghost use Rattle.argus_entries.specs.Reply.{answered};
 ghost use Rattle.argus_guardian.specs.Step.{reply_to};
 ghost use Rattle.argus_guardian.specs.Telling.{actions_told, content_told, shape_told};
-ghost use Rattle.argus_guardian.specs.Telling.{versions_told, where_declared};
+ghost use Rattle.argus_guardian.specs.Telling.{stack_told, where_declared};
 ghost use Rattle.argus_journal.specs.Objects.{declared, shape_of};
 ghost use Rattle.argus_journal.specs.Opening.{fits_shape};
 ghost use Rattle.argus_journal.specs.Words.{base_of, readers_of, versions_of};
@@ -73,7 +73,7 @@ impl Guardian {
     ///
     /// Source: the version stack of the Argus Reference Manual (MIT/LCS/TR-400, 1987).
     pub fn versions(&self, o: ObjId) -> Option<&[Version]>
-        ensures { versions_told result ≡ where_declared self.now o.0
+        ensures { stack_told result ≡ where_declared self.now o.0
             (versions_of self.now.opening self.now.entries o.0) }
     {
         cell_laws::a_cell_tells_the_history();

@@ -36,7 +36,8 @@ returns-then-len-gt-MAX_FIRST_ENTRY-clause-busy c =
     let s = opening_in g.journal in
     let j = entries_in g.journal in
     let quiet = quiet_at g.tree g.objects.items g.holdings s j c.self.invariant
-    c.first_action.result (c.first_action.ensures.first ∙ ap (λ (o : Opening). o.first_action) c.journal.ensures.opening)
+    c.first_action.result
+    (c.first_action.ensures.first ∙ ap (λ (o : Opening). o.first_action) c.journal.ensures.opening)
     (c.if-is_busy.ensures.quiet refl) in
     rw (← c.self.view_is)
     (λ e. cc, λ e. absurd (both_ways (is_quiet (record { opening = s; entries = j })) e quiet))
@@ -48,7 +49,8 @@ returns-then-len-gt-MAX_FIRST_ENTRY-clause-full c =
     let s = opening_in g.journal in
     let j = entries_in g.journal in
     let quiet = quiet_at g.tree g.objects.items g.holdings s j c.self.invariant
-    c.first_action.result (c.first_action.ensures.first ∙ ap (λ (o : Opening). o.first_action) c.journal.ensures.opening)
+    c.first_action.result
+    (c.first_action.ensures.first ∙ ap (λ (o : Opening). o.first_action) c.journal.ensures.opening)
     (c.if-is_busy.ensures.quiet refl) in
     let count : c.len.result ≡ next_entry_number s j =
     count_at s _ j _ c.len.result c.len.ensures c.journal-2.ensures.opening c.journal-2.ensures.entries in
@@ -81,7 +83,8 @@ invariant_of-self c =
     let within = c.if-len-gt-MAX_FIRST_ENTRY.false in
     rw (c.fold.ensures.opening, c.fold.ensures.entries)
     (kept_folded g.tree g.objects.items g.holdings s j c.self.invariant
-    c.first_action.result (c.first_action.ensures.first ∙ ap (λ (o : Opening). o.first_action) c.journal.ensures.opening)
+    c.first_action.result
+    (c.first_action.ensures.first ∙ ap (λ (o : Opening). o.first_action) c.journal.ensures.opening)
     (c.if-is_busy.ensures.quiet refl)
     c.starting_at.result c.new.result (c.starting_at.ensures.folded ∙ c.len-first.ensures) c.starting_at.ensures.rows
     c.new.ensures (omega (arith, count, within)))
@@ -92,7 +95,8 @@ returns-in-Err-clause-busy c =
     let s = opening_in g.journal in
     let j = entries_in g.journal in
     let quiet = quiet_at g.tree g.objects.items g.holdings s j c.self.invariant
-    c.first_action.result (c.first_action.ensures.first ∙ ap (λ (o : Opening). o.first_action) c.journal.ensures.opening)
+    c.first_action.result
+    (c.first_action.ensures.first ∙ ap (λ (o : Opening). o.first_action) c.journal.ensures.opening)
     (c.if-is_busy.ensures.quiet refl) in
     rw (← c.self.view_is)
     (λ e. cc, λ e. absurd (both_ways (is_quiet (record { opening = s; entries = j })) e quiet))
@@ -103,7 +107,8 @@ returns-in-Ok-clause-busy c =
     let s = opening_in g.journal in
     let j = entries_in g.journal in
     let quiet = quiet_at g.tree g.objects.items g.holdings s j c.self.invariant
-    c.first_action.result (c.first_action.ensures.first ∙ ap (λ (o : Opening). o.first_action) c.journal.ensures.opening)
+    c.first_action.result
+    (c.first_action.ensures.first ∙ ap (λ (o : Opening). o.first_action) c.journal.ensures.opening)
     (c.if-is_busy.ensures.quiet refl) in
     rw (← c.self.view_is)
     (λ e. cc, λ e. absurd (both_ways (is_quiet (record { opening = s; entries = j })) e quiet))

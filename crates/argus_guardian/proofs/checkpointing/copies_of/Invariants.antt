@@ -1,7 +1,7 @@
 -- The copies so far are those of the objects so far.
 use Rattle.std.proofs.Common.{map, take, ◌≡◌}
 use Rattle.argus_guardian.specs.Checkpoint.{opened_objects}
-use Rattle.argus_guardian.proofs.checkpointing.opened.Given as goal
+use Rattle.argus_guardian.proofs.checkpointing.copies_of.Given as goal
 use Rattle.argus_journal.specs.Opening.{plain_object}
 
 abbrev pub invariant-loop-object : goal.invariant-loop-object
