@@ -3,7 +3,11 @@
 #![tactic(auto)]
 
 #[cfg(test)]
+mod checkpoints;
+#[cfg(test)]
 mod ends;
+#[cfg(test)]
+mod laws;
 #[cfg(test)]
 mod limits;
 #[cfg(test)]
@@ -12,5 +16,7 @@ mod reading;
 mod rows;
 #[cfg(test)]
 mod states;
+#[cfg(test)]
+mod telling;
 #[cfg(test)]
 mod tight;
