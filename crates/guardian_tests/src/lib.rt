@@ -7,6 +7,8 @@ mod actions;
 #[cfg(test)]
 mod ends;
 #[cfg(test)]
+mod laws;
+#[cfg(test)]
 mod limits;
 #[cfg(test)]
 mod locks;
@@ -22,5 +24,7 @@ mod reading;
 mod rows;
 #[cfg(test)]
 mod states;
+#[cfg(test)]
+mod telling;
 #[cfg(test)]
 mod tight;
