@@ -3,6 +3,7 @@ pub mod Sweeps
 pub mod SweepSiblings
 pub mod Begun
 pub mod Begins
+pub mod Made
 pub mod Noted
 pub mod PartsCommits
 pub mod PartsEnds

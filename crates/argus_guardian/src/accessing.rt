@@ -27,22 +27,22 @@ impl Guardian {
         ensures ok { OnOk result (self.new ≡ after self.old (ask a.0 o.0 query)) }
         ensures err { OnErr result (self.new ≡ self.old) }
     {
-        match ask_refusal(self.objects.as_slice(), &self.tree, a, o, &query) {
+        match ask_refusal(self.parts.objects.as_slice(), &self.parts.tree, a, o, &query) {
             Some(why) => return self.refuse(Call::Ask(a, o, query), why),
             None => {}
         }
-        let objects = self.objects.as_slice();
-        let answer = query_answer(self.heap, objects, &self.tree, a, o, &query)?;
-        let (reply, again) = reply_twice(self.heap, answer)?;
-        self.journal.reserve()?;
+        let objects = self.parts.objects.as_slice();
+        let answer = query_answer(self.parts.heap, objects, &self.parts.tree, a, o, &query)?;
+        let (reply, again) = reply_twice(self.parts.heap, answer)?;
+        self.parts.journal.reserve()?;
         grant_read(
-            self.objects.as_mut_slice(),
-            &mut self.holdings,
-            &self.tree,
+            self.parts.objects.as_mut_slice(),
+            &mut self.parts.holdings,
+            &self.parts.tree,
             a,
             o,
         )?;
-        self.journal.push(Entry {
+        self.parts.journal.push(Entry {
             call: Call::Ask(a, o, query),
             reply: again,
         });
@@ -62,24 +62,24 @@ impl Guardian {
             ≡ after self.old (alter a.0 o.0 (plain_change change))) }
         ensures err { OnErr result (self.new ≡ self.old) }
     {
-        match alter_refusal(self.objects.as_slice(), &self.tree, a, o, &change) {
+        match alter_refusal(self.parts.objects.as_slice(), &self.parts.tree, a, o, &change) {
             Some(why) => return self.refuse(Call::Alter(a, o, change), why),
             None => {}
         }
-        let objects = self.objects.as_slice();
-        let answer = change_answer(self.heap, objects, &self.tree, a, o, &change)?;
-        let (reply, again) = reply_twice(self.heap, answer)?;
-        let made = change.duplicate(self.heap)?;
-        self.journal.reserve()?;
+        let objects = self.parts.objects.as_slice();
+        let answer = change_answer(self.parts.heap, objects, &self.parts.tree, a, o, &change)?;
+        let (reply, again) = reply_twice(self.parts.heap, answer)?;
+        let made = change.duplicate(self.parts.heap)?;
+        self.parts.journal.reserve()?;
         grant_change(
-            self.objects.as_mut_slice(),
-            &mut self.holdings,
-            &self.tree,
+            self.parts.objects.as_mut_slice(),
+            &mut self.parts.holdings,
+            &self.parts.tree,
             a,
             o,
             made,
         )?;
-        self.journal.push(Entry {
+        self.parts.journal.push(Entry {
             call: Call::Alter(a, o, change),
             reply: again,
         });

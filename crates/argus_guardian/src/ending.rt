@@ -25,35 +25,35 @@ impl Guardian {
         ensures ok { OnOk result (self.new ≡ after self.old (commit a.0)) }
         ensures err { OnErr result (self.new ≡ self.old) }
     {
-        match self.tree.commit_refusal(a) {
+        match self.parts.tree.commit_refusal(a) {
             Some(refusal) => return self.refuse(Call::Commit(a), refusal_of(refusal)),
             None => {}
         }
-        self.journal.reserve()?;
-        match self.tree.parent(a) {
+        self.parts.journal.reserve()?;
+        match self.parts.tree.parent(a) {
             Some(parent) => {
-                self.holdings.reserve_pass(a, parent)?;
+                self.parts.holdings.reserve_pass(a, parent)?;
                 inherit_all(
-                    self.objects.as_mut_slice(),
-                    self.holdings.of(a),
-                    &self.tree,
+                    self.parts.objects.as_mut_slice(),
+                    self.parts.holdings.of(a),
+                    &self.parts.tree,
                     a,
                     parent,
                 );
-                self.holdings.pass(a, parent);
-                self.tree.commit_ready(a);
-                Ok(record_done(&mut self.journal, Call::Commit(a)))
+                self.parts.holdings.pass(a, parent);
+                self.parts.tree.commit_ready(a);
+                Ok(record_done(&mut self.parts.journal, Call::Commit(a)))
             }
             None => {
                 settle_all(
-                    self.objects.as_mut_slice(),
-                    self.holdings.of(a),
-                    &self.tree,
+                    self.parts.objects.as_mut_slice(),
+                    self.parts.holdings.of(a),
+                    &self.parts.tree,
                     a,
                 );
-                self.holdings.clear(a);
-                self.tree.commit_ready(a);
-                Ok(record_done(&mut self.journal, Call::Commit(a)))
+                self.parts.holdings.clear(a);
+                self.parts.tree.commit_ready(a);
+                Ok(record_done(&mut self.parts.journal, Call::Commit(a)))
             }
         }
     }
@@ -68,20 +68,20 @@ impl Guardian {
         ensures ok { OnOk result (self.new ≡ after self.old (abort a.0)) }
         ensures err { OnErr result (self.new ≡ self.old) }
     {
-        match self.tree.abort_refusal(a) {
+        match self.parts.tree.abort_refusal(a) {
             Some(refusal) => return self.refuse(Call::Abort(a), refusal_of(refusal)),
             None => {}
         }
-        self.journal.reserve()?;
-        self.tree.rows_are_sound();
+        self.parts.journal.reserve()?;
+        self.parts.tree.rows_are_sound();
         discard_under(
-            self.objects.as_mut_slice(),
-            &mut self.holdings,
-            &self.tree,
+            self.parts.objects.as_mut_slice(),
+            &mut self.parts.holdings,
+            &self.parts.tree,
             a,
         );
-        self.tree.abort_live(a);
-        Ok(record_done(&mut self.journal, Call::Abort(a)))
+        self.parts.tree.abort_live(a);
+        Ok(record_done(&mut self.parts.journal, Call::Abort(a)))
     }
 
     /// Aborts all live siblings of an action, each with its subactions, theirs, and so on. A sibling
@@ -96,19 +96,19 @@ impl Guardian {
         ensures ok { OnOk result (self.new ≡ after self.old (abort_others a.0)) }
         ensures err { OnErr result (self.new ≡ self.old) }
     {
-        match self.tree.abort_others_refusal(a) {
+        match self.parts.tree.abort_others_refusal(a) {
             Some(refusal) => return self.refuse(Call::AbortOthers(a), refusal_of(refusal)),
             None => {}
         }
-        self.journal.reserve()?;
-        self.tree.rows_are_sound();
+        self.parts.journal.reserve()?;
+        self.parts.tree.rows_are_sound();
         discard_others(
-            self.objects.as_mut_slice(),
-            &mut self.holdings,
-            &self.tree,
+            self.parts.objects.as_mut_slice(),
+            &mut self.parts.holdings,
+            &self.parts.tree,
             a,
         );
-        self.tree.abort_others_ready(a);
-        Ok(record_done(&mut self.journal, Call::AbortOthers(a)))
+        self.parts.tree.abort_others_ready(a);
+        Ok(record_done(&mut self.parts.journal, Call::AbortOthers(a)))
     }
 }

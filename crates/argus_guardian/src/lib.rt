@@ -9,9 +9,14 @@ mod discarding;
 mod ending;
 mod granting;
 mod guardian;
+mod making;
 mod moving;
+mod parts;
+mod prepared;
+mod preparing;
 mod recording;
 mod refusing;
+mod step;
 mod testing;
 
 pub use guardian::Guardian;

@@ -26,22 +26,22 @@ impl Guardian {
         ensures ok { OnOk result (self.new ≡ after self.old (test_read a.0 o.0)) }
         ensures err { OnErr result (self.new ≡ self.old) }
     {
-        match test_refusal(self.objects.as_slice(), &self.tree, a, o) {
+        match test_refusal(self.parts.objects.as_slice(), &self.parts.tree, a, o) {
             Some(why) => return self.refuse(Call::TestRead(a, o), why),
             None => {}
         }
-        self.journal.reserve()?;
-        if !is_readable(self.objects.as_slice(), &self.tree, a, o) {
-            return Ok(record_flag(&mut self.journal, Call::TestRead(a, o), false));
+        self.parts.journal.reserve()?;
+        if !is_readable(self.parts.objects.as_slice(), &self.parts.tree, a, o) {
+            return Ok(record_flag(&mut self.parts.journal, Call::TestRead(a, o), false));
         }
         grant_read(
-            self.objects.as_mut_slice(),
-            &mut self.holdings,
-            &self.tree,
+            self.parts.objects.as_mut_slice(),
+            &mut self.parts.holdings,
+            &self.parts.tree,
             a,
             o,
         )?;
-        Ok(record_flag(&mut self.journal, Call::TestRead(a, o), true))
+        Ok(record_flag(&mut self.parts.journal, Call::TestRead(a, o), true))
     }
 
     /// Whether the action may have the object's write lock; where it may, it has it then, and a
@@ -55,22 +55,22 @@ impl Guardian {
         ensures ok { OnOk result (self.new ≡ after self.old (test_write a.0 o.0)) }
         ensures err { OnErr result (self.new ≡ self.old) }
     {
-        match test_refusal(self.objects.as_slice(), &self.tree, a, o) {
+        match test_refusal(self.parts.objects.as_slice(), &self.parts.tree, a, o) {
             Some(why) => return self.refuse(Call::TestWrite(a, o), why),
             None => {}
         }
-        self.journal.reserve()?;
-        if !is_writable(self.objects.as_slice(), &self.tree, a, o) {
-            return Ok(record_flag(&mut self.journal, Call::TestWrite(a, o), false));
+        self.parts.journal.reserve()?;
+        if !is_writable(self.parts.objects.as_slice(), &self.parts.tree, a, o) {
+            return Ok(record_flag(&mut self.parts.journal, Call::TestWrite(a, o), false));
         }
         grant_change(
-            self.objects.as_mut_slice(),
-            &mut self.holdings,
-            &self.tree,
+            self.parts.objects.as_mut_slice(),
+            &mut self.parts.holdings,
+            &self.parts.tree,
             a,
             o,
             Change::Touch,
         )?;
-        Ok(record_flag(&mut self.journal, Call::TestWrite(a, o), true))
+        Ok(record_flag(&mut self.parts.journal, Call::TestWrite(a, o), true))
     }
 }

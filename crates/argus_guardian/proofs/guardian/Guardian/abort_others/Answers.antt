@@ -12,31 +12,31 @@ use Rattle.argus_journal.specs.LegalJournal.{entries_in, opening_in}
 pub refuse-requires : goal.refuse-requires
 refuse-requires c =
     let g = c.self.inside in
-    let s = opening_in g.journal in
-    let j = entries_in g.journal in
+    let s = opening_in g.parts.journal in
+    let j = entries_in g.parts.journal in
     rw (← c.self.view_is, c.refusal_of.ensures)
-    (refused_reply s j (abort_others c.args.a.0) (abort_others_refusal g.tree c.args.a.0) c.in-Some.refusal (others_refused g.tree g.objects.items g.holdings s j c.self.invariant c.args.a) (sym c.abort_others_refusal.ensures ∙ c.in-Some.is))
+    (refused_reply s j (abort_others c.args.a.0) (abort_others_refusal g.parts.tree c.args.a.0) c.in-Some.refusal (others_refused g.parts.tree g.parts.objects.items g.parts.holdings s j c.self.invariant c.args.a) (sym c.abort_others_refusal.ensures ∙ c.in-Some.is))
 
 pub discard_others-requires-clause-covered : goal.discard_others-requires-clause-covered
 discard_others-requires-clause-covered c =
     let g = c.self.inside in
-    let s = opening_in g.journal in
-    let j = entries_in g.journal in
-    rw (c.as_mut_slice.ensures.value) (parts_cover s (history s j) g.tree g.objects.items g.holdings c.self.invariant.parts)
+    let s = opening_in g.parts.journal in
+    let j = entries_in g.parts.journal in
+    rw (c.as_mut_slice.ensures.value) (parts_cover s (history s j) g.parts.tree g.parts.objects.items g.parts.holdings c.self.invariant.parts)
 
 pub record_done-requires-clause-right : goal.record_done-requires-clause-right
 record_done-requires-clause-right c =
     let g = c.self.inside in
-    let s = opening_in g.journal in
-    let j = entries_in g.journal in
-    rw (c.reserve.ensures.entries, c.reserve.ensures.opening) (others_right g.tree g.objects.items g.holdings s j c.self.invariant c.args.a (sym c.abort_others_refusal.ensures ∙ c.in-None.is))
+    let s = opening_in g.parts.journal in
+    let j = entries_in g.parts.journal in
+    rw (c.reserve.ensures.entries, c.reserve.ensures.opening) (others_right g.parts.tree g.parts.objects.items g.parts.holdings s j c.self.invariant c.args.a (sym c.abort_others_refusal.ensures ∙ c.in-None.is))
 
 pub invariant_of-self-2 : goal.invariant_of-self-2
 invariant_of-self-2 c =
     let g = c.self.inside in
-    let s = opening_in g.journal in
-    let j = entries_in g.journal in
-    let fits : length c.discard_others.new.objects ≡ g.objects.len = omega arith in
-    rw (with_items_is g.objects c.discard_others.new.objects fits, c.record_done.ensures.entries, c.record_done.ensures.opening, c.reserve.ensures.entries, c.reserve.ensures.opening)
-    (kept_others g.tree c.abort_others_ready.new.self g.objects.items c.discard_others.new.objects g.holdings c.discard_others.new.holdings s j c.args.a c.self.invariant (sym c.abort_others_refusal.ensures ∙ c.in-None.is) c.abort_others_ready.ensures
+    let s = opening_in g.parts.journal in
+    let j = entries_in g.parts.journal in
+    let fits : length c.discard_others.new.objects ≡ g.parts.objects.len = omega arith in
+    rw (with_items_is g.parts.objects c.discard_others.new.objects fits, c.record_done.ensures.entries, c.record_done.ensures.opening, c.reserve.ensures.entries, c.reserve.ensures.opening)
+    (kept_others g.parts.tree c.abort_others_ready.new.self g.parts.objects.items c.discard_others.new.objects g.parts.holdings c.discard_others.new.holdings s j c.args.a c.self.invariant (sym c.abort_others_refusal.ensures ∙ c.in-None.is) c.abort_others_ready.ensures
     (rw (c.as_mut_slice.ensures.value) at c.discard_others.ensures))

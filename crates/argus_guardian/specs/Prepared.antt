@@ -1,0 +1,49 @@
+-- What has to be at hand for a prepared call.
+use Rattle.std.specs.Prelude.{None, Option, [], ◌<◌, ◌≡◌}
+use Rattle.argus_actions.specs.Refusals.{begin_nested_refusal, begin_sub_refusal, begin_top_refusal}
+use Rattle.argus_actions.specs.Tree.{Tree, next}
+use Rattle.argus_actions.specs.declared.action_refusal.ActionRefusal.{ActionRefusal}
+use Rattle.argus_entries.specs.Call.{PlainCall, begin_nested, begin_sub, begin_top}
+use Rattle.argus_entries.specs.Entry.{PlainEntry, plain_entry}
+use Rattle.argus_entries.specs.Reply.{begun, plain_reply}
+use Rattle.argus_guardian.specs.Parts.{said_of}
+use Rattle.argus_guardian.specs.Step.{entry_with, reply_to}
+use Rattle.argus_guardian.specs.declared.parts.Parts.{Parts}
+use Rattle.argus_guardian.specs.declared.prepared.Prepared.{Prepared}
+use Rattle.argus_guardian.specs.declared.step.Step.{Step}
+use Rattle.argus_guardian.specs.declared.step.Step.TheVariants as step
+use Rattle.argus_journal.specs.Events.{happens}
+use Rattle.argus_journal.specs.LegalJournal.{entries_in, opening_in, room_in}
+use Rattle.argus_journal.specs.Objects.{declared_by}
+
+-- the journal has room for the entry, whose reply is the answer
+pub record HasPlace (parts : Parts) (e : PlainEntry) : Type 0 where
+  pub room : 0 < room_in parts.journal
+  pub right : e.reply ≡ reply_to (said_of parts) e.call
+
+-- the entry says that nothing happened, and declares nothing
+pub record TellsNothing (parts : Parts) (e : PlainEntry) : Type 0 where
+  pub event : happens (opening_in parts.journal) e (entries_in parts.journal) ≡ None
+  pub object : declared_by e.call e.reply ≡ []
+
+-- this call begins an action: the tree has room and doesn't refuse it, and the entry has its number
+pub record CanBegin (tree : Tree) (e : PlainEntry) (call : PlainCall) (refusal : Option ActionRefusal) : Type 0 where
+  pub room : 0 < tree.room
+  pub free : refusal ≡ None
+  pub told : e ≡ entry_with call (begun (next tree))
+
+-- what the step needs is there, and the entry tells of it
+abbrev pub CanStep : Parts → PlainEntry → Step → Type 0
+CanStep parts e step.Nothing = TellsNothing parts e
+CanStep parts e step.BeginTop =
+    CanBegin parts.tree e begin_top (begin_top_refusal parts.tree)
+CanStep parts e (step.BeginSub parent) =
+    CanBegin parts.tree e (begin_sub parent.0) (begin_sub_refusal parts.tree parent.0)
+CanStep parts e (step.BeginNested creator) =
+    CanBegin parts.tree e (begin_nested creator.0) (begin_nested_refusal parts.tree creator.0)
+
+-- all is at hand for the call: a place for its entry, the same reply to give back, and what its step needs
+pub record IsReady (parts : Parts) (prepared : Prepared) : Type 0 where
+  pub place : HasPlace parts (plain_entry prepared.entry)
+  pub same : plain_reply prepared.reply ≡ (plain_entry prepared.entry).reply
+  pub step : CanStep parts (plain_entry prepared.entry) prepared.step

@@ -1,0 +1,97 @@
+//! How a prepared call is made: nothing of it can fail.
+
+ghost use Rattle.std.specs.Prelude.{◌≡◌};
+ghost use Rattle.argus_actions.specs.Refusals.{begin_nested_refusal, begin_sub_refusal, begin_top_refusal};
+ghost use Rattle.argus_entries.specs.Call.{begin_nested, begin_sub, begin_top, plain_call};
+ghost use Rattle.argus_entries.specs.Entry.{plain_entry};
+ghost use Rattle.argus_entries.specs.Reply.{plain_reply};
+ghost use Rattle.argus_guardian.specs.Parts.{Keeps, said_of, with_entry};
+ghost use Rattle.argus_guardian.specs.Prepared.{CanBegin, HasPlace, IsReady, TellsNothing};
+ghost use Rattle.argus_guardian.specs.Step.{after, reply_to};
+
+use crate::parts::Parts;
+use crate::prepared::Prepared;
+use crate::step::Step;
+use argus_actions::ActionId;
+use argus_entries::{Entry, Reply};
+
+/// Makes a prepared call, and gives its reply. It takes no memory.
+pub(crate) fn make(parts: &mut Parts, prepared: Prepared) -> Reply
+    requires kept { Keeps parts.old }
+    requires ready { IsReady parts.old prepared }
+    ensures kept { Keeps parts.new }
+    ensures said { said_of parts.new
+        ≡ after (said_of parts.old) (plain_call prepared.entry.call) }
+    ensures reply { plain_reply result
+        ≡ reply_to (said_of parts.old) (plain_call prepared.entry.call) }
+{
+    let Prepared { step, entry, reply } = prepared;
+    match step {
+        Step::Nothing => {
+            make_nothing(parts, entry);
+            reply
+        }
+        Step::BeginTop => {
+            make_begin_top(parts, entry);
+            reply
+        }
+        Step::BeginSub(parent) => {
+            make_begin_sub(parts, parent, entry);
+            reply
+        }
+        Step::BeginNested(creator) => {
+            make_begin_nested(parts, creator, entry);
+            reply
+        }
+    }
+}
+
+// Records a call that changes nothing.
+fn make_nothing(parts: &mut Parts, entry: Entry)
+    requires kept { Keeps parts.old }
+    requires place { HasPlace parts.old (plain_entry entry) }
+    requires step { TellsNothing parts.old (plain_entry entry) }
+    ensures kept { Keeps parts.new }
+    ensures said { said_of parts.new ≡ with_entry (said_of parts.old) (plain_entry entry) }
+{
+    parts.journal.push(entry);
+}
+
+// Begins a topaction, and records it.
+fn make_begin_top(parts: &mut Parts, entry: Entry)
+    requires kept { Keeps parts.old }
+    requires place { HasPlace parts.old (plain_entry entry) }
+    requires step { CanBegin parts.old.tree (plain_entry entry) begin_top
+        (begin_top_refusal parts.old.tree) }
+    ensures kept { Keeps parts.new }
+    ensures said { said_of parts.new ≡ with_entry (said_of parts.old) (plain_entry entry) }
+{
+    let _ = parts.tree.begin_top_reserved();
+    parts.journal.push(entry);
+}
+
+// Begins a subaction, and records it.
+fn make_begin_sub(parts: &mut Parts, parent: ActionId, entry: Entry)
+    requires kept { Keeps parts.old }
+    requires place { HasPlace parts.old (plain_entry entry) }
+    requires step { CanBegin parts.old.tree (plain_entry entry) (begin_sub parent.0)
+        (begin_sub_refusal parts.old.tree parent.0) }
+    ensures kept { Keeps parts.new }
+    ensures said { said_of parts.new ≡ with_entry (said_of parts.old) (plain_entry entry) }
+{
+    let _ = parts.tree.begin_sub_reserved(parent);
+    parts.journal.push(entry);
+}
+
+// Begins a nested topaction, and records it.
+fn make_begin_nested(parts: &mut Parts, creator: ActionId, entry: Entry)
+    requires kept { Keeps parts.old }
+    requires place { HasPlace parts.old (plain_entry entry) }
+    requires step { CanBegin parts.old.tree (plain_entry entry) (begin_nested creator.0)
+        (begin_nested_refusal parts.old.tree creator.0) }
+    ensures kept { Keeps parts.new }
+    ensures said { said_of parts.new ≡ with_entry (said_of parts.old) (plain_entry entry) }
+{
+    let _ = parts.tree.begin_nested_reserved(creator);
+    parts.journal.push(entry);
+}

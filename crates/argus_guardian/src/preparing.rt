@@ -1,0 +1,38 @@
+//! How a call that changes nothing is prepared.
+
+ghost use Rattle.std.specs.Prelude.{◌≡◌, IfOk};
+ghost use Rattle.argus_entries.specs.Call.{plain_call};
+ghost use Rattle.argus_entries.specs.Reply.{refused};
+ghost use Rattle.argus_guardian.specs.Parts.{Keeps, said_of};
+ghost use Rattle.argus_guardian.specs.Prepared.{IsReady};
+ghost use Rattle.argus_guardian.specs.Step.{reply_to};
+
+use crate::parts::Parts;
+use crate::prepared::Prepared;
+use crate::step::Step;
+use argus_entries::{Call, Entry, Refusal, Reply};
+use argus_memory::OutOfMemory;
+
+/// Prepares a call that is refused.
+pub(crate) fn prepare_refused(
+    parts: &mut Parts,
+    call: Call,
+    why: Refusal,
+) -> Result<Prepared, OutOfMemory>
+    requires kept { Keeps parts.old }
+    requires right { reply_to (said_of parts.old) (plain_call call) ≡ refused why }
+    ensures kept { Keeps parts.new }
+    ensures said { said_of parts.new ≡ said_of parts.old }
+    ensures ready { IfOk result (λ prepared. IsReady parts.new prepared) }
+    ensures call { IfOk result (λ prepared. plain_call prepared.entry.call ≡ plain_call call) }
+{
+    parts.journal.reserve()?;
+    Ok(Prepared {
+        step: Step::Nothing,
+        entry: Entry {
+            call,
+            reply: Reply::Refused(why),
+        },
+        reply: Reply::Refused(why),
+    })
+}
