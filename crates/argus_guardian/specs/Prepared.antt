@@ -1,11 +1,17 @@
 -- What has to be at hand for a prepared call.
-use Rattle.std.specs.Prelude.{None, Option, [], ◌<◌, ◌≡◌}
+use Rattle.std.specs.Prelude.{None, Option, Some, [], length, ◌<◌, ◌≡◌, ◌≤◌}
+use Rattle.argus_actions.specs.Refusals.{abort_others_refusal, abort_refusal, commit_refusal}
 use Rattle.argus_actions.specs.Refusals.{begin_nested_refusal, begin_sub_refusal, begin_top_refusal}
-use Rattle.argus_actions.specs.Tree.{Tree, next}
+use Rattle.argus_actions.specs.Tree.{Tree, next, parent_of}
+use Rattle.argus_actions.specs.declared.action_id.ActionId.{ActionId}
 use Rattle.argus_actions.specs.declared.action_refusal.ActionRefusal.{ActionRefusal}
-use Rattle.argus_entries.specs.Call.{PlainCall, begin_nested, begin_sub, begin_top}
+use Rattle.argus_contents.specs.Answer.{done}
+use Rattle.argus_contents.specs.declared.answer.Answer.TheVariants.{Done}
+use Rattle.argus_entries.specs.Call.{PlainCall, abort, abort_others, begin_nested, begin_sub, begin_top, commit}
 use Rattle.argus_entries.specs.Entry.{PlainEntry, plain_entry}
-use Rattle.argus_entries.specs.Reply.{begun, plain_reply}
+use Rattle.argus_entries.specs.Reply.{answered, begun, plain_reply}
+use Rattle.argus_entries.specs.declared.call.Call.{Call}
+use Rattle.argus_entries.specs.declared.reply.Reply.TheVariants.{Answered}
 use Rattle.argus_guardian.specs.Parts.{said_of}
 use Rattle.argus_guardian.specs.Step.{entry_with, reply_to}
 use Rattle.argus_guardian.specs.declared.parts.Parts.{Parts}
@@ -15,6 +21,8 @@ use Rattle.argus_guardian.specs.declared.step.Step.TheVariants as step
 use Rattle.argus_journal.specs.Events.{happens}
 use Rattle.argus_journal.specs.LegalJournal.{entries_in, opening_in, room_in}
 use Rattle.argus_journal.specs.Objects.{declared_by}
+use Rattle.argus_objects.specs.Holdings.{listed, room_of}
+use Rattle.argus_objects.specs.declared.holdings.Holdings.{Holdings}
 
 -- the journal has room for the entry, whose reply is the answer
 pub record HasPlace (parts : Parts) (e : PlainEntry) : Type 0 where
@@ -32,6 +40,16 @@ pub record CanBegin (tree : Tree) (e : PlainEntry) (call : PlainCall) (refusal :
   pub free : refusal ≡ None
   pub told : e ≡ entry_with call (begun (next tree))
 
+-- this call ends actions: the tree doesn't refuse it, and the entry says that it is done
+pub record CanEnd (e : PlainEntry) (call : PlainCall) (refusal : Option ActionRefusal) : Type 0 where
+  pub free : refusal ≡ None
+  pub told : e ≡ entry_with call (answered done)
+
+-- a has this parent, whose list has room for all objects of a's list
+pub record CanPass (tree : Tree) (holdings : Holdings) (a p : ActionId) : Type 0 where
+  pub parent : parent_of tree a.0 ≡ Some p
+  pub room : length (listed holdings a) ≤ room_of holdings p
+
 -- what the step needs is there, and the entry tells of it
 abbrev pub CanStep : Parts → PlainEntry → Step → Type 0
 CanStep parts e step.Nothing = TellsNothing parts e
@@ -41,9 +59,23 @@ CanStep parts e (step.BeginSub parent) =
     CanBegin parts.tree e (begin_sub parent.0) (begin_sub_refusal parts.tree parent.0)
 CanStep parts e (step.BeginNested creator) =
     CanBegin parts.tree e (begin_nested creator.0) (begin_nested_refusal parts.tree creator.0)
+CanStep parts e (step.Inherit a parent) =
+    CanEnd e (commit a.0) (commit_refusal parts.tree a.0) × CanPass parts.tree parts.holdings a parent
+CanStep parts e (step.Settle a) =
+    CanEnd e (commit a.0) (commit_refusal parts.tree a.0) × (parent_of parts.tree a.0 ≡ None)
+CanStep parts e (step.Abort a) = CanEnd e (abort a.0) (abort_refusal parts.tree a.0)
+CanStep parts e (step.AbortOthers a) = CanEnd e (abort_others a.0) (abort_others_refusal parts.tree a.0)
 
 -- all is at hand for the call: a place for its entry, the same reply to give back, and what its step needs
 pub record IsReady (parts : Parts) (prepared : Prepared) : Type 0 where
   pub place : HasPlace parts (plain_entry prepared.entry)
   pub same : plain_reply prepared.reply ≡ (plain_entry prepared.entry).reply
   pub step : CanStep parts (plain_entry prepared.entry) prepared.step
+
+-- the step of this call, which is answered `Done`
+abbrev pub done_with : Step → Call → Prepared
+done_with step call = record {
+  step = step;
+  entry = record { call = call; reply = Answered Done };
+  reply = Answered Done;
+}

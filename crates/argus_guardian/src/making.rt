@@ -1,14 +1,18 @@
 //! How a prepared call is made: nothing of it can fail.
 
-ghost use Rattle.std.specs.Prelude.{◌≡◌};
+ghost use Rattle.std.specs.Prelude.{◌≡◌, None};
+ghost use Rattle.argus_actions.specs.Refusals.{abort_others_refusal, abort_refusal, commit_refusal};
 ghost use Rattle.argus_actions.specs.Refusals.{begin_nested_refusal, begin_sub_refusal, begin_top_refusal};
-ghost use Rattle.argus_entries.specs.Call.{begin_nested, begin_sub, begin_top, plain_call};
+ghost use Rattle.argus_actions.specs.Tree.{parent_of};
+ghost use Rattle.argus_entries.specs.Call.{abort, abort_others, begin_nested, begin_sub, begin_top, commit, plain_call};
 ghost use Rattle.argus_entries.specs.Entry.{plain_entry};
 ghost use Rattle.argus_entries.specs.Reply.{plain_reply};
 ghost use Rattle.argus_guardian.specs.Parts.{Keeps, said_of, with_entry};
-ghost use Rattle.argus_guardian.specs.Prepared.{CanBegin, HasPlace, IsReady, TellsNothing};
+ghost use Rattle.argus_guardian.specs.Prepared.{CanBegin, CanEnd, CanPass, HasPlace, IsReady, TellsNothing};
 ghost use Rattle.argus_guardian.specs.Step.{after, reply_to};
 
+use crate::discarding::{discard_others, discard_under};
+use crate::moving::{inherit_all, settle_all};
 use crate::parts::Parts;
 use crate::prepared::Prepared;
 use crate::step::Step;
@@ -41,6 +45,22 @@ pub(crate) fn make(parts: &mut Parts, prepared: Prepared) -> Reply
         }
         Step::BeginNested(creator) => {
             make_begin_nested(parts, creator, entry);
+            reply
+        }
+        Step::Inherit(a, parent) => {
+            make_inherit(parts, a, parent, entry);
+            reply
+        }
+        Step::Settle(a) => {
+            make_settle(parts, a, entry);
+            reply
+        }
+        Step::Abort(a) => {
+            make_abort(parts, a, entry);
+            reply
+        }
+        Step::AbortOthers(a) => {
+            make_abort_others(parts, a, entry);
             reply
         }
     }
@@ -93,5 +113,84 @@ fn make_begin_nested(parts: &mut Parts, creator: ActionId, entry: Entry)
     ensures said { said_of parts.new ≡ with_entry (said_of parts.old) (plain_entry entry) }
 {
     let _ = parts.tree.begin_nested_reserved(creator);
+    parts.journal.push(entry);
+}
+
+// Commits a subaction, and records it.
+fn make_inherit(parts: &mut Parts, a: ActionId, parent: ActionId, entry: Entry)
+    requires kept { Keeps parts.old }
+    requires place { HasPlace parts.old (plain_entry entry) }
+    requires step { CanEnd (plain_entry entry) (commit a.0) (commit_refusal parts.old.tree a.0) }
+    requires pass { CanPass parts.old.tree parts.old.holdings a parent }
+    ensures kept { Keeps parts.new }
+    ensures said { said_of parts.new ≡ with_entry (said_of parts.old) (plain_entry entry) }
+{
+    inherit_all(
+        parts.objects.as_mut_slice(),
+        parts.holdings.of(a),
+        &parts.tree,
+        a,
+        parent,
+    );
+    parts.holdings.pass(a, parent);
+    parts.tree.commit_ready(a);
+    parts.journal.push(entry);
+}
+
+// Commits a topaction, and records it.
+fn make_settle(parts: &mut Parts, a: ActionId, entry: Entry)
+    requires kept { Keeps parts.old }
+    requires place { HasPlace parts.old (plain_entry entry) }
+    requires step { CanEnd (plain_entry entry) (commit a.0) (commit_refusal parts.old.tree a.0) }
+    requires top { parent_of parts.old.tree a.0 ≡ None }
+    ensures kept { Keeps parts.new }
+    ensures said { said_of parts.new ≡ with_entry (said_of parts.old) (plain_entry entry) }
+{
+    settle_all(
+        parts.objects.as_mut_slice(),
+        parts.holdings.of(a),
+        &parts.tree,
+        a,
+    );
+    parts.holdings.clear(a);
+    parts.tree.commit_ready(a);
+    parts.journal.push(entry);
+}
+
+// Aborts an action, and records it.
+fn make_abort(parts: &mut Parts, a: ActionId, entry: Entry)
+    requires kept { Keeps parts.old }
+    requires place { HasPlace parts.old (plain_entry entry) }
+    requires step { CanEnd (plain_entry entry) (abort a.0) (abort_refusal parts.old.tree a.0) }
+    ensures kept { Keeps parts.new }
+    ensures said { said_of parts.new ≡ with_entry (said_of parts.old) (plain_entry entry) }
+{
+    parts.tree.rows_are_sound();
+    discard_under(
+        parts.objects.as_mut_slice(),
+        &mut parts.holdings,
+        &parts.tree,
+        a,
+    );
+    parts.tree.abort_live(a);
+    parts.journal.push(entry);
+}
+
+// Aborts the live siblings of an action, and records it.
+fn make_abort_others(parts: &mut Parts, a: ActionId, entry: Entry)
+    requires kept { Keeps parts.old }
+    requires place { HasPlace parts.old (plain_entry entry) }
+    requires step { CanEnd (plain_entry entry) (abort_others a.0) (abort_others_refusal parts.old.tree a.0) }
+    ensures kept { Keeps parts.new }
+    ensures said { said_of parts.new ≡ with_entry (said_of parts.old) (plain_entry entry) }
+{
+    parts.tree.rows_are_sound();
+    discard_others(
+        parts.objects.as_mut_slice(),
+        &mut parts.holdings,
+        &parts.tree,
+        a,
+    );
+    parts.tree.abort_others_ready(a);
     parts.journal.push(entry);
 }

@@ -1,15 +1,16 @@
-//! How a call that changes nothing is prepared.
+//! How a refused call is prepared, and one that is answered `Done`.
 
 ghost use Rattle.std.specs.Prelude.{◌≡◌, IfOk};
 ghost use Rattle.argus_entries.specs.Call.{plain_call};
 ghost use Rattle.argus_entries.specs.Reply.{refused};
 ghost use Rattle.argus_guardian.specs.Parts.{Keeps, said_of};
-ghost use Rattle.argus_guardian.specs.Prepared.{IsReady};
+ghost use Rattle.argus_guardian.specs.Prepared.{done_with, IsReady};
 ghost use Rattle.argus_guardian.specs.Step.{reply_to};
 
 use crate::parts::Parts;
 use crate::prepared::Prepared;
 use crate::step::Step;
+use argus_contents::Answer;
 use argus_entries::{Call, Entry, Refusal, Reply};
 use argus_memory::OutOfMemory;
 
@@ -35,4 +36,18 @@ pub(crate) fn prepare_refused(
         },
         reply: Reply::Refused(why),
     })
+}
+
+/// The step of a call that is answered `Done`.
+pub(crate) fn done(step: Step, call: Call) -> Prepared
+    ensures { result ≡ done_with step call }
+{
+    Prepared {
+        step,
+        entry: Entry {
+            call,
+            reply: Reply::Answered(Answer::Done),
+        },
+        reply: Reply::Answered(Answer::Done),
+    }
 }

@@ -13,4 +13,12 @@ pub(crate) enum Step {
     BeginSub(ActionId),
     /// A nested topaction of this creator begins.
     BeginNested(ActionId),
+    /// A subaction commits: what it holds is its parent's, the second one's.
+    Inherit(ActionId, ActionId),
+    /// A topaction commits: its versions are the bases.
+    Settle(ActionId),
+    /// An action is aborted, with all that stand under it.
+    Abort(ActionId),
+    /// All live siblings of an action are aborted.
+    AbortOthers(ActionId),
 }
