@@ -13,7 +13,9 @@ pub mod Granted
 pub mod Accessed
 pub mod Accesses
 pub mod Stepped
+pub mod MadeAccesses
 pub mod Asks
 pub mod Alters
 pub mod Tests
 pub mod WriteTests
+pub mod FreeLocks

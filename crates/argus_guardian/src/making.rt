@@ -1,6 +1,6 @@
 //! How a prepared call is made: nothing of it can fail.
 
-ghost use Rattle.std.specs.Prelude.{◌≡◌, None};
+ghost use Rattle.std.specs.Prelude.{◌≡◌, false, None, true};
 ghost use Rattle.argus_actions.specs.Refusals.{abort_others_refusal, abort_refusal, commit_refusal};
 ghost use Rattle.argus_actions.specs.Refusals.{begin_nested_refusal, begin_sub_refusal, begin_top_refusal};
 ghost use Rattle.argus_actions.specs.Tree.{parent_of};
@@ -8,15 +8,19 @@ ghost use Rattle.argus_entries.specs.Call.{abort, abort_others, begin_nested, be
 ghost use Rattle.argus_entries.specs.Entry.{plain_entry};
 ghost use Rattle.argus_entries.specs.Reply.{plain_reply};
 ghost use Rattle.argus_guardian.specs.Parts.{Keeps, said_of, with_entry};
-ghost use Rattle.argus_guardian.specs.Prepared.{CanBegin, CanEnd, CanPass, HasPlace, IsReady, TellsNothing};
+ghost use Rattle.argus_guardian.specs.Prepared.{CanAccess, CanBegin, CanEnd, CanPass};
+ghost use Rattle.argus_guardian.specs.Prepared.{HasPlace, IsLeft, IsReady, TellsNothing};
 ghost use Rattle.argus_guardian.specs.Step.{after, reply_to};
+ghost use Rattle.argus_objects.specs.Rules.{may_read, may_write};
 
 use crate::discarding::{discard_others, discard_under};
+use crate::granting::{grant_read, grant_write};
 use crate::moving::{inherit_all, settle_all};
 use crate::parts::Parts;
 use crate::prepared::Prepared;
 use crate::step::Step;
 use argus_actions::ActionId;
+use argus_contents::{Content, ObjId};
 use argus_entries::{Entry, Reply};
 
 /// Makes a prepared call, and gives its reply. It takes no memory.
@@ -61,6 +65,14 @@ pub(crate) fn make(parts: &mut Parts, prepared: Prepared) -> Reply
         }
         Step::AbortOthers(a) => {
             make_abort_others(parts, a, entry);
+            reply
+        }
+        Step::Read(a, o) => {
+            make_read(parts, a, o, entry);
+            reply
+        }
+        Step::Write(a, o, content) => {
+            make_write(parts, a, o, content, entry);
             reply
         }
     }
@@ -192,5 +204,45 @@ fn make_abort_others(parts: &mut Parts, a: ActionId, entry: Entry)
         a,
     );
     parts.tree.abort_others_ready(a);
+    parts.journal.push(entry);
+}
+
+// Makes an action a reader, and records it.
+fn make_read(parts: &mut Parts, a: ActionId, o: ObjId, entry: Entry)
+    requires kept { Keeps parts.old }
+    requires place { HasPlace parts.old (plain_entry entry) }
+    requires step { CanAccess parts.old (plain_entry entry) a o false
+        (λ cell. may_read parts.old.tree cell a) }
+    ensures kept { Keeps parts.new }
+    ensures said { said_of parts.new ≡ with_entry (said_of parts.old) (plain_entry entry) }
+{
+    grant_read(
+        parts.objects.as_mut_slice(),
+        &mut parts.holdings,
+        &parts.tree,
+        a,
+        o,
+    );
+    parts.journal.push(entry);
+}
+
+// Makes this the content of an action's version, and records it.
+fn make_write(parts: &mut Parts, a: ActionId, o: ObjId, content: Option<Content>, entry: Entry)
+    requires kept { Keeps parts.old }
+    requires place { HasPlace parts.old (plain_entry entry) }
+    requires step { CanAccess parts.old (plain_entry entry) a o true
+        (λ cell. may_write parts.old.tree cell a) }
+    requires left { IsLeft parts.old (plain_entry entry) a o content }
+    ensures kept { Keeps parts.new }
+    ensures said { said_of parts.new ≡ with_entry (said_of parts.old) (plain_entry entry) }
+{
+    grant_write(
+        parts.objects.as_mut_slice(),
+        &mut parts.holdings,
+        &parts.tree,
+        a,
+        o,
+        content,
+    );
     parts.journal.push(entry);
 }

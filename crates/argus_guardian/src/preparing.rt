@@ -1,10 +1,10 @@
-//! How a refused call is prepared, and one that is answered `Done`.
+//! How a refused call is prepared, and one that is answered `Done` or a truth.
 
 ghost use Rattle.std.specs.Prelude.{◌≡◌, IfOk};
 ghost use Rattle.argus_entries.specs.Call.{plain_call};
 ghost use Rattle.argus_entries.specs.Reply.{refused};
 ghost use Rattle.argus_guardian.specs.Parts.{Keeps, said_of};
-ghost use Rattle.argus_guardian.specs.Prepared.{done_with, IsReady};
+ghost use Rattle.argus_guardian.specs.Prepared.{done_with, flagged_with, IsReady};
 ghost use Rattle.argus_guardian.specs.Step.{reply_to};
 
 use crate::parts::Parts;
@@ -49,5 +49,19 @@ pub(crate) fn done(step: Step, call: Call) -> Prepared
             reply: Reply::Answered(Answer::Done),
         },
         reply: Reply::Answered(Answer::Done),
+    }
+}
+
+/// The step of a test that is answered this truth.
+pub(crate) fn flagged(step: Step, call: Call, truth: bool) -> Prepared
+    ensures { result ≡ flagged_with step call truth }
+{
+    Prepared {
+        step,
+        entry: Entry {
+            call,
+            reply: Reply::Answered(Answer::Flag(truth)),
+        },
+        reply: Reply::Answered(Answer::Flag(truth)),
     }
 }

@@ -1,6 +1,7 @@
 //! `Step`: what a prepared call is going to change.
 
 use argus_actions::ActionId;
+use argus_contents::{Content, ObjId};
 
 /// What a prepared call is going to change, beside the journal.
 #[derive(Drop)]
@@ -21,4 +22,8 @@ pub(crate) enum Step {
     Abort(ActionId),
     /// All live siblings of an action are aborted.
     AbortOthers(ActionId),
+    /// The action is a reader of the object.
+    Read(ActionId, ObjId),
+    /// The action's version of the object has this content.
+    Write(ActionId, ObjId, Option<Content>),
 }

@@ -42,10 +42,10 @@ returns-clause-ready c =
       place = record {
         room = c.in_ok-reserve.ensures.ok;
         right = rw (c.reserve.ensures.entries, c.reserve.ensures.opening)
-        (begun_right p.tree t t p.objects.items p.holdings s j k same
-        begin_top Top (begin_top_refusal p.tree) b free c.len.result c.len.ensures);
+            (begun_right p.tree t t p.objects.items p.holdings s j k same
+            begin_top Top (begin_top_refusal p.tree) b free c.len.result c.len.ensures);
       };
       same = refl;
       step = can_begin t s j begin_top Top (begin_top_refusal p.tree) (begin_top_refusal t)
-      b b' free c.in_ok-reserve-2.ensures.ok c.len.result c.len.ensures;
+          b b' free c.in_ok-reserve-2.ensures.ok c.len.result c.len.ensures;
     }

@@ -26,7 +26,7 @@ returns-clause-ready c =
       place = record {
         room = c.in_ok-reserve.ensures.ok;
         right = rw (c.reserve.ensures.entries, c.reserve.ensures.opening)
-        (others_right p.tree p.objects.items p.holdings s j c.requires c.args.a free);
+            (others_right p.tree p.objects.items p.holdings s j c.requires c.args.a free);
       };
       same = refl;
       step = record { free = free; told = refl };

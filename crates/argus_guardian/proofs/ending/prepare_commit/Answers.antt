@@ -26,12 +26,12 @@ returns-in_ok-reserve_pass-in-Some-parent-clause-ready c =
       place = record {
         room = c.in_ok-reserve.ensures.ok;
         right = rw (c.reserve.ensures.entries, c.reserve.ensures.opening)
-        (committed_right p.tree p.objects.items p.holdings s j c.requires c.args.a free);
+            (committed_right p.tree p.objects.items p.holdings s j c.requires c.args.a free);
       };
       same = refl;
       step = (
         record { free = free; told = refl },
-        record { parent = sym c.parent.ensures ∙ c.in-Some-parent.is; room = c.in_ok-reserve_pass-in-Some-parent.ensures.ok }
+        record { parent = sym c.parent.ensures ∙ c.in-Some-parent.is; room = c.in_ok-reserve_pass-in-Some-parent.ensures.ok },
       );
     })
 
@@ -45,7 +45,7 @@ returns-in-None-parent-clause-ready c =
       place = record {
         room = c.in_ok-reserve.ensures.ok;
         right = rw (c.reserve.ensures.entries, c.reserve.ensures.opening)
-        (committed_right p.tree p.objects.items p.holdings s j c.requires c.args.a free);
+            (committed_right p.tree p.objects.items p.holdings s j c.requires c.args.a free);
       };
       same = refl;
       step = (record { free = free; told = refl }, sym c.parent.ensures ∙ c.in-None-parent.is);
