@@ -18,6 +18,7 @@ use crate::prepared::Prepared;
 use crate::preparing::prepare_refused;
 use crate::refusing::{alter_refusal, ask_refusal};
 use crate::step::Step;
+use crate::writing::alter_at_once;
 use argus_actions::ActionId;
 use argus_contents::{Change, ObjId, Query};
 use argus_entries::{Call, Entry, Reply};
@@ -150,7 +151,6 @@ impl Guardian {
             ≡ after self.old (alter a.0 o.0 (plain_change change))) }
         ensures err { OnErr result (self.new ≡ self.old) }
     {
-        let prepared = prepare_alter(&mut self.parts, a, o, change)?;
-        Ok(make(&mut self.parts, prepared))
+        alter_at_once(&mut self.parts, a, o, change)
     }
 }

@@ -12,7 +12,9 @@ ghost use Rattle.argus_objects.specs.Rules.{may_read, may_write};
 
 use crate::atomic_object::AtomicObject;
 use argus_actions::{ActionId, ActionTree};
-use argus_contents::{Answer, Change, Content, ObjId, Query, alter, ask};
+use argus_contents::{
+    Answer, Change, Content, ObjId, Query, alter, ask, change_answer as answer_of_change,
+};
 use argus_entries::Reply;
 use argus_memory::{Heap, OutOfMemory};
 
@@ -34,6 +36,26 @@ pub(crate) fn query_answer(
 {
     let object = &objects[o.0 as usize];
     ask(heap, object.cell.visible(tree, a), query)
+}
+
+/// What a change of the object is answered, at what the action sees there.
+pub(crate) fn change_answer(
+    heap: Heap,
+    objects: &[AtomicObject],
+    tree: &ActionTree,
+    a: ActionId,
+    o: ObjId,
+    change: &Change,
+) -> Result<Answer, OutOfMemory>
+    requires low { o.0 < length objects.now }
+    requires granted { (d : AtomicObject)
+        → may_read tree.now (slice_index_or objects.now o.0 d).cell a ≡ true }
+    requires limits { (d : AtomicObject) → KeepsLimits (seen_at tree.now a objects.now o.0 d) }
+    ensures { (d : AtomicObject) → IfOk result (λ answer. plain_answer answer
+        ≡ (outcome_of (plain_change change.now) (seen_at tree.now a objects.now o.0 d)).1) }
+{
+    let object = &objects[o.0 as usize];
+    answer_of_change(heap, object.cell.visible(tree, a), change)
 }
 
 /// What a change leaves of what the action sees in the object, and what it is answered.

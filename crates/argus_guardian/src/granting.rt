@@ -1,9 +1,10 @@
 //! How a granted access takes its lock: first all that can run out is had, then the lock is taken.
 
-ghost use Rattle.std.specs.Prelude.{◌≡◌, ◌<◌, length, None, OnOk, slice_index_or, true};
+ghost use Rattle.std.specs.Prelude.{◌≡◌, ◌<◌, length, None, OnErr, OnOk, slice_index_or, true};
 ghost use Rattle.argus_actions.specs.Refusals.{commit_refusal};
-ghost use Rattle.argus_contents.specs.Content.{plain_option};
-ghost use Rattle.argus_guardian.specs.Accessing.{IsAccessed, IsAsBefore};
+ghost use Rattle.argus_contents.specs.Change.{plain_change};
+ghost use Rattle.argus_contents.specs.Content.{KeepsLimits, plain_option};
+ghost use Rattle.argus_guardian.specs.Accessing.{IsAccessed, IsAltered, IsAsBefore, seen_at};
 ghost use Rattle.argus_guardian.specs.Moving.{AreLawful, IsRead, IsWritten};
 ghost use Rattle.argus_guardian.specs.Parts.{Keeps, said_of};
 ghost use Rattle.argus_guardian.specs.Prepared.{HasRoom, IsFree};
@@ -14,7 +15,7 @@ ghost use Rattle.argus_objects.specs.Rules.{may_read, may_write};
 use crate::atomic_object::AtomicObject;
 use crate::parts::Parts;
 use argus_actions::{ActionId, ActionTree};
-use argus_contents::{Content, ObjId};
+use argus_contents::{Change, Content, ObjId};
 use argus_memory::OutOfMemory;
 use argus_objects::Holdings;
 
@@ -84,4 +85,28 @@ pub(crate) fn grant_write(
     let object = &mut objects[o.0 as usize];
     object.cell.grant_write(tree, a, content);
     holdings.note(a, o);
+}
+
+/// Makes a change in an action's version of the object, which is noted on its list: in place where
+/// the action has a version, otherwise on a copy.
+pub(crate) fn grant_change(
+    objects: &mut [AtomicObject],
+    holdings: &mut Holdings,
+    tree: &ActionTree,
+    a: ActionId,
+    o: ObjId,
+    change: Change,
+) -> Result<(), OutOfMemory>
+    requires lawful { AreLawful tree.now objects.old }
+    requires free { IsFree tree.now objects.old a o (λ cell. may_write tree.now cell a) }
+    requires limits { (d : AtomicObject) → KeepsLimits (seen_at tree.now a objects.old o.0 d) }
+    ensures ok { OnOk result (IsAccessed (IsAltered tree.now a (plain_change change)) a o
+        objects.old objects.new holdings.old holdings.new) }
+    ensures err { OnErr result (IsAsBefore o objects.old objects.new holdings.old holdings.new) }
+{
+    holdings.reserve(a)?;
+    let object = &mut objects[o.0 as usize];
+    object.cell.grant_change(tree, a, change)?;
+    holdings.note(a, o);
+    Ok(())
 }

@@ -14,9 +14,9 @@ mod moving;
 mod parts;
 mod prepared;
 mod preparing;
-mod recording;
 mod refusing;
 mod step;
 mod testing;
+mod writing;
 
 pub use guardian::Guardian;

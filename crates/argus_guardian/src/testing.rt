@@ -18,6 +18,7 @@ use crate::prepared::Prepared;
 use crate::preparing::{flagged, prepare_refused};
 use crate::refusing::test_refusal;
 use crate::step::Step;
+use crate::writing::test_write_at_once;
 use argus_actions::ActionId;
 use argus_contents::{Change, ObjId};
 use argus_entries::{Call, Reply};
@@ -115,7 +116,6 @@ impl Guardian {
         ensures ok { OnOk result (self.new ≡ after self.old (test_write a.0 o.0)) }
         ensures err { OnErr result (self.new ≡ self.old) }
     {
-        let prepared = prepare_test_write(&mut self.parts, a, o)?;
-        Ok(make(&mut self.parts, prepared))
+        test_write_at_once(&mut self.parts, a, o)
     }
 }
