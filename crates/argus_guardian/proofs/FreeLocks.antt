@@ -33,7 +33,8 @@ record IsGrantedWith (q : Option Refusal) (r : PlainReply) (x : PlainAnswer) : T
   pub free : q ≡ None
   pub reply : r ≡ answered x
 
-not_refused : (q : Option Refusal) (r : PlainReply) (x : PlainAnswer) → or_refused q r ≡ answered x → IsGrantedWith q r x
+not_refused : (q : Option Refusal) (r : PlainReply) (x : PlainAnswer) → or_refused q r ≡ answered x → IsGrantedWith q r
+    x
 not_refused None r x e = record { free = refl; reply = e }
 not_refused (Some why) r x e = cc
 

@@ -36,7 +36,8 @@ use Rattle.argus_objects.specs.Object.{holders}
 use Rattle.argus_objects.specs.Rules.{all_above, may_read, may_write}
 use Rattle.argus_objects.specs.declared.holdings.Holdings.{Holdings}
 
-module _ (p : Parts) (e : PlainEntry) (a : ActionId) (o : ObjId) (k : Keeps p) (place : HasPlace p e) (objects' : List AtomicObject) (holdings' : Holdings) where
+module _ (p : Parts) (e : PlainEntry) (a : ActionId) (o : ObjId) (k : Keeps p) (place : HasPlace p e)
+    (objects' : List AtomicObject) (holdings' : Holdings) where
   pub made_read : CanAccess p e a o false (λ cell. may_read p.tree cell a)
       → IsAccessed (IsRead p.tree a) a o p.objects.items objects' p.holdings holdings'
       → IsKept p.tree objects' holdings' (opening_in p.journal) (e ∷ entries_in p.journal)
@@ -44,11 +45,13 @@ module _ (p : Parts) (e : PlainEntry) (a : ActionId) (o : ObjId) (k : Keeps p) (
       let s = opening_in p.journal in
       let h = history s (entries_in p.journal) in
       kept_event s e (entries_in p.journal) p.tree p.tree p.objects.items objects' p.holdings holdings' k place.right
-      can.told.object (shapes_kept (IsRead p.tree a) (o ∷ []) p.objects.items objects' moved.objects) moved.objects.count
+      can.told.object (shapes_kept (IsRead p.tree a) (o ∷ []) p.objects.items objects' moved.objects)
+      moved.objects.count
       (Accessed (a.0 + 1) o.0 e) can.told.event
       (λ l. parts_accessed (IsRead p.tree a) s h p.tree p.objects.items objects' p.holdings holdings' k.parts a o e l
       can.free.low
-      (λ c c' i r. read_cell s h p.tree k.parts.actions a o.0 e l can.told.write c c' i r.base r.readers r.versions r.lawful)
+      (λ c c' i r. read_cell s h p.tree k.parts.actions a o.0 e l can.told.write c c' i r.base r.readers r.versions
+      r.lawful)
       moved)
 
   pub made_write : (content : Option Content)
@@ -70,7 +73,8 @@ module _ (p : Parts) (e : PlainEntry) (a : ActionId) (o : ObjId) (k : Keeps p) (
       kept_event s e j p.tree p.tree xs objects' p.holdings holdings' k place.right
       can.told.object (shapes_kept (IsWritten p.tree a (plain_option content)) (o ∷ []) xs objects' moved.objects)
       moved.objects.count (Accessed (a.0 + 1) o.0 e) can.told.event
-      (λ l. parts_accessed (IsWritten p.tree a (plain_option content)) s h p.tree xs objects' p.holdings holdings' k.parts a o e l
+      (λ l. parts_accessed (IsWritten p.tree a (plain_option content)) s h p.tree xs objects' p.holdings holdings'
+      k.parts a o e l
       can.free.low
       (λ c c' i r. written_cell s h p.tree k.parts.actions a o.0 e l can.told.write c c' (plain_option content) i is
       r.base r.readers r.versions r.lawful)

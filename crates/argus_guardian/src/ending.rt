@@ -76,8 +76,8 @@ impl Guardian {
     /// Commits an action: a subaction hands its locks and versions to its parent, a topaction makes
     /// its versions the bases and lets its locks go. The answer is `Done`.
     ///
-    /// Refusals: `NoAction`, `Over`, `Suspended` where it has a live child. After `OutOfMemory` all is
-    /// as before.
+    /// Refusals: `NoAction`, `Over`, `Suspended` where it has a live child. After `OutOfMemory` all
+    /// is as before.
     pub fn commit(&mut self, a: ActionId) -> Result<Reply, OutOfMemory>
         ensures reply { IfOk result (λ reply. plain_reply reply ≡ reply_to self.old (commit a.0)) }
         ensures ok { OnOk result (self.new ≡ after self.old (commit a.0)) }
@@ -101,9 +101,9 @@ impl Guardian {
         Ok(make(&mut self.parts, prepared))
     }
 
-    /// Aborts all live siblings of an action, each with its subactions, theirs, and so on. A sibling
-    /// is another action of the same parent or creator. The answer is `Done`, also where no sibling
-    /// is live.
+    /// Aborts all live siblings of an action, each with its subactions, theirs, and so on. A
+    /// sibling is another action of the same parent or creator. The answer is `Done`, also where no
+    /// sibling is live.
     ///
     /// Refusals: `NoAction`, `Over`, `Suspended`, `NoSiblings` where no action began it. After
     /// `OutOfMemory` all is as before.

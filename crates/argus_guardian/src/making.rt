@@ -2,9 +2,11 @@
 
 ghost use Rattle.std.specs.Prelude.{◌≡◌, false, None, true};
 ghost use Rattle.argus_actions.specs.Refusals.{abort_others_refusal, abort_refusal, commit_refusal};
-ghost use Rattle.argus_actions.specs.Refusals.{begin_nested_refusal, begin_sub_refusal, begin_top_refusal};
+ghost use Rattle.argus_actions.specs.Refusals.{begin_nested_refusal, begin_sub_refusal};
+ghost use Rattle.argus_actions.specs.Refusals.{begin_top_refusal};
 ghost use Rattle.argus_actions.specs.Tree.{parent_of};
-ghost use Rattle.argus_entries.specs.Call.{abort, abort_others, begin_nested, begin_sub, begin_top, commit, plain_call};
+ghost use Rattle.argus_entries.specs.Call.{abort, abort_others, begin_nested, begin_sub};
+ghost use Rattle.argus_entries.specs.Call.{begin_top, commit, plain_call};
 ghost use Rattle.argus_entries.specs.Entry.{plain_entry};
 ghost use Rattle.argus_entries.specs.Reply.{plain_reply};
 ghost use Rattle.argus_guardian.specs.Parts.{Keeps, said_of, with_entry};
@@ -192,7 +194,8 @@ fn make_abort(parts: &mut Parts, a: ActionId, entry: Entry)
 fn make_abort_others(parts: &mut Parts, a: ActionId, entry: Entry)
     requires kept { Keeps parts.old }
     requires place { HasPlace parts.old (plain_entry entry) }
-    requires step { CanEnd (plain_entry entry) (abort_others a.0) (abort_others_refusal parts.old.tree a.0) }
+    requires step { CanEnd (plain_entry entry) (abort_others a.0)
+        (abort_others_refusal parts.old.tree a.0) }
     ensures kept { Keeps parts.new }
     ensures said { said_of parts.new ≡ with_entry (said_of parts.old) (plain_entry entry) }
 {

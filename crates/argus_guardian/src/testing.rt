@@ -93,8 +93,8 @@ fn touched(parts: &Parts, a: ActionId, o: ObjId) -> Result<Prepared, OutOfMemory
 impl Guardian {
     /// Whether the action may have the object's read lock; where it may, it has it then.
     ///
-    /// Refusals: `NoAction`, `Over`, `Suspended` where the action has a live child, `NoObject`. After
-    /// `OutOfMemory` all is as before.
+    /// Refusals: `NoAction`, `Over`, `Suspended` where the action has a live child, `NoObject`.
+    /// After `OutOfMemory` all is as before.
     pub fn test_read(&mut self, a: ActionId, o: ObjId) -> Result<Reply, OutOfMemory>
         ensures reply { IfOk result (λ reply. plain_reply reply
             ≡ reply_to self.old (test_read a.0 o.0)) }
@@ -108,8 +108,8 @@ impl Guardian {
     /// Whether the action may have the object's write lock; where it may, it has it then, and a
     /// version with what it sees.
     ///
-    /// Refusals: `NoAction`, `Over`, `Suspended` where the action has a live child, `NoObject`. After
-    /// `OutOfMemory` all is as before.
+    /// Refusals: `NoAction`, `Over`, `Suspended` where the action has a live child, `NoObject`.
+    /// After `OutOfMemory` all is as before.
     pub fn test_write(&mut self, a: ActionId, o: ObjId) -> Result<Reply, OutOfMemory>
         ensures reply { IfOk result (λ reply. plain_reply reply
             ≡ reply_to self.old (test_write a.0 o.0)) }

@@ -19,7 +19,8 @@ query_answer-requires-clause-low c =
     let e : access_refusal p.tree p.objects.items c.args.a.0 c.args.o.0 (λ shape. query_suits shape c.args.query)
     (λ cell. may_read p.tree cell c.args.a) ≡ None =
     ask_is p.tree p.objects.items p.holdings s j c.requires.kept c.args.a c.args.o c.args.query ∙ c.requires.free in
-    rw (c.as_slice-objects.ensures.value) (ask_low p.tree p.objects.items p.holdings s j c.requires.kept c.args.a c.args.o c.args.query e)
+    rw (c.as_slice-objects.ensures.value) (ask_low p.tree p.objects.items p.holdings s j c.requires.kept c.args.a
+    c.args.o c.args.query e)
 
 pub query_answer-requires-clause-granted : goal.query_answer-requires-clause-granted
 query_answer-requires-clause-granted c =
@@ -29,7 +30,8 @@ query_answer-requires-clause-granted c =
     let e : access_refusal p.tree p.objects.items c.args.a.0 c.args.o.0 (λ shape. query_suits shape c.args.query)
     (λ cell. may_read p.tree cell c.args.a) ≡ None =
     ask_is p.tree p.objects.items p.holdings s j c.requires.kept c.args.a c.args.o c.args.query ∙ c.requires.free in
-    rw (c.as_slice-objects.ensures.value) (ask_free p.tree p.objects.items p.holdings s j c.requires.kept c.args.a c.args.o c.args.query e)
+    rw (c.as_slice-objects.ensures.value) (ask_free p.tree p.objects.items p.holdings s j c.requires.kept c.args.a
+    c.args.o c.args.query e)
 
 pub query_answer-requires-clause-limits : goal.query_answer-requires-clause-limits
 query_answer-requires-clause-limits c =
@@ -39,7 +41,8 @@ query_answer-requires-clause-limits c =
     let e : access_refusal p.tree p.objects.items c.args.a.0 c.args.o.0 (λ shape. query_suits shape c.args.query)
     (λ cell. may_read p.tree cell c.args.a) ≡ None =
     ask_is p.tree p.objects.items p.holdings s j c.requires.kept c.args.a c.args.o c.args.query ∙ c.requires.free in
-    rw (c.as_slice-objects.ensures.value) (ask_limits p.tree p.objects.items p.holdings s j c.requires.kept c.args.a c.args.o c.args.query e)
+    rw (c.as_slice-objects.ensures.value) (ask_limits p.tree p.objects.items p.holdings s j c.requires.kept c.args.a
+    c.args.o c.args.query e)
 
 pub returns-clause-ready : goal.returns-clause-ready
 returns-clause-ready c =
@@ -56,13 +59,15 @@ returns-clause-ready c =
     record {
       place = record {
         room = c.requires.place;
-        right = c.in_ok-reply.ensures.second ∙ ask_told p.tree p.objects.items p.holdings s j c.requires.kept c.args.a c.args.o c.args.query e _
+        right = c.in_ok-reply.ensures.second ∙ ask_told p.tree p.objects.items p.holdings s j c.requires.kept c.args.a
+            c.args.o c.args.query e _
             (rw (c.as_slice-objects.ensures.value) at c.in_ok-answer.ensures);
       };
       same = c.in_ok-reply.ensures.first ∙ sym c.in_ok-reply.ensures.second;
       step = record {
         free = record {
-          accepted = ask_accepted p.tree p.objects.items p.holdings s j c.requires.kept c.args.a c.args.o c.args.query e;
+          accepted = ask_accepted p.tree p.objects.items p.holdings s j c.requires.kept c.args.a c.args.o c.args.query
+              e;
           low = ask_low p.tree p.objects.items p.holdings s j c.requires.kept c.args.a c.args.o c.args.query e;
           opens = ask_free p.tree p.objects.items p.holdings s j c.requires.kept c.args.a c.args.o c.args.query e;
         };

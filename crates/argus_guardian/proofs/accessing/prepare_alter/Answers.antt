@@ -11,7 +11,8 @@ prepare_refused-requires-clause-right c =
     let p = c.args.parts.now in
     let s = opening_in p.journal in
     let j = entries_in p.journal in
-    alter_refused p.tree p.objects.items p.holdings s j c.requires c.args.a c.args.o (plain_change c.args.change) c.in-Some.why
+    alter_refused p.tree p.objects.items p.holdings s j c.requires c.args.a c.args.o (plain_change c.args.change)
+    c.in-Some.why
     (sym (rw (c.as_slice.ensures.value) at c.alter_refusal.ensures) ∙ c.in-Some.is)
 
 pub reserve_access-requires-clause-low : goal.reserve_access-requires-clause-low
@@ -27,6 +28,7 @@ answered_change-requires-clause-free c =
     let p = c.args.parts.now in
     let s = opening_in p.journal in
     let j = entries_in p.journal in
-    subst (λ (x : Said). refusal_to x (alter c.args.a.0 c.args.o.0 (plain_change c.args.change)) ≡ None) (sym c.reserve_access.ensures.said)
+    subst (λ (x : Said). refusal_to x (alter c.args.a.0 c.args.o.0 (plain_change c.args.change)) ≡ None)
+    (sym c.reserve_access.ensures.said)
     (sym (alter_is p.tree p.objects.items p.holdings s j c.requires c.args.a c.args.o (plain_change c.args.change))
     ∙ (sym (rw (c.as_slice.ensures.value) at c.alter_refusal.ensures) ∙ c.in-None.is))

@@ -26,6 +26,7 @@ answered_query-requires-clause-free c =
     let p = c.args.parts.now in
     let s = opening_in p.journal in
     let j = entries_in p.journal in
-    subst (λ (x : Said). refusal_to x (ask c.args.a.0 c.args.o.0 c.args.query) ≡ None) (sym c.reserve_access.ensures.said)
+    subst (λ (x : Said). refusal_to x (ask c.args.a.0 c.args.o.0 c.args.query) ≡ None)
+    (sym c.reserve_access.ensures.said)
     (sym (ask_is p.tree p.objects.items p.holdings s j c.requires c.args.a c.args.o c.args.query)
     ∙ (sym (rw (c.as_slice.ensures.value) at c.ask_refusal.ensures) ∙ c.in-None.is))

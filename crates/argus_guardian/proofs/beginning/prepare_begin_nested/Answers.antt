@@ -43,9 +43,11 @@ returns-clause-ready c =
         room = c.in_ok-reserve.ensures.ok;
         right = rw (c.reserve.ensures.entries, c.reserve.ensures.opening)
             (begun_right p.tree t t p.objects.items p.holdings s j k same
-            (begin_nested c.args.creator.0) (Nested c.args.creator.0) (begin_nested_refusal p.tree c.args.creator.0) b free c.len.result c.len.ensures);
+            (begin_nested c.args.creator.0) (Nested c.args.creator.0) (begin_nested_refusal p.tree c.args.creator.0) b
+            free c.len.result c.len.ensures);
       };
       same = refl;
-      step = can_begin t s j (begin_nested c.args.creator.0) (Nested c.args.creator.0) (begin_nested_refusal p.tree c.args.creator.0) (begin_nested_refusal t c.args.creator.0)
+      step = can_begin t s j (begin_nested c.args.creator.0) (Nested c.args.creator.0)
+          (begin_nested_refusal p.tree c.args.creator.0) (begin_nested_refusal t c.args.creator.0)
           b b' free c.in_ok-reserve-2.ensures.ok c.len.result c.len.ensures;
     }

@@ -31,7 +31,11 @@ returns-in_ok-reserve_pass-in-Some-parent-clause-ready c =
       same = refl;
       step = (
         record { free = free; told = refl },
-        record { parent = sym c.parent.ensures ∙ c.in-Some-parent.is; room = c.in_ok-reserve_pass-in-Some-parent.ensures.ok },
+        record {
+          parent = sym c.parent.ensures ∙ c.in-Some-parent.is;
+          room =
+              c.in_ok-reserve_pass-in-Some-parent.ensures.ok;
+        },
       );
     })
 

@@ -14,6 +14,7 @@ returns-clause-kept c =
     let j = entries_in p.journal in
     rw (c.push.ensures.entries, c.push.ensures.opening)
     (made_begin p.tree c.begin_nested_reserved.new.self p.objects.items p.holdings s j c.requires.kept
-    (begin_nested c.args.creator.0) (Nested c.args.creator.0) (plain_entry c.args.entry) (begin_nested_refusal p.tree c.args.creator.0)
+    (begin_nested c.args.creator.0) (Nested c.args.creator.0) (plain_entry c.args.entry)
+    (begin_nested_refusal p.tree c.args.creator.0)
     (nested_begin p.tree p.objects.items p.holdings s j c.requires.kept c.args.creator.0)
     c.requires.step c.begin_nested_reserved.ensures.tree)

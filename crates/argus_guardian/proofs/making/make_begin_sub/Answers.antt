@@ -14,6 +14,7 @@ returns-clause-kept c =
     let j = entries_in p.journal in
     rw (c.push.ensures.entries, c.push.ensures.opening)
     (made_begin p.tree c.begin_sub_reserved.new.self p.objects.items p.holdings s j c.requires.kept
-    (begin_sub c.args.parent.0) (Sub c.args.parent.0) (plain_entry c.args.entry) (begin_sub_refusal p.tree c.args.parent.0)
+    (begin_sub c.args.parent.0) (Sub c.args.parent.0) (plain_entry c.args.entry)
+    (begin_sub_refusal p.tree c.args.parent.0)
     (sub_begin p.tree p.objects.items p.holdings s j c.requires.kept c.args.parent.0)
     c.requires.step c.begin_sub_reserved.ensures.tree)

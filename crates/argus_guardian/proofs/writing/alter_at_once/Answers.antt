@@ -15,7 +15,8 @@ prepare_refused-requires-clause-right c =
     let p = c.args.parts.now in
     let s = opening_in p.journal in
     let j = entries_in p.journal in
-    alter_refused p.tree p.objects.items p.holdings s j c.requires c.args.a c.args.o (plain_change c.args.change) c.in-Some.why
+    alter_refused p.tree p.objects.items p.holdings s j c.requires c.args.a c.args.o (plain_change c.args.change)
+    c.in-Some.why
     (sym (rw (c.as_slice.ensures.value) at c.alter_refusal.ensures) ∙ c.in-Some.is)
 
 pub change_answer-requires-clause-low : goal.change_answer-requires-clause-low
@@ -23,7 +24,8 @@ change_answer-requires-clause-low c =
     let p = c.args.parts.now in
     let s = opening_in p.journal in
     let j = entries_in p.journal in
-    rw (c.as_slice-objects.ensures.value) (alter_low p.tree p.objects.items p.holdings s j c.requires c.args.a c.args.o (plain_change c.args.change)
+    rw (c.as_slice-objects.ensures.value) (alter_low p.tree p.objects.items p.holdings s j c.requires c.args.a c.args.o
+    (plain_change c.args.change)
     (sym (rw (c.as_slice.ensures.value) at c.alter_refusal.ensures) ∙ c.in-None.is))
 
 pub change_answer-requires-clause-granted : goal.change_answer-requires-clause-granted
@@ -31,7 +33,8 @@ change_answer-requires-clause-granted c =
     let p = c.args.parts.now in
     let s = opening_in p.journal in
     let j = entries_in p.journal in
-    rw (c.as_slice-objects.ensures.value) (alter_reads p.tree p.objects.items p.holdings s j c.requires c.args.a c.args.o (plain_change c.args.change)
+    rw (c.as_slice-objects.ensures.value) (alter_reads p.tree p.objects.items p.holdings s j c.requires c.args.a
+    c.args.o (plain_change c.args.change)
     (sym (rw (c.as_slice.ensures.value) at c.alter_refusal.ensures) ∙ c.in-None.is))
 
 pub change_answer-requires-clause-limits : goal.change_answer-requires-clause-limits
@@ -39,7 +42,8 @@ change_answer-requires-clause-limits c =
     let p = c.args.parts.now in
     let s = opening_in p.journal in
     let j = entries_in p.journal in
-    rw (c.as_slice-objects.ensures.value) (alter_limits p.tree p.objects.items p.holdings s j c.requires c.args.a c.args.o (plain_change c.args.change)
+    rw (c.as_slice-objects.ensures.value) (alter_limits p.tree p.objects.items p.holdings s j c.requires c.args.a
+    c.args.o (plain_change c.args.change)
     (sym (rw (c.as_slice.ensures.value) at c.alter_refusal.ensures) ∙ c.in-None.is))
 
 pub write-requires-clause-right : goal.write-requires-clause-right
@@ -47,7 +51,8 @@ write-requires-clause-right c =
     let p = c.args.parts.now in
     let s = opening_in p.journal in
     let j = entries_in p.journal in
-    c.in_ok-reply.ensures.second ∙ alter_told p.tree p.objects.items p.holdings s j c.requires c.args.a c.args.o (plain_change c.args.change)
+    c.in_ok-reply.ensures.second ∙ alter_told p.tree p.objects.items p.holdings s j c.requires c.args.a c.args.o
+    (plain_change c.args.change)
     (sym (rw (c.as_slice.ensures.value) at c.alter_refusal.ensures) ∙ c.in-None.is) _
     (rw (c.as_slice-objects.ensures.value) at c.in_ok-answer.ensures)
 
@@ -58,9 +63,11 @@ write-requires-clause-free c =
     let j = entries_in p.journal in
     let e = (sym (rw (c.as_slice.ensures.value) at c.alter_refusal.ensures) ∙ c.in-None.is) in
     record {
-      accepted = alter_accepted p.tree p.objects.items p.holdings s j c.requires c.args.a c.args.o (plain_change c.args.change) e;
+      accepted = alter_accepted p.tree p.objects.items p.holdings s j c.requires c.args.a c.args.o
+          (plain_change c.args.change) e;
       low = alter_low p.tree p.objects.items p.holdings s j c.requires c.args.a c.args.o (plain_change c.args.change) e;
-      opens = alter_free p.tree p.objects.items p.holdings s j c.requires c.args.a c.args.o (plain_change c.args.change) e;
+      opens = alter_free p.tree p.objects.items p.holdings s j c.requires c.args.a c.args.o (plain_change c.args.change)
+          e;
     }
 
 pub write-requires-clause-told : goal.write-requires-clause-told

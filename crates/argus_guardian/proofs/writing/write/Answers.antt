@@ -44,5 +44,6 @@ returns-clause-kept c =
       c.reserve.ensures.entries,
       c.reserve.ensures.opening,
     )
-    (made_change p (plain_entry c.args.entry) c.args.a c.args.o r.kept new held (plain_change c.args.change) r.right r.free
+    (made_change p (plain_entry c.args.entry) c.args.a c.args.o r.kept new held (plain_change c.args.change) r.right
+    r.free
     r.told r.left (rw (c.as_mut_slice.ensures.value) at c.in_ok-grant_change.ensures.ok))
