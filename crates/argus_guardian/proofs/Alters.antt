@@ -39,7 +39,7 @@ use Rattle.argus_objects.specs.Rules.{all_above, may_read, may_write}
 use Rattle.argus_objects.specs.declared.holdings.Holdings.{Holdings}
 
 module _ (t : Tree) (objects : List AtomicObject) (holdings : Holdings) (s : Opening) (j : List PlainEntry) (k : IsKept t objects holdings s j) (a : ActionId) (o : ObjId) (change : PlainChange) where
-  alter_is : access_refusal t objects a.0 o.0 (λ shape. change_suits shape (length objects) change) (λ c. may_write t c a) ≡ refusal (history s j) (shapes s j) (alter a.0 o.0 change)
+  pub alter_is : access_refusal t objects a.0 o.0 (λ shape. change_suits shape (length objects) change) (λ c. may_write t c a) ≡ refusal (history s j) (shapes s j) (alter a.0 o.0 change)
   alter_is =
       access_is t objects holdings s j k a o.0 (λ shape. change_suits shape (length objects) change) (λ c. may_write t c a) (model.may_write entries (history s j) (a.0 + 1) o.0) (writes_agree t objects holdings s j k a o.0)
       ∙ ap (λ n. if_free (history s j) a.0 (if_declared (shapes s j) o.0 (unless (suits (λ shape. change_suits shape n change) (slice_get (shapes s j) o.0)) IllTyped (unless (model.may_write entries (history s j) (a.0 + 1) o.0) Conflict None))))

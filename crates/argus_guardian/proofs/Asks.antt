@@ -33,7 +33,7 @@ use Rattle.argus_objects.specs.Rules.{may_read}
 use Rattle.argus_objects.specs.declared.holdings.Holdings.{Holdings}
 
 module _ (t : Tree) (objects : List AtomicObject) (holdings : Holdings) (s : Opening) (j : List PlainEntry) (k : IsKept t objects holdings s j) (a : ActionId) (o : ObjId) (query : Query) where
-  ask_is : access_refusal t objects a.0 o.0 (λ shape. query_suits shape query) (λ c. may_read t c a) ≡ refusal (history s j) (shapes s j) (ask a.0 o.0 query)
+  pub ask_is : access_refusal t objects a.0 o.0 (λ shape. query_suits shape query) (λ c. may_read t c a) ≡ refusal (history s j) (shapes s j) (ask a.0 o.0 query)
   ask_is = access_is t objects holdings s j k a o.0 (λ shape. query_suits shape query) (λ c. may_read t c a) (model.may_read entries (history s j) (a.0 + 1) o.0) (reads_agree t objects holdings s j k a o.0)
 
   pub ask_refused : (why : Refusal) → access_refusal t objects a.0 o.0 (λ shape. query_suits shape query) (λ c. may_read t c a) ≡ Some why → answer s j (ask a.0 o.0 query) ≡ refused why

@@ -5,6 +5,7 @@ pub mod Sweeps
 pub mod SweepSiblings
 pub mod Begun
 pub mod Begins
+pub mod Made
 pub mod Noted
 pub mod PartsCommits
 pub mod PartsEnds
@@ -14,6 +15,7 @@ pub mod Granted
 pub mod Accessed
 pub mod Accesses
 pub mod Stepped
+pub mod MadeAccesses
 pub mod Asks
 pub mod Alters
 pub mod Tests
@@ -21,3 +23,4 @@ pub mod WriteTests
 pub mod Written
 pub mod Told
 pub mod Checkpoints
+pub mod FreeLocks

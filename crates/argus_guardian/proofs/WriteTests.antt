@@ -41,7 +41,7 @@ use Rattle.argus_objects.specs.declared.holdings.Holdings.{Holdings}
 use Rattle.argus_contents.specs.Shape.{PlainShape}
 
 module _ (t : Tree) (objects : List AtomicObject) (holdings : Holdings) (s : Opening) (j : List PlainEntry) (k : IsKept t objects holdings s j) (a : ActionId) (o : ObjId) where
-  write_test_is : access_refusal t objects a.0 o.0 (λ shape. true) (λ c. true) ≡ refusal (history s j) (shapes s j) (test_write a.0 o.0)
+  pub write_test_is : access_refusal t objects a.0 o.0 (λ shape. true) (λ c. true) ≡ refusal (history s j) (shapes s j) (test_write a.0 o.0)
   write_test_is =
       access_is t objects holdings s j k a o.0 (λ shape. true) (λ c. true) true (λ la d lt. refl)
       ∙ ap (if_free (history s j) a.0) (all_suit (shapes s j) o.0)

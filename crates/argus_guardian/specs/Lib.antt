@@ -3,6 +3,8 @@ pub mod Checkpoint
 pub mod Keeping
 pub mod Leaving
 pub mod Moving
+pub mod Parts
+pub mod Prepared
 pub mod Step
 pub mod Sweeping
 pub mod Telling

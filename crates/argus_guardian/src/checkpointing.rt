@@ -7,6 +7,7 @@ ghost use Rattle.argus_actions.specs.Rows.{is_live_at};
 ghost use Rattle.argus_actions.specs.Tree.{next};
 ghost use Rattle.argus_contents.specs.Content.{plain_option};
 ghost use Rattle.argus_guardian.specs.Checkpoint.{after_checkpoint, is_quiet, opened_objects};
+ghost use Rattle.argus_guardian.specs.Parts.{Keeps, said_of};
 ghost use Rattle.argus_guardian.specs.declared.checkpoint_error.CheckpointError.TheVariants.{Busy};
 ghost use Rattle.argus_guardian.specs.declared.checkpoint_error.CheckpointError.TheVariants.{Full};
 ghost use Rattle.argus_journal.specs.Folding.{next_entry_number};
@@ -19,6 +20,7 @@ use crate::atomic_object::AtomicObject;
 use crate::checkpoint_error::CheckpointError;
 use crate::discarding::is_live;
 use crate::guardian::Guardian;
+use crate::parts::Parts;
 use argus_actions::{ActionId, ActionTree};
 use argus_contents::{Content, Shape};
 use argus_journal::limits::MAX_FIRST_ENTRY;
@@ -66,6 +68,39 @@ fn copies_of(
     Ok(copies)
 }
 
+/// Folds the journal of these parts, as `Guardian::checkpoint` does.
+fn fold_past(parts: &mut Parts) -> Result<(), CheckpointError>
+    requires { Keeps parts.old }
+    ensures kept { Keeps parts.new }
+    ensures ok { OnOk result (said_of parts.new ≡ after_checkpoint (said_of parts.old)) }
+    ensures busy { (result_err result ≡ Some Busy) ↔ (is_quiet (said_of parts.old) ≡ false) }
+    ensures full { (result_err result ≡ Some Full)
+        ↔ ((is_quiet (said_of parts.old) ≡ true) × (MAX_FIRST_ENTRY
+        < next_entry_number (said_of parts.old).opening (said_of parts.old).entries)) }
+    ensures err { OnErr result (said_of parts.new ≡ said_of parts.old) }
+    ensures shapes { shapes (said_of parts.new).opening (said_of parts.new).entries
+        ≡ shapes (said_of parts.old).opening (said_of parts.old).entries }
+    ensures bases { (o : ℕ) → base_of (said_of parts.new).opening (said_of parts.new).entries o
+        ≡ base_of (said_of parts.old).opening (said_of parts.old).entries o }
+{
+    if is_busy(&parts.tree, parts.journal.journal().first_action()) {
+        return Err(CheckpointError::Busy);
+    }
+    if parts.journal.journal().len() > MAX_FIRST_ENTRY {
+        return Err(CheckpointError::Full);
+    }
+    match copies_of(parts.heap, parts.objects.as_slice()) {
+        Err(OutOfMemory) => Err(CheckpointError::OutOfMemory),
+        Ok(objects) => {
+            let first = parts.tree.len();
+            parts.journal.fold(objects, first);
+            parts.tree = ActionTree::starting_at(parts.heap, first);
+            parts.holdings = Holdings::new(parts.heap);
+            Ok(())
+        }
+    }
+}
+
 impl Guardian {
     /// Folds the journal's past into its opening: the objects with their shapes and what is in them
     /// for good, the number of the next action and that of the next entry. All actions so far are
@@ -94,21 +129,6 @@ impl Guardian {
         ensures bases { (o : ℕ) → base_of self.new.opening self.new.entries o
             ≡ base_of self.old.opening self.old.entries o }
     {
-        if is_busy(&self.tree, self.journal.journal().first_action()) {
-            return Err(CheckpointError::Busy);
-        }
-        if self.journal.journal().len() > MAX_FIRST_ENTRY {
-            return Err(CheckpointError::Full);
-        }
-        match copies_of(self.heap, self.objects.as_slice()) {
-            Err(OutOfMemory) => Err(CheckpointError::OutOfMemory),
-            Ok(objects) => {
-                let first = self.tree.len();
-                self.journal.fold(objects, first);
-                self.tree = ActionTree::starting_at(self.heap, first);
-                self.holdings = Holdings::new(self.heap);
-                Ok(())
-            }
-        }
+        fold_past(&mut self.parts)
     }
 }

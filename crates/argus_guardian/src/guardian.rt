@@ -7,7 +7,7 @@ ghost use Rattle.argus_guardian.specs.Step.{after, reply_to};
 ghost use Rattle.argus_journal.specs.LegalJournal.{entries_in, opening_in};
 ghost use Rattle.argus_journal.specs.Opening.{empty};
 
-use crate::atomic_object::AtomicObject;
+use crate::parts::Parts;
 use argus_actions::ActionTree;
 use argus_entries::{Call, Entry, Refusal, Reply};
 use argus_journal::LegalJournal;
@@ -31,25 +31,20 @@ use std::marker::Model;
 /// ```
 #[derive(Drop)]
 pub struct Guardian {
-    pub(crate) heap: Heap,
-    pub(crate) tree: ActionTree,
-    pub(crate) objects: Vec<AtomicObject, Heap>,
-    pub(crate) holdings: Holdings,
-    pub(crate) journal: LegalJournal,
+    pub(crate) parts: Parts,
 }
 
 impl Model for Guardian {
-    ghost use Rattle.argus_guardian.specs.Keeping.{IsKept};
+    ghost use Rattle.argus_guardian.specs.Parts.{Keeps, said_of};
     ghost use Rattle.argus_guardian.specs.Step.{Said, said_coded};
-    ghost use Rattle.argus_journal.specs.LegalJournal.{entries_in, opening_in};
 
     ghost Value = { Said };
 
     ghost coded = { said_coded };
 
-    ghost view = { λ g. record { opening = opening_in g.journal; entries = entries_in g.journal } };
+    ghost view = { λ g. said_of g.parts };
 
-    ghost invariant = { λ g. IsKept g.tree g.objects.items g.holdings (opening_in g.journal) (entries_in g.journal) };
+    ghost invariant = { λ g. Keeps g.parts };
 }
 
 impl Guardian {
@@ -59,11 +54,13 @@ impl Guardian {
         ensures entries { result.entries ≡ [] }
     {
         Guardian {
-            heap,
-            tree: ActionTree::new(heap),
-            objects: Vec::new(heap),
-            holdings: Holdings::new(heap),
-            journal: LegalJournal::new(heap),
+            parts: Parts {
+                heap,
+                tree: ActionTree::new(heap),
+                objects: Vec::new(heap),
+                holdings: Holdings::new(heap),
+                journal: LegalJournal::new(heap),
+            },
         }
     }
 
@@ -72,7 +69,7 @@ impl Guardian {
         ensures opening { opening_in result.now ≡ self.now.opening }
         ensures entries { entries_in result.now ≡ self.now.entries }
     {
-        &self.journal
+        &self.parts.journal
     }
 
     // Records a refusal.
@@ -83,8 +80,8 @@ impl Guardian {
         ensures ok { OnOk result (self.new ≡ after self.old (plain_call call)) }
         ensures err { OnErr result (self.new ≡ self.old) }
     {
-        self.journal.reserve()?;
-        self.journal.push(Entry {
+        self.parts.journal.reserve()?;
+        self.parts.journal.push(Entry {
             call,
             reply: Reply::Refused(why),
         });

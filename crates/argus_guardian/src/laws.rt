@@ -25,7 +25,7 @@ impl Guardian {
         ensures sound { is_sound self.now.opening ≡ true }
         ensures limits { KeepsNumbers self.now.opening }
     {
-        let _ = self.objects.len();
+        let _ = self.parts.objects.len();
     }
 
     /// A law for proofs; it does nothing. Of one who holds an object for writing and any other
@@ -45,7 +45,7 @@ impl Guardian {
             (o x : ℕ) → contains (readers_of s j o ++ writers_of s j o) x ≡ true
             → is_live_in s j x ≡ true }
     {
-        let _ = self.objects.len();
+        let _ = self.parts.objects.len();
         laws::exclusion();
     }
 
@@ -59,7 +59,7 @@ impl Guardian {
             (o : ℕ) → content_after entries (content_in s.objects) o (serial_run s j)
             ≡ base_of s j o }
     {
-        let _ = self.objects.len();
+        let _ = self.parts.objects.len();
         laws::base_is_serial();
     }
 
@@ -81,7 +81,7 @@ impl Guardian {
             (o : ℕ) → run entries (content_in s.objects) (reverse (serial_run s j)) o
             ≡ base_of s j o }
     {
-        let _ = self.objects.len();
+        let _ = self.parts.objects.len();
         laws::committed_work_runs_again();
     }
 
@@ -107,7 +107,7 @@ impl Guardian {
             → run entries (content_in s.objects) (reverse (serial_run_to s j a)) o
             ≡ seen_by s j a o }
     {
-        let _ = self.objects.len();
+        let _ = self.parts.objects.len();
         laws::live_work_runs_again();
     }
 
@@ -121,7 +121,7 @@ impl Guardian {
         ensures seen { let s = self.now.opening in let j = self.now.entries in
             (a o : ℕ) → fits_shape (shape_of s j o) (declared s j) (seen_by s j a o) ≡ true }
     {
-        let _ = self.objects.len();
+        let _ = self.parts.objects.len();
         laws::contents_fit();
     }
 }

@@ -32,13 +32,13 @@ impl Guardian {
         ensures { IfOk result (λ effect. option_map (λ pairs. effect_told pairs.items) effect
             ≡ effect_if_live self.now a.0) }
     {
-        if !is_live(&self.tree, a) {
+        if !is_live(&self.parts.tree, a) {
             return Ok(None);
         }
-        let objects = self.objects.as_slice();
-        let mut numbers = written_numbers(self.heap, objects, self.holdings.of(a), a)?;
+        let objects = self.parts.objects.as_slice();
+        let mut numbers = written_numbers(self.parts.heap, objects, self.parts.holdings.of(a), a)?;
         numbers.sort()?;
-        let effect = contents_of(self.heap, objects, numbers.as_slice(), a)?;
+        let effect = contents_of(self.parts.heap, objects, numbers.as_slice(), a)?;
         Ok(Some(effect))
     }
 }

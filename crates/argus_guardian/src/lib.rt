@@ -15,11 +15,16 @@ mod granting;
 mod guardian;
 mod laws;
 mod leaving;
+mod making;
 mod moving;
-mod recording;
+mod parts;
+mod prepared;
+mod preparing;
 mod refusing;
+mod step;
 mod telling;
 mod testing;
+mod writing;
 
 pub use checkpoint_error::CheckpointError;
 pub use guardian::Guardian;

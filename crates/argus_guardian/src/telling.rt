@@ -24,14 +24,14 @@ impl Guardian {
     pub fn objects(&self) -> u32
         ensures { result ≡ declared self.now.opening self.now.entries }
     {
-        self.objects.len() as u32
+        self.parts.objects.len() as u32
     }
 
     /// The shape with which the object was declared; None where it isn't.
     pub fn shape(&self, o: ObjId) -> Option<&Shape>
         ensures { shape_told result ≡ shape_of self.now.opening self.now.entries o.0 }
     {
-        match self.objects.get(o.0 as usize) {
+        match self.parts.objects.get(o.0 as usize) {
             Some(object) => Some(&object.shape),
             None => None,
         }
@@ -47,7 +47,7 @@ impl Guardian {
         ensures fits { let s = self.now.opening in let j = self.now.entries in
             fits_shape (shape_of s j o.0) (declared s j) (base_of s j o.0) ≡ true }
     {
-        match self.objects.get(o.0 as usize) {
+        match self.parts.objects.get(o.0 as usize) {
             Some(object) => Some(object.cell.base()),
             None => None,
         }
@@ -62,7 +62,7 @@ impl Guardian {
             (readers_of self.now.opening self.now.entries o.0) }
     {
         cell_laws::a_cell_tells_the_history();
-        match self.objects.get(o.0 as usize) {
+        match self.parts.objects.get(o.0 as usize) {
             Some(object) => Some(object.cell.readers()),
             None => None,
         }
@@ -77,7 +77,7 @@ impl Guardian {
             (versions_of self.now.opening self.now.entries o.0) }
     {
         cell_laws::a_cell_tells_the_history();
-        match self.objects.get(o.0 as usize) {
+        match self.parts.objects.get(o.0 as usize) {
             Some(object) => Some(object.cell.versions()),
             None => None,
         }
@@ -89,9 +89,9 @@ impl Guardian {
     pub fn can_read(&self, a: ActionId, o: ObjId) -> bool
         ensures { IsTrue result ↔ (reply_to self.now (test_read a.0 o.0) ≡ answered (flag true)) }
     {
-        match test_refusal(self.objects.as_slice(), &self.tree, a, o) {
+        match test_refusal(self.parts.objects.as_slice(), &self.parts.tree, a, o) {
             Some(_) => false,
-            None => is_readable(self.objects.as_slice(), &self.tree, a, o),
+            None => is_readable(self.parts.objects.as_slice(), &self.parts.tree, a, o),
         }
     }
 
@@ -101,9 +101,9 @@ impl Guardian {
     pub fn can_write(&self, a: ActionId, o: ObjId) -> bool
         ensures { IsTrue result ↔ (reply_to self.now (test_write a.0 o.0) ≡ answered (flag true)) }
     {
-        match test_refusal(self.objects.as_slice(), &self.tree, a, o) {
+        match test_refusal(self.parts.objects.as_slice(), &self.parts.tree, a, o) {
             Some(_) => false,
-            None => is_writable(self.objects.as_slice(), &self.tree, a, o),
+            None => is_writable(self.parts.objects.as_slice(), &self.parts.tree, a, o),
         }
     }
 }

@@ -5,6 +5,8 @@
 #[cfg(test)]
 mod actions;
 #[cfg(test)]
+mod checkpoints;
+#[cfg(test)]
 mod ends;
 #[cfg(test)]
 mod laws;

@@ -6,7 +6,7 @@ use Rattle.argus_model.specs.Owner.{is_base, owner}
 
 pub returns-in-Some-clause-fits : goal.returns-in-Some-clause-fits
 returns-in-Some-clause-fits c =
-    let g = c.self.inside in
+    let g = c.self.inside.parts in
     let s = opening_in g.journal in
     let j = entries_in g.journal in
     rw (← c.self.view_is)
@@ -14,7 +14,7 @@ returns-in-Some-clause-fits c =
 
 pub returns-in-None-clause-fits : goal.returns-in-None-clause-fits
 returns-in-None-clause-fits c =
-    let g = c.self.inside in
+    let g = c.self.inside.parts in
     let s = opening_in g.journal in
     let j = entries_in g.journal in
     rw (← c.self.view_is)

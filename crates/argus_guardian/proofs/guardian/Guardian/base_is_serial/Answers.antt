@@ -3,6 +3,6 @@ use Rattle.argus_journal.specs.LegalJournal.{entries_in, opening_in}
 
 pub returns : goal.returns
 returns c =
-    let g = c.self.inside in
+    let g = c.self.inside.parts in
     rw (← c.self.view_is)
     (λ o. c.base_is_serial.ensures (opening_in g.journal) (entries_in g.journal) o c.self.invariant.legal)

@@ -8,7 +8,7 @@ use Rattle.argus_journal.specs.LegalJournal.{entries_in, opening_in}
 
 pub returns-in-Some : goal.returns-in-Some
 returns-in-Some c =
-    let g = c.self.inside in
+    let g = c.self.inside.parts in
     let s = opening_in g.journal in
     let j = entries_in g.journal in
     rw (← c.self.view_is)
@@ -18,7 +18,7 @@ returns-in-Some c =
 
 pub returns-in-None : goal.returns-in-None
 returns-in-None c =
-    let g = c.self.inside in
+    let g = c.self.inside.parts in
     let s = opening_in g.journal in
     let j = entries_in g.journal in
     rw (← c.self.view_is)

@@ -11,7 +11,7 @@ use Rattle.argus_laws.proofs.TreeAnswers.{live_is}
 
 pub returns-then-not-is_live : goal.returns-then-not-is_live
 returns-then-not-is_live c =
-    let g = c.self.inside in
+    let g = c.self.inside.parts in
     let s = opening_in g.journal in
     let j = entries_in g.journal in
     let live = live_is g.tree (history s j) c.self.invariant.parts.actions (kept_orderly g.tree g.objects.items g.holdings s j c.self.invariant) c.args.a.0 in
@@ -20,7 +20,7 @@ returns-then-not-is_live c =
 
 pub contents_of-requires : goal.contents_of-requires
 contents_of-requires c =
-    let g = c.self.inside in
+    let g = c.self.inside.parts in
     let s = opening_in g.journal in
     let j = entries_in g.journal in
     let h = kept_orderly g.tree g.objects.items g.holdings s j c.self.invariant in
@@ -34,7 +34,7 @@ contents_of-requires c =
 
 pub returns : goal.returns
 returns c =
-    let g = c.self.inside in
+    let g = c.self.inside.parts in
     let s = opening_in g.journal in
     let j = entries_in g.journal in
     let h = kept_orderly g.tree g.objects.items g.holdings s j c.self.invariant in

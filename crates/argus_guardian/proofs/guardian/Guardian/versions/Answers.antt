@@ -8,7 +8,7 @@ use Rattle.argus_laws.specs.CellWords as laws
 
 pub returns-in-Some : goal.returns-in-Some
 returns-in-Some c =
-    let g = c.self.inside in
+    let g = c.self.inside.parts in
     let s = opening_in g.journal in
     let j = entries_in g.journal in
     let x = c.in-Some.object.now in
