@@ -1,4 +1,5 @@
 pub mod Changes
+pub mod Declared
 pub mod Sweeps
 pub mod SweepSiblings
 pub mod Begun

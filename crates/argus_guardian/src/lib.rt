@@ -5,6 +5,8 @@ mod accessing;
 mod answering;
 mod atomic_object;
 mod beginning;
+mod calling;
+mod declaring;
 mod discarding;
 mod ending;
 mod granting;
