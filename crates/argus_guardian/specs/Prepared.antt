@@ -1,6 +1,6 @@
 -- What has to be at hand for a prepared call.
 use Rattle.std.specs.Prelude.{Bool, List, None, Option, Some, [], false}
-use Rattle.std.specs.Prelude.{length, slice_index_or, true, ℕ, ◌+◌, ◌<◌, ◌≡◌, ◌≤◌}
+use Rattle.std.specs.Prelude.{length, slice_index_or, true, vec_capacity, vec_len, ℕ, ◌+◌, ◌<◌, ◌≡◌, ◌≤◌}
 use Rattle.argus_actions.specs.Refusals.{abort_others_refusal, abort_refusal, commit_refusal}
 use Rattle.argus_actions.specs.Refusals.{begin_nested_refusal, begin_sub_refusal, begin_top_refusal}
 use Rattle.argus_actions.specs.Tree.{Tree, next, parent_of}
@@ -8,13 +8,15 @@ use Rattle.argus_actions.specs.declared.action_id.ActionId.{ActionId}
 use Rattle.argus_actions.specs.declared.action_refusal.ActionRefusal.{ActionRefusal}
 use Rattle.argus_contents.specs.Answer.{done}
 use Rattle.argus_contents.specs.Content.{plain_option}
+use Rattle.argus_contents.specs.Shape.{PlainShape}
 use Rattle.argus_contents.specs.declared.content.Content.{Content}
+use Rattle.argus_contents.specs.declared.limits.TheConstants.{MAX_OBJECTS}
 use Rattle.argus_contents.specs.declared.obj_id.ObjId.{ObjId}
 use Rattle.argus_contents.specs.declared.answer.Answer.TheVariants.{Done, Flag}
 use Rattle.argus_entries.specs.Call.{PlainCall, abort, abort_others}
-use Rattle.argus_entries.specs.Call.{begin_nested, begin_sub, begin_top, commit}
+use Rattle.argus_entries.specs.Call.{begin_nested, begin_sub, begin_top, commit, declare}
 use Rattle.argus_entries.specs.Entry.{PlainEntry, plain_entry}
-use Rattle.argus_entries.specs.Reply.{answered, begun, plain_reply}
+use Rattle.argus_entries.specs.Reply.{answered, begun, object, plain_reply}
 use Rattle.argus_entries.specs.declared.call.Call.{Call}
 use Rattle.argus_entries.specs.declared.reply.Reply.TheVariants.{Answered}
 use Rattle.argus_guardian.specs.Accessing.{seen_at}
@@ -44,6 +46,12 @@ pub record HasPlace (parts : Parts) (e : PlainEntry) : Type 0 where
 pub record TellsNothing (parts : Parts) (e : PlainEntry) : Type 0 where
   pub event : happens (opening_in parts.journal) e (entries_in parts.journal) ≡ None
   pub object : declared_by e.call e.reply ≡ []
+
+-- one more object may be declared, its list has room for it, and the entry has its number
+pub record CanDeclare (parts : Parts) (e : PlainEntry) (shape : PlainShape) : Type 0 where
+  pub room : vec_len parts.objects < vec_capacity parts.objects
+  pub few : length parts.objects.items < MAX_OBJECTS
+  pub told : e ≡ entry_with (declare shape) (object (length parts.objects.items))
 
 -- this call begins an action: the tree has room and doesn't refuse it, and the entry has its number
 pub record CanBegin (tree : Tree) (e : PlainEntry) (call : PlainCall)
@@ -100,6 +108,7 @@ IsLeft parts e a o content =
 -- what the step needs is there, and the entry tells of it
 abbrev pub CanStep : Parts → PlainEntry → Step → Type 0
 CanStep parts e step.Nothing = TellsNothing parts e
+CanStep parts e (step.Declare shape) = CanDeclare parts e shape
 CanStep parts e step.BeginTop =
     CanBegin parts.tree e begin_top (begin_top_refusal parts.tree)
 CanStep parts e (step.BeginSub parent) =

@@ -1,17 +1,13 @@
 //! `Guardian`: the objects of one guardian, the actions on them, and the journal of its calls.
 
-ghost use Rattle.std.specs.Prelude.{◌≡◌, [], IfOk, OnErr, OnOk};
-ghost use Rattle.argus_entries.specs.Call.{plain_call};
-ghost use Rattle.argus_entries.specs.Reply.{plain_reply, refused};
-ghost use Rattle.argus_guardian.specs.Step.{after, reply_to};
+ghost use Rattle.std.specs.Prelude.{◌≡◌, []};
 ghost use Rattle.argus_journal.specs.LegalJournal.{entries_in, opening_in};
 ghost use Rattle.argus_journal.specs.Opening.{empty};
 
 use crate::parts::Parts;
 use argus_actions::ActionTree;
-use argus_entries::{Call, Entry, Refusal, Reply};
 use argus_journal::LegalJournal;
-use argus_memory::{Heap, OutOfMemory};
+use argus_memory::Heap;
 use argus_objects::Holdings;
 use std::marker::Model;
 
@@ -70,21 +66,5 @@ impl Guardian {
         ensures entries { entries_in result.now ≡ self.now.entries }
     {
         &self.parts.journal
-    }
-
-    // Records a refusal.
-    pub(crate) fn refuse(&mut self, call: Call, why: Refusal) -> Result<Reply, OutOfMemory>
-        requires { reply_to self.old (plain_call call) ≡ refused why }
-        ensures reply { IfOk result (λ reply. plain_reply reply
-            ≡ reply_to self.old (plain_call call)) }
-        ensures ok { OnOk result (self.new ≡ after self.old (plain_call call)) }
-        ensures err { OnErr result (self.new ≡ self.old) }
-    {
-        self.parts.journal.reserve()?;
-        self.parts.journal.push(Entry {
-            call,
-            reply: Reply::Refused(why),
-        });
-        Ok(Reply::Refused(why))
     }
 }

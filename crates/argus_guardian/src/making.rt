@@ -10,11 +10,12 @@ ghost use Rattle.argus_entries.specs.Call.{begin_top, commit, plain_call};
 ghost use Rattle.argus_entries.specs.Entry.{plain_entry};
 ghost use Rattle.argus_entries.specs.Reply.{plain_reply};
 ghost use Rattle.argus_guardian.specs.Parts.{Keeps, said_of, with_entry};
-ghost use Rattle.argus_guardian.specs.Prepared.{CanAccess, CanBegin, CanEnd, CanPass};
+ghost use Rattle.argus_guardian.specs.Prepared.{CanAccess, CanBegin, CanDeclare, CanEnd, CanPass};
 ghost use Rattle.argus_guardian.specs.Prepared.{HasPlace, IsLeft, IsReady, TellsNothing};
 ghost use Rattle.argus_guardian.specs.Step.{after, reply_to};
 ghost use Rattle.argus_objects.specs.Rules.{may_read, may_write};
 
+use crate::atomic_object::AtomicObject;
 use crate::discarding::{discard_others, discard_under};
 use crate::granting::{grant_read, grant_write};
 use crate::moving::{inherit_all, settle_all};
@@ -22,8 +23,9 @@ use crate::parts::Parts;
 use crate::prepared::Prepared;
 use crate::step::Step;
 use argus_actions::ActionId;
-use argus_contents::{Content, ObjId};
+use argus_contents::{Content, ObjId, Shape};
 use argus_entries::{Entry, Reply};
+use argus_objects::Cell;
 
 /// Makes a prepared call, and gives its reply. It takes no memory.
 pub(crate) fn make(parts: &mut Parts, prepared: Prepared) -> Reply
@@ -39,6 +41,10 @@ pub(crate) fn make(parts: &mut Parts, prepared: Prepared) -> Reply
     match step {
         Step::Nothing => {
             make_nothing(parts, entry);
+            reply
+        }
+        Step::Declare(shape) => {
+            make_declare(parts, shape, entry);
             reply
         }
         Step::BeginTop => {
@@ -88,6 +94,21 @@ fn make_nothing(parts: &mut Parts, entry: Entry)
     ensures kept { Keeps parts.new }
     ensures said { said_of parts.new ≡ with_entry (said_of parts.old) (plain_entry entry) }
 {
+    parts.journal.push(entry);
+}
+
+// Declares an object of this shape, and records it.
+fn make_declare(parts: &mut Parts, shape: Shape, entry: Entry)
+    requires kept { Keeps parts.old }
+    requires place { HasPlace parts.old (plain_entry entry) }
+    requires step { CanDeclare parts.old (plain_entry entry) shape }
+    ensures kept { Keeps parts.new }
+    ensures said { said_of parts.new ≡ with_entry (said_of parts.old) (plain_entry entry) }
+{
+    parts.objects.push_reserved(AtomicObject {
+        shape,
+        cell: Cell::new(parts.heap, None),
+    });
     parts.journal.push(entry);
 }
 

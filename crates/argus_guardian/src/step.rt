@@ -1,13 +1,15 @@
 //! `Step`: what a prepared call is going to change.
 
 use argus_actions::ActionId;
-use argus_contents::{Content, ObjId};
+use argus_contents::{Content, ObjId, Shape};
 
 /// What a prepared call is going to change, beside the journal.
 #[derive(Drop)]
 pub(crate) enum Step {
     /// Nothing: the call is refused, or is a test that says no.
     Nothing,
+    /// An object of this shape is declared.
+    Declare(Shape),
     /// A topaction begins.
     BeginTop,
     /// A subaction of this parent begins.
