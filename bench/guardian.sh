@@ -42,15 +42,15 @@ value() {
     awk -v key="$1" '{ for (at = 1; at <= NF; at++) if (index($at, key "=") == 1) print substr($at, length(key) + 2) }' "$2"
 }
 
-# ours WORK TURNS: one run, whose figures go to files of their own
+# ours TURNS WORK..: one run, whose figures go to files of their own
 ours() {
     local work part nanos
-    "$program" "$1" "$2" > "$figures/run"
+    "$program" "$@" > "$figures/run"
     while read -r work part _ nanos _; do
         echo "${nanos#ns_each=}" >> "$figures/ours-$work-$part"
         grep -qxF -- "$work-$part" "$figures/lines" || echo "$work-$part" >> "$figures/lines"
     done < "$figures/run"
-    left=$((left + $(value sum "$figures/run" | tail -n 1)))
+    left=$(($(sed 's/ .*sum=/ /' "$figures/run" | sort -u | sed 's/.* /+ /')))
 }
 
 # theirs NAME TURNS: one run of the peer, whose figures go to the files of ours
@@ -68,13 +68,12 @@ theirs() {
     done
 }
 
-# beside NAME TURNS WORK..: a run of each work, and one of the peer that makes them all
+# beside NAME TURNS WORK..: a run of these works, and one of the peer that makes the same
 beside() {
-    local name=$1 turns=$2 work
-    shift 2
-    left=0
-    for work; do ours "$work" "$turns"; done
-    if [ -n "$peers" ]; then theirs "$name" "$turns" "$@"; fi
+    local name=$1
+    shift
+    ours "$@"
+    if [ -n "$peers" ]; then theirs "$name" "$@"; fi
 }
 
 median() {
@@ -101,8 +100,7 @@ for _ in $(seq "$reps"); do
     beside W3 50000 commit:10 abort:10 commit:1000 abort:1000 commit:60000 abort:60000
     beside W4 5000 chain
     beside W7 20000 stores
-    left=0
-    ours reads 500
+    ours 500 reads
 done
 printf '%-20s %12s' 'work and part' 'ns each'
 [ -z "$peers" ] || printf ' %12s %7s' 'by hand' ratio

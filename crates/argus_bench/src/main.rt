@@ -1,4 +1,4 @@
-//! Times a guardian's calls: `argus_bench WORK TURNS`.
+//! Times a guardian's calls: `argus_bench TURNS WORK..`.
 //!
 //! With no words it makes a small run of each work, and prints what the calls have read and left.
 //! `bench/guardian.sh` prints the figures, beside those of a guardian by hand where there is one.
@@ -23,8 +23,8 @@ use std::rt::Clock;
 use work::Work;
 
 const HELP: &str = "\
-argus_bench WORK TURNS: makes so many turns of the work on a guardian, and prints what
-each took
+argus_bench TURNS WORK..: makes so many turns of each work, on a guardian of its own, and
+prints what each took
 
 WORK is one of these:
   flat       a topaction that reads and sets 4 of 1,000 records in turn: 10 calls
@@ -76,16 +76,15 @@ fn main(rt: HostRuntime) -> Result<()> {
     let heap = Heap::new(rt.alloc())?;
     let mut words = env::args(&rt)?;
     let _program = words.next();
-    match (words.next(), words.next()) {
-        (None, _) => tell(&rt, heap),
-        (Some(work), Some(turns)) => {
-            let work = work.as_str().parse::<Work>()?;
-            let turns = turns.as_str().parse::<u32>()?;
-            time(&rt, heap, work, turns)
-        }
-        (Some(_), None) => {
-            println!(rt; "{HELP}")?;
-            Ok(())
-        }
+    let Some(turns) = words.next() else {
+        return tell(&rt, heap);
+    };
+    let Ok(turns) = turns.as_str().parse::<u32>() else {
+        println!(rt; "{HELP}")?;
+        return Ok(());
+    };
+    for word in words {
+        time(&rt, heap, word.as_str().parse::<Work>()?, turns)?;
     }
+    Ok(())
 }
