@@ -1,0 +1,60 @@
+//! `BenchError`: why a run gave no figure.
+
+use argus_contents::{NameError, ShapeFault};
+use argus_memory::OutOfMemory;
+use std::alloc::{AllocError, AllocFailed};
+use thiserror::Error;
+
+/// Why a run gave no figure.
+///
+/// ```text
+/// assert!(rt; matches!("round".parse::<Work>(), Err(BenchError::UnknownWork)));
+/// ```
+#[derive(Debug, Drop, Error)]
+pub(crate) enum BenchError {
+    #[error("no such work")]
+    UnknownWork,
+    #[error("how many objects is a number of 1 to 65535")]
+    BadCount,
+    #[error("no shape of that name")]
+    BadShape,
+    /// The guardian refused a call, or answered what the run doesn't ask for. A guardian begins a
+    /// million actions at the most, so a run of too many turns ends so.
+    #[error("a call wasn't answered as the run needs")]
+    OtherReply,
+    #[error("out of memory")]
+    OutOfMemory,
+}
+
+impl From<OutOfMemory> for BenchError {
+    fn from(_refused: OutOfMemory) -> BenchError {
+        BenchError::OutOfMemory
+    }
+}
+
+impl From<AllocError> for BenchError {
+    fn from(_refused: AllocError) -> BenchError {
+        BenchError::OutOfMemory
+    }
+}
+
+impl<T: Drop> From<AllocFailed<T>> for BenchError {
+    fn from(_refused: AllocFailed<T>) -> BenchError {
+        BenchError::OutOfMemory
+    }
+}
+
+impl From<NameError> for BenchError {
+    fn from(error: NameError) -> BenchError {
+        match error {
+            NameError::BadName => BenchError::BadShape,
+            NameError::OutOfMemory => BenchError::OutOfMemory,
+        }
+    }
+}
+
+impl From<ShapeFault> for BenchError {
+    fn from(_fault: ShapeFault) -> BenchError {
+        BenchError::BadShape
+    }
+}

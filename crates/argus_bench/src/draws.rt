@@ -1,0 +1,35 @@
+//! `Draws`: numbers as if by chance, the same at each run.
+
+ghost use Rattle.std.specs.Prelude.{◌<◌};
+
+/// Numbers as if by chance, the same at each run: a linear congruential generator, of which the
+/// upper 31 bits are used. Its factor is Knuth's for words of 64 bits.
+///
+/// ```text
+/// let mut draws = Draws::new();
+/// let o = ObjId(draws.below(1000));
+/// ```
+#[derive(Drop)]
+pub(crate) struct Draws {
+    state: u64,
+}
+
+impl Draws {
+    pub(crate) fn new() -> Draws {
+        Draws { state: 42 }
+    }
+
+    /// The next number, which is below `count`; 0 where that is 0.
+    pub(crate) fn below(&mut self, count: u16) -> u32
+        ensures { 0 < count → result < count }
+    {
+        if count == 0 {
+            return 0;
+        }
+        self.state = self
+            .state
+            .wrapping_mul(6364136223846793005)
+            .wrapping_add(1442695040888963407);
+        ((self.state >> 33) % u64::from(count)) as u32
+    }
+}

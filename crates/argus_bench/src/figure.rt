@@ -1,0 +1,23 @@
+//! `Figure`: what a part of a run took.
+
+use crate::part::Part;
+use std::time::Duration;
+
+/// What a part of a run took, and how often it was done.
+///
+/// ```text
+/// let figure = Figure { part: Part::Turns, count: 1000, taken };
+/// ```
+#[derive(Drop)]
+pub(crate) struct Figure {
+    pub(crate) part: Part,
+    pub(crate) count: u32,
+    pub(crate) taken: Duration,
+}
+
+impl Figure {
+    /// The nanoseconds of each; of all where nothing was counted.
+    pub(crate) fn nanos_each(&self) -> f64 {
+        self.taken.as_secs_f64() * 1e9 / self.count.max(1) as f64
+    }
+}

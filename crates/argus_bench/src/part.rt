@@ -1,0 +1,30 @@
+//! `Part`: the part of a run that a figure is of.
+
+use std::fmt;
+
+/// The part of a run that a figure is of.
+#[derive(Clone, Copy)]
+pub(crate) enum Part {
+    /// All turns.
+    Turns,
+    /// The first change of an object by an action.
+    First,
+    /// The changes of the same object after it.
+    Next,
+    /// The questions.
+    Asks,
+    /// The commit of what was read or changed.
+    Commit,
+}
+
+impl fmt::Display for Part {
+    fn fmt<W: fmt::Write>(&self, f: &mut fmt::Formatter<W>) -> fmt::Result {
+        f.write_str(match self {
+            Part::Turns => "turns",
+            Part::First => "first",
+            Part::Next => "next",
+            Part::Asks => "asks",
+            Part::Commit => "commit",
+        })
+    }
+}

@@ -1,0 +1,128 @@
+//! The turns of each work: which calls they make, in order.
+
+use crate::bench_error::BenchError;
+use crate::client::Client;
+use crate::draws::Draws;
+use argus_actions::ActionId;
+use argus_contents::ObjId;
+
+/// How many records flat and nested topactions choose from.
+pub(crate) const RECORDS: u16 = 1000;
+
+/// How many records chains choose from, and how many actions a chain has.
+pub(crate) const CHAIN_RECORDS: u16 = 10;
+
+const CHAIN_ACTIONS: usize = 64;
+
+// Four records, a quarter of all apart.
+fn four(draws: &mut Draws) -> [ObjId; 4] {
+    let first = draws.below(RECORDS);
+    [
+        ObjId(first),
+        ObjId((first + 251) % 1000),
+        ObjId((first + 502) % 1000),
+        ObjId((first + 753) % 1000),
+    ]
+}
+
+/// A topaction that reads and sets four records in turn. The sum of what it read.
+pub(crate) fn turn_flat(
+    client: &mut Client,
+    draws: &mut Draws,
+    turn: u32,
+) -> Result<i64, BenchError> {
+    let first = i64::from(turn) * 4;
+    let records = four(draws);
+    let mut sum = 0i64;
+    let a = client.begin_top()?;
+    for place in 0..4usize {
+        sum = sum.wrapping_add(client.get(a, records[place])?);
+        client.set(a, records[place], first + place as i64)?;
+    }
+    client.commit(a)?;
+    Ok(sum)
+}
+
+/// A topaction and three levels of subactions below it, each of which sets a record. On each level
+/// but the top a second subaction sets the same record, and aborts. 7 actions, 7 changes.
+pub(crate) fn turn_nested(
+    client: &mut Client,
+    draws: &mut Draws,
+    turn: u32,
+) -> Result<(), BenchError> {
+    let first = i64::from(turn) * 4;
+    let [top, upper, middle, lower] = four(draws);
+    let a = client.begin_top()?;
+    client.set(a, top, first)?;
+    let child = client.begin_sub(a)?;
+    client.set(child, upper, first + 1)?;
+    let grandchild = client.begin_sub(child)?;
+    client.set(grandchild, middle, first + 2)?;
+    let last = client.begin_sub(grandchild)?;
+    client.set(last, lower, first + 3)?;
+    client.commit(last)?;
+    set_in_vain(client, grandchild, lower, first + 103)?;
+    client.commit(grandchild)?;
+    set_in_vain(client, child, middle, first + 102)?;
+    client.commit(child)?;
+    set_in_vain(client, a, upper, first + 101)?;
+    client.commit(a)
+}
+
+// A subaction that sets a record, and aborts.
+fn set_in_vain(
+    client: &mut Client,
+    parent: ActionId,
+    o: ObjId,
+    number: i64,
+) -> Result<(), BenchError> {
+    let a = client.begin_sub(parent)?;
+    client.set(a, o, number)?;
+    client.abort(a)
+}
+
+/// A topaction that sets one of so many records, and commits.
+pub(crate) fn turn_commit(
+    client: &mut Client,
+    draws: &mut Draws,
+    count: u16,
+    turn: u32,
+) -> Result<(), BenchError> {
+    let o = ObjId(draws.below(count));
+    let a = client.begin_top()?;
+    client.set(a, o, i64::from(turn))?;
+    client.commit(a)
+}
+
+/// A topaction that sets one of so many records, and aborts.
+pub(crate) fn turn_abort(
+    client: &mut Client,
+    draws: &mut Draws,
+    count: u16,
+    turn: u32,
+) -> Result<(), BenchError> {
+    let o = ObjId(draws.below(count));
+    let a = client.begin_top()?;
+    client.set(a, o, i64::from(turn))?;
+    client.abort(a)
+}
+
+/// A chain of 64 actions, each the subaction of the one before. The last sets a record, and all
+/// commit, the last first.
+pub(crate) fn turn_chain(client: &mut Client, turn: u32) -> Result<(), BenchError> {
+    let actions = begin_chain(client)?;
+    let o = ObjId(turn % u32::from(CHAIN_RECORDS));
+    client.set(actions[CHAIN_ACTIONS - 1], o, i64::from(turn))?;
+    for depth in (0..CHAIN_ACTIONS).rev() {
+        client.commit(actions[depth])?;
+    }
+    Ok(())
+}
+
+fn begin_chain(client: &mut Client) -> Result<[ActionId; 64], BenchError> {
+    let mut actions = [client.begin_top()?; 64];
+    for depth in 1..CHAIN_ACTIONS {
+        actions[depth] = client.begin_sub(actions[depth - 1])?;
+    }
+    Ok(actions)
+}

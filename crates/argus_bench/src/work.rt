@@ -1,0 +1,66 @@
+//! `Work`: a piece of work whose time is taken.
+
+use crate::bench_error::BenchError;
+use std::fmt;
+use std::str::FromStr;
+
+/// A piece of work whose time is taken; the program's help says what each is.
+///
+/// ```text
+/// let work = "commit:1000".parse::<Work>()?;
+/// ```
+#[derive(Clone, Copy)]
+pub(crate) enum Work {
+    Flat,
+    Nested,
+    Commit(u16),
+    Abort(u16),
+    Chain,
+    Stores,
+    Reads,
+}
+
+impl FromStr for Work {
+    type Err = BenchError;
+
+    fn from_str(text: &str) -> Result<Work, BenchError> {
+        match text.split_once(':') {
+            Some(("commit", count)) => Ok(Work::Commit(count_of(count)?)),
+            Some(("abort", count)) => Ok(Work::Abort(count_of(count)?)),
+            Some(_) => Err(BenchError::UnknownWork),
+            None => named(text),
+        }
+    }
+}
+
+fn count_of(text: &str) -> Result<u16, BenchError> {
+    match text.parse::<u16>() {
+        Ok(count) => Ok(count),
+        Err(_) => Err(BenchError::BadCount),
+    }
+}
+
+fn named(text: &str) -> Result<Work, BenchError> {
+    match text {
+        "flat" => Ok(Work::Flat),
+        "nested" => Ok(Work::Nested),
+        "chain" => Ok(Work::Chain),
+        "stores" => Ok(Work::Stores),
+        "reads" => Ok(Work::Reads),
+        _ => Err(BenchError::UnknownWork),
+    }
+}
+
+impl fmt::Display for Work {
+    fn fmt<W: fmt::Write>(&self, f: &mut fmt::Formatter<W>) -> fmt::Result {
+        match self {
+            Work::Flat => f.write_str("flat"),
+            Work::Nested => f.write_str("nested"),
+            Work::Commit(count) => write!(f, "commit:{count}"),
+            Work::Abort(count) => write!(f, "abort:{count}"),
+            Work::Chain => f.write_str("chain"),
+            Work::Stores => f.write_str("stores"),
+            Work::Reads => f.write_str("reads"),
+        }
+    }
+}

@@ -1,0 +1,117 @@
+//! The runs: what is there before them, their turns, and what they leave.
+
+use crate::bench_error::BenchError;
+use crate::client::Client;
+use crate::draws::Draws;
+use crate::turning::{
+    CHAIN_RECORDS, RECORDS, turn_abort, turn_chain, turn_commit, turn_flat, turn_nested,
+};
+use crate::work::Work;
+use argus_actions::ActionId;
+use argus_contents::ObjId;
+use argus_memory::Heap;
+
+/// How many integers the array has into which is stored.
+pub(crate) const ITEMS: u16 = 65_000;
+
+/// A guardian with this many records, of the numbers from 0 on.
+pub(crate) fn with_records(heap: Heap, count: u16) -> Result<Client, BenchError> {
+    let mut client = Client::new(heap);
+    for _ in 0..count {
+        let _ = client.declare_record()?;
+    }
+    Ok(client)
+}
+
+/// How many records the work begins with.
+pub(crate) fn records_of(work: Work) -> u16 {
+    match work {
+        Work::Flat | Work::Nested | Work::Reads => RECORDS,
+        Work::Commit(count) | Work::Abort(count) => count,
+        Work::Chain => CHAIN_RECORDS,
+        Work::Stores => 0,
+    }
+}
+
+/// Makes so many turns. The sum of what they read.
+pub(crate) fn make_turns(client: &mut Client, work: Work, turns: u32) -> Result<i64, BenchError> {
+    let mut draws = Draws::new();
+    let mut sum = 0i64;
+    for turn in 0..turns {
+        sum = sum.wrapping_add(make_turn(client, work, &mut draws, turn)?);
+    }
+    Ok(sum)
+}
+
+fn make_turn(
+    client: &mut Client,
+    work: Work,
+    draws: &mut Draws,
+    turn: u32,
+) -> Result<i64, BenchError> {
+    match work {
+        Work::Flat => return turn_flat(client, draws, turn),
+        Work::Nested => turn_nested(client, draws, turn)?,
+        Work::Commit(count) => turn_commit(client, draws, count, turn)?,
+        Work::Abort(count) => turn_abort(client, draws, count, turn)?,
+        Work::Chain => turn_chain(client, turn)?,
+        Work::Stores | Work::Reads => {}
+    }
+    Ok(0)
+}
+
+/// Stores the numbers from `from` on and below `to`, each at a place that is drawn.
+pub(crate) fn store_numbers(
+    client: &mut Client,
+    draws: &mut Draws,
+    a: ActionId,
+    o: ObjId,
+    from: u32,
+    to: u32,
+) -> Result<(), BenchError> {
+    for number in from..to {
+        let place = i64::from(draws.below(ITEMS)) + 1;
+        client.store(a, o, place, i64::from(number))?;
+    }
+    Ok(())
+}
+
+/// What the action sees in the records, each times its place from 1 on.
+pub(crate) fn read_records(
+    client: &mut Client,
+    a: ActionId,
+    count: u16,
+) -> Result<i64, BenchError> {
+    let mut sum = 0i64;
+    for number in 0..count {
+        let read = client.get(a, ObjId(u32::from(number)))?;
+        sum = sum.wrapping_add(read.wrapping_mul(i64::from(number) + 1));
+    }
+    Ok(sum)
+}
+
+/// What the action sees in the array, each times its place.
+pub(crate) fn read_array(client: &mut Client, a: ActionId, o: ObjId) -> Result<i64, BenchError> {
+    let mut sum = 0i64;
+    for place in 1..=ITEMS {
+        let place = i64::from(place);
+        sum = sum.wrapping_add(client.fetch(a, o, place)?.wrapping_mul(place));
+    }
+    Ok(sum)
+}
+
+/// What is in the records for good, each times its place from 1 on.
+pub(crate) fn weigh_records(client: &mut Client, count: u16) -> Result<i64, BenchError> {
+    let a = client.begin_top()?;
+    let sum = read_records(client, a, count)?;
+    client.commit(a)?;
+    Ok(sum)
+}
+
+/// What is in the array for good, each times its place.
+pub(crate) fn weigh_array(client: &mut Client, o: ObjId) -> Result<i64, BenchError> {
+    let a = client.begin_top()?;
+    let sum = read_array(client, a, o)?;
+    client.commit(a)?;
+    Ok(sum)
+}
