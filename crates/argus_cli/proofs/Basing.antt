@@ -4,7 +4,7 @@ use Rattle.std.proofs.lemmas.List.{map-set, map-append, get_or_default, take_mor
 use Rattle.std.proofs.lemmas.List as lists
 use Rattle.std.proofs.lemmas.Option.{slice_get-get_or}
 use Rattle.std.specs.Option.{option_map}
-use Rattle.argus_contents.specs.Change.{PlainChange, result}
+use Rattle.argus_contents.specs.Change.{PlainChange, outcome}
 use Rattle.argus_contents.specs.Content.{PlainContent, plain_option}
 use Rattle.argus_contents.specs.Shape as shape
 use Rattle.argus_contents.specs.Ty as ty
@@ -17,11 +17,11 @@ use Rattle.argus_cli.specs.declared.work.Work.{Work}
 
 -- the base at a number was changed
 pub changed_at : (bases : List (Option Content)) (i : ℕ) (old new : Option Content) (c : PlainChange) → i < length bases → old ≡ slice_index_or bases i old
-    → plain_option new ≡ (result c (plain_option old)).0 → plain_bases (slice_set bases i new) ≡ changed (plain_bases bases) (i, c)
+    → plain_option new ≡ (outcome c (plain_option old)).0 → plain_bases (slice_set bases i new) ≡ changed (plain_bases bases) (i, c)
 changed_at bases i old new c within is e =
     let here : plain_option old ≡ slice_index_or (plain_bases bases) i None =
     ap plain_option is ∙ sym (lists.get_or-map plain_option bases i old None within) in
-    map-set plain_option bases i new ∙ ap (slice_set (plain_bases bases) i) (e ∙ ap (λ o. (result c o).0) here)
+    map-set plain_option bases i new ∙ ap (slice_set (plain_bases bases) i) (e ∙ ap (λ o. (outcome c o).0) here)
 
 -- a change is done
 pub done_more : (old new : List (Option Content)) (all rest : List Work) (w : Work) (total : List (Option PlainContent)) → all ≡ w ∷ rest

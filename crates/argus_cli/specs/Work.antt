@@ -1,7 +1,7 @@
 -- What the blocks of a script do, and what its objects then hold.
 use Rattle.std.specs.Prelude.{ℕ, ◌+◌, if◌then◌else◌, List, [], ◌∷◌, ◌++◌, fold, map, slice_index_or, slice_set, Option, Some, None, unwrap_or}
 use Rattle.std.specs.Option.{option_and_then, option_map}
-use Rattle.argus_contents.specs.Change.{PlainChange, plain_change, result}
+use Rattle.argus_contents.specs.Change.{PlainChange, plain_change, outcome}
 use Rattle.argus_contents.specs.Change as change
 use Rattle.argus_contents.specs.Content.{PlainContent}
 use Rattle.argus_contents.specs.Fitting.{change_suits, query_suits}
@@ -58,7 +58,7 @@ work_of objects n (step ∷ steps) = and_then (deed objects n step) (work_of obj
 
 -- the contents after one more change
 abbrev pub changed : List (Option PlainContent) → ℕ × PlainChange → List (Option PlainContent)
-changed bases w = slice_set bases w.0 (result w.1 (slice_index_or bases w.0 None)).0
+changed bases w = slice_set bases w.0 (outcome w.1 (slice_index_or bases w.0 None)).0
 
 -- the contents after parts, before which n objects were declared
 abbrev pub run_parts : List Object → ℕ → List PlainPart → List (Option PlainContent) → List (Option PlainContent)

@@ -6,7 +6,8 @@ use Rattle.std.specs.List.{list_all}
 use Rattle.std.specs.Prelude.{◌==◌, ◌||◌}
 use Rattle.std.proofs.lemmas.Bool.{and_from, and_parts}
 use Rattle.argus_contents.specs.Content.{PlainContent, arr, rec, var}
-use Rattle.argus_contents.specs.Fitting.{is_fitting, is_within}
+use Rattle.argus_contents.specs.Content.{is_within}
+use Rattle.argus_contents.specs.Fitting.{is_fitting}
 use Rattle.argus_contents.specs.Shape as shape
 use Rattle.argus_contents.specs.Shape.{PlainShape}
 use Rattle.argus_contents.specs.Ty as ty

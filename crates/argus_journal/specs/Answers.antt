@@ -1,7 +1,7 @@
 -- What a call is answered after a journal: the first refusal that applies, or else what it asked for.
 use Rattle.std.specs.Prelude.{Bool, List, None, Option, Some, false, length, nat_lt, not, slice_get, true, ℕ, ◌-◌, ◌==◌}
 use Rattle.argus_contents.specs.Answer.{done, flag}
-use Rattle.argus_contents.specs.Change.{PlainChange, result}
+use Rattle.argus_contents.specs.Change.{PlainChange, outcome}
 use Rattle.argus_contents.specs.Content.{PlainContent}
 use Rattle.argus_contents.specs.Fitting.{change_suits, query_suits}
 use Rattle.argus_contents.specs.Query.{reply}
@@ -104,7 +104,7 @@ granted s h shapes (commit a) = answered done
 granted s h shapes (abort a) = answered done
 granted s h shapes (abort_others a) = answered done
 granted s h shapes (ask a o query) = answered (reply query (seen s h a o))
-granted s h shapes (alter a o change) = answered (result change (seen s h a o)).1
+granted s h shapes (alter a o change) = answered (outcome change (seen s h a o)).1
 granted s h shapes (test_read a o) = answered (flag (may_read entries h (in_history a) o))
 granted s h shapes (test_write a o) = answered (flag (may_write entries h (in_history a) o))
 

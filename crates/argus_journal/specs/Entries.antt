@@ -3,7 +3,7 @@ use Rattle.std.proofs.Common.{refl, sym}
 use Rattle.std.proofs.lemmas.Bool.{false≢true}
 use Rattle.std.specs.Prelude.{Bool, Option, false, true, ◌≡◌}
 use Rattle.argus_contents.specs.Answer.{PlainAnswer, done, flag}
-use Rattle.argus_contents.specs.Change.{result, touch}
+use Rattle.argus_contents.specs.Change.{outcome, touch}
 use Rattle.argus_contents.specs.Content.{PlainContent}
 use Rattle.argus_contents.specs.Query.{reply}
 use Rattle.argus_entries.specs.Call.{PlainCall, abort, abort_others, alter, ask, begin_nested, begin_sub, begin_top, commit, declare, test_read, test_write}
@@ -27,8 +27,8 @@ is_write (test_read a o) = false
 
 -- what the call leaves of a content; a granted test for writing acts as the change `touch`
 abbrev pub left_by : PlainCall → Option PlainContent → Option PlainContent
-left_by (alter a o change) c = (result change c).0
-left_by (test_write a o) c = (result touch c).0
+left_by (alter a o change) c = (outcome change c).0
+left_by (test_write a o) c = (outcome touch c).0
 left_by (declare shape) c = c
 left_by begin_top c = c
 left_by (begin_sub parent) c = c
@@ -42,7 +42,7 @@ left_by (test_read a o) c = c
 -- what the call is answered at a content, where its lock is granted
 abbrev pub said_by : PlainCall → Option PlainContent → PlainAnswer
 said_by (ask a o query) c = reply query c
-said_by (alter a o change) c = (result change c).1
+said_by (alter a o change) c = (outcome change c).1
 said_by (test_read a o) c = flag true
 said_by (test_write a o) c = flag true
 said_by (declare shape) c = done

@@ -1,7 +1,7 @@
 -- What a serial run answers.
 use Rattle.std.specs.Prelude.{List, Option, true, ℕ, ◌≡◌}
 use Rattle.argus_contents.specs.Answer.{flag}
-use Rattle.argus_contents.specs.Change.{result}
+use Rattle.argus_contents.specs.Change.{outcome}
 use Rattle.argus_contents.specs.Content.{PlainContent}
 use Rattle.argus_contents.specs.Query.{reply}
 use Rattle.argus_entries.specs.Call.{PlainCall, abort, abort_others, alter, ask, begin_nested, begin_sub, begin_top, commit, declare, test_read, test_write}
@@ -13,7 +13,7 @@ use Rattle.argus_journal.specs.Entries.{entries}
 -- the call is an access to this object, and is answered so at this content of it
 abbrev pub IsAnsweredAt : PlainCall → PlainReply → ℕ → Option PlainContent → Type 0
 IsAnsweredAt (ask a o query) r i c = (i ≡ o) × (r ≡ answered (reply query c))
-IsAnsweredAt (alter a o change) r i c = (i ≡ o) × (r ≡ answered (result change c).1)
+IsAnsweredAt (alter a o change) r i c = (i ≡ o) × (r ≡ answered (outcome change c).1)
 IsAnsweredAt (test_read a o) r i c = (i ≡ o) × (r ≡ answered (flag true))
 IsAnsweredAt (test_write a o) r i c = (i ≡ o) × (r ≡ answered (flag true))
 IsAnsweredAt (declare shape) r i c = ⊥

@@ -4,7 +4,7 @@ use Rattle.std.specs.List.{list_any, filter}
 use Rattle.argus_actions.specs.declared.action_id.ActionId.{ActionId}
 use Rattle.argus_actions.specs.Tree.{Tree, is_ancestor}
 use Rattle.argus_contents.specs.Content.{PlainContent}
-use Rattle.argus_contents.specs.Change.{PlainChange, Outcome, result}
+use Rattle.argus_contents.specs.Change.{PlainChange, Outcome, outcome}
 use Rattle.argus_objects.specs.Object.{Object, PlainVersion}
 use Rattle.argus_objects.specs.Rules.{seen_by}
 
@@ -77,8 +77,8 @@ newest_content base (v ∷ older) = v.content
 
 -- what a change does to the content of the newest version, or to the base
 abbrev pub changed_top : PlainChange → Option PlainContent → List PlainVersion → Outcome
-changed_top change base versions = result change (newest_content base versions)
+changed_top change base versions = outcome change (newest_content base versions)
 
 -- what a change does to the content that the action sees
 abbrev pub changed : Tree → ActionId → PlainChange → Object → Outcome
-changed tree a change object = result change (seen_by tree a object.base object.versions)
+changed tree a change object = outcome change (seen_by tree a object.base object.versions)

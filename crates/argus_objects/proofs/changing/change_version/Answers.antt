@@ -5,7 +5,7 @@ use Rattle.std.specs.List.{list_all}
 use Rattle.argus_actions.specs.declared.action_id.ActionId.{ActionId}
 use Rattle.argus_contents.specs.Answer.{plain_answer}
 use Rattle.argus_contents.specs.Content.{PlainContent, plain_option}
-use Rattle.argus_contents.specs.Change.{plain_change, Outcome, result as outcome_of}
+use Rattle.argus_contents.specs.Change.{plain_change, Outcome, outcome}
 use Rattle.argus_objects.specs.declared.version.Version.{Version}
 use Rattle.argus_objects.specs.Object.{newest_first, holders}
 use Rattle.argus_objects.specs.Moves.{changed_top, newest_content, with_version}
@@ -37,7 +37,7 @@ in_place c =
     let content : plain_option old.content ≡ plain_option (get_or vs k d).content = ap (λ (v : Version). plain_option v.content) item in
     let seen : plain_option old.content ≡ newest_content base (newest_first vs) = content ∙ sym (content_on_top base vs k d last) in
     let Answers : Option PlainContent → Type 0 =
-    λ x. IfOk c.alter_in_place.result (λ answer. (plain_option v.content, plain_answer answer) ≡ outcome_of (plain_change c.args.change) x) in
+    λ x. IfOk c.alter_in_place.result (λ answer. (plain_option v.content, plain_answer answer) ≡ outcome (plain_change c.args.change) x) in
     changed_in_place c.alter_in_place.result c.args.a (changed_top (plain_change c.args.change) base (newest_first vs)) vs k d v last
     c.requires.ascending held mine same (subst Answers seen c.alter_in_place.ensures.ok)
     (subst (λ x. OnErr c.alter_in_place.result (plain_option v.content ≡ x)) content c.alter_in_place.ensures.err)
@@ -62,7 +62,7 @@ returns-clause-versions c =
     ] in
     let seen : plain_option c.content_on_top.result.now ≡ newest_content base (newest_first vs) =
     c.content_on_top.ensures ∙ ap (λ ws. newest_content base (newest_first ws)) c.as_slice.ensures.value in
-    let content : plain_option c.in_ok-content.content ≡ (outcome_of (plain_change c.args.change) (newest_content base (newest_first vs))).0 =
-    ap (λ (p : Outcome). p.0) c.in_ok-content.ensures.ok ∙ ap (λ x. (outcome_of (plain_change c.args.change) x).0) seen in
+    let content : plain_option c.in_ok-content.content ≡ (outcome (plain_change c.args.change) (newest_content base (newest_first vs))).0 =
+    ap (λ (p : Outcome). p.0) c.in_ok-content.ensures.ok ∙ ap (λ x. (outcome (plain_change c.args.change) x).0) seen in
     ap newest_first c.in_ok-push.ensures.items
     ∙ (version_pushed c.args.a vs v refl low ∙ ap (λ x. with_version c.args.a x (newest_first vs)) content)
