@@ -1,15 +1,23 @@
 //! `ActionTree`: the actions that were begun.
 
-ghost use Rattle.std.specs.Prelude.{◌≡◌, ℕ, ◌<◌, ◌≤◌, ◌+◌, ◌-◌, true, [], ◌∷◌, None, Some, OnOk, OnErr, IfOk, MatchOption};
+ghost use Rattle.std.specs.Prelude.{◌≡◌, ℕ, ◌<◌, ◌≤◌, ◌+◌, ◌-◌, true, [], ◌∷◌, None, Some, OnOk};
+ghost use Rattle.std.specs.Prelude.{OnErr, IfOk, MatchOption};
 ghost use Rattle.std.specs.Option.{option_and_then};
 ghost use Rattle.std.specs.Result.{result_err};
 ghost use Rattle.argus_actions.specs.declared.origin.Origin.TheVariants.{Top, Sub, Nested};
 ghost use Rattle.argus_actions.specs.declared.status.Status.TheVariants.{Live};
 ghost use Rattle.argus_actions.specs.Row.{at_parent};
-ghost use Rattle.argus_actions.specs.Rows.{depth_at, under_at, is_live_at, is_sub_at, is_child_of, AreInStep};
-ghost use Rattle.argus_actions.specs.Tree.{Tree, next, status_of, parent_of, creator_of, newest_sub_of, older_sub_of, newest_child_of, older_sibling_of, is_ancestor, has_live_child, depth_of, IsGreatestBelow, SameActions, after_begin, after_commit, after_abort, after_abort_others};
+ghost use Rattle.argus_actions.specs.Rows.{depth_at, under_at, is_live_at, is_sub_at, is_child_of};
+ghost use Rattle.argus_actions.specs.Rows.{AreInStep};
+ghost use Rattle.argus_actions.specs.Tree.{Tree, next, status_of, parent_of, creator_of};
+ghost use Rattle.argus_actions.specs.Tree.{newest_sub_of, older_sub_of, newest_child_of};
+ghost use Rattle.argus_actions.specs.Tree.{older_sibling_of, is_ancestor, has_live_child, depth_of};
+ghost use Rattle.argus_actions.specs.Tree.{IsGreatestBelow, SameActions, after_begin, after_commit};
+ghost use Rattle.argus_actions.specs.Tree.{after_abort, after_abort_others};
 ghost use Rattle.argus_actions.specs.Nodes.{IsNodeOf, AreLinked, ComesBetween, link_end};
-ghost use Rattle.argus_actions.specs.Refusals.{begin_top_refusal, begin_sub_refusal, begin_nested_refusal, commit_refusal, abort_refusal, abort_others_refusal, IsRefusedBy};
+ghost use Rattle.argus_actions.specs.Refusals.{begin_top_refusal, begin_sub_refusal};
+ghost use Rattle.argus_actions.specs.Refusals.{begin_nested_refusal, commit_refusal, abort_refusal};
+ghost use Rattle.argus_actions.specs.Refusals.{abort_others_refusal, IsRefusedBy};
 
 use crate::action_error::ActionError;
 use crate::action_id::ActionId;
@@ -51,7 +59,12 @@ impl Model for ActionTree {
 
     ghost use Rattle.argus_actions.specs.Nodes.{rows_of, AreKept};
 
-    ghost view = { λ t. record { folded = t.first; rows = rows_of t.nodes.items; room = vec_capacity t.nodes - vec_len t.nodes } };
+    ghost view = { λ t. record {
+      folded = t.first;
+      rows = rows_of t.nodes.items;
+      room =
+          vec_capacity t.nodes - vec_len t.nodes;
+    } };
 
     ghost invariant = { λ t. AreKept t.first t.nodes.items };
 }
@@ -222,9 +235,11 @@ impl ActionTree {
     /// A law for proofs; it does nothing. From `newest_sub` on, `older_sub` leads to every
     /// subaction of an action, and to no other.
     pub fn subs_in_turn(&self, a: ActionId)
-        ensures newest { IsGreatestBelow (next self.now) (is_sub_at self.now.folded self.now.rows a.0) (newest_sub_of self.now a.0) }
+        ensures newest { IsGreatestBelow (next self.now)
+            (is_sub_at self.now.folded self.now.rows a.0) (newest_sub_of self.now a.0) }
         ensures older { (x : ℕ) → is_sub_at self.now.folded self.now.rows a.0 x ≡ true
-            → IsGreatestBelow x (is_sub_at self.now.folded self.now.rows a.0) (older_sub_of self.now x) }
+            → IsGreatestBelow x (is_sub_at self.now.folded self.now.rows a.0)
+            (older_sub_of self.now x) }
     {
         let _ = self.nodes.len();
     }
@@ -232,9 +247,11 @@ impl ActionTree {
     /// A law for proofs; it does nothing. From `newest_child` on, `older_sibling` leads to every
     /// action that was begun under this one, and to no other.
     pub fn children_in_turn(&self, a: ActionId)
-        ensures newest { IsGreatestBelow (next self.now) (is_child_of self.now.folded self.now.rows a.0) (newest_child_of self.now a.0) }
+        ensures newest { IsGreatestBelow (next self.now)
+            (is_child_of self.now.folded self.now.rows a.0) (newest_child_of self.now a.0) }
         ensures older { (x : ℕ) → is_child_of self.now.folded self.now.rows a.0 x ≡ true
-            → IsGreatestBelow x (is_child_of self.now.folded self.now.rows a.0) (older_sibling_of self.now x) }
+            → IsGreatestBelow x (is_child_of self.now.folded self.now.rows a.0)
+            (older_sibling_of self.now x) }
     {
         let _ = self.nodes.len();
     }
@@ -259,7 +276,7 @@ impl ActionTree {
         }
         match self.depth(parent) {
             Some(depth) if depth >= MAX_ACTION_DEPTH => Some(ActionRefusal::TooDeep),
-            _ => self.begin_top_refusal(),
+            Some(_) | None => self.begin_top_refusal(),
         }
     }
 
@@ -501,10 +518,14 @@ impl ActionTree {
     // The node of an action; None where it was not begun, or is folded.
     fn node(&self, a: ActionId) -> Option<Node>
         ensures node { IsNodeOf self.now a.0 result }
-        ensures newest { option_and_then (λ node. link_end node.newest_sub) result ≡ newest_sub_of self.now a.0 }
-        ensures older { option_and_then (λ node. link_end node.older_sub) result ≡ older_sub_of self.now a.0 }
-        ensures newest_child { option_and_then (λ node. link_end node.newest_child) result ≡ newest_child_of self.now a.0 }
-        ensures older_child { option_and_then (λ node. link_end node.older_child) result ≡ older_sibling_of self.now a.0 }
+        ensures newest { option_and_then (λ node. link_end node.newest_sub) result
+            ≡ newest_sub_of self.now a.0 }
+        ensures older { option_and_then (λ node. link_end node.older_sub) result
+            ≡ older_sub_of self.now a.0 }
+        ensures newest_child { option_and_then (λ node. link_end node.newest_child) result
+            ≡ newest_child_of self.now a.0 }
+        ensures older_child { option_and_then (λ node. link_end node.older_child) result
+            ≡ older_sibling_of self.now a.0 }
     {
         if a.0 < self.first {
             return None;
@@ -523,7 +544,8 @@ impl ActionTree {
         requires few { next self.old < MAX_ACTIONS }
         requires between { ComesBetween self.old.folded (next self.old) origin }
         requires live { at_parent true origin (is_live_at self.old.folded self.old.rows) ≡ true }
-        requires shallow { at_parent 0 origin (depth_at self.old.folded self.old.rows) < MAX_ACTION_DEPTH }
+        requires shallow { at_parent 0 origin (depth_at self.old.folded self.old.rows) <
+            MAX_ACTION_DEPTH }
         ensures number { result.0 ≡ next self.old }
         ensures tree { self.new ≡ after_begin self.old origin }
     {

@@ -1,5 +1,6 @@
 -- Whatever counts, what a legal journal leaves in an object fits its shape.
-use Rattle.std.proofs.Common.{Bool, List, None, Option, Some, [], arith, false, length, length-append, refl, subst, suc, sym, true, zero, ℕ, ◌++◌, ◌+◌, ◌∷◌, ◌≡◌}
+use Rattle.std.proofs.Common.{Bool, List, None, Option, Some, [], arith, false, length, length-append, refl, subst, suc}
+use Rattle.std.proofs.Common.{sym, true, zero, ℕ, ◌++◌, ◌+◌, ◌∷◌, ◌≡◌}
 use Rattle.std.specs.List.{list_all}
 use Rattle.std.specs.Prelude.{if◌then◌else◌, map, slice_get, ◌&&◌, ◌==◌}
 use Rattle.std.proofs.lemmas.Bool.{and_parts, eqb-true}
@@ -9,7 +10,8 @@ use Rattle.argus_contents.specs.Change.{PlainChange, outcome}
 use Rattle.argus_contents.specs.Content.{PlainContent}
 use Rattle.argus_contents.specs.Fitting.{change_suits}
 use Rattle.argus_contents.specs.Shape.{PlainShape}
-use Rattle.argus_entries.specs.Call.{PlainCall, abort, abort_others, alter, ask, begin_nested, begin_sub, begin_top, commit, declare, test_read, test_write}
+use Rattle.argus_entries.specs.Call.{PlainCall, abort, abort_others, alter, ask, begin_nested, begin_sub, begin_top}
+use Rattle.argus_entries.specs.Call.{commit, declare, test_read, test_write}
 use Rattle.argus_entries.specs.Entry.{PlainEntry}
 use Rattle.argus_entries.specs.Reply.{PlainReply, answered, refused}
 use Rattle.argus_entries.specs.declared.refusal.Refusal.{Refusal}
@@ -25,7 +27,8 @@ use Rattle.argus_journal.specs.Legal.{Legal}
 use Rattle.argus_journal.specs.Objects.{declared, declared_by, shape_of, shapes}
 use Rattle.argus_journal.specs.Opening.{Opening, content_in, fits_shape, is_sound}
 use Rattle.argus_journal.proofs.Fitting.{fits_more, nothing, outcome_fits, touch_keeps}
-use Rattle.argus_journal.proofs.Legal.{access_none, free_none, refused_is_none, test_read_event, test_write_event, tested, then_event}
+use Rattle.argus_journal.proofs.Legal.{access_none, free_none, refused_is_none, test_read_event, test_write_event}
+use Rattle.argus_journal.proofs.Legal.{tested, then_event}
 
 -- a content that fits one of the shapes still fits when more are declared
 found_still : (xs ys : List PlainShape) (n : ℕ) (o : ℕ) (c : Option PlainContent)

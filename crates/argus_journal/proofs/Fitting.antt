@@ -1,11 +1,14 @@
 -- A fitting change leaves a fitting content, and what fits goes on to fit when more objects are declared.
-use Rattle.std.proofs.Common.{Bool, List, None, Option, Some, [], arith, drop, false, length, nat_le, nat_lt, refl, suc, take, true, zero, ℕ, ℤ, pos, ◌++◌, ◌+ℤ◌, ◌-◌, ◌-ℤ◌, ◌∷◌, ◌≡◌, ◌≤ℤ◌, ◌≤◌}
+use Rattle.std.proofs.Common.{Bool, List, None, Option, Some, [], arith, drop, false, length, nat_le, nat_lt, refl, suc}
+use Rattle.std.proofs.Common.{take, true, zero, ℕ, ℤ, pos, ◌++◌, ◌+ℤ◌, ◌-◌, ◌-ℤ◌, ◌∷◌, ◌≡◌, ◌≤ℤ◌, ◌≤◌}
 use Rattle.std.specs.Prelude.{if◌then◌else◌, int_lt, not, slice_set, unsigned_abs, ◌&&◌, ◌||◌}
 use Rattle.std.specs.Ordering.{int_eq}
 use Rattle.std.proofs.lemmas.Bool.{and_from, and_parts, false≢true}
 use Rattle.std.proofs.lemmas.Bool.Decides.{nat_tests}
 use Rattle.std.proofs.lemmas.Int.{ints}
-use Rattle.argus_contents.specs.Change.{Outcome, PlainChange, addh, addl, array_outcome, change_tag, create, is_full_high, is_full_low, is_out_of_limits, reml, remh, removed_low, outcome, set_field, set_low, store, stored_at, touch, trim, trimmed}
+use Rattle.argus_contents.specs.Change.{Outcome, PlainChange, addh, addl, array_outcome, change_tag, create}
+use Rattle.argus_contents.specs.Change.{is_full_high, is_full_low, is_out_of_limits, reml, remh, removed_low, outcome}
+use Rattle.argus_contents.specs.Change.{set_field, set_low, store, stored_at, touch, trim, trimmed}
 use Rattle.argus_contents.specs.Content.{KeepsLimits, PlainContent, arr, is_within, rec, var}
 use Rattle.argus_contents.specs.Fitting.{change_suits, is_fitting}
 use Rattle.argus_contents.specs.Place.{high_of, place_of}
@@ -215,7 +218,8 @@ absent_fits touch s n h = refl
 absent_fits _ s n h = refl
 
 -- a fitting change leaves a fitting content
-pub outcome_fits : (c : PlainChange) (s : PlainShape) (n : ℕ) (content : Option PlainContent) → change_suits s n c ≡ true
+pub outcome_fits : (c : PlainChange) (s : PlainShape) (n : ℕ) (content : Option PlainContent)
+    → change_suits s n c ≡ true
     → fits_shape (Some s) n content ≡ true → fits_shape (Some s) n (outcome c content).0 ≡ true
 outcome_fits c s n None h e = absent_fits c s n h
 outcome_fits c (shape.rec fs) n (Some (rec vs)) h e = record_fits c fs n vs h e

@@ -17,8 +17,10 @@ ghost use Rattle.argus_journal.specs.WorkedOpenings.{checkpointed, going_on, und
 pub fn the_past_is_folded()
     ensures fold { fold empty (journal prepared) ≡ checkpointed }
     ensures replies { replies checkpointed [] going_on
-        ≡ refused Over ∷ begun 1 ∷ answered (val (int (pos 0))) ∷ refused NoAction ∷ answered done ∷ [] }
-    ensures owners { map (owner_in checkpointed (then_calls checkpointed [] going_on)) (0 ∷ 1 ∷ 2 ∷ [])
+        ≡ refused Over ∷ begun 1 ∷ answered (val (int (pos 0))) ∷ refused NoAction ∷ answered done
+        ∷ [] }
+    ensures owners { map (owner_in checkpointed (then_calls checkpointed [] going_on))
+        (0 ∷ 1 ∷ 2 ∷ [])
         ≡ Some Folded ∷ Some Base ∷ None ∷ [] }
     ensures base { base_of checkpointed (then_calls checkpointed [] going_on) 0 ≡ Some (holding 0) }
     ensures nothing_under { replies checkpointed [] under_the_folded

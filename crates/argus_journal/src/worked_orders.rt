@@ -27,7 +27,8 @@ ghost use Rattle.argus_journal.specs.WorkedOrders.{under_the_deepest};
 /// a question for another kind of object.
 pub fn ill_typed_before_conflict()
     ensures { replies empty (journal prepared) ill_typed_and_held
-        ≡ begun 1 ∷ answered done ∷ begun 2 ∷ refused IllTyped ∷ refused IllTyped ∷ refused Conflict ∷ [] }
+        ≡ begun 1 ∷ answered done ∷ begun 2 ∷ refused IllTyped ∷ refused IllTyped ∷ refused Conflict
+        ∷ [] }
 {}
 
 /// An action that was aborted is over, though its nested topaction lives.
@@ -46,7 +47,8 @@ pub fn suspended_before_no_object()
 /// Tests are refused in the same order.
 pub fn tests_are_refused_in_order()
     ensures { replies empty (journal prepared) tests_in_order
-        ≡ begun 1 ∷ answered done ∷ refused Over ∷ refused Over ∷ refused NoAction ∷ refused NoAction
+        ≡ begun 1 ∷ answered done ∷ refused Over ∷ refused Over ∷ refused NoAction
+        ∷ refused NoAction
         ∷ begun 2 ∷ refused NoObject ∷ refused NoObject ∷ [] }
 {}
 

@@ -10,8 +10,10 @@ ghost use Rattle.argus_contents.specs.Content.{KeepsLimits, plain_option};
 ghost use Rattle.argus_objects.specs.Object.{newest_first, SameLocks};
 ghost use Rattle.argus_objects.specs.Rules.{is_lawful, may_read, may_write, seen_by};
 ghost use Rattle.argus_objects.specs.Moves.{changed, newest_content, version_of};
-ghost use Rattle.argus_objects.specs.Moves.{readers_discarded, readers_inherited, with_reader, without_reader};
-ghost use Rattle.argus_objects.specs.Moves.{versions_discarded, versions_inherited, with_version, without_version};
+ghost use Rattle.argus_objects.specs.Moves.{readers_discarded, readers_inherited, with_reader};
+ghost use Rattle.argus_objects.specs.Moves.{without_reader};
+ghost use Rattle.argus_objects.specs.Moves.{versions_discarded, versions_inherited, with_version};
+ghost use Rattle.argus_objects.specs.Moves.{without_version};
 
 use crate::changing::{change_version, content_on_top};
 use crate::readers::{add_reader, all_readers_above, discard_readers, drop_reader, inherit_reader};
@@ -58,7 +60,14 @@ impl Model for Cell {
 
     ghost use Rattle.argus_objects.specs.Rules.{AreInOrder};
 
-    ghost view = { λ c. record { base = plain_option c.base; readers = c.readers.items; versions = newest_first c.versions.items; room = min (vec_capacity c.readers - vec_len c.readers) (vec_capacity c.versions - vec_len c.versions) } };
+    ghost view = { λ c. record {
+      base = plain_option c.base;
+      readers = c.readers.items;
+      versions =
+          newest_first c.versions.items;
+      room = min (vec_capacity c.readers - vec_len c.readers)
+          (vec_capacity c.versions - vec_len c.versions);
+    } };
 
     ghost invariant = { λ c. AreInOrder c.readers.items c.versions.items };
 }
@@ -160,7 +169,8 @@ impl Cell {
         requires room { 0 < self.old.room }
         ensures base { self.new.base ≡ self.old.base }
         ensures readers { self.new.readers ≡ self.old.readers }
-        ensures versions { self.new.versions ≡ with_version a (plain_option new_content) self.old.versions }
+        ensures versions { self.new.versions ≡ with_version a (plain_option new_content)
+            self.old.versions }
         ensures lawful { is_lawful tree.now self.new ≡ true }
     {
         put_version(&mut self.versions, a, new_content);
@@ -187,9 +197,13 @@ impl Cell {
         requires limits { KeepsLimits (seen_by tree.now a self.old.base self.old.versions) }
         ensures base { self.new.base ≡ self.old.base }
         ensures readers { self.new.readers ≡ self.old.readers }
-        ensures versions { OnOk result (self.new.versions ≡ with_version a (changed tree.now a (plain_change change) self.old).0 self.old.versions) }
-        ensures answer { IfOk result (λ answer. plain_answer answer ≡ (changed tree.now a (plain_change change) self.old).1) }
-        ensures kept { CreatesWithin (plain_change change) → OnOk result (KeepsLimits (changed tree.now a (plain_change change) self.old).0) }
+        ensures versions { OnOk result (self.new.versions
+            ≡ with_version a (changed tree.now a (plain_change change) self.old).0
+            self.old.versions) }
+        ensures answer { IfOk result (λ answer. plain_answer answer
+            ≡ (changed tree.now a (plain_change change) self.old).1) }
+        ensures kept { CreatesWithin (plain_change change)
+            → OnOk result (KeepsLimits (changed tree.now a (plain_change change) self.old).0) }
         ensures err { OnErr result (self.new.versions ≡ self.old.versions) }
         ensures lawful { is_lawful tree.now self.new ≡ true }
     {
@@ -202,7 +216,8 @@ impl Cell {
     /// Condition: the read lock is free for `a`.
     pub fn visible(&self, tree: &ActionTree, a: ActionId) -> &Option<Content>
         requires { may_read tree.now self.now a ≡ true }
-        ensures nearest { plain_option result.now ≡ seen_by tree.now a self.now.base self.now.versions }
+        ensures nearest { plain_option result.now ≡ seen_by tree.now a self.now.base
+            self.now.versions }
         ensures newest { plain_option result.now ≡ newest_content self.now.base self.now.versions }
     {
         content_on_top(&self.base, self.versions.as_slice())

@@ -3,7 +3,8 @@
 ghost use Rattle.std.specs.Prelude.{◌≡◌, ◌≢◌, ◌<◌, ◌≤◌, ◌==◌, [], length, OnOk};
 ghost use Rattle.std.specs.List.{IsDistinct};
 ghost use Rattle.indexmap.specs.IndexSet.{spare};
-ghost use Rattle.argus_objects.specs.Holdings.{KeepsRooms, listed, Lists, noted, passed, PassedOn, room_of, SameLists, TakesOnePlace};
+ghost use Rattle.argus_objects.specs.Holdings.{KeepsRooms, listed, Lists, noted, passed, PassedOn};
+ghost use Rattle.argus_objects.specs.Holdings.{room_of, SameLists, TakesOnePlace};
 
 use argus_actions::ActionId;
 use argus_contents::ObjId;
