@@ -91,8 +91,7 @@ fresh origin older child depth =
       origin = origin;
       newest_sub = NONE;
       older_sub = older;
-      newest_child =
-          NONE;
+      newest_child = NONE;
       older_child = child;
       live_children = 0;
       status = Live;

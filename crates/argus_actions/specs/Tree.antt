@@ -104,8 +104,7 @@ pub record SameActions (old new : Tree) : Type 0 where
 -- one live action more, in the room that was there
 abbrev pub after_begin : Tree → Origin → Tree
 after_begin tree origin = record tree {
-  rows =
-      record { origin = origin; status = Live } ∷ tree.rows;
+  rows = record { origin = origin; status = Live } ∷ tree.rows;
   room = tree.room - 1;
 }
 
@@ -122,7 +121,6 @@ after_abort tree a = record tree { rows = mark tree.folded (is_ancestor tree a) 
 -- topactions begun under them go on
 abbrev pub after_abort_others : Tree → ℕ → Tree
 after_abort_others tree a = record tree {
-  rows =
-      mark tree.folded (has_ancestor (is_live_sibling tree a) tree.folded tree.rows)
+  rows = mark tree.folded (has_ancestor (is_live_sibling tree a) tree.folded tree.rows)
       Aborted tree.rows;
 }

@@ -24,6 +24,5 @@ abbrev pub fold : Opening → List PlainEntry → Opening
 fold s j = record {
   objects = with_contents (base_of s j) (shapes s j);
   first_action = next_number s j;
-  first_entry =
-      next_entry_number s j;
+  first_entry = next_entry_number s j;
 }

@@ -35,8 +35,7 @@ abbrev pub opened : Opening → model.Opening (Option PlainContent)
 opened s = record {
   contents = content_in s.objects;
   first_action = s.first_action;
-  first_entry =
-      s.first_entry;
+  first_entry = s.first_entry;
 }
 
 -- an absent content fits every shape, and a present one no shape that isn't there

@@ -12,6 +12,5 @@ module _ {V C A : Type 0} (meaning : Meaning V C A) where
       record {
         contents = base meaning opening h;
         first_action = next_action h - 1;
-        first_entry =
-            entries;
+        first_entry = entries;
       }

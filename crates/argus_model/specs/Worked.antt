@@ -38,8 +38,7 @@ numbers = record {
   after = number_after;
   answer = λ v c. c;
   recorded = answer_given;
-  reads_keep =
-      looks_keep;
+  reads_keep = looks_keep;
 }
 
 abbrev pub looked : ℕ → ℕ → Access Deed

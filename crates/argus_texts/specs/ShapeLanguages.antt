@@ -39,8 +39,7 @@ abbrev pub Closed : (PlainTy → Type 0) → Language
 Closed Good = record {
   Thing = PlainTy;
   Good = Good;
-  form =
-      λ t. ty_spelling t ++ close_bracket ∷ [];
+  form = λ t. ty_spelling t ++ close_bracket ∷ [];
   Ends = λ t rest. Unit {0};
 }
 
@@ -91,11 +90,7 @@ abbrev mutual
   IsShallow k (ty.sequence x) = (0 < k) × IsShallow (k - 1) x
   IsShallow k (ty.fields fs) = (0 < k) × IsFilled fs × AreShallow MAX_NAMES (k - 1) fs
   IsShallow k (ty.choice fs) = (0 < k) × IsFilled fs × AreShallow MAX_NAMES (k - 1) fs
-  IsShallow k ty.null = 0 < k
-  IsShallow k ty.bool = 0 < k
-  IsShallow k ty.int = 0 < k
-  IsShallow k ty.text = 0 < k
-  IsShallow k ty.atomic = 0 < k
+  IsShallow k _ = 0 < k
 
   -- at most n names in form with such types
   pub AreShallow : ℕ → ℕ → PlainFields → Type 0
