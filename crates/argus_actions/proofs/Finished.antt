@@ -94,12 +94,10 @@ end_cases : (ends less : Bool) (s : Status) (node : Node)
     ≡ (let r : Node = record {
       origin = node.origin;
       newest_sub = node.newest_sub;
-      older_sub =
-          node.older_sub;
+      older_sub = node.older_sub;
       newest_child = node.newest_child;
       older_child = node.older_child;
-      live_children =
-          node.live_children - one (less && true);
+      live_children = node.live_children - one (less && true);
       status = cond ends s node.status;
       depth = node.depth;
     } in r)

@@ -63,8 +63,7 @@ some_node = record {
   older_sub = 0;
   newest_child = 0;
   older_child = 0;
-  live_children =
-      0;
+  live_children = 0;
   status = Live;
   depth = 0;
 }

@@ -84,8 +84,7 @@ fine-more lines i line objects p here declared e fine before =
       line = line;
       here = here;
       objects = objects;
-      declared =
-          declared;
+      declared = declared;
       fine = subst (λ q. IsFine q objects line) (sym e) fine;
     })
 
@@ -102,8 +101,7 @@ first-fault lines i line objects p k here declared e fault before =
         here = here;
         objects = objects;
         declared = declared;
-        fault =
-            subst (λ q. HasFault q objects line k) (sym e) fault;
+        fault = subst (λ q. HasFault q objects line k) (sym e) fault;
         before = before;
       },
     )

@@ -48,8 +48,7 @@ rest_of h f y l =
     (λ e. record {
       rest = [];
       is = subst (λ u. lineage h u ≡ u ∷ []) (sym e) (lineage-base h);
-      less =
-          λ z m. absurd (false≢true m);
+      less = λ z m. absurd (false≢true m);
     })
     (λ ne. let w = parent_older h y f (omega arith) l in
     record {

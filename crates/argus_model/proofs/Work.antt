@@ -131,8 +131,7 @@ module _ {V : Type 0} (writes : V → Bool) where
       record {
         action = u.action;
         uses = u.uses;
-        owned =
-            handed_stays s p (owner_by_steps h u.action) y u.owned k.1;
+        owned = handed_stays s p (owner_by_steps h u.action) y u.owned k.1;
       } in
       ⊎_elim
       (λ e. ⊎_elim
@@ -140,8 +139,7 @@ module _ {V : Type 0} (writes : V → Bool) where
       record {
         action = u.action;
         uses = u.uses;
-        owned =
-            handed_from s p (owner_by_steps h u.action) u.owned ∙ ap Some e;
+        owned = handed_from s p (owner_by_steps h u.action) u.owned ∙ ap Some e;
       })
       ih
       (touches-append (work h s) (work h y) o all
@@ -153,8 +151,7 @@ module _ {V : Type 0} (writes : V → Bool) where
       record {
         action = u.action;
         uses = u.uses;
-        owned =
-            kept_stays (is_under h z) (owner_by_steps h u.action) y u.owned k.1;
+        owned = kept_stays (is_under h z) (owner_by_steps h u.action) y u.owned k.1;
       }
   user_of (Accessed a o' v ▹ h) w y o all l m =
       let ih : touches (work h y) o all ≡ true → User (Accessed a o' v ▹ h) y o all =
@@ -165,10 +162,8 @@ module _ {V : Type 0} (writes : V → Bool) where
       (λ k. ⊎_elim
       (λ q. record {
         action = a;
-        uses =
-            or_left (a == a && here) (has_used writes h a o all) (and_from (a == a) here (eq-eqb a a refl) q);
-        owned =
-            at_some (owner_by_steps h a) a w.0 ∙ ap Some k;
+        uses = or_left (a == a && here) (has_used writes h a o all) (and_from (a == a) here (eq-eqb a a refl) q);
+        owned = at_some (owner_by_steps h a) a w.0 ∙ ap Some k;
       })
       ih
       (or_cases here (touches (work h y) o all)

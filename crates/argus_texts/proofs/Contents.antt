@@ -128,8 +128,7 @@ angle_starts k (var t v) u y w i =
     record {
       thing = (t, (v, tt));
       rest = y;
-      reads =
-          record { good = ((omega arith, omega (arith, w.0)), (w.1, tt)); ends = tt; is = tail_of i };
+      reads = record { good = ((omega arith, omega (arith, w.0)), (w.1, tt)); ends = tt; is = tail_of i };
     }
 angle_starts k e u y w i = let l = kind_of k e 60 u y w i in absurd (omega arith)
 
@@ -140,8 +139,7 @@ variant_angle k = record {
     record {
       thing = var f.thing.0 f.thing.1.0;
       good = (omega (arith, f.good.0.1), f.good.1.0);
-      is =
-          ap (λ x. 60 ∷ x) f.is;
+      is = ap (λ x. 60 ∷ x) f.is;
     },
   );
   starts = λ u s. angle_starts k s.thing u s.rest s.reads.good s.reads.is;

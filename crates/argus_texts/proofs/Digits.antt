@@ -237,8 +237,7 @@ minus = record {
     record {
       thing = negsuc (f.thing - 1);
       good = omega (arith, f.good.0, f.good.1);
-      is =
-          ap (λ x. 45 ∷ x) (f.is ∙ ap decimal (sym (below f.thing f.good.0)));
+      is = ap (λ x. 45 ∷ x) (f.is ∙ ap decimal (sym (below f.thing f.good.0)));
     },
   );
   starts = λ u s. minus_starts s.thing u s.rest s.reads.good s.reads.ends s.reads.is;
@@ -283,6 +282,5 @@ reads_minus n z text others rest e r f =
     (record {
       good = omega (arith, r.good.0, r.good.1);
       ends = r.ends;
-      is =
-          e ∙ ap (λ x. 45 ∷ x) (r.is ∙ ap (λ m. decimal m ++ rest) (sym (below n r.good.0)));
+      is = e ∙ ap (λ x. 45 ∷ x) (r.is ∙ ap (λ m. decimal m ++ rest) (sym (below n r.good.0)));
     })

@@ -62,8 +62,7 @@ starts_form L k u f =
     record {
       thing = f.thing;
       rest = [];
-      reads =
-          record { good = f.good; ends = k.nil f.thing; is = f.is ∙ sym (append-nil (L.form f.thing)) };
+      reads = record { good = f.good; ends = k.nil f.thing; is = f.is ∙ sym (append-nil (L.form f.thing)) };
     }
 
 no_form_from : (L : Language) (A : List ℕ → Type 0) → Clear L → Accepts L A → (front back : List ℕ) → NoWay L front back

@@ -240,8 +240,7 @@ quoted_reads read text others rest u e o =
     record {
       good = u;
       ends = tt;
-      is =
-          e ∙ ap (λ x. escaped read ++ x) o ∙ sym (append_assoc (escaped read) (34 ∷ []) rest);
+      is = e ∙ ap (λ x. escaped read ++ x) o ∙ sym (append_assoc (escaped read) (34 ∷ []) rest);
     }
 
 -- what isn't ASCII isn't special

@@ -100,8 +100,7 @@ front_of n k text end (more name t fs) l e = record {
   field = record {
     thing = (name, t);
     rest = names_behind fs ++ end;
-    reads =
-        record { good = (l.1.1, l.1.2); ends = tt; is = e ∙ regroup name (ty_spelling t) (names_behind fs) end };
+    reads = record { good = (l.1.1, l.1.2); ends = tt; is = e ∙ regroup name (ty_spelling t) (names_behind fs) end };
   };
   some = l.1.0;
   others = fs;
@@ -277,8 +276,7 @@ no_word_at text rest (arr t) r a v e =
     a (record {
       thing = tt;
       rest = (ty_spelling t ++ 93 ∷ []) ++ rest;
-      reads =
-          record { good = tt; ends = tt; is = e };
+      reads = record { good = tt; ends = tt; is = e };
     })
 no_word_at text rest (var fs) r a v e =
     v (record { thing = tt; rest = names_inside fs ++ rest; reads = record { good = tt; ends = tt; is = e } })
@@ -303,8 +301,7 @@ no_shape_text text h t =
     h (record {
       thing = t.shape;
       rest = [];
-      reads =
-          record { good = t.makeable; ends = tt; is = t.is ∙ sym (append-nil (shape_spelling t.shape)) };
+      reads = record { good = t.makeable; ends = tt; is = t.is ∙ sym (append-nil (shape_spelling t.shape)) };
     })
 
 -- something comes behind a shape

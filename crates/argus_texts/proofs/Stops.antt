@@ -85,8 +85,7 @@ pair_first L M c p m g = record {
     record {
       thing = (f.thing, m);
       good = (f.good, g);
-      is =
-          sym (append_assoc u t (c ∷ M.form m)) ∙ ap (λ x. x ++ c ∷ M.form m) f.is;
+      is = sym (append_assoc u t (c ∷ M.form m)) ∙ ap (λ x. x ++ c ∷ M.form m) f.is;
     },
   );
   starts = λ u s. record {
@@ -95,8 +94,7 @@ pair_first L M c p m g = record {
     reads = record {
       good = s.reads.good.0;
       ends = p s.thing.0 (M.form s.thing.1 ++ s.rest);
-      is =
-          s.reads.is ∙ append_assoc (L.form s.thing.0) (c ∷ M.form s.thing.1) s.rest;
+      is = s.reads.is ∙ append_assoc (L.form s.thing.0) (c ∷ M.form s.thing.1) s.rest;
     };
   };
 }
@@ -112,8 +110,7 @@ second_starts L M c k p a g u s =
     record {
       thing = s.thing.1;
       rest = s.rest;
-      reads =
-          record { good = s.reads.good.1; ends = s.reads.ends; is = tail_of r.1 };
+      reads = record { good = s.reads.good.1; ends = s.reads.ends; is = tail_of r.1 };
     }
 
 pub pair_second : (L M : Language) (c : ℕ) → Clear L → Precedes L c → (a : L.Thing) → L.Good a
@@ -124,8 +121,7 @@ pair_second L M c k p a g = record {
     record {
       thing = (a, f.thing);
       good = (g, f.good);
-      is =
-          append_assoc (L.form a) (c ∷ []) (u ++ t) ∙ ap (λ x. L.form a ++ c ∷ x) f.is;
+      is = append_assoc (L.form a) (c ∷ []) (u ++ t) ∙ ap (λ x. L.form a ++ c ∷ x) f.is;
     },
   );
   starts = λ u s. second_starts L M c k p a g u s;
