@@ -139,17 +139,19 @@ impl ActionTree {
         }
     }
 
-    /// The subaction that was begun last under the action, whatever has become of it; None where it has none.
+    /// The subaction that was begun last under the action, whatever has become of it; None where it
+    /// has none.
     ///
-    /// With `older_sub` it leads to every subaction of this one, and to no other; over theirs, and so
-    /// on, to every action that an abort of this one ends beside itself.
+    /// With `older_sub` it leads to every subaction of this one, and to no other; over theirs, and
+    /// so on, to every action that an abort of this one ends beside itself.
     pub fn newest_sub(&self, a: ActionId) -> Option<ActionId>
         ensures { result ≡ newest_sub_of self.now a.0 }
     {
         linked(self.node(a)?.newest_sub)
     }
 
-    /// The subaction of the same parent that was begun next before this one; None where it is the first, and for topactions.
+    /// The subaction of the same parent that was begun next before this one; None where it is the
+    /// first, and for topactions.
     pub fn older_sub(&self, a: ActionId) -> Option<ActionId>
         ensures { result ≡ older_sub_of self.now a.0 }
     {
@@ -175,7 +177,8 @@ impl ActionTree {
         linked(self.node(a)?.older_child)
     }
 
-    /// The number of the action's ancestors, itself among them: 1 to 64. None where it was not begun, or is folded.
+    /// The number of the action's ancestors, itself among them: 1 to 64. None where it was not
+    /// begun, or is folded.
     pub fn depth(&self, a: ActionId) -> Option<u32>
         ensures { result ≡ depth_of self.now a.0 }
     {
@@ -267,7 +270,8 @@ impl ActionTree {
         }
     }
 
-    /// Why a subaction of this parent can't be begun now: `NoAction`, `Over`, `TooDeep` or `TooMany`.
+    /// Why a subaction of this parent can't be begun now: `NoAction`, `Over`, `TooDeep` or
+    /// `TooMany`.
     pub fn begin_sub_refusal(&self, parent: ActionId) -> Option<ActionRefusal>
         ensures { result ≡ begin_sub_refusal self.now parent.0 }
     {
@@ -313,7 +317,8 @@ impl ActionTree {
         }
     }
 
-    /// Why the action can't end its siblings now: `NoAction`, `Over`, `ChildrenLive` or `NoSiblings`.
+    /// Why the action can't end its siblings now: `NoAction`, `Over`, `ChildrenLive` or
+    /// `NoSiblings`.
     pub fn abort_others_refusal(&self, a: ActionId) -> Option<ActionRefusal>
         ensures { result ≡ abort_others_refusal self.now a.0 }
     {
@@ -480,8 +485,9 @@ impl ActionTree {
     }
 
     /// Aborts all live siblings of an action, each with its subactions, theirs, and so on. A
-    /// sibling is another action with the same parent or creator, of either kind. Committed siblings
-    /// and those begun later are untouched, and nested topactions begun under a sibling go on.
+    /// sibling is another action with the same parent or creator, of either kind. Committed
+    /// siblings and those begun later are untouched, and nested topactions begun under a sibling go
+    /// on.
     ///
     /// Refusals: `NoAction`, `Over`, `ChildrenLive`, then `NoSiblings`.
     pub fn abort_others(&mut self, a: ActionId) -> Result<(), ActionRefusal>

@@ -1,5 +1,5 @@
-//! What is done to the nodes of a tree, oldest first: the climb to an ancestor, one action's begin and end, and aborts.
-//! The action `first` has the first of the nodes; those below it are folded.
+//! What is done to the nodes of a tree, oldest first: the climb to an ancestor, one action's begin
+//! and end, and aborts. The action `first` has the first of the nodes; those below it are folded.
 
 ghost use Rattle.std.specs.Prelude.{◌≡◌, ℕ, ◌+◌, ◌<◌, ◌≤◌, ◌==◌, false, ◌∷◌, Some, length};
 ghost use Rattle.std.specs.Prelude.{slice_index_or, vec_len};

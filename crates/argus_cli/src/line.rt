@@ -25,7 +25,8 @@ pub(crate) enum Line<'a> {
     End,
 }
 
-/// What the line says, which has no blanks at its ends. Names have a name's form, and no text is empty.
+/// What the line says, which has no blanks at its ends. Names have a name's form, and no text is
+/// empty.
 pub(crate) fn read_line(bytes: &[u8]) -> Line<'_>
     ensures { said result ≡ says bytes.now }
 {

@@ -204,8 +204,8 @@ impl<'a> Reading<'a> {
 }
 
 impl<'a> Reading<'a> {
-    /// Reads one more line, before which so many lines and bytes stand, or tells its fault. After an
-    /// error nothing more is to be read.
+    /// Reads one more line, before which so many lines and bytes stand, or tells its fault. After
+    /// an error nothing more is to be read.
     pub(crate) fn take(
         &mut self,
         heap: Heap,

@@ -23,7 +23,8 @@ use argus_contents::{Change, Content, Query, Shape, ShapeView, Value, change_fit
 use argus_memory::{Heap, OutOfMemory};
 use std::collections::VecDeque;
 
-/// The changes of a block that commits, where so many objects are declared; None where it is dropped.
+/// The changes of a block that commits, where so many objects are declared; None where it is
+/// dropped.
 pub(crate) fn gather<'a>(
     heap: Heap,
     objects: &Objects<'a>,

@@ -22,9 +22,9 @@ use std::collections::VecDeque;
 /// What [`alter`](crate::alter) answers, without the content that it leaves; [`Change`] has the
 /// table. So an answer can be had before the change is made.
 ///
-/// A present array has to keep the limits, as `fits` tests. Nothing is changed. The answer owns what
-/// it holds: it's a copy, which only `Remh` and `Reml` make.
-/// `OutOfMemory`: there was no memory for it.
+/// A present array has to keep the limits, as `fits` tests. Nothing is changed. The answer owns
+/// what it holds: it's a copy, which only `Remh` and `Reml` make. `OutOfMemory`: there was no
+/// memory for it.
 pub fn change_answer(
     heap: Heap,
     content: &Option<Content>,

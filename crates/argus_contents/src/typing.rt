@@ -90,7 +90,8 @@ fn has_type_at(value: &Value, number: u8, names: &[(Name, Ty)], declared: u32) -
 }
 
 /// Whether the content fits the shape, where so many objects are declared: the kinds agree, each
-/// part is of its type, and an array keeps the limits. A content that fits may be asked and altered.
+/// part is of its type, and an array keeps the limits. A content that fits may be asked and
+/// altered.
 pub fn fits(shape: &Shape, declared: u32, content: &Content) -> bool
     ensures exact { result ≡ is_fitting shape.now declared (plain_content content.now) }
     ensures keeps { result ≡ true → KeepsLimits (Some (plain_content content.now)) }

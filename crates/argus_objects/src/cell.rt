@@ -100,7 +100,8 @@ impl Cell {
         self.readers.as_slice()
     }
 
-    /// The versions, from ancestor to descendant. Their holders are the actions that hold a write lock.
+    /// The versions, from ancestor to descendant. Their holders are the actions that hold a write
+    /// lock.
     pub fn versions(&self) -> &[Version]
         ensures { newest_first result.now ≡ self.now.versions }
     {
@@ -123,14 +124,16 @@ impl Cell {
         all_writers_above(self.versions.as_slice(), tree, a)
     }
 
-    /// Whether `a` may have a write lock: all readers and all holders of versions are ancestors of `a`.
+    /// Whether `a` may have a write lock: all readers and all holders of versions are ancestors of
+    /// `a`.
     pub fn may_write(&self, tree: &ActionTree, a: ActionId) -> bool
         ensures { result ≡ may_write tree.now self.now a }
     {
         self.may_read(tree, a) && all_readers_above(self.readers.as_slice(), tree, a)
     }
 
-    /// Makes room for one more reader and one more version. After `OutOfMemory` the lists stay, and in any case the room that was there.
+    /// Makes room for one more reader and one more version. After `OutOfMemory` the lists stay, and
+    /// in any case the room that was there.
     pub fn reserve_grant(&mut self) -> Result<(), OutOfMemory>
         ensures same { SameLocks self.old self.new }
         ensures ok { OnOk result (0 < self.new.room) }
@@ -143,8 +146,8 @@ impl Cell {
 
     /// Makes `a` a reader, if it isn't one.
     ///
-    /// Condition: the cell is lawful, `a` is live and has no live child, the read lock is granted, and
-    /// there is room.
+    /// Condition: the cell is lawful, `a` is live and has no live child, the read lock is granted,
+    /// and there is room.
     pub fn grant_read(&mut self, tree: &ActionTree, a: ActionId)
         requires lawful { is_lawful tree.now self.old ≡ true }
         requires free { commit_refusal tree.now a.0 ≡ None }
@@ -160,8 +163,8 @@ impl Cell {
 
     /// Makes this the content of `a`'s version, which is pushed if `a` had none.
     ///
-    /// Condition: the cell is lawful, `a` is live and has no live child, the write lock is granted, and
-    /// there is room.
+    /// Condition: the cell is lawful, `a` is live and has no live child, the write lock is granted,
+    /// and there is room.
     pub fn grant_write(&mut self, tree: &ActionTree, a: ActionId, new_content: Option<Content>)
         requires lawful { is_lawful tree.now self.old ≡ true }
         requires free { commit_refusal tree.now a.0 ≡ None }
@@ -176,15 +179,16 @@ impl Cell {
         put_version(&mut self.versions, a, new_content);
     }
 
-    /// Makes a change in `a`'s version, which is pushed if `a` had none, and gives the change's answer.
+    /// Makes a change in `a`'s version, which is pushed if `a` had none, and gives the change's
+    /// answer.
     ///
     /// It means what `grant_write` does with the content that the change leaves of what `a` sees. A
-    /// version that is there is changed in place, so only the first write of an action copies. After
-    /// `OutOfMemory` the cell is as before. What is left keeps the limits of arrays where a content that
-    /// the change creates does.
+    /// version that is there is changed in place, so only the first write of an action copies.
+    /// After `OutOfMemory` the cell is as before. What is left keeps the limits of arrays where a
+    /// content that the change creates does.
     ///
-    /// Condition: the cell is lawful, `a` is live and has no live child, the write lock is granted, and
-    /// what `a` sees keeps the limits of arrays.
+    /// Condition: the cell is lawful, `a` is live and has no live child, the write lock is granted,
+    /// and what `a` sees keeps the limits of arrays.
     pub fn grant_change(
         &mut self,
         tree: &ActionTree,
@@ -210,8 +214,8 @@ impl Cell {
         change_version(&self.base, &mut self.versions, a, change)
     }
 
-    /// The content that `a` sees: the version of its nearest ancestor that has one, else the base. As
-    /// all holders of versions are its ancestors, that is the newest version.
+    /// The content that `a` sees: the version of its nearest ancestor that has one, else the base.
+    /// As all holders of versions are its ancestors, that is the newest version.
     ///
     /// Condition: the read lock is free for `a`.
     pub fn visible(&self, tree: &ActionTree, a: ActionId) -> &Option<Content>
@@ -225,8 +229,8 @@ impl Cell {
 
     /// Hands what the subaction `s` holds to its parent, which then has it in place of its own.
     ///
-    /// Call it before the tree commits `s`. Condition: the cell is lawful, `s` is live and has no live
-    /// child, and `parent` is its parent.
+    /// Call it before the tree commits `s`. Condition: the cell is lawful, `s` is live and has no
+    /// live child, and `parent` is its parent.
     pub fn inherit(&mut self, tree: &ActionTree, s: ActionId, parent: ActionId)
         requires lawful { is_lawful tree.now self.old ≡ true }
         requires parent { parent_of tree.now s.0 ≡ Some parent }
@@ -243,8 +247,8 @@ impl Cell {
 
     /// Makes the topaction's version, if it has one, the base, and releases its locks.
     ///
-    /// Call it before the tree commits `t`. Condition: the cell is lawful, and `t` is live and has no
-    /// live child.
+    /// Call it before the tree commits `t`. Condition: the cell is lawful, and `t` is live and has
+    /// no live child.
     pub fn settle_top(&mut self, tree: &ActionTree, t: ActionId)
         requires lawful { is_lawful tree.now self.old ≡ true }
         requires free { commit_refusal tree.now t.0 ≡ None }

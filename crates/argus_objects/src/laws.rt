@@ -1,4 +1,5 @@
-//! What follows of cells as actions begin and end. These functions do nothing: each contract is a law for proofs.
+//! What follows of cells as actions begin and end. These functions do nothing: each contract is a
+//! law for proofs.
 
 ghost use Rattle.std.specs.Prelude.{◌≡◌, ◌≢◌, true, ◌==◌, if◌then◌else◌, List, [], ◌∷◌};
 ghost use Rattle.argus_actions.specs.declared.action_id.ActionId.{ActionId};

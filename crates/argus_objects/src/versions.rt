@@ -19,11 +19,11 @@ use argus_memory::Heap;
 pub(crate) fn has_version(versions: &[Version], a: ActionId) -> bool
     ensures { result ≡ list_any (λ v. v.holder.0 == a.0) versions.now }
 {
-    versions.iter().any(|version| version.holder.0 == a.0)
+    versions.iter().any(|version| version.holder == a)
 }
 
-/// Whether all holders are ancestors of `a`. The climb goes on where the last one ended, so it costs no more than the depth
-/// of `a`.
+/// Whether all holders are ancestors of `a`. The climb goes on where the last one ended, so it
+/// costs no more than the depth of `a`.
 pub(crate) fn all_writers_above(versions: &[Version], tree: &ActionTree, a: ActionId) -> bool
     requires { is_ascending (writers versions.now) ≡ true }
     ensures { result ≡ all_above tree.now a (holders (newest_first versions.now)) }
@@ -45,7 +45,7 @@ pub(crate) fn all_writers_above(versions: &[Version], tree: &ActionTree, a: Acti
 fn is_below_all(versions: &[Version], tree: &ActionTree, a: ActionId) -> bool
     ensures { result ≡ list_all (λ v. is_strictly_above tree.now v.holder a) versions.now }
 {
-    versions.iter().all(|version| tree.is_ancestor(version.holder, a) && version.holder.0 != a.0)
+    versions.iter().all(|version| tree.is_ancestor(version.holder, a) && version.holder != a)
 }
 
 /// Whether each holder is another action than those before it, and below them all.
@@ -78,7 +78,8 @@ pub(crate) fn are_all_related(readers: &[ActionId], versions: &[Version], tree: 
         .all(|reader| is_related_to_all(versions, tree, *reader))
 }
 
-/// Makes this the content of `a`'s version, which is pushed in the room that is there if `a` had none.
+/// Makes this the content of `a`'s version, which is pushed in the room that is there if `a` had
+/// none.
 pub(crate) fn put_version(versions: &mut Vec<Version, Heap>, a: ActionId, content: Option<Content>)
     requires room { vec_len versions.old < vec_capacity versions.old }
     requires ascending { is_ascending (writers versions.old.items) ≡ true }
@@ -133,7 +134,7 @@ fn drop_version(versions: &mut Vec<Version, Heap>, a: ActionId)
     ensures { newest_first versions.new.items ≡ without_version a
         (newest_first versions.old.items) }
 {
-    versions.retain(|version| version.holder.0 != a.0);
+    versions.retain(|version| version.holder != a);
 }
 
 // Makes versions of `s` those of the parent.
