@@ -111,8 +111,7 @@ close_no_lead c (inl h) = (
   omega arith,
   omega arith,
   omega arith,
-  λ b.
-      omega arith,
+  λ b. omega arith,
   omega arith,
   omega arith,
   omega arith,
@@ -123,8 +122,7 @@ close_no_lead c (inr h) = (
   omega arith,
   omega arith,
   omega arith,
-  λ b.
-      omega arith,
+  λ b. omega arith,
   omega arith,
   omega arith,
   omega arith,
