@@ -1,5 +1,6 @@
 -- What is so of an action that no refusal names.
-use Rattle.std.proofs.Common.{◌≡◌, ℕ, ◌<◌, ◌≤◌, Bool, true, false, cond, Option, Some, None, refl, sym, ◌∙◌, ap, inl, inr}
+use Rattle.std.proofs.Common.{◌≡◌, ℕ, ◌<◌, ◌≤◌, Bool, true, false, cond, Option, Some, None, refl, sym, ◌∙◌, ap, inl}
+use Rattle.std.proofs.Common.{inr}
 use Rattle.std.specs.Option.{option_or, option_map, option_map_or}
 use Rattle.std.proofs.lemmas.Bool.{lt-ltb, le-ltb, cases_lt}
 use Rattle.argus_actions.specs.declared.action_refusal.ActionRefusal.{ActionRefusal}
@@ -26,11 +27,15 @@ none_second None y e = e
 none_second (Some x) y e = absurd (some_none e)
 
 -- an action that is no reason to refuse has a row, which is live
-pub live_row : (tree : Tree) (a : ℕ) → unless_live (status_of tree a) ≡ None → (row : Row) × ((row_of tree a ≡ Some row) × (row.status ≡ Live))
+pub live_row : (tree : Tree) (a : ℕ) → unless_live (status_of tree a) ≡ None
+    → (row : Row) × ((row_of tree a ≡ Some row) × (row.status ≡ Live))
 live_row tree a e =
     elim (cases_lt a tree.folded) [
-      | inl low ↦ absurd (some_none (ap (λ b. unless_live (cond b (Some Folded) (option_map (λ (row : Row). row.status) (row_of tree a)))) (sym (lt-ltb a tree.folded low)) ∙ e))
-      | inr held ↦ found (row_of tree a) refl (ap (λ b. unless_live (cond b (Some Folded) (option_map (λ (row : Row). row.status) (row_of tree a)))) (sym (le-ltb a tree.folded held)) ∙ e)
+      | inl low ↦ absurd (some_none (ap (λ b. unless_live (cond b (Some Folded)
+          (option_map (λ (row : Row). row.status) (row_of tree a)))) (sym (lt-ltb a tree.folded low)) ∙ e))
+      | inr held ↦ found (row_of tree a) refl (ap (λ b. unless_live
+          (cond b (Some Folded) (option_map (λ (row : Row). row.status) (row_of tree a))))
+          (sym (le-ltb a tree.folded held)) ∙ e)
     ]
   where
     status_live : (s : Status) → unless_live (Some s) ≡ None → s ≡ Live
@@ -39,7 +44,8 @@ live_row tree a e =
     status_live Aborted e = absurd (some_none e)
     status_live Folded e = absurd (some_none e)
 
-    found : (o : Option Row) → row_of tree a ≡ o → unless_live (option_map (λ (row : Row). row.status) o) ≡ None → (row : Row) × ((row_of tree a ≡ Some row) × (row.status ≡ Live))
+    found : (o : Option Row) → row_of tree a ≡ o → unless_live (option_map (λ (row : Row). row.status) o) ≡ None
+        → (row : Row) × ((row_of tree a ≡ Some row) × (row.status ≡ Live))
     found None at e = absurd (some_none e)
     found (Some row) at e = (row, (at, status_live row.status e))
 
@@ -57,7 +63,8 @@ pub live_status : (tree : Tree) (a : ℕ) → is_live_at tree.folded tree.rows a
 live_status tree a e =
     let row = live_at tree.folded tree.rows a e in
     let begun = row_begun tree.folded tree.rows a row.0 row.1.0 in
-    ap (λ b. cond b (Some Folded) (option_map (λ (row : Row). row.status) (row_of tree a))) (le-ltb a tree.folded begun.0)
+    ap (λ b. cond b (Some Folded) (option_map (λ (row : Row). row.status) (row_of tree a)))
+    (le-ltb a tree.folded begun.0)
     ∙ ap (option_map (λ (row : Row). row.status)) row.1.0 ∙ ap Some (is_live_is row.0.status row.1.1)
 
 pub status_live : (tree : Tree) (a : ℕ) → status_of tree a ≡ Some Live → is_live_at tree.folded tree.rows a ≡ true
@@ -66,15 +73,19 @@ status_live tree a e =
     ap (λ o. option_map_or (λ (row : Row). is_live row.status) o false) row.1.0 ∙ ap is_live row.1.1
 
 -- whom nothing refuses is live
-pub accepted_live : (tree : Tree) (a : ℕ) → unless_live (status_of tree a) ≡ None → is_live_at tree.folded tree.rows a ≡ true
+pub accepted_live : (tree : Tree) (a : ℕ) → unless_live (status_of tree a) ≡ None
+    → is_live_at tree.folded tree.rows a ≡ true
 accepted_live tree a e =
     let row = live_row tree a e in
     ap (λ o. option_map_or (λ (row : Row). is_live row.status) o false) row.1.0 ∙ ap is_live row.1.1
 
 -- who may commit is live, and alone
-pub commit_accepted : (tree : Tree) (a : ℕ) → commit_refusal tree a ≡ None → ((row : Row) → row_of tree a ≡ Some row → row.status ≡ Live) × (has_live_child tree a ≡ false)
+pub commit_accepted : (tree : Tree) (a : ℕ) → commit_refusal tree a ≡ None
+    → ((row : Row) → row_of tree a ≡ Some row → row.status ≡ Live) × (has_live_child tree a ≡ false)
 commit_accepted tree a e =
-    let found = live_row tree a (none_first (unless_live (status_of tree a)) (refused_if (has_live_child tree a) ChildrenLive) e) in (
+    let found = live_row tree a (none_first (unless_live (status_of tree a))
+    (refused_if (has_live_child tree a) ChildrenLive) e) in (
       λ row at. ap (λ (w : Row). w.status) (some_row row found.0 (sym at ∙ found.1.0)) ∙ found.1.1,
-      not_refused (has_live_child tree a) ChildrenLive (none_second (unless_live (status_of tree a)) (refused_if (has_live_child tree a) ChildrenLive) e),
+      not_refused (has_live_child tree a) ChildrenLive (none_second (unless_live (status_of tree a))
+          (refused_if (has_live_child tree a) ChildrenLive) e),
     )

@@ -1,5 +1,6 @@
 -- The nodes after an action was begun.
-use Rattle.std.proofs.Common.{◌≡◌, ℕ, suc, ◌+◌, ◌<◌, ◌≤◌, Bool, false, cond, ltb, ◌&&◌, List, [], ◌∷◌, ◌++◌, length, get_or, Option, Some, None, IfSome, subst, refl, sym, ◌∙◌, ap, arith, inl, inr, ◌⊎◌}
+use Rattle.std.proofs.Common.{◌≡◌, ℕ, suc, ◌+◌, ◌<◌, ◌≤◌, Bool, false, cond, ltb, ◌&&◌, List, [], ◌∷◌, ◌++◌, length}
+use Rattle.std.proofs.Common.{get_or, Option, Some, None, IfSome, subst, refl, sym, ◌∙◌, ap, arith, inl, inr, ◌⊎◌}
 use Rattle.std.proofs.Math.Bool.{and-false, and-true}
 use Rattle.std.proofs.lemmas.Bool.{eq-eqb, ne_eqb, lt-ltb, le-ltb, cases_eq, cases_Bool}
 use Rattle.std.proofs.lemmas.List.{length-append, get_or_append_left, get_or_push}
@@ -10,52 +11,69 @@ use Rattle.argus_actions.specs.declared.origin.Origin.TheVariants.{Top, Sub, Nes
 use Rattle.argus_actions.specs.declared.status.Status.TheVariants.{Live}
 use Rattle.argus_actions.specs.Row.{Row, at_parent, under_of, is_sub_of, comes_from, is_live}
 use Rattle.argus_actions.specs.Rows.{depth_at, is_live_under, newest_where, newest_below, newest_child_below}
-use Rattle.argus_actions.specs.Nodes.{shown, rows_of, ComesBetween, AreLinked, AreNodes, IsNode, link_to, live_count, adopted, fresh, older_sub_link, older_child_link}
+use Rattle.argus_actions.specs.Nodes.{shown, rows_of, ComesBetween, AreLinked, AreNodes, IsNode, link_to, live_count}
+use Rattle.argus_actions.specs.Nodes.{adopted, fresh, older_sub_link, older_child_link}
 use Rattle.argus_actions.proofs.RowsLemmas.{depth_at_older}
 use Rattle.argus_actions.proofs.Marks.{at_parent_same, each_under}
 use Rattle.argus_actions.proofs.NodesLemmas.{length-rows_of, rows_of-push, rows_of-same}
 
 -- a bound past all actions is no bound
-pub newest_where_all : (test : Origin → Bool) (n : ℕ) (rows : List Row) (b c : ℕ) → n + length rows ≤ b → n + length rows ≤ c → newest_where test n rows b ≡ newest_where test n rows c
+pub newest_where_all : (test : Origin → Bool) (n : ℕ) (rows : List Row) (b c : ℕ) → n + length rows ≤ b
+    → n + length rows ≤ c → newest_where test n rows b ≡ newest_where test n rows c
 newest_where_all test n [] b c past_b past_c = refl
 newest_where_all test n (row ∷ older) b c past_b past_c =
     rw (lt-ltb (n + length older) b (omega arith), lt-ltb (n + length older) c (omega arith))
-    (ap (λ o. cond (test row.origin) (Some (n + length older)) o) (newest_where_all test n older b c (omega arith) (omega arith)))
+    (ap (λ o. cond (test row.origin) (Some (n + length older)) o)
+    (newest_where_all test n older b c (omega arith) (omega arith)))
 
 -- the newest action is not below its own number
-pub newest_where_own : (test : Origin → Bool) (n : ℕ) (row : Row) (older : List Row) (b : ℕ) → b ≤ n + length older → newest_where test n (row ∷ older) b ≡ newest_where test n older b
+pub newest_where_own : (test : Origin → Bool) (n : ℕ) (row : Row) (older : List Row) (b : ℕ) → b ≤ n + length older
+    → newest_where test n (row ∷ older) b ≡ newest_where test n older b
 newest_where_own test n row older b low = rw (le-ltb (n + length older) b low)
 
 -- an action that was not begun, or is folded, has nothing under it
 pub not_own : (n high a : ℕ) (o : Origin) → ComesBetween n high o → (high ≤ a) ⊎ (a < n) → comes_from a o ≡ false
 not_own n high a Top between outside = refl
-not_own n high a (Sub p) between outside = ne_eqb p a (λ e. elim outside [ inl past ↦ omega (arith, between.1) | inr low ↦ omega (arith, between.0) ])
-not_own n high a (Nested c) between outside = ne_eqb c a (λ e. elim outside [ inl past ↦ omega (arith, between.1) | inr low ↦ omega (arith, between.0) ])
+not_own n high a (Sub p) between outside =
+    ne_eqb p a (λ e. elim outside [ inl past ↦ omega (arith, between.1) | inr low ↦ omega (arith, between.0) ])
+not_own n high a (Nested c) between outside =
+    ne_eqb c a (λ e. elim outside [ inl past ↦ omega (arith, between.1) | inr low ↦ omega (arith, between.0) ])
 
 pub not_own_sub : (n high a : ℕ) (o : Origin) → ComesBetween n high o → (high ≤ a) ⊎ (a < n) → is_sub_of a o ≡ false
 not_own_sub n high a Top between outside = refl
 not_own_sub n high a (Sub p) between outside = not_own n high a (Sub p) between outside
 not_own_sub n high a (Nested c) between outside = refl
 
-before : (n : ℕ) (older : List Row) (row : Row) (a : ℕ) → (n + length (row ∷ older) ≤ a) ⊎ (a < n) → (n + length older ≤ a) ⊎ (a < n)
+before : (n : ℕ) (older : List Row) (row : Row) (a : ℕ) → (n + length (row ∷ older) ≤ a) ⊎ (a < n)
+    → (n + length older ≤ a) ⊎ (a < n)
 before n older row a (inl past) = inl (omega arith)
 before n older row a (inr low) = inr low
 
 -- where no origin passes the test, no action does
-pub newest_where_none : (test : Origin → Bool) (n : ℕ) (rows : List Row) (a b : ℕ) → AreLinked n rows → (n + length rows ≤ a) ⊎ (a < n)
-    → ((high : ℕ) (o : Origin) → ComesBetween n high o → (high ≤ a) ⊎ (a < n) → test o ≡ false) → newest_where test n rows b ≡ None
+pub newest_where_none : (test : Origin → Bool) (n : ℕ) (rows : List Row) (a b : ℕ) → AreLinked n rows
+    → (n + length rows ≤ a) ⊎ (a < n)
+    → ((high : ℕ) (o : Origin) → ComesBetween n high o → (high ≤ a) ⊎ (a < n) → test o ≡ false)
+    → newest_where test n rows b ≡ None
 newest_where_none test n [] a b linked outside fails = refl
 newest_where_none test n (row ∷ older) a b linked outside fails =
-    rw (fails (n + length older) row.origin linked.0 (before n older row a outside), and-false (ltb (n + length older) b))
+    rw (
+      fails (n + length older) row.origin linked.0 (before n older row a outside),
+      and-false (ltb (n + length older) b),
+    )
     (newest_where_none test n older a b linked.1 (before n older row a outside) fails)
 
-pub newest_below_none : (n : ℕ) (rows : List Row) (a b : ℕ) → AreLinked n rows → (n + length rows ≤ a) ⊎ (a < n) → newest_below n rows a b ≡ None
-newest_below_none n rows a b linked outside = newest_where_none (is_sub_of a) n rows a b linked outside (λ high o. not_own_sub n high a o)
+pub newest_below_none : (n : ℕ) (rows : List Row) (a b : ℕ) → AreLinked n rows → (n + length rows ≤ a) ⊎ (a < n)
+    → newest_below n rows a b ≡ None
+newest_below_none n rows a b linked outside =
+    newest_where_none (is_sub_of a) n rows a b linked outside (λ high o. not_own_sub n high a o)
 
-pub newest_child_none : (n : ℕ) (rows : List Row) (a b : ℕ) → AreLinked n rows → (n + length rows ≤ a) ⊎ (a < n) → newest_child_below n rows a b ≡ None
-newest_child_none n rows a b linked outside = newest_where_none (comes_from a) n rows a b linked outside (λ high o. not_own n high a o)
+pub newest_child_none : (n : ℕ) (rows : List Row) (a b : ℕ) → AreLinked n rows → (n + length rows ≤ a) ⊎ (a < n)
+    → newest_child_below n rows a b ≡ None
+newest_child_none n rows a b linked outside =
+    newest_where_none (comes_from a) n rows a b linked outside (λ high o. not_own n high a o)
 
-pub live_count_none : (n : ℕ) (rows : List Row) (a : ℕ) → AreLinked n rows → (n + length rows ≤ a) ⊎ (a < n) → live_count rows a ≡ 0
+pub live_count_none : (n : ℕ) (rows : List Row) (a : ℕ) → AreLinked n rows → (n + length rows ≤ a) ⊎ (a < n)
+    → live_count rows a ≡ 0
 live_count_none n [] a linked outside = refl
 live_count_none n (row ∷ older) a linked outside =
     let others : live_count older a ≡ 0 = live_count_none n older a linked.1 (before n older row a outside) in
@@ -65,7 +83,8 @@ pub live_count-le-length : (rows : List Row) (a : ℕ) → live_count rows a ≤
 live_count-le-length [] a = omega arith
 live_count-le-length (row ∷ older) a =
     let others : live_count older a ≤ length older = live_count-le-length older a in
-    elim (cases_Bool (comes_from a row.origin && is_live row.status)) [ inl e ↦ rw e (omega arith) | inr e ↦ rw e (omega arith) ]
+    elim (cases_Bool (comes_from a row.origin && is_live row.status))
+    [ inl e ↦ rw e (omega arith) | inr e ↦ rw e (omega arith) ]
 
 -- some live action was begun under this one where any are counted
 pub is_live_under_is : (rows : List Row) (a : ℕ) → is_live_under rows a ≡ ltb 0 (live_count rows a)
@@ -73,58 +92,73 @@ is_live_under_is [] a = refl
 is_live_under_is (row ∷ older) a =
     elim (cases_Bool (comes_from a row.origin && is_live row.status)) [
       | inl e ↦ rw e (sym (lt-ltb 0 (1 + live_count older a) (omega arith)))
-      | inr e ↦ rw e (is_live_under_is older a ∙ ap (ltb 0) (let same : live_count older a ≡ 0 + live_count older a = omega arith in same))
+      | inr e ↦ rw e (is_live_under_is older a ∙ ap (ltb 0)
+          (let same : live_count older a ≡ 0 + live_count older a = omega arith in same))
     ]
 
 -- a count of children has room for one more
-pub child_fits : (n : ℕ) (nodes : List Node) (a k : ℕ) (d : Node) → AreNodes n nodes → a ≡ n + k → k < length nodes → (get_or nodes k d).live_children + 1 ≤ MAX_ACTIONS + 1
+pub child_fits : (n : ℕ) (nodes : List Node) (a k : ℕ) (d : Node) → AreNodes n nodes → a ≡ n + k → k < length nodes
+    → (get_or nodes k d).live_children + 1 ≤ MAX_ACTIONS + 1
 child_fits n nodes a k d kept at below =
     let count : (get_or nodes k d).live_children ≡ live_count (rows_of nodes) a = (kept.each a k d at below).children in
     omega (arith, live_count-le-length (rows_of nodes) a, length-rows_of nodes, kept.few)
 
-pub under_between : (n high under : ℕ) (o : Origin) → ComesBetween n high o → under_of o ≡ Some under → (n ≤ under) × (under < high)
+pub under_between : (n high under : ℕ) (o : Origin) → ComesBetween n high o → under_of o ≡ Some under
+    → (n ≤ under) × (under < high)
 under_between n high under o between is =
     let P : Option ℕ → Type 0 = λ u. IfSome u (λ a. (n ≤ a) × (a < high)) in
     subst P is between
 
 module _ (n : ℕ) (nodes new : List Node) (origin : Origin) (number older child depth : ℕ)
-    (kept : AreNodes n nodes) (next : number ≡ n + length nodes) (few : number < MAX_ACTIONS) (between : ComesBetween n number origin)
+    (kept : AreNodes n nodes) (next : number ≡ n + length nodes) (few : number < MAX_ACTIONS)
+    (between : ComesBetween n number origin)
     (long : length new ≡ length nodes)
-    (each : (a k : ℕ) (d : Node) → a ≡ n + k → k < length nodes → get_or new k d ≡ adopted origin number a (get_or nodes k d))
-    (older_is : older ≡ older_sub_link n (rows_of nodes) origin) (child_is : child ≡ older_child_link n (rows_of nodes) origin)
+    (each : (a k : ℕ) (d : Node) → a ≡ n + k → k < length nodes
+    → get_or new k d ≡ adopted origin number a (get_or nodes k d))
+    (older_is : older ≡ older_sub_link n (rows_of nodes) origin)
+    (child_is : child ≡ older_child_link n (rows_of nodes) origin)
     (depth_is : depth ≡ at_parent 0 origin (depth_at n (rows_of nodes)) + 1) (shallow : depth ≤ MAX_ACTION_DEPTH) where
   abbrev begun : Row
   begun = record { origin = origin; status = Live }
 
-  pub begun_rows : rows_of (new ++ fresh origin older child depth ∷ []) ≡ (let r : Row = record { origin = origin; status = Live } in r ∷ rows_of nodes)
+  pub begun_rows : rows_of (new ++ fresh origin older child depth ∷ [])
+      ≡ (let r : Row = record { origin = origin; status = Live } in r ∷ rows_of nodes)
   begun_rows = rows_of-push new (fresh origin older child depth)
-      ∙ ap (λ (rows : List Row). begun ∷ rows) (rows_of-same n nodes new long (λ k d below. ap shown (each (n + k) k d refl (omega arith))))
+      ∙ ap (λ (rows : List Row). begun ∷ rows) (rows_of-same n nodes new long
+      (λ k d below. ap shown (each (n + k) k d refl (omega arith))))
 
   -- the number is the next after the rows
   last : number ≡ n + length (rows_of nodes)
   last = omega (arith, length-rows_of nodes)
 
   -- the newest action that passes a test of origins, with one row more
-  newest_now : (test : Origin → Bool) (link : ℕ) → link ≡ link_to (newest_where test n (rows_of nodes) (n + length (rows_of nodes)))
-      → cond (test origin) number link ≡ link_to (newest_where test n (begun ∷ rows_of nodes) (n + suc (length (rows_of nodes))))
+  newest_now : (test : Origin → Bool) (link : ℕ) → link ≡ link_to
+      (newest_where test n (rows_of nodes) (n + length (rows_of nodes)))
+      → cond (test origin) number link ≡ link_to (newest_where test n (begun ∷ rows_of nodes)
+      (n + suc (length (rows_of nodes))))
   newest_now test link was =
       rw (lt-ltb (n + length (rows_of nodes)) (n + suc (length (rows_of nodes))) (omega arith))
       (elim (cases_Bool (test origin)) [
         | inl e ↦ rw e last
-        | inr e ↦ rw e (was ∙ ap link_to (newest_where_all test n (rows_of nodes) (n + length (rows_of nodes)) (n + suc (length (rows_of nodes))) (omega arith) (omega arith)))
+        | inr e ↦ rw e (was ∙ ap link_to (newest_where_all test n (rows_of nodes) (n + length (rows_of nodes))
+            (n + suc (length (rows_of nodes))) (omega arith) (omega arith)))
       ])
 
   -- an older action's node, with one row more
-  older_node : (a k : ℕ) (d : Node) → a ≡ n + k → k < length nodes → IsNode n (begun ∷ rows_of nodes) a (adopted origin number a (get_or nodes k d))
+  older_node : (a k : ℕ) (d : Node) → a ≡ n + k → k < length nodes
+      → IsNode n (begun ∷ rows_of nodes) a (adopted origin number a (get_or nodes k d))
   older_node a k d at in_old =
       let was : IsNode n (rows_of nodes) a (get_or nodes k d) = kept.each a k d at in_old in
       let low : a ≤ n + length (rows_of nodes) = omega (arith, last) in
       record {
         newest = newest_now (is_sub_of a) (get_or nodes k d).newest_sub was.newest;
-        older = was.older ∙ ap link_to (at_parent_same None (get_or nodes k d).origin _ _ (λ p. sym (newest_where_own (is_sub_of p) n begun (rows_of nodes) a low)));
+        older = was.older ∙ ap link_to (at_parent_same None (get_or nodes k d).origin _ _
+            (λ p. sym (newest_where_own (is_sub_of p) n begun (rows_of nodes) a low)));
         newest_child = newest_now (comes_from a) (get_or nodes k d).newest_child was.newest_child;
-        older_child = was.older_child ∙ ap link_to (each_under (under_of (get_or nodes k d).origin) _ _ (λ u. sym (newest_where_own (comes_from u) n begun (rows_of nodes) a low)));
-        children = rw (and-true (comes_from a origin)) (let count : (get_or nodes k d).live_children ≡ live_count (rows_of nodes) a = was.children in omega arith);
+        older_child = was.older_child ∙ ap link_to (each_under (under_of (get_or nodes k d).origin) _ _
+            (λ u. sym (newest_where_own (comes_from u) n begun (rows_of nodes) a low)));
+        children = rw (and-true (comes_from a origin)) (let count : (get_or nodes k d).live_children
+            ≡ live_count (rows_of nodes) a = was.children in omega arith);
         depth = was.depth ∙ sym (depth_at_older n begun (rows_of nodes) a (λ e. omega (arith, last)));
         shallow = was.shallow;
       }
@@ -133,14 +167,27 @@ module _ (n : ℕ) (nodes new : List Node) (origin : Origin) (number older child
   newest_node =
       let past : n + length (rows_of nodes) ≤ number = omega (arith, last) in
       let own : number ≤ n + length (rows_of nodes) = omega (arith, last) in
-      let all : (test : Origin → Bool) → newest_where test n (rows_of nodes) (n + length (rows_of nodes)) ≡ newest_where test n (begun ∷ rows_of nodes) number
-      = λ test. newest_where_all test n (rows_of nodes) (n + length (rows_of nodes)) number (omega arith) past ∙ sym (newest_where_own test n begun (rows_of nodes) number own) in
+      let all : (test : Origin → Bool) → newest_where test n (rows_of nodes) (n + length (rows_of nodes))
+      ≡ newest_where test n (begun ∷ rows_of nodes) number
+      = λ test. newest_where_all test n (rows_of nodes) (n + length (rows_of nodes)) number (omega arith) past
+      ∙ sym (newest_where_own test n begun (rows_of nodes) number own) in
       record {
-        newest = rw (not_own_sub n number number origin between (inl (omega arith)), and-false (ltb (n + length (rows_of nodes)) (n + suc (length (rows_of nodes)))), newest_below_none n (rows_of nodes) number (n + suc (length (rows_of nodes))) kept.linked (inl past));
+        newest = rw (
+          not_own_sub n number number origin between (inl (omega arith)),
+          and-false (ltb (n + length (rows_of nodes)) (n + suc (length (rows_of nodes)))),
+          newest_below_none n (rows_of nodes) number (n + suc (length (rows_of nodes))) kept.linked (inl past),
+        );
         older = older_is ∙ ap link_to (at_parent_same None origin _ _ (λ p. all (is_sub_of p)));
-        newest_child = rw (not_own n number number origin between (inl (omega arith)), and-false (ltb (n + length (rows_of nodes)) (n + suc (length (rows_of nodes)))), newest_child_none n (rows_of nodes) number (n + suc (length (rows_of nodes))) kept.linked (inl past));
+        newest_child = rw (
+          not_own n number number origin between (inl (omega arith)),
+          and-false (ltb (n + length (rows_of nodes)) (n + suc (length (rows_of nodes)))),
+          newest_child_none n (rows_of nodes) number (n + suc (length (rows_of nodes))) kept.linked (inl past),
+        );
         older_child = child_is ∙ ap link_to (each_under (under_of origin) _ _ (λ u. all (comes_from u)));
-        children = rw (not_own n number number origin between (inl (omega arith)), live_count_none n (rows_of nodes) number kept.linked (inl past));
+        children = rw (
+          not_own n number number origin between (inl (omega arith)),
+          live_count_none n (rows_of nodes) number kept.linked (inl past),
+        );
         depth = rw (eq-eqb number (n + length (rows_of nodes)) last) depth_is;
         shallow = shallow;
       }
@@ -149,16 +196,23 @@ module _ (n : ℕ) (nodes new : List Node) (origin : Origin) (number older child
   begun_nodes =
       record {
         few = rw (length-append new (fresh origin older child depth ∷ [])) (omega arith);
-        linked = rw begun_rows ((let P : ℕ → Type 0 = λ high. ComesBetween n high origin in subst P last between), kept.linked);
+        linked = rw begun_rows (
+          (let P : ℕ → Type 0 = λ high. ComesBetween n high origin in subst P last between),
+          kept.linked,
+        );
         each = λ a k d at below.
             let below' : k < length new + 1 = rw (length-append new (fresh origin older child depth ∷ [])) at below in
             rw begun_rows (elim (cases_eq k (length nodes)) [
               | inl e ↦
-                  let here : get_or (new ++ fresh origin older child depth ∷ []) k d ≡ fresh origin older child depth = get_or_push new (fresh origin older child depth) d k (omega arith) in
+                  let here : get_or (new ++ fresh origin older child depth ∷ []) k d ≡ fresh origin older child depth =
+                  get_or_push new (fresh origin older child depth) d k (omega arith) in
                   let same : a ≡ number = omega arith in
                   rw (here, same) newest_node
               | inr ne ↦
                   let in_old : k < length nodes = omega arith in
-                  rw (get_or_append_left new (fresh origin older child depth ∷ []) d k (omega arith), each a k d at in_old) (older_node a k d at in_old)
+                  rw (
+                    get_or_append_left new (fresh origin older child depth ∷ []) d k (omega arith),
+                    each a k d at in_old,
+                  ) (older_node a k d at in_old)
             ]);
       }

@@ -1,5 +1,6 @@
 -- The walk up to an ancestor.
-use Rattle.std.proofs.Common.{◌≡◌, ℕ, ◌+◌, ◌<◌, ◌≤◌, true, false, eqb, ◌||◌, List, length, get_or, subst, refl, ◌∙◌, ap, arith, ◌⊎◌, inl, inr}
+use Rattle.std.proofs.Common.{◌≡◌, ℕ, ◌+◌, ◌<◌, ◌≤◌, true, false, eqb, ◌||◌, List, length, get_or, subst, refl, ◌∙◌, ap}
+use Rattle.std.proofs.Common.{arith, ◌⊎◌, inl, inr}
 use Rattle.std.proofs.lemmas.Bool.{eq-eqb, ne_eqb}
 use Rattle.argus_actions.specs.declared.node.Node.{Node}
 use Rattle.argus_actions.specs.declared.origin.Origin.{Origin}
@@ -11,30 +12,41 @@ use Rattle.argus_actions.proofs.RowsLemmas.{linked_at, is_above_step}
 use Rattle.argus_actions.proofs.NodesLemmas.{row_at}
 
 -- the action of a node was begun under an older one
-pub came_between : (n : ℕ) (nodes : List Node) (a k : ℕ) (d : Node) → AreLinked n (rows_of nodes) → a ≡ n + k → k < length nodes → ComesBetween n a (get_or nodes k d).origin
-came_between n nodes a k d linked e below = linked_at n (rows_of nodes) a (shown (get_or nodes k d)) linked (row_at n nodes a k d e below)
+pub came_between : (n : ℕ) (nodes : List Node) (a k : ℕ) (d : Node) → AreLinked n (rows_of nodes) → a ≡ n + k
+    → k < length nodes → ComesBetween n a (get_or nodes k d).origin
+came_between n nodes a k d linked e below =
+    linked_at n (rows_of nodes) a (shown (get_or nodes k d)) linked (row_at n nodes a k d e below)
 
-module _ (n : ℕ) (nodes : List Node) (x y k : ℕ) (d : Node) (linked : AreLinked n (rows_of nodes)) (e : y ≡ n + k) (below : k < length nodes) where
-  step : is_above n (rows_of nodes) x y ≡ (eqb x y || at_parent false (get_or nodes k d).origin (is_above n (rows_of nodes) x))
+module _ (n : ℕ) (nodes : List Node) (x y k : ℕ) (d : Node) (linked : AreLinked n (rows_of nodes)) (e : y ≡ n + k)
+    (below : k < length nodes) where
+  step : is_above n (rows_of nodes) x y ≡ (eqb x y || at_parent false (get_or nodes k d).origin
+      (is_above n (rows_of nodes) x))
   step = is_above_step n (rows_of nodes) x y (shown (get_or nodes k d)) linked (row_at n nodes y k d e below)
 
   pub climbed_here : x ≡ y → is_above n (rows_of nodes) x y ≡ true
-  climbed_here same = step ∙ ap (λ b. b || at_parent false (get_or nodes k d).origin (is_above n (rows_of nodes) x)) (eq-eqb x y same)
+  climbed_here same =
+      step ∙ ap (λ b. b || at_parent false (get_or nodes k d).origin (is_above n (rows_of nodes) x)) (eq-eqb x y same)
 
-  pub climbed_up : x < y → (p : ℕ) → (get_or nodes k d).origin ≡ Sub p → is_above n (rows_of nodes) x y ≡ is_above n (rows_of nodes) x p
+  pub climbed_up : x < y → (p : ℕ) → (get_or nodes k d).origin ≡ Sub p
+      → is_above n (rows_of nodes) x y ≡ is_above n (rows_of nodes) x p
   climbed_up less p is = step
-      ∙ ap (λ b. b || at_parent false (get_or nodes k d).origin (is_above n (rows_of nodes) x)) (ne_eqb x y (λ same. omega arith))
+      ∙ ap (λ b. b || at_parent false (get_or nodes k d).origin (is_above n (rows_of nodes) x))
+      (ne_eqb x y (λ same. omega arith))
       ∙ ap (λ (o : Origin). at_parent false o (is_above n (rows_of nodes) x)) is
 
-  out : (o : Origin) → at_parent false o (is_above n (rows_of nodes) x) ≡ false → (get_or nodes k d).origin ≡ o → x < y → is_above n (rows_of nodes) x y ≡ false
+  out : (o : Origin) → at_parent false o (is_above n (rows_of nodes) x) ≡ false → (get_or nodes k d).origin ≡ o → x < y
+      → is_above n (rows_of nodes) x y ≡ false
   out o none is less = step
-      ∙ ap (λ b. b || at_parent false (get_or nodes k d).origin (is_above n (rows_of nodes) x)) (ne_eqb x y (λ same. omega arith))
+      ∙ ap (λ b. b || at_parent false (get_or nodes k d).origin (is_above n (rows_of nodes) x))
+      (ne_eqb x y (λ same. omega arith))
       ∙ ap (λ (o : Origin). at_parent false o (is_above n (rows_of nodes) x)) is
       ∙ none
 
-  pub climbed_out : x < y → ((get_or nodes k d).origin ≡ Top) ⊎ ((c : ℕ) × ((get_or nodes k d).origin ≡ Nested c)) → is_above n (rows_of nodes) x y ≡ false
+  pub climbed_out : x < y → ((get_or nodes k d).origin ≡ Top) ⊎ ((c : ℕ) × ((get_or nodes k d).origin ≡ Nested c))
+      → is_above n (rows_of nodes) x y ≡ false
   climbed_out less (inl is) = out Top refl is less
   climbed_out less (inr is) = out (Nested is.0) refl is.1 less
 
   pub parent_before : (p : ℕ) → (get_or nodes k d).origin ≡ Sub p → (n ≤ p) × (p < y)
-  parent_before p is = let P : Origin → Type 0 = ComesBetween n y in subst P is (came_between n nodes y k d linked e below)
+  parent_before p is =
+      let P : Origin → Type 0 = ComesBetween n y in subst P is (came_between n nodes y k d linked e below)

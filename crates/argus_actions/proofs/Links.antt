@@ -1,5 +1,6 @@
 -- Where the links of a node lead.
-use Rattle.std.proofs.Common.{◌≡◌, ℕ, ◌+◌, ◌<◌, Bool, List, length, get_or, Option, Some, None, subst, refl, sym, ◌∙◌, ap, arith}
+use Rattle.std.proofs.Common.{◌≡◌, ℕ, ◌+◌, ◌<◌, Bool, List, length, get_or, Option, Some, None, subst, refl, sym, ◌∙◌}
+use Rattle.std.proofs.Common.{ap, arith}
 use Rattle.std.specs.Option.{option_and_then}
 use Rattle.std.proofs.lemmas.Bool.{ne_eqb}
 use Rattle.argus_actions.specs.declared.node.TheConstants.{NONE}
@@ -22,17 +23,21 @@ link_end-link_to (Some a) small =
 
 module _ (n : ℕ) (nodes : List Node) (kept : AreNodes n nodes) where
   -- the actions that pass a test have small numbers, and a link leads to them
-  where_end : (test : Origin → Bool) (bound : ℕ) → link_end (link_to (newest_where test n (rows_of nodes) bound)) ≡ named (newest_where test n (rows_of nodes) bound)
+  where_end : (test : Origin → Bool) (bound : ℕ) → link_end (link_to (newest_where test n (rows_of nodes) bound))
+      ≡ named (newest_where test n (rows_of nodes) bound)
   where_end test bound = link_end-link_to (newest_where test n (rows_of nodes) bound)
       (λ c e. omega (arith, (newest_where_at test n (rows_of nodes) bound c e).1.0, length-rows_of nodes, kept.few))
 
-  parent_end : (o : Origin) (bound : ℕ) → link_end (link_to (at_parent None o (λ p. newest_below n (rows_of nodes) p bound))) ≡ named (at_parent None o (λ p. newest_below n (rows_of nodes) p bound))
+  parent_end : (o : Origin) (bound : ℕ) → link_end (link_to
+      (at_parent None o (λ p. newest_below n (rows_of nodes) p bound)))
+      ≡ named (at_parent None o (λ p. newest_below n (rows_of nodes) p bound))
   parent_end Top bound = refl
   parent_end (Sub p) bound = where_end (is_sub_of p) bound
   parent_end (Nested c) bound = refl
 
   under_end : (o : Option ℕ) (bound : ℕ)
-      → link_end (link_to (option_and_then (λ u. newest_child_below n (rows_of nodes) u bound) o)) ≡ named (option_and_then (λ u. newest_child_below n (rows_of nodes) u bound) o)
+      → link_end (link_to (option_and_then (λ u. newest_child_below n (rows_of nodes) u bound) o))
+      ≡ named (option_and_then (λ u. newest_child_below n (rows_of nodes) u bound) o)
   under_end None bound = refl
   under_end (Some u) bound = where_end (comes_from u) bound
 
@@ -43,11 +48,14 @@ module _ (n : ℕ) (nodes : List Node) (kept : AreNodes n nodes) where
     pub newest_end : link_end node.newest_sub ≡ named (newest_below n (rows_of nodes) a (n + length (rows_of nodes)))
     newest_end = ap link_end known.newest ∙ where_end (is_sub_of a) (n + length (rows_of nodes))
 
-    pub older_end : link_end node.older_sub ≡ named (at_parent None node.origin (λ p. newest_below n (rows_of nodes) p a))
+    pub older_end : link_end node.older_sub ≡ named (at_parent None node.origin
+        (λ p. newest_below n (rows_of nodes) p a))
     older_end = ap link_end known.older ∙ parent_end node.origin a
 
-    pub newest_child_end : link_end node.newest_child ≡ named (newest_child_below n (rows_of nodes) a (n + length (rows_of nodes)))
+    pub newest_child_end : link_end node.newest_child ≡ named
+        (newest_child_below n (rows_of nodes) a (n + length (rows_of nodes)))
     newest_child_end = ap link_end known.newest_child ∙ where_end (comes_from a) (n + length (rows_of nodes))
 
-    pub older_child_end : link_end node.older_child ≡ named (option_and_then (λ u. newest_child_below n (rows_of nodes) u a) (under_of node.origin))
+    pub older_child_end : link_end node.older_child ≡ named
+        (option_and_then (λ u. newest_child_below n (rows_of nodes) u a) (under_of node.origin))
     older_child_end = ap link_end known.older_child ∙ under_end (under_of node.origin) a

@@ -1,5 +1,6 @@
 -- The parent of an action is one of its ancestors.
-use Rattle.std.proofs.Common.{◌≡◌, ℕ, ◌+◌, ◌<◌, ◌≤◌, Bool, true, false, eqb, ◌||◌, List, [], ◌∷◌, length, Option, Some, None, subst, refl, ◌∙◌, ap, arith, inl, inr}
+use Rattle.std.proofs.Common.{◌≡◌, ℕ, ◌+◌, ◌<◌, ◌≤◌, Bool, true, false, eqb, ◌||◌, List, [], ◌∷◌, length, Option, Some}
+use Rattle.std.proofs.Common.{None, subst, refl, ◌∙◌, ap, arith, inl, inr}
 use Rattle.std.specs.Option.{option_and_then}
 use Rattle.std.proofs.lemmas.Bool.{eq-eqb, cases_eq, cases_lt}
 use Rattle.argus_actions.specs.declared.action_id.ActionId.{ActionId}
@@ -16,7 +17,8 @@ pub is_above_self : (n : ℕ) (rows : List Row) (x : ℕ) → n ≤ x → x < n 
 is_above_self n [] x low below = absurd (omega arith)
 is_above_self n (r ∷ older) x low below =
     elim (cases_eq x (n + length older)) [
-      | inl e ↦ is_above_newest n r older x x e ∙ ap (λ b. b || at_parent false r.origin (is_above n older x)) (eq-eqb x x refl)
+      | inl e ↦ is_above_newest n r older x x e ∙ ap (λ b. b || at_parent false r.origin (is_above n older x))
+          (eq-eqb x x refl)
       | inr ne ↦ is_above_older n r older x x ne ∙ is_above_self n older x low (omega (arith, ne))
     ]
 
@@ -30,20 +32,24 @@ origin_of Top parent e = cc
 origin_of (Sub p) parent e = cc
 origin_of (Nested c) parent e = cc
 
-sub_above : (n : ℕ) (rows : List Row) (a p : ℕ) (row : Row) → AreLinked n rows → numbered n rows a ≡ Some row → row.origin ≡ Sub p → is_above n rows p a ≡ true
+sub_above : (n : ℕ) (rows : List Row) (a p : ℕ) (row : Row) → AreLinked n rows → numbered n rows a ≡ Some row
+    → row.origin ≡ Sub p → is_above n rows p a ≡ true
 sub_above n rows a p row linked at is =
     let P : Origin → Type 0 = ComesBetween n a in
     let between : (n ≤ p) × (p < a) = subst P is (linked_at n rows a row linked at) in
-    let begun : a < n + length rows = elim (cases_lt a (n + length rows)) [ inl less ↦ less | inr past ↦ absurd (begun_before n rows a row at past) ] in
+    let begun : a < n + length rows = elim (cases_lt a (n + length rows))
+    [ inl less ↦ less | inr past ↦ absurd (begun_before n rows a row at past) ] in
     is_above_step n rows p a row linked at
     ∙ ap (λ (o : Origin). eqb p a || at_parent false o (is_above n rows p)) is
     ∙ ap (λ b. eqb p a || b) (is_above_self n rows p between.0 (omega (arith, begun, between.1)))
     ∙ or_true (eqb p a)
 
 pub parent_above : (n : ℕ) (rows : List Row) (a : ℕ) (parent : ActionId) → AreLinked n rows
-    → option_and_then (λ row. parent_in row.origin) (numbered n rows a) ≡ Some parent → is_above n rows parent.0 a ≡ true
+    → option_and_then (λ row. parent_in row.origin) (numbered n rows a) ≡ Some parent
+    → is_above n rows parent.0 a ≡ true
 parent_above n rows a parent linked e = at_row (numbered n rows a) refl e
   where
-    at_row : (found : Option Row) → numbered n rows a ≡ found → option_and_then (λ row. parent_in row.origin) found ≡ Some parent → is_above n rows parent.0 a ≡ true
+    at_row : (found : Option Row) → numbered n rows a ≡ found
+        → option_and_then (λ row. parent_in row.origin) found ≡ Some parent → is_above n rows parent.0 a ≡ true
     at_row None at e = cc
     at_row (Some row) at e = sub_above n rows a parent.0 row linked at (origin_of row.origin parent e)

@@ -1,5 +1,7 @@
--- The walk over the siblings of an action, the newest first: which rows are Aborted so far, and which sibling comes next.
-use Rattle.std.proofs.Common.{◌≡◌, ◌≢◌, ℕ, ◌+◌, ◌<◌, ◌≤◌, Bool, true, false, cond, eqb, leb, not, ◌||◌, ◌&&◌, List, length, get_or, Option, Some, None, IfSome, subst, refl, sym, ◌∙◌, ap, arith, inl, inr}
+-- The walk over the siblings of an action, the newest first: which rows are Aborted so far, and which sibling comes
+-- next.
+use Rattle.std.proofs.Common.{◌≡◌, ◌≢◌, ℕ, ◌+◌, ◌<◌, ◌≤◌, Bool, true, false, cond, eqb, leb, not, ◌||◌, ◌&&◌, List}
+use Rattle.std.proofs.Common.{length, get_or, Option, Some, None, IfSome, subst, refl, sym, ◌∙◌, ap, arith, inl, inr}
 use Rattle.std.specs.Option.{option_and_then, option_map_or}
 use Rattle.std.proofs.Math.Bool.{and-false, or-false}
 use Rattle.std.proofs.lemmas.Bool.{eq-eqb, ne_eqb, eqb-true, le-leb, lt-leb, cases_eq, cases_lt, cases_Bool, and_parts}
@@ -9,7 +11,8 @@ use Rattle.argus_actions.specs.declared.origin.Origin.{Origin}
 use Rattle.argus_actions.specs.declared.origin.Origin.TheVariants.{Top, Sub, Nested}
 use Rattle.argus_actions.specs.declared.status.Status.TheVariants.{Aborted}
 use Rattle.argus_actions.specs.Row.{Row, under_of, comes_from, is_live, with_status}
-use Rattle.argus_actions.specs.Rows.{numbered, is_above, mark, newest_child_below, under_at, is_live_at, is_child_of, is_live_sibling_of, has_ancestor}
+use Rattle.argus_actions.specs.Rows.{numbered, is_above, mark, newest_child_below, under_at, is_live_at, is_child_of}
+use Rattle.argus_actions.specs.Rows.{is_live_sibling_of, has_ancestor}
 use Rattle.argus_actions.specs.Nodes.{shown, rows_of, AreNodes, link_to}
 use Rattle.argus_actions.proofs.RowsLemmas.{some_row, row_begun, linked_at}
 use Rattle.argus_actions.proofs.Marks.{newest_where-mark, is_above-mark, mark-mark, mark-same, mark_none, numbered-mark}
@@ -28,13 +31,15 @@ comes_under (Sub p) u e = ap Some (eqb-true p u e)
 comes_under (Nested c) u e = ap Some (eqb-true c u e)
 
 -- the row of one that was begun under another
-pub under_row : (n : ℕ) (rows : List Row) (a u : ℕ) → under_at n rows a ≡ Some u → (row : Row) × ((numbered n rows a ≡ Some row) × (under_of row.origin ≡ Some u))
+pub under_row : (n : ℕ) (rows : List Row) (a u : ℕ) → under_at n rows a ≡ Some u
+    → (row : Row) × ((numbered n rows a ≡ Some row) × (under_of row.origin ≡ Some u))
 under_row n rows a u e = found (numbered n rows a) refl e
   where
     none_some : {x : ℕ} → None ≡ Some x → ⊥
     none_some e = cc
 
-    found : (o : Option Row) → numbered n rows a ≡ o → option_and_then (λ row. under_of row.origin) o ≡ Some u → (row : Row) × ((numbered n rows a ≡ Some row) × (under_of row.origin ≡ Some u))
+    found : (o : Option Row) → numbered n rows a ≡ o → option_and_then (λ row. under_of row.origin) o ≡ Some u
+        → (row : Row) × ((numbered n rows a ≡ Some row) × (under_of row.origin ≡ Some u))
     found None at e = absurd (none_some e)
     found (Some row) at e = (row, (at, e))
 
@@ -44,23 +49,29 @@ is_swept n rows a bound x = leb bound x && is_live_sibling_of n rows a x
 
 module _ (n : ℕ) (rows : List Row) (a under : ℕ) (came : under_at n rows a ≡ Some under) where
   -- a live sibling is a child of the same action
-  pub sibling_row : (k : ℕ) → is_live_sibling_of n rows a k ≡ true → (row : Row) × ((numbered n rows k ≡ Some row) × (comes_from under row.origin ≡ true))
+  pub sibling_row : (k : ℕ) → is_live_sibling_of n rows a k ≡ true
+      → (row : Row) × ((numbered n rows k ≡ Some row) × (comes_from under row.origin ≡ true))
   sibling_row k e =
-      let both = and_parts (is_live_at n rows k) (not (eqb k a) && option_map_or (λ u. is_child_of n rows u k) (under_at n rows a) false) e in
-      let child = and_parts (not (eqb k a)) (option_map_or (λ u. is_child_of n rows u k) (under_at n rows a) false) both.1 in
-      came_row (comes_from under) n rows k (ap (λ o. option_map_or (λ u. is_child_of n rows u k) o false) (sym came) ∙ child.1)
+      let both = and_parts (is_live_at n rows k) (not (eqb k a)
+      && option_map_or (λ u. is_child_of n rows u k) (under_at n rows a) false) e in
+      let child =
+      and_parts (not (eqb k a)) (option_map_or (λ u. is_child_of n rows u k) (under_at n rows a) false) both.1 in
+      came_row (comes_from under) n rows k (ap (λ o. option_map_or (λ u. is_child_of n rows u k) o false) (sym came)
+      ∙ child.1)
 
   -- from past the newest action on there is none
   pub swept_first : (bound k : ℕ) → k < bound → is_swept n rows a bound k ≡ false
   swept_first bound k less = ap (λ b. b && is_live_sibling_of n rows a k) (lt-leb bound k less)
 
   -- where no child is below the bound, all are from there on
-  pub swept_all : (bound k : ℕ) → newest_child_below n rows under bound ≡ None → is_swept n rows a bound k ≡ is_live_sibling_of n rows a k
+  pub swept_all : (bound k : ℕ) → newest_child_below n rows under bound ≡ None
+      → is_swept n rows a bound k ≡ is_live_sibling_of n rows a k
   swept_all bound k none =
       elim (cases_Bool (is_live_sibling_of n rows a k)) [
         | inl is ↦
             let row = sibling_row k is in
-            ap (λ b. b && is_live_sibling_of n rows a k) (le-leb bound k (newest_where_no (comes_from under) n rows bound k row.0 none row.1.0 row.1.1))
+            ap (λ b. b && is_live_sibling_of n rows a k) (le-leb bound k
+            (newest_where_no (comes_from under) n rows bound k row.0 none row.1.0 row.1.1))
         | inr isnt ↦ ap (λ b. leb bound k && b) isnt ∙ and-false (leb bound k) ∙ sym isnt
       ]
 
@@ -75,44 +86,61 @@ module _ (n : ℕ) (rows : List Row) (a under : ℕ) (came : under_at n rows a �
           | inl below ↦ rw (lt-leb bound k below) (elim (cases_Bool (is_live_sibling_of n rows a k)) [
             | inl sib ↦
                 let row = sibling_row k sib in
-                let most : k ≤ link = newest_where_most (comes_from under) n rows bound link k row.0 found row.1.0 row.1.1 below in
+                let most : k ≤ link =
+                newest_where_most (comes_from under) n rows bound link k row.0 found row.1.0 row.1.1 below in
                 ap (λ b. b && is_live_sibling_of n rows a k) (lt-leb link k (omega arith))
             | inr isnt ↦ ap (λ b. leb link k && b) isnt ∙ and-false (leb link k)
           ])
-          | inr past ↦ rw (le-leb bound k past, le-leb link k (omega (arith, is.1.1.0))) (sym (or-false (is_live_sibling_of n rows a k)))
+          | inr past ↦ rw (le-leb bound k past, le-leb link k (omega (arith, is.1.1.0)))
+              (sym (or-false (is_live_sibling_of n rows a k)))
         ])
       ]
 
--- of the old rows those are Aborted that have a live sibling from the bound on as an ancestor; the next sibling has this link
+-- of the old rows those are Aborted that have a live sibling from the bound on as an ancestor; the next sibling has
+-- this link
 pub record IsSwept (n : ℕ) (old nodes : List Node) (a under link : ℕ) : Type 0 where
   pub bound : ℕ
   pub next : link ≡ link_to (newest_child_below n (rows_of old) under bound)
-  pub rows : rows_of nodes ≡ mark n (has_ancestor (is_swept n (rows_of old) a bound) n (rows_of old)) Aborted (rows_of old)
+  pub rows : rows_of nodes ≡ mark n (has_ancestor (is_swept n (rows_of old) a bound) n (rows_of old)) Aborted
+      (rows_of old)
 
-module _ (n : ℕ) (old : List Node) (a under : ℕ) (kept : AreNodes n old) (came : under_at n (rows_of old) a ≡ Some under) where
+module _ (n : ℕ) (old : List Node) (a under : ℕ) (kept : AreNodes n old)
+    (came : under_at n (rows_of old) a ≡ Some under) where
   pub under_begun : (n ≤ under) × (under < n + length old)
   under_begun =
       let row = under_row n (rows_of old) a under came in
       let P : Option ℕ → Type 0 = λ o. IfSome o (λ u. (n ≤ u) × (u < a)) in
-      let between : (n ≤ under) × (under < a) = subst P row.1.1 (linked_at n (rows_of old) a row.0 kept.linked row.1.0) in
+      let between : (n ≤ under) × (under < a) =
+      subst P row.1.1 (linked_at n (rows_of old) a row.0 kept.linked row.1.0) in
       (between.0, omega (arith, between.1, (row_begun n (rows_of old) a row.0 row.1.0).1, length-rows_of old))
 
   pub sweep_start : (j : ℕ) → under ≡ n + j → IsSwept n old old a under (get_or old j some_node).newest_child
   sweep_start j at = record {
     bound = n + length (rows_of old);
     next = (kept.each under j some_node at (omega (arith, under_begun.1))).newest_child;
-    rows = sym (mark_none n (has_ancestor (is_swept n (rows_of old) a (n + length (rows_of old))) n (rows_of old)) Aborted (rows_of old)
-        (λ y low high. has_ancestor_none (is_swept n (rows_of old) a (n + length (rows_of old))) n (rows_of old) y kept.linked
+    rows = sym (mark_none n (has_ancestor (is_swept n (rows_of old) a (n + length (rows_of old))) n (rows_of old))
+        Aborted (rows_of old)
+        (λ y low high. has_ancestor_none (is_swept n (rows_of old) a (n + length (rows_of old))) n (rows_of old)
+        y kept.linked
         (λ x le. swept_first n (rows_of old) a under came (n + length (rows_of old)) x (omega arith))));
   }
 
   module _ (nodes : List Node) (link : ℕ) (swept : IsSwept n old nodes a under link) where
-    pub sweep_end : link ≡ NONE → rows_of nodes ≡ mark n (has_ancestor (is_live_sibling_of n (rows_of old) a) n (rows_of old)) Aborted (rows_of old)
+    pub sweep_end : link ≡ NONE → rows_of nodes ≡ mark n (has_ancestor (is_live_sibling_of n (rows_of old) a) n
+        (rows_of old)) Aborted (rows_of old)
     sweep_end none =
-        let done : newest_child_below n (rows_of old) under swept.bound ≡ None = link_none (newest_child_below n (rows_of old) under swept.bound) link swept.next none
-        (λ c e. omega (arith, (newest_where_at (comes_from under) n (rows_of old) swept.bound c e).1.0, length-rows_of old, kept.few)) in
-        swept.rows ∙ mark-same n (has_ancestor (is_swept n (rows_of old) a swept.bound) n (rows_of old)) (has_ancestor (is_live_sibling_of n (rows_of old) a) n (rows_of old)) Aborted (rows_of old)
-        (λ y low high. has_ancestor_same (is_swept n (rows_of old) a swept.bound) (is_live_sibling_of n (rows_of old) a) n (rows_of old) y (λ x from to. swept_all n (rows_of old) a under came swept.bound x done))
+        let done : newest_child_below n (rows_of old) under swept.bound ≡ None =
+        link_none (newest_child_below n (rows_of old) under swept.bound) link swept.next none
+        (λ c e. omega (
+          arith,
+          (newest_where_at (comes_from under) n (rows_of old) swept.bound c e).1.0,
+          length-rows_of old,
+          kept.few,
+        )) in
+        swept.rows ∙ mark-same n (has_ancestor (is_swept n (rows_of old) a swept.bound) n (rows_of old))
+        (has_ancestor (is_live_sibling_of n (rows_of old) a) n (rows_of old)) Aborted (rows_of old)
+        (λ y low high. has_ancestor_same (is_swept n (rows_of old) a swept.bound) (is_live_sibling_of n (rows_of old) a)
+        n (rows_of old) y (λ x from to. swept_all n (rows_of old) a under came swept.bound x done))
 
     module _ (there : link ≢ NONE) where
       found : newest_child_below n (rows_of old) under swept.bound ≡ Some link
@@ -124,21 +152,30 @@ module _ (n : ℕ) (old : List Node) (a under : ℕ) (kept : AreNodes n old) (ca
           (is.0, omega (arith, is.1.0, length-rows_of old))
 
       -- whether this one is a live sibling is seen in its node
-      pub sibling_seen : (i : ℕ) (d : Node) → link ≡ n + i → length nodes ≡ length old → is_live_sibling_of n (rows_of old) a link ≡ (is_live (get_or nodes i d).status && not (eqb link a))
+      pub sibling_seen : (i : ℕ) (d : Node) → link ≡ n + i → length nodes ≡ length old
+          → is_live_sibling_of n (rows_of old) a link ≡ (is_live (get_or nodes i d).status && not (eqb link a))
       sibling_seen i d at long =
           let is = newest_where_at (comes_from under) n (rows_of old) swept.bound link found in
           let row : Row = is.1.1.1.0 in
           let in_rows : numbered n (rows_of old) link ≡ Some is.1.1.1.0 = is.1.1.1.1.0 in
           let spared : has_ancestor (is_swept n (rows_of old) a swept.bound) n (rows_of old) link ≡ false
-          = has_ancestor_none (is_swept n (rows_of old) a swept.bound) n (rows_of old) link kept.linked (λ x le. swept_first n (rows_of old) a under came swept.bound x (omega (arith, is.1.1.0))) in
+          = has_ancestor_none (is_swept n (rows_of old) a swept.bound) n (rows_of old) link kept.linked
+          (λ x le. swept_first n (rows_of old) a under came swept.bound x (omega (arith, is.1.1.0))) in
           let now : numbered n (rows_of nodes) link ≡ Some is.1.1.1.0
           = ap (λ (rows : List Row). numbered n rows link) swept.rows
-          ∙ numbered-mark n (has_ancestor (is_swept n (rows_of old) a swept.bound) n (rows_of old)) Aborted (rows_of old) link is.1.1.1.0 in_rows
+          ∙ numbered-mark n (has_ancestor (is_swept n (rows_of old) a swept.bound) n (rows_of old)) Aborted
+          (rows_of old) link is.1.1.1.0 in_rows
           ∙ ap (λ b. Some (cond b (with_status Aborted is.1.1.1.0) is.1.1.1.0)) spared in
-          let same : shown (get_or nodes i d) ≡ is.1.1.1.0 = some_row (shown (get_or nodes i d)) is.1.1.1.0 (sym (row_at n nodes link i d at (omega (arith, sweep_begun.1))) ∙ now) in
-          ap (λ o. option_map_or (λ (row : Row). is_live row.status) o false && (not (eqb link a) && option_map_or (λ u. is_child_of n (rows_of old) u link) (under_at n (rows_of old) a) false)) in_rows
-          ∙ ap (λ o. is_live is.1.1.1.0.status && (not (eqb link a) && option_map_or (λ u. is_child_of n (rows_of old) u link) o false)) came
-          ∙ ap (λ o. is_live is.1.1.1.0.status && (not (eqb link a) && option_map_or (λ (row : Row). comes_from under row.origin) o false)) in_rows
+          let same : shown (get_or nodes i d) ≡ is.1.1.1.0 =
+          some_row (shown (get_or nodes i d)) is.1.1.1.0 (sym
+          (row_at n nodes link i d at (omega (arith, sweep_begun.1))) ∙ now) in
+          ap (λ o. option_map_or (λ (row : Row). is_live row.status) o false
+          && (not (eqb link a) && option_map_or (λ u. is_child_of n (rows_of old) u link)
+          (under_at n (rows_of old) a) false)) in_rows
+          ∙ ap (λ o. is_live is.1.1.1.0.status && (not (eqb link a)
+          && option_map_or (λ u. is_child_of n (rows_of old) u link) o false)) came
+          ∙ ap (λ o. is_live is.1.1.1.0.status && (not (eqb link a)
+          && option_map_or (λ (row : Row). comes_from under row.origin) o false)) in_rows
           ∙ ap (λ b. is_live is.1.1.1.0.status && (not (eqb link a) && b)) is.1.1.1.1.1
           ∙ ap (λ b. is_live is.1.1.1.0.status && b) (and_true (not (eqb link a)))
           ∙ ap (λ (w : Row). is_live w.status && not (eqb link a)) (sym same)
@@ -148,46 +185,72 @@ module _ (n : ℕ) (old : List Node) (a under : ℕ) (kept : AreNodes n old) (ca
           and_true false = refl
 
       -- a sibling that is not aborted changes nothing
-      pub sweep_spared : is_live_sibling_of n (rows_of old) a link ≡ false → rows_of nodes ≡ mark n (has_ancestor (is_swept n (rows_of old) a link) n (rows_of old)) Aborted (rows_of old)
+      pub sweep_spared : is_live_sibling_of n (rows_of old) a link ≡ false
+          → rows_of nodes ≡ mark n (has_ancestor (is_swept n (rows_of old) a link) n (rows_of old)) Aborted
+          (rows_of old)
       sweep_spared isnt = swept.rows
-          ∙ mark-same n (has_ancestor (is_swept n (rows_of old) a swept.bound) n (rows_of old)) (has_ancestor (is_swept n (rows_of old) a link) n (rows_of old)) Aborted (rows_of old)
-          (λ y low high. has_ancestor_same (is_swept n (rows_of old) a swept.bound) (is_swept n (rows_of old) a link) n (rows_of old) y
-          (λ x from to. sym (swept_more n (rows_of old) a under came swept.bound link x found ∙ ap (λ b. is_swept n (rows_of old) a swept.bound x || (eqb x link && b)) isnt ∙ ap (λ b. is_swept n (rows_of old) a swept.bound x || b) (and-false (eqb x link)) ∙ or-false (is_swept n (rows_of old) a swept.bound x))))
+          ∙ mark-same n (has_ancestor (is_swept n (rows_of old) a swept.bound) n (rows_of old))
+          (has_ancestor (is_swept n (rows_of old) a link) n (rows_of old)) Aborted (rows_of old)
+          (λ y low high. has_ancestor_same (is_swept n (rows_of old) a swept.bound) (is_swept n (rows_of old) a link) n
+          (rows_of old) y
+          (λ x from to. sym (swept_more n (rows_of old) a under came swept.bound link x found
+          ∙ ap (λ b. is_swept n (rows_of old) a swept.bound x || (eqb x link && b)) isnt
+          ∙ ap (λ b. is_swept n (rows_of old) a swept.bound x || b) (and-false (eqb x link))
+          ∙ or-false (is_swept n (rows_of old) a swept.bound x))))
 
       -- one that is
-      pub sweep_aborted : (new : List Node) → is_live_sibling_of n (rows_of old) a link ≡ true → rows_of new ≡ mark n (is_above n (rows_of nodes) link) Aborted (rows_of nodes)
+      pub sweep_aborted : (new : List Node) → is_live_sibling_of n (rows_of old) a link ≡ true
+          → rows_of new ≡ mark n (is_above n (rows_of nodes) link) Aborted (rows_of nodes)
           → rows_of new ≡ mark n (has_ancestor (is_swept n (rows_of old) a link) n (rows_of old)) Aborted (rows_of old)
       sweep_aborted new is rows_is =
           let before : ℕ → Bool = has_ancestor (is_swept n (rows_of old) a swept.bound) n (rows_of old) in
           rows_is
           ∙ ap (λ (rows : List Row). mark n (is_above n rows link) Aborted rows) swept.rows
-          ∙ mark-same n (is_above n (mark n (has_ancestor (is_swept n (rows_of old) a swept.bound) n (rows_of old)) Aborted (rows_of old)) link) (is_above n (rows_of old) link) Aborted (mark n (has_ancestor (is_swept n (rows_of old) a swept.bound) n (rows_of old)) Aborted (rows_of old))
-          (λ x low high. is_above-mark n (has_ancestor (is_swept n (rows_of old) a swept.bound) n (rows_of old)) Aborted (rows_of old) link x)
-          ∙ mark-mark n (has_ancestor (is_swept n (rows_of old) a swept.bound) n (rows_of old)) (is_above n (rows_of old) link) Aborted (rows_of old)
-          ∙ mark-same n (λ y. has_ancestor (is_swept n (rows_of old) a swept.bound) n (rows_of old) y || is_above n (rows_of old) link y) (has_ancestor (is_swept n (rows_of old) a link) n (rows_of old)) Aborted (rows_of old)
+          ∙ mark-same n (is_above n (mark n (has_ancestor (is_swept n (rows_of old) a swept.bound) n (rows_of old))
+          Aborted (rows_of old)) link) (is_above n (rows_of old) link) Aborted
+          (mark n (has_ancestor (is_swept n (rows_of old) a swept.bound) n (rows_of old)) Aborted (rows_of old))
+          (λ x low high. is_above-mark n (has_ancestor (is_swept n (rows_of old) a swept.bound) n (rows_of old)) Aborted
+          (rows_of old) link x)
+          ∙ mark-mark n (has_ancestor (is_swept n (rows_of old) a swept.bound) n (rows_of old))
+          (is_above n (rows_of old) link) Aborted (rows_of old)
+          ∙ mark-same n (λ y. has_ancestor (is_swept n (rows_of old) a swept.bound) n (rows_of old) y
+          || is_above n (rows_of old) link y) (has_ancestor (is_swept n (rows_of old) a link) n (rows_of old))
+          Aborted (rows_of old)
           (λ y low high. sym (
-          has_ancestor_same (is_swept n (rows_of old) a link) (λ x. is_swept n (rows_of old) a swept.bound x || eqb x link) n (rows_of old) y
-          (λ x from to. swept_more n (rows_of old) a under came swept.bound link x found ∙ ap (λ b. is_swept n (rows_of old) a swept.bound x || (eqb x link && b)) is ∙ ap (λ b. is_swept n (rows_of old) a swept.bound x || b) (and_true (eqb x link)))
+          has_ancestor_same (is_swept n (rows_of old) a link)
+          (λ x. is_swept n (rows_of old) a swept.bound x || eqb x link) n (rows_of old) y
+          (λ x from to. swept_more n (rows_of old) a under came swept.bound link x found
+          ∙ ap (λ b. is_swept n (rows_of old) a swept.bound x || (eqb x link && b)) is
+          ∙ ap (λ b. is_swept n (rows_of old) a swept.bound x || b) (and_true (eqb x link)))
           ∙ has_ancestor_or (is_swept n (rows_of old) a swept.bound) (λ x. eqb x link) n (rows_of old) y
-          ∙ ap (λ b. has_ancestor (is_swept n (rows_of old) a swept.bound) n (rows_of old) y || b) (has_ancestor_one link n (rows_of old) y)))
+          ∙ ap (λ b. has_ancestor (is_swept n (rows_of old) a swept.bound) n (rows_of old) y || b)
+          (has_ancestor_one link n (rows_of old) y)))
         where
           and_true : (b : Bool) → (b && true) ≡ b
           and_true true = refl
           and_true false = refl
 
       module _ (new : List Node) (i : ℕ) (at : link ≡ n + i) (kept' : AreNodes n new) (long : length new ≡ length old)
-          (rows_is : rows_of new ≡ mark n (has_ancestor (is_swept n (rows_of old) a link) n (rows_of old)) Aborted (rows_of old)) where
+          (rows_is : rows_of new ≡ mark n (has_ancestor (is_swept n (rows_of old) a link) n (rows_of old)) Aborted
+          (rows_of old)) where
         next_link : (get_or new i some_node).older_child ≡ link_to (newest_child_below n (rows_of old) under link)
         next_link =
             let in_new : i < length new = omega (arith, sweep_begun.1) in
-            let same : newest_child_below n (rows_of new) under swept.bound ≡ Some link = ap (λ (rows : List Row). newest_child_below n rows under swept.bound) rows_is ∙ newest_where-mark (comes_from under) n (has_ancestor (is_swept n (rows_of old) a link) n (rows_of old)) Aborted (rows_of old) swept.bound ∙ found in
+            let same : newest_child_below n (rows_of new) under swept.bound ≡ Some link =
+            ap (λ (rows : List Row). newest_child_below n rows under swept.bound) rows_is
+            ∙ newest_where-mark (comes_from under) n (has_ancestor (is_swept n (rows_of old) a link) n
+            (rows_of old)) Aborted (rows_of old) swept.bound ∙ found in
             let is = newest_where_at (comes_from under) n (rows_of new) swept.bound link same in
-            let here : shown (get_or new i some_node) ≡ is.1.1.1.0 = some_row (shown (get_or new i some_node)) is.1.1.1.0 (sym (row_at n new link i some_node at in_new) ∙ is.1.1.1.1.0) in
-            let own : under_of (get_or new i some_node).origin ≡ Some under = ap (λ (w : Row). under_of w.origin) here ∙ comes_under is.1.1.1.0.origin under is.1.1.1.1.1 in
+            let here : shown (get_or new i some_node) ≡ is.1.1.1.0 =
+            some_row (shown (get_or new i some_node)) is.1.1.1.0
+            (sym (row_at n new link i some_node at in_new) ∙ is.1.1.1.1.0) in
+            let own : under_of (get_or new i some_node).origin ≡ Some under =
+            ap (λ (w : Row). under_of w.origin) here ∙ comes_under is.1.1.1.0.origin under is.1.1.1.1.1 in
             (kept'.each link i some_node at in_new).older_child
             ∙ ap (λ o. link_to (option_and_then (λ u. newest_child_below n (rows_of new) u link) o)) own
             ∙ ap (λ (rows : List Row). link_to (newest_child_below n rows under link)) rows_is
-            ∙ ap link_to (newest_where-mark (comes_from under) n (has_ancestor (is_swept n (rows_of old) a link) n (rows_of old)) Aborted (rows_of old) link)
+            ∙ ap link_to (newest_where-mark (comes_from under) n
+            (has_ancestor (is_swept n (rows_of old) a link) n (rows_of old)) Aborted (rows_of old) link)
 
         pub sweep_step : IsSwept n old new a under (get_or new i some_node).older_child
         sweep_step = record { bound = link; next = next_link; rows = rows_is }

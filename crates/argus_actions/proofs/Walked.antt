@@ -1,5 +1,6 @@
 -- The nodes in the midst of an abort: which rows are Aborted so far, and which subaction comes next.
-use Rattle.std.proofs.Common.{◌≡◌, ◌≢◌, ℕ, ◌+◌, ◌<◌, ◌≤◌, eqb, ◌||◌, List, length, get_or, Some, None, sym, ◌∙◌, ap, arith}
+use Rattle.std.proofs.Common.{◌≡◌, ◌≢◌, ℕ, ◌+◌, ◌<◌, ◌≤◌, eqb, ◌||◌, List, length, get_or, Some, None, sym, ◌∙◌, ap}
+use Rattle.std.proofs.Common.{arith}
 use Rattle.std.proofs.Math.Bool.{or-false, or_assoc}
 use Rattle.argus_actions.specs.declared.node.TheConstants.{NONE}
 use Rattle.argus_actions.specs.declared.node.Node.{Node}
@@ -10,7 +11,8 @@ use Rattle.argus_actions.specs.Rows.{is_above, mark, newest_below}
 use Rattle.argus_actions.specs.Nodes.{shown, rows_of, AreNodes, link_to}
 use Rattle.argus_actions.proofs.Marks.{newest_where-mark, is_above-mark, mark-mark, mark-same}
 use Rattle.argus_actions.proofs.NodesLemmas.{some_node, length-rows_of, row_at}
-use Rattle.argus_actions.proofs.Walks.{is_via, is_handled, IsNewestSub, newest_sub_is, via_past, via_more, via_all, above_via, link_some, link_none, steps_left, fewer_steps}
+use Rattle.argus_actions.proofs.Walks.{is_via, is_handled, IsNewestSub, newest_sub_is, via_past, via_more, via_all}
+use Rattle.argus_actions.proofs.Walks.{above_via, link_some, link_none, steps_left, fewer_steps}
 
 -- of the old rows those are Aborted that are handled by the subactions from the bound on; the next has this link
 pub record IsWalked (n : ℕ) (old nodes : List Node) (a link : ℕ) : Type 0 where
@@ -19,23 +21,30 @@ pub record IsWalked (n : ℕ) (old nodes : List Node) (a link : ℕ) : Type 0 wh
   pub rows : rows_of nodes ≡ mark n (is_handled n (rows_of old) a bound) Aborted (rows_of old)
 
 module _ (n : ℕ) (old : List Node) (a : ℕ) (kept : AreNodes n old) where
-  pub walk_start : (nodes : List Node) (i : ℕ) → a ≡ n + i → i < length old → AreNodes n nodes → length nodes ≡ length old
-      → rows_of nodes ≡ mark n (λ k. eqb k a) Aborted (rows_of old) → IsWalked n old nodes a (get_or nodes i some_node).newest_sub
+  pub walk_start : (nodes : List Node) (i : ℕ) → a ≡ n + i → i < length old → AreNodes n nodes
+      → length nodes ≡ length old
+      → rows_of nodes ≡ mark n (λ k. eqb k a) Aborted (rows_of old)
+      → IsWalked n old nodes a (get_or nodes i some_node).newest_sub
   walk_start nodes i at begun kept' long rows_is =
-      let last : length (rows_of nodes) ≡ length (rows_of old) = length-rows_of nodes ∙ long ∙ sym (length-rows_of old) in
+      let last : length (rows_of nodes) ≡ length (rows_of old) =
+      length-rows_of nodes ∙ long ∙ sym (length-rows_of old) in
       record {
         bound = n + length (rows_of old);
         next = (kept'.each a i some_node at (omega arith)).newest
             ∙ ap (λ (k : ℕ). link_to (newest_below n (rows_of nodes) a (n + k))) last
             ∙ ap (λ (rows : List Row). link_to (newest_below n rows a (n + length (rows_of old)))) rows_is
-            ∙ ap link_to (newest_where-mark (is_sub_of a) n (λ k. eqb k a) Aborted (rows_of old) (n + length (rows_of old)));
-        rows = rows_is ∙ mark-same n (λ k. eqb k a) (is_handled n (rows_of old) a (n + length (rows_of old))) Aborted (rows_of old)
-            (λ x low high. sym (or-false (eqb x a)) ∙ ap (λ b. eqb x a || b) (sym (via_past n (rows_of old) a (n + length (rows_of old)) x (omega arith) (omega arith))));
+            ∙ ap link_to (newest_where-mark (is_sub_of a) n (λ k. eqb k a) Aborted (rows_of old)
+            (n + length (rows_of old)));
+        rows = rows_is ∙ mark-same n (λ k. eqb k a) (is_handled n (rows_of old) a (n + length (rows_of old))) Aborted
+            (rows_of old)
+            (λ x low high. sym (or-false (eqb x a)) ∙ ap (λ b. eqb x a || b)
+            (sym (via_past n (rows_of old) a (n + length (rows_of old)) x (omega arith) (omega arith))));
       }
 
   module _ (nodes : List Node) (link : ℕ) (walked : IsWalked n old nodes a link) where
     pub walk_next : link ≢ NONE → IsNewestSub n (rows_of old) a walked.bound link
-    walk_next there = newest_sub_is n (rows_of old) a walked.bound link kept.linked (link_some (newest_below n (rows_of old) a walked.bound) link walked.next there)
+    walk_next there = newest_sub_is n (rows_of old) a walked.bound link kept.linked
+        (link_some (newest_below n (rows_of old) a walked.bound) link walked.next there)
 
     pub walk_begun : link ≢ NONE → (link < n + length old) × (a < link) × (n ≤ link)
     walk_begun there =
@@ -44,23 +53,32 @@ module _ (n : ℕ) (old : List Node) (a : ℕ) (kept : AreNodes n old) where
 
     pub walk_end : link ≡ NONE → rows_of nodes ≡ mark n (is_above n (rows_of old) a) Aborted (rows_of old)
     walk_end none =
-        let done : newest_below n (rows_of old) a walked.bound ≡ None = link_none (newest_below n (rows_of old) a walked.bound) link walked.next none
-        (λ c e. let sub : IsNewestSub n (rows_of old) a walked.bound c = newest_sub_is n (rows_of old) a walked.bound c kept.linked e in
+        let done : newest_below n (rows_of old) a walked.bound ≡ None =
+        link_none (newest_below n (rows_of old) a walked.bound) link walked.next none
+        (λ c e. let sub : IsNewestSub n (rows_of old) a walked.bound c =
+        newest_sub_is n (rows_of old) a walked.bound c kept.linked e in
         omega (arith, sub.begun, length-rows_of old, kept.few)) in
-        walked.rows ∙ mark-same n (is_handled n (rows_of old) a walked.bound) (is_above n (rows_of old) a) Aborted (rows_of old)
-        (λ x low high. ap (λ b. eqb x a || b) (via_all n (rows_of old) a walked.bound x kept.linked done low high) ∙ above_via n (rows_of old) a x kept.linked low high)
+        walked.rows ∙ mark-same n (is_handled n (rows_of old) a walked.bound) (is_above n (rows_of old) a) Aborted
+        (rows_of old)
+        (λ x low high. ap (λ b. eqb x a || b) (via_all n (rows_of old) a walked.bound x kept.linked done low high)
+        ∙ above_via n (rows_of old) a x kept.linked low high)
 
-    module _ (new : List Node) (i : ℕ) (at : link ≡ n + i) (there : link ≢ NONE) (kept' : AreNodes n new) (long : length new ≡ length old)
+    module _ (new : List Node) (i : ℕ) (at : link ≡ n + i) (there : link ≢ NONE) (kept' : AreNodes n new)
+        (long : length new ≡ length old)
         (rows_is : rows_of new ≡ mark n (is_above n (rows_of nodes) link) Aborted (rows_of nodes)) where
       all_rows : rows_of new ≡ mark n (is_handled n (rows_of old) a link) Aborted (rows_of old)
       all_rows =
           let found = link_some (newest_below n (rows_of old) a walked.bound) link walked.next there in
           rows_is
           ∙ ap (λ (rows : List Row). mark n (is_above n rows link) Aborted rows) walked.rows
-          ∙ mark-same n (is_above n (mark n (is_handled n (rows_of old) a walked.bound) Aborted (rows_of old)) link) (is_above n (rows_of old) link) Aborted (mark n (is_handled n (rows_of old) a walked.bound) Aborted (rows_of old))
+          ∙ mark-same n (is_above n (mark n (is_handled n (rows_of old) a walked.bound) Aborted (rows_of old)) link)
+          (is_above n (rows_of old) link) Aborted (mark n (is_handled n (rows_of old) a walked.bound) Aborted
+          (rows_of old))
           (λ x low high. is_above-mark n (is_handled n (rows_of old) a walked.bound) Aborted (rows_of old) link x)
-          ∙ mark-mark n (is_handled n (rows_of old) a walked.bound) (is_above n (rows_of old) link) Aborted (rows_of old)
-          ∙ mark-same n (λ x. is_handled n (rows_of old) a walked.bound x || is_above n (rows_of old) link x) (is_handled n (rows_of old) a link) Aborted (rows_of old)
+          ∙ mark-mark n (is_handled n (rows_of old) a walked.bound) (is_above n (rows_of old) link) Aborted
+          (rows_of old)
+          ∙ mark-same n (λ x. is_handled n (rows_of old) a walked.bound x || is_above n (rows_of old) link x)
+          (is_handled n (rows_of old) a link) Aborted (rows_of old)
           (λ x low high. or_assoc (eqb x a) (is_via n (rows_of old) a walked.bound x) (is_above n (rows_of old) link x)
           ∙ ap (λ b. eqb x a || b) (via_more n (rows_of old) a walked.bound link x kept.linked found low high))
 
@@ -70,13 +88,18 @@ module _ (n : ℕ) (old : List Node) (a : ℕ) (kept : AreNodes n old) where
           let begun = walk_begun there in
           let in_new : i < length new = omega (arith, begun.0) in
           let found = link_some (newest_below n (rows_of old) a walked.bound) link walked.next there in
-          let same : newest_below n (rows_of new) a walked.bound ≡ Some link = ap (λ (rows : List Row). newest_below n rows a walked.bound) all_rows ∙ newest_where-mark (is_sub_of a) n (is_handled n (rows_of old) a link) Aborted (rows_of old) walked.bound ∙ found in
-          let sub : IsNewestSub n (rows_of new) a walked.bound link = newest_sub_is n (rows_of new) a walked.bound link kept'.linked same in
+          let same : newest_below n (rows_of new) a walked.bound ≡ Some link =
+          ap (λ (rows : List Row). newest_below n rows a walked.bound) all_rows
+          ∙ newest_where-mark (is_sub_of a) n (is_handled n (rows_of old) a link) Aborted (rows_of old) walked.bound
+          ∙ found in
+          let sub : IsNewestSub n (rows_of new) a walked.bound link =
+          newest_sub_is n (rows_of new) a walked.bound link kept'.linked same in
           let under = sub.under (shown (get_or new i some_node)) (row_at n new link i some_node at in_new) in
           (kept'.each link i some_node at in_new).older
           ∙ ap (λ (o : Origin). link_to (at_parent None o (λ p. newest_below n (rows_of new) p link))) under
           ∙ ap (λ (rows : List Row). link_to (newest_below n rows a link)) all_rows
-          ∙ ap link_to (newest_where-mark (is_sub_of a) n (is_handled n (rows_of old) a link) Aborted (rows_of old) link)
+          ∙ ap link_to (newest_where-mark (is_sub_of a) n (is_handled n (rows_of old) a link) Aborted (rows_of old)
+          link)
 
       pub walk_step : IsWalked n old new a (get_or new i some_node).older_sub
       walk_step = record { bound = link; next = next_link; rows = all_rows }
@@ -86,4 +109,5 @@ module _ (n : ℕ) (old : List Node) (a : ℕ) (kept : AreNodes n old) where
           let begun = walk_begun there in
           let small : link < NONE = omega (arith, begun.0, kept.few) in
           rw next_link (fewer_steps (newest_below n (rows_of old) a link) link small
-          (λ c e. let sub : IsNewestSub n (rows_of old) a link c = newest_sub_is n (rows_of old) a link c kept.linked e in sub.below))
+          (λ c e. let sub : IsNewestSub n (rows_of old) a link c =
+          newest_sub_is n (rows_of old) a link c kept.linked e in sub.below))

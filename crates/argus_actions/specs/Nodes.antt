@@ -1,5 +1,6 @@
 -- What a tree keeps of its actions, oldest first, and what its nodes say beside their rows.
-use Rattle.std.specs.Prelude.{◌≡◌, ℕ, ◌+◌, ◌<◌, ◌≤◌, ◌&&◌, ◌==◌, if◌then◌else◌, List, [], ◌∷◌, length, reverse, map, get_or, Option, Some, None, IfSome}
+use Rattle.std.specs.Prelude.{◌≡◌, ℕ, ◌+◌, ◌<◌, ◌≤◌, ◌&&◌, ◌==◌, if◌then◌else◌, List, [], ◌∷◌}
+use Rattle.std.specs.Prelude.{length, reverse, map, get_or, Option, Some, None, IfSome}
 use Rattle.std.specs.Option.{option_and_then}
 use Rattle.argus_contents.specs.declared.limits.TheConstants.{MAX_ACTIONS, MAX_ACTION_DEPTH}
 use Rattle.argus_actions.specs.declared.node.TheConstants.{NONE}
@@ -20,12 +21,14 @@ rows_of nodes = map shown (reverse nodes)
 
 -- the action under which it was begun is one of those from the first to before it
 abbrev pub ComesBetween : ℕ → ℕ → Origin → Type 0
-ComesBetween first number origin = IfSome (under_of origin) (λ under. (first ≤ under) × (under < number))
+ComesBetween first number origin =
+    IfSome (under_of origin) (λ under. (first ≤ under) × (under < number))
 
 -- each action was begun under an older one, if under any
 abbrev pub AreLinked : ℕ → List Row → Type 0
 AreLinked folded [] = Unit {0}
-AreLinked folded (row ∷ older) = ComesBetween folded (folded + length older) row.origin × AreLinked folded older
+AreLinked folded (row ∷ older) =
+    ComesBetween folded (folded + length older) row.origin × AreLinked folded older
 
 -- a link to an action, or to none
 abbrev pub link_to : Option ℕ → ℕ
@@ -39,14 +42,18 @@ link_end link = if link == NONE then None else Some (record { 0 = link })
 -- how many live actions were begun under this one
 abbrev pub live_count : List Row → ℕ → ℕ
 live_count [] a = 0
-live_count (row ∷ older) a = (if comes_from a row.origin && is_live row.status then 1 else 0) + live_count older a
+live_count (row ∷ older) a =
+    (if comes_from a row.origin && is_live row.status then 1 else 0) + live_count older a
 
 -- what the node of this number says beside its row
 pub record IsNode (folded : ℕ) (rows : List Row) (a : ℕ) (node : Node) : Type 0 where
   pub newest : node.newest_sub ≡ link_to (newest_below folded rows a (folded + length rows))
-  pub older : node.older_sub ≡ link_to (at_parent None node.origin (λ p. newest_below folded rows p a))
-  pub newest_child : node.newest_child ≡ link_to (newest_child_below folded rows a (folded + length rows))
-  pub older_child : node.older_child ≡ link_to (option_and_then (λ under. newest_child_below folded rows under a) (under_of node.origin))
+  pub older : node.older_sub ≡ link_to (at_parent None node.origin
+      (λ p. newest_below folded rows p a))
+  pub newest_child : node.newest_child ≡ link_to
+      (newest_child_below folded rows a (folded + length rows))
+  pub older_child : node.older_child ≡ link_to (option_and_then
+      (λ under. newest_child_below folded rows under a) (under_of node.origin))
   pub children : node.live_children ≡ live_count rows a
   pub depth : node.depth ≡ depth_at folded rows a
   pub shallow : node.depth ≤ MAX_ACTION_DEPTH
@@ -55,7 +62,8 @@ pub record IsNode (folded : ℕ) (rows : List Row) (a : ℕ) (node : Node) : Typ
 pub record AreNodes (folded : ℕ) (nodes : List Node) : Type 0 where
   pub few : folded + length nodes ≤ MAX_ACTIONS
   pub linked : AreLinked folded (rows_of nodes)
-  pub each : (a k : ℕ) (d : Node) → a ≡ folded + k → k < length nodes → IsNode folded (rows_of nodes) a (get_or nodes k d)
+  pub each : (a k : ℕ) (d : Node) → a ≡ folded + k → k < length nodes
+      → IsNode folded (rows_of nodes) a (get_or nodes k d)
 
 -- and of the statuses that they show
 pub record AreKept (folded : ℕ) (kept : List Node) : Type 0 where
@@ -65,7 +73,8 @@ pub record AreKept (folded : ℕ) (kept : List Node) : Type 0 where
 -- what is found of the action of a number
 abbrev pub IsNodeOf : Tree → ℕ → Option Node → Type 0
 IsNodeOf tree a None = (row_of tree a ≡ None) × (live_count tree.rows a ≡ 0)
-IsNodeOf tree a (Some node) = (row_of tree a ≡ Some (shown node)) × IsNode tree.folded tree.rows a node
+IsNodeOf tree a (Some node) =
+    (row_of tree a ≡ Some (shown node)) × IsNode tree.folded tree.rows a node
 
 -- the node of this number, once an action was begun
 abbrev pub adopted : Origin → ℕ → ℕ → Node → Node
@@ -78,11 +87,23 @@ adopted origin number a node = record node {
 -- the node of an action that was just begun
 abbrev pub fresh : Origin → ℕ → ℕ → ℕ → Node
 fresh origin older child depth =
-    record { origin = origin; newest_sub = NONE; older_sub = older; newest_child = NONE; older_child = child; live_children = 0; status = Live; depth = depth }
+    record {
+      origin = origin;
+      newest_sub = NONE;
+      older_sub = older;
+      newest_child = NONE;
+      older_child = child;
+      live_children = 0;
+      status = Live;
+      depth = depth;
+    }
 
--- the links of an action that is begun next, to the one that was begun before it under the same parent, and under the same parent or creator
+-- the links of an action that is begun next, to the one that was begun before it under the same
+-- parent, and under the same parent or creator
 abbrev pub older_sub_link : ℕ → List Row → Origin → ℕ
-older_sub_link folded rows origin = link_to (at_parent None origin (λ p. newest_below folded rows p (folded + length rows)))
+older_sub_link folded rows origin =
+    link_to (at_parent None origin (λ p. newest_below folded rows p (folded + length rows)))
 
 abbrev pub older_child_link : ℕ → List Row → Origin → ℕ
-older_child_link folded rows origin = link_to (option_and_then (λ under. newest_child_below folded rows under (folded + length rows)) (under_of origin))
+older_child_link folded rows origin = link_to (option_and_then
+    (λ under. newest_child_below folded rows under (folded + length rows)) (under_of origin))

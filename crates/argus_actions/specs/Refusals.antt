@@ -1,11 +1,15 @@
 -- The first refusal that applies to each call, if any.
-use Rattle.std.specs.Prelude.{◌≡◌, ℕ, Bool, nat_le, if◌then◌else◌, Option, Some, None, Result, Err, IfErr}
+use Rattle.std.specs.Prelude.{◌≡◌, ℕ, Bool, nat_le, if◌then◌else◌, Option, Some, None, Result, Err}
+use Rattle.std.specs.Prelude.{IfErr}
 use Rattle.std.specs.Option.{option_or, is_none}
 use Rattle.argus_contents.specs.declared.limits.TheConstants.{MAX_ACTIONS, MAX_ACTION_DEPTH}
 use Rattle.argus_actions.specs.declared.action_error.ActionError.{ActionError}
 use Rattle.argus_actions.specs.declared.action_error.ActionError.TheVariants.{Refused, OutOfMemory}
 use Rattle.argus_actions.specs.declared.action_refusal.ActionRefusal.{ActionRefusal}
-use Rattle.argus_actions.specs.declared.action_refusal.ActionRefusal.TheVariants.{NoAction, Over, ChildrenLive, TooDeep, TooMany, NoSiblings}
+use Rattle.argus_actions.specs.declared.action_refusal.ActionRefusal.TheVariants.{NoAction, Over}
+use Rattle.argus_actions.specs.declared.action_refusal.ActionRefusal.TheVariants.{ChildrenLive}
+use Rattle.argus_actions.specs.declared.action_refusal.ActionRefusal.TheVariants.{TooDeep, TooMany}
+use Rattle.argus_actions.specs.declared.action_refusal.ActionRefusal.TheVariants.{NoSiblings}
 use Rattle.argus_actions.specs.declared.status.Status.{Status}
 use Rattle.argus_actions.specs.declared.status.Status.TheVariants.{Live, Committed, Aborted, Folded}
 use Rattle.argus_actions.specs.Rows.{depth_at, under_at}
@@ -28,20 +32,24 @@ begin_top_refusal tree = refused_if (nat_le MAX_ACTIONS (next tree)) TooMany
 abbrev pub begin_sub_refusal : Tree → ℕ → Option ActionRefusal
 begin_sub_refusal tree parent =
     option_or (unless_live (status_of tree parent))
-    (option_or (refused_if (nat_le MAX_ACTION_DEPTH (depth_at tree.folded tree.rows parent)) TooDeep) (begin_top_refusal tree))
+    (option_or (refused_if (nat_le MAX_ACTION_DEPTH (depth_at tree.folded tree.rows parent))
+    TooDeep) (begin_top_refusal tree))
 
 abbrev pub begin_nested_refusal : Tree → ℕ → Option ActionRefusal
-begin_nested_refusal tree creator = option_or (unless_live (status_of tree creator)) (begin_top_refusal tree)
+begin_nested_refusal tree creator =
+    option_or (unless_live (status_of tree creator)) (begin_top_refusal tree)
 
 abbrev pub commit_refusal : Tree → ℕ → Option ActionRefusal
-commit_refusal tree a = option_or (unless_live (status_of tree a)) (refused_if (has_live_child tree a) ChildrenLive)
+commit_refusal tree a =
+    option_or (unless_live (status_of tree a)) (refused_if (has_live_child tree a) ChildrenLive)
 
 abbrev pub abort_refusal : Tree → ℕ → Option ActionRefusal
 abort_refusal tree a = unless_live (status_of tree a)
 
 -- a topaction that isn't nested has no siblings
 abbrev pub abort_others_refusal : Tree → ℕ → Option ActionRefusal
-abort_others_refusal tree a = option_or (commit_refusal tree a) (refused_if (is_none (under_at tree.folded tree.rows a)) NoSiblings)
+abort_others_refusal tree a = option_or (commit_refusal tree a)
+    (refused_if (is_none (under_at tree.folded tree.rows a)) NoSiblings)
 
 -- the refusal, where there is one; otherwise the call succeeds, or finds no memory
 abbrev pub IsRefusedBy : {T : Type 0} → Option ActionRefusal → Result T ActionError → Type 0

@@ -1,28 +1,35 @@
--- The actions as a list of rows, newest first. The number of a row is how many actions are folded or older.
-use Rattle.std.specs.Prelude.{◌≡◌, ℕ, ◌+◌, Bool, true, false, not, ◌&&◌, ◌||◌, ◌==◌, nat_lt, if◌then◌else◌, List, [], ◌∷◌, length, Option, Some, None}
+-- The actions as a list of rows, newest first. The number of a row is how many actions are folded
+-- or older.
+use Rattle.std.specs.Prelude.{◌≡◌, ℕ, ◌+◌, Bool, true, false, not, ◌&&◌, ◌||◌, ◌==◌, nat_lt}
+use Rattle.std.specs.Prelude.{if◌then◌else◌, List, [], ◌∷◌, length, Option, Some, None}
 use Rattle.std.specs.List.{list_any}
 use Rattle.std.specs.Option.{option_and_then, option_map_or}
 use Rattle.argus_actions.specs.declared.origin.Origin.{Origin}
 use Rattle.argus_actions.specs.declared.origin.Origin.TheVariants.{Sub}
 use Rattle.argus_actions.specs.declared.status.Status.{Status}
-use Rattle.argus_actions.specs.Row.{Row, may_follow, at_parent, under_of, is_sub_of, comes_from, is_live, with_status}
+use Rattle.argus_actions.specs.Row.{Row, may_follow, at_parent, under_of, is_sub_of, comes_from}
+use Rattle.argus_actions.specs.Row.{is_live, with_status}
 
 -- the row of a number
 abbrev pub numbered : ℕ → List Row → ℕ → Option Row
 numbered folded [] a = None
-numbered folded (row ∷ older) a = if a == folded + length older then Some row else numbered folded older a
+numbered folded (row ∷ older) a =
+    if a == folded + length older then Some row else numbered folded older a
 
--- x is y, or an ancestor of the parent of y (Moss, Nested Transactions, 1981; Argus Reference Manual, 1987)
+-- x is y, or an ancestor of the parent of y (Moss, Nested Transactions, 1981; Argus Reference
+-- Manual, 1987)
 abbrev pub is_above : ℕ → List Row → ℕ → ℕ → Bool
 is_above folded [] x y = false
 is_above folded (row ∷ older) x y =
-    if y == folded + length older then (x == y || at_parent false row.origin (is_above folded older x)) else is_above folded older x y
+    if y == folded + length older then (x == y || at_parent false row.origin
+    (is_above folded older x)) else is_above folded older x y
 
 -- how many ancestors an action has, itself among them
 abbrev pub depth_at : ℕ → List Row → ℕ → ℕ
 depth_at folded [] a = 0
 depth_at folded (row ∷ older) a =
-    if a == folded + length older then at_parent 0 row.origin (depth_at folded older) + 1 else depth_at folded older a
+    if a == folded + length older then at_parent 0 row.origin (depth_at folded older) + 1 else
+    depth_at folded older a
 
 -- a live action was begun under this one, as its subaction or as its nested topaction
 abbrev pub is_live_under : List Row → ℕ → Bool
@@ -32,13 +39,15 @@ is_live_under rows a = list_any (λ row. comes_from a row.origin && is_live row.
 abbrev pub mark : ℕ → (ℕ → Bool) → Status → List Row → List Row
 mark folded which status [] = []
 mark folded which status (row ∷ older) =
-    (if which (folded + length older) then with_status status row else row) ∷ mark folded which status older
+    (if which (folded + length older) then with_status status row else row)
+    ∷ mark folded which status older
 
 -- the newest action below the bound whose origin passes the test
 abbrev pub newest_where : (Origin → Bool) → ℕ → List Row → ℕ → Option ℕ
 newest_where test folded [] bound = None
 newest_where test folded (row ∷ older) bound =
-    if nat_lt (folded + length older) bound && test row.origin then Some (folded + length older) else newest_where test folded older bound
+    if nat_lt (folded + length older) bound && test row.origin then Some
+    (folded + length older) else newest_where test folded older bound
 
 -- the newest subaction of the parent whose number is below the bound
 abbrev pub newest_below : ℕ → List Row → ℕ → ℕ → Option ℕ
@@ -67,9 +76,11 @@ is_sub_at folded rows parent x = came_so (is_sub_of parent) folded rows x
 abbrev pub is_child_of : ℕ → List Row → ℕ → ℕ → Bool
 is_child_of folded rows under x = came_so (comes_from under) folded rows x
 
--- x is another action with the same parent or creator as a: a subaction and a nested topaction of one action are siblings
+-- x is another action with the same parent or creator as a: a subaction and a nested topaction of
+-- one action are siblings
 abbrev pub is_sibling_of : ℕ → List Row → ℕ → ℕ → Bool
-is_sibling_of folded rows a x = not (x == a) && option_map_or (λ under. is_child_of folded rows under x) (under_at folded rows a) false
+is_sibling_of folded rows a x = not (x == a) && option_map_or
+    (λ under. is_child_of folded rows under x) (under_at folded rows a) false
 
 abbrev pub is_live_sibling_of : ℕ → List Row → ℕ → ℕ → Bool
 is_live_sibling_of folded rows a x = is_live_at folded rows x && is_sibling_of folded rows a x
@@ -78,9 +89,11 @@ is_live_sibling_of folded rows a x = is_live_at folded rows x && is_sibling_of f
 abbrev pub has_ancestor : (ℕ → Bool) → ℕ → List Row → ℕ → Bool
 has_ancestor test folded [] y = false
 has_ancestor test folded (row ∷ older) y =
-    if y == folded + length older then (test y || at_parent false row.origin (has_ancestor test folded older)) else has_ancestor test folded older y
+    if y == folded + length older then (test y || at_parent false row.origin
+    (has_ancestor test folded older)) else has_ancestor test folded older y
 
 -- each subaction and its parent are over in their order
 abbrev pub AreInStep : ℕ → List Row → Type 0
 AreInStep folded rows = (a p : ℕ) (row above : Row)
-    → numbered folded rows a ≡ Some row → row.origin ≡ Sub p → numbered folded rows p ≡ Some above → may_follow above.status row.status ≡ true
+    → numbered folded rows a ≡ Some row → row.origin ≡ Sub p → numbered folded rows p ≡ Some above
+    → may_follow above.status row.status ≡ true

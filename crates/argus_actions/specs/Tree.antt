@@ -1,5 +1,6 @@
 -- What contracts see of an `ActionTree`, and the words that they cite of it.
-use Rattle.std.specs.Prelude.{◌≡◌, ℕ, ◌<◌, ◌≤◌, ◌+◌, ◌-◌, Bool, true, ◌==◌, nat_lt, if◌then◌else◌, List, ◌∷◌, length, Option, Some, None}
+use Rattle.std.specs.Prelude.{◌≡◌, ℕ, ◌<◌, ◌≤◌, ◌+◌, ◌-◌, Bool, true, ◌==◌, nat_lt, if◌then◌else◌}
+use Rattle.std.specs.Prelude.{List, ◌∷◌, length, Option, Some, None}
 use Rattle.std.specs.Option.{option_map, option_and_then}
 use Rattle.argus_actions.specs.declared.action_id.ActionId.{ActionId}
 use Rattle.argus_actions.specs.declared.origin.Origin.{Origin}
@@ -7,9 +8,12 @@ use Rattle.argus_actions.specs.declared.origin.Origin.TheVariants.{Top, Sub, Nes
 use Rattle.argus_actions.specs.declared.status.Status.{Status}
 use Rattle.argus_actions.specs.declared.status.Status.TheVariants.{Live, Committed, Aborted, Folded}
 use Rattle.argus_actions.specs.Row.{Row, at_parent, under_of}
-use Rattle.argus_actions.specs.Rows.{numbered, is_above, depth_at, is_live_under, is_live_sibling_of, has_ancestor, mark, newest_below, newest_child_below}
+use Rattle.argus_actions.specs.Rows.{numbered, is_above, depth_at, is_live_under}
+use Rattle.argus_actions.specs.Rows.{is_live_sibling_of, has_ancestor, mark, newest_below}
+use Rattle.argus_actions.specs.Rows.{newest_child_below}
 
--- the rows, newest first; how many actions came before the first of them; and for how many more there is room
+-- the rows, newest first; how many actions came before the first of them; and for how many more
+-- there is room
 pub record Tree : Type 0 where
   pub folded : ℕ
   pub rows : List Row
@@ -24,7 +28,8 @@ row_of tree a = numbered tree.folded tree.rows a
 
 -- what has become of an action; a folded one is over, and no more is known of it
 abbrev pub status_of : Tree → ℕ → Option Status
-status_of tree a = if nat_lt a tree.folded then Some Folded else option_map (λ row. row.status) (row_of tree a)
+status_of tree a =
+    if nat_lt a tree.folded then Some Folded else option_map (λ row. row.status) (row_of tree a)
 
 -- a topaction, nested or not, has no parent
 abbrev pub parent_in : Origin → Option ActionId
@@ -66,7 +71,9 @@ newest_sub_of tree a = named (newest_below tree.folded tree.rows a (next tree))
 
 -- the subaction of the same parent that was begun next before this one
 abbrev pub older_sub_of : Tree → ℕ → Option ActionId
-older_sub_of tree a = option_and_then (λ row. named (at_parent None row.origin (λ parent. newest_below tree.folded tree.rows parent a))) (row_of tree a)
+older_sub_of tree a = option_and_then (λ row. named
+    (at_parent None row.origin (λ parent. newest_below tree.folded tree.rows parent a)))
+    (row_of tree a)
 
 -- the action that was begun last under this one, as a subaction or as a nested topaction
 abbrev pub newest_child_of : Tree → ℕ → Option ActionId
@@ -75,12 +82,15 @@ newest_child_of tree a = named (newest_child_below tree.folded tree.rows a (next
 -- the action of the same parent or creator that was begun next before this one
 abbrev pub older_sibling_of : Tree → ℕ → Option ActionId
 older_sibling_of tree a =
-    option_and_then (λ row. named (option_and_then (λ under. newest_child_below tree.folded tree.rows under a) (under_of row.origin))) (row_of tree a)
+    option_and_then (λ row. named (option_and_then
+    (λ under. newest_child_below tree.folded tree.rows under a) (under_of row.origin)))
+    (row_of tree a)
 
 -- the greatest number below the bound that passes the test, if any does
 abbrev pub IsGreatestBelow : ℕ → (ℕ → Bool) → Option ActionId → Type 0
 IsGreatestBelow bound test None = (x : ℕ) → test x ≡ true → bound ≤ x
-IsGreatestBelow bound test (Some a) = (test a.0 ≡ true) × ((a.0 < bound) × ((x : ℕ) → test x ≡ true → x < bound → x ≤ a.0))
+IsGreatestBelow bound test (Some a) =
+    (test a.0 ≡ true) × ((a.0 < bound) × ((x : ℕ) → test x ≡ true → x < bound → x ≤ a.0))
 
 -- another live action with the same parent or creator
 abbrev pub is_live_sibling : Tree → ℕ → ℕ → Bool
@@ -93,16 +103,24 @@ pub record SameActions (old new : Tree) : Type 0 where
 
 -- one live action more, in the room that was there
 abbrev pub after_begin : Tree → Origin → Tree
-after_begin tree origin = record tree { rows = record { origin = origin; status = Live } ∷ tree.rows; room = tree.room - 1 }
+after_begin tree origin = record tree {
+  rows = record { origin = origin; status = Live } ∷ tree.rows;
+  room = tree.room - 1;
+}
 
 -- this row is Committed
 abbrev pub after_commit : Tree → ℕ → Tree
 after_commit tree a = record tree { rows = mark tree.folded (λ k. k == a) Committed tree.rows }
 
--- the rows that have it as an ancestor are Aborted, committed ones too (Moss, 1981); nested topactions begun under them go on
+-- the rows that have it as an ancestor are Aborted, committed ones too (Moss, 1981); nested
+-- topactions begun under them go on
 abbrev pub after_abort : Tree → ℕ → Tree
 after_abort tree a = record tree { rows = mark tree.folded (is_ancestor tree a) Aborted tree.rows }
 
--- the rows that have a live sibling of it as an ancestor are Aborted, committed ones too; nested topactions begun under them go on
+-- the rows that have a live sibling of it as an ancestor are Aborted, committed ones too; nested
+-- topactions begun under them go on
 abbrev pub after_abort_others : Tree → ℕ → Tree
-after_abort_others tree a = record tree { rows = mark tree.folded (has_ancestor (is_live_sibling tree a) tree.folded tree.rows) Aborted tree.rows }
+after_abort_others tree a = record tree {
+  rows = mark tree.folded (has_ancestor (is_live_sibling tree a) tree.folded tree.rows)
+      Aborted tree.rows;
+}

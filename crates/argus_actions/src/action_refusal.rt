@@ -2,7 +2,8 @@
 
 use thiserror::Error;
 
-/// Why a call was refused. The first that applies is answered, in this order; the tree is as before.
+/// Why a call was refused. The first that applies is answered, in this order; the tree is as
+/// before.
 ///
 /// | Refusal | When | Calls |
 /// |---|---|---|

@@ -1,15 +1,23 @@
 //! `ActionTree`: the actions that were begun.
 
-ghost use Rattle.std.specs.Prelude.{◌≡◌, ℕ, ◌<◌, ◌≤◌, ◌+◌, ◌-◌, true, [], ◌∷◌, None, Some, OnOk, OnErr, IfOk, MatchOption};
+ghost use Rattle.std.specs.Prelude.{◌≡◌, ℕ, ◌<◌, ◌≤◌, ◌+◌, ◌-◌, true, [], ◌∷◌, None, Some, OnOk};
+ghost use Rattle.std.specs.Prelude.{OnErr, IfOk, MatchOption};
 ghost use Rattle.std.specs.Option.{option_and_then};
 ghost use Rattle.std.specs.Result.{result_err};
 ghost use Rattle.argus_actions.specs.declared.origin.Origin.TheVariants.{Top, Sub, Nested};
 ghost use Rattle.argus_actions.specs.declared.status.Status.TheVariants.{Live};
 ghost use Rattle.argus_actions.specs.Row.{at_parent};
-ghost use Rattle.argus_actions.specs.Rows.{depth_at, under_at, is_live_at, is_sub_at, is_child_of, AreInStep};
-ghost use Rattle.argus_actions.specs.Tree.{Tree, next, status_of, parent_of, creator_of, newest_sub_of, older_sub_of, newest_child_of, older_sibling_of, is_ancestor, has_live_child, depth_of, IsGreatestBelow, SameActions, after_begin, after_commit, after_abort, after_abort_others};
+ghost use Rattle.argus_actions.specs.Rows.{depth_at, under_at, is_live_at, is_sub_at, is_child_of};
+ghost use Rattle.argus_actions.specs.Rows.{AreInStep};
+ghost use Rattle.argus_actions.specs.Tree.{Tree, next, status_of, parent_of, creator_of};
+ghost use Rattle.argus_actions.specs.Tree.{newest_sub_of, older_sub_of, newest_child_of};
+ghost use Rattle.argus_actions.specs.Tree.{older_sibling_of, is_ancestor, has_live_child, depth_of};
+ghost use Rattle.argus_actions.specs.Tree.{IsGreatestBelow, SameActions, after_begin, after_commit};
+ghost use Rattle.argus_actions.specs.Tree.{after_abort, after_abort_others};
 ghost use Rattle.argus_actions.specs.Nodes.{IsNodeOf, AreLinked, ComesBetween, link_end};
-ghost use Rattle.argus_actions.specs.Refusals.{begin_top_refusal, begin_sub_refusal, begin_nested_refusal, commit_refusal, abort_refusal, abort_others_refusal, IsRefusedBy};
+ghost use Rattle.argus_actions.specs.Refusals.{begin_top_refusal, begin_sub_refusal};
+ghost use Rattle.argus_actions.specs.Refusals.{begin_nested_refusal, commit_refusal, abort_refusal};
+ghost use Rattle.argus_actions.specs.Refusals.{abort_others_refusal, IsRefusedBy};
 
 use crate::action_error::ActionError;
 use crate::action_id::ActionId;
@@ -51,7 +59,12 @@ impl Model for ActionTree {
 
     ghost use Rattle.argus_actions.specs.Nodes.{rows_of, AreKept};
 
-    ghost view = { λ t. record { folded = t.first; rows = rows_of t.nodes.items; room = vec_capacity t.nodes - vec_len t.nodes } };
+    ghost view = { λ t. record {
+      folded = t.first;
+      rows = rows_of t.nodes.items;
+      room =
+          vec_capacity t.nodes - vec_len t.nodes;
+    } };
 
     ghost invariant = { λ t. AreKept t.first t.nodes.items };
 }
@@ -126,17 +139,19 @@ impl ActionTree {
         }
     }
 
-    /// The subaction that was begun last under the action, whatever has become of it; None where it has none.
+    /// The subaction that was begun last under the action, whatever has become of it; None where it
+    /// has none.
     ///
-    /// With `older_sub` it leads to every subaction of this one, and to no other; over theirs, and so
-    /// on, to every action that an abort of this one ends beside itself.
+    /// With `older_sub` it leads to every subaction of this one, and to no other; over theirs, and
+    /// so on, to every action that an abort of this one ends beside itself.
     pub fn newest_sub(&self, a: ActionId) -> Option<ActionId>
         ensures { result ≡ newest_sub_of self.now a.0 }
     {
         linked(self.node(a)?.newest_sub)
     }
 
-    /// The subaction of the same parent that was begun next before this one; None where it is the first, and for topactions.
+    /// The subaction of the same parent that was begun next before this one; None where it is the
+    /// first, and for topactions.
     pub fn older_sub(&self, a: ActionId) -> Option<ActionId>
         ensures { result ≡ older_sub_of self.now a.0 }
     {
@@ -162,7 +177,8 @@ impl ActionTree {
         linked(self.node(a)?.older_child)
     }
 
-    /// The number of the action's ancestors, itself among them: 1 to 64. None where it was not begun, or is folded.
+    /// The number of the action's ancestors, itself among them: 1 to 64. None where it was not
+    /// begun, or is folded.
     pub fn depth(&self, a: ActionId) -> Option<u32>
         ensures { result ≡ depth_of self.now a.0 }
     {
@@ -222,9 +238,11 @@ impl ActionTree {
     /// A law for proofs; it does nothing. From `newest_sub` on, `older_sub` leads to every
     /// subaction of an action, and to no other.
     pub fn subs_in_turn(&self, a: ActionId)
-        ensures newest { IsGreatestBelow (next self.now) (is_sub_at self.now.folded self.now.rows a.0) (newest_sub_of self.now a.0) }
+        ensures newest { IsGreatestBelow (next self.now)
+            (is_sub_at self.now.folded self.now.rows a.0) (newest_sub_of self.now a.0) }
         ensures older { (x : ℕ) → is_sub_at self.now.folded self.now.rows a.0 x ≡ true
-            → IsGreatestBelow x (is_sub_at self.now.folded self.now.rows a.0) (older_sub_of self.now x) }
+            → IsGreatestBelow x (is_sub_at self.now.folded self.now.rows a.0)
+            (older_sub_of self.now x) }
     {
         let _ = self.nodes.len();
     }
@@ -232,9 +250,11 @@ impl ActionTree {
     /// A law for proofs; it does nothing. From `newest_child` on, `older_sibling` leads to every
     /// action that was begun under this one, and to no other.
     pub fn children_in_turn(&self, a: ActionId)
-        ensures newest { IsGreatestBelow (next self.now) (is_child_of self.now.folded self.now.rows a.0) (newest_child_of self.now a.0) }
+        ensures newest { IsGreatestBelow (next self.now)
+            (is_child_of self.now.folded self.now.rows a.0) (newest_child_of self.now a.0) }
         ensures older { (x : ℕ) → is_child_of self.now.folded self.now.rows a.0 x ≡ true
-            → IsGreatestBelow x (is_child_of self.now.folded self.now.rows a.0) (older_sibling_of self.now x) }
+            → IsGreatestBelow x (is_child_of self.now.folded self.now.rows a.0)
+            (older_sibling_of self.now x) }
     {
         let _ = self.nodes.len();
     }
@@ -250,7 +270,8 @@ impl ActionTree {
         }
     }
 
-    /// Why a subaction of this parent can't be begun now: `NoAction`, `Over`, `TooDeep` or `TooMany`.
+    /// Why a subaction of this parent can't be begun now: `NoAction`, `Over`, `TooDeep` or
+    /// `TooMany`.
     pub fn begin_sub_refusal(&self, parent: ActionId) -> Option<ActionRefusal>
         ensures { result ≡ begin_sub_refusal self.now parent.0 }
     {
@@ -259,7 +280,7 @@ impl ActionTree {
         }
         match self.depth(parent) {
             Some(depth) if depth >= MAX_ACTION_DEPTH => Some(ActionRefusal::TooDeep),
-            _ => self.begin_top_refusal(),
+            Some(_) | None => self.begin_top_refusal(),
         }
     }
 
@@ -296,7 +317,8 @@ impl ActionTree {
         }
     }
 
-    /// Why the action can't end its siblings now: `NoAction`, `Over`, `ChildrenLive` or `NoSiblings`.
+    /// Why the action can't end its siblings now: `NoAction`, `Over`, `ChildrenLive` or
+    /// `NoSiblings`.
     pub fn abort_others_refusal(&self, a: ActionId) -> Option<ActionRefusal>
         ensures { result ≡ abort_others_refusal self.now a.0 }
     {
@@ -463,8 +485,9 @@ impl ActionTree {
     }
 
     /// Aborts all live siblings of an action, each with its subactions, theirs, and so on. A
-    /// sibling is another action with the same parent or creator, of either kind. Committed siblings
-    /// and those begun later are untouched, and nested topactions begun under a sibling go on.
+    /// sibling is another action with the same parent or creator, of either kind. Committed
+    /// siblings and those begun later are untouched, and nested topactions begun under a sibling go
+    /// on.
     ///
     /// Refusals: `NoAction`, `Over`, `ChildrenLive`, then `NoSiblings`.
     pub fn abort_others(&mut self, a: ActionId) -> Result<(), ActionRefusal>
@@ -501,10 +524,14 @@ impl ActionTree {
     // The node of an action; None where it was not begun, or is folded.
     fn node(&self, a: ActionId) -> Option<Node>
         ensures node { IsNodeOf self.now a.0 result }
-        ensures newest { option_and_then (λ node. link_end node.newest_sub) result ≡ newest_sub_of self.now a.0 }
-        ensures older { option_and_then (λ node. link_end node.older_sub) result ≡ older_sub_of self.now a.0 }
-        ensures newest_child { option_and_then (λ node. link_end node.newest_child) result ≡ newest_child_of self.now a.0 }
-        ensures older_child { option_and_then (λ node. link_end node.older_child) result ≡ older_sibling_of self.now a.0 }
+        ensures newest { option_and_then (λ node. link_end node.newest_sub) result
+            ≡ newest_sub_of self.now a.0 }
+        ensures older { option_and_then (λ node. link_end node.older_sub) result
+            ≡ older_sub_of self.now a.0 }
+        ensures newest_child { option_and_then (λ node. link_end node.newest_child) result
+            ≡ newest_child_of self.now a.0 }
+        ensures older_child { option_and_then (λ node. link_end node.older_child) result
+            ≡ older_sibling_of self.now a.0 }
     {
         if a.0 < self.first {
             return None;
@@ -523,7 +550,8 @@ impl ActionTree {
         requires few { next self.old < MAX_ACTIONS }
         requires between { ComesBetween self.old.folded (next self.old) origin }
         requires live { at_parent true origin (is_live_at self.old.folded self.old.rows) ≡ true }
-        requires shallow { at_parent 0 origin (depth_at self.old.folded self.old.rows) < MAX_ACTION_DEPTH }
+        requires shallow { at_parent 0 origin (depth_at self.old.folded self.old.rows) <
+            MAX_ACTION_DEPTH }
         ensures number { result.0 ≡ next self.old }
         ensures tree { self.new ≡ after_begin self.old origin }
     {

@@ -1,13 +1,16 @@
-//! What is done to the nodes of a tree, oldest first: the climb to an ancestor, one action's begin and end, and aborts.
-//! The action `first` has the first of the nodes; those below it are folded.
+//! What is done to the nodes of a tree, oldest first: the climb to an ancestor, one action's begin
+//! and end, and aborts. The action `first` has the first of the nodes; those below it are folded.
 
-ghost use Rattle.std.specs.Prelude.{◌≡◌, ℕ, ◌+◌, ◌<◌, ◌≤◌, ◌==◌, false, ◌∷◌, Some, length, slice_index_or, vec_len};
+ghost use Rattle.std.specs.Prelude.{◌≡◌, ℕ, ◌+◌, ◌<◌, ◌≤◌, ◌==◌, false, ◌∷◌, Some, length};
+ghost use Rattle.std.specs.Prelude.{slice_index_or, vec_len};
 ghost use Rattle.std.specs.Vec.{vec_capacity};
 ghost use Rattle.argus_actions.specs.declared.node.Node.{Node};
 ghost use Rattle.argus_actions.specs.declared.status.Status.TheVariants.{Live, Aborted};
 ghost use Rattle.argus_actions.specs.Row.{at_parent, is_live};
-ghost use Rattle.argus_actions.specs.Rows.{is_above, depth_at, mark, has_ancestor, is_live_sibling_of, under_at};
-ghost use Rattle.argus_actions.specs.Nodes.{rows_of, AreLinked, AreNodes, ComesBetween, adopted, fresh, older_sub_link, older_child_link};
+ghost use Rattle.argus_actions.specs.Rows.{is_above, depth_at, mark, has_ancestor};
+ghost use Rattle.argus_actions.specs.Rows.{is_live_sibling_of, under_at};
+ghost use Rattle.argus_actions.specs.Nodes.{rows_of, AreLinked, AreNodes, ComesBetween, adopted};
+ghost use Rattle.argus_actions.specs.Nodes.{fresh, older_sub_link, older_child_link};
 
 use crate::node::{NONE, Node};
 use crate::origin::Origin;
@@ -37,7 +40,9 @@ pub(crate) fn begun_node(nodes: &[Node], first: u32, origin: Origin) -> Node
     requires nodes { AreNodes first nodes.now }
     requires between { ComesBetween first (first + length nodes.now) origin }
     requires shallow { at_parent 0 origin (depth_at first (rows_of nodes.now)) < MAX_ACTION_DEPTH }
-    ensures { let rows = rows_of nodes.now in result ≡ fresh origin (older_sub_link first rows origin) (older_child_link first rows origin) (at_parent 0 origin (depth_at first rows) + 1) }
+    ensures { let rows = rows_of nodes.now in result
+        ≡ fresh origin (older_sub_link first rows origin) (older_child_link first rows origin)
+        (at_parent 0 origin (depth_at first rows) + 1) }
 {
     let (older_sub, older_child, depth) = match origin {
         Origin::Top => (NONE, NONE, 1),
@@ -63,7 +68,8 @@ pub(crate) fn begun_node(nodes: &[Node], first: u32, origin: Origin) -> Node
 pub(crate) fn adopt(nodes: &mut [Node], first: u32, origin: Origin, number: u32)
     requires nodes { AreNodes first nodes.old }
     requires between { ComesBetween first (first + length nodes.old) origin }
-    ensures { (a k : ℕ) (d : Node) → a ≡ first + k → k < length nodes.old → slice_index_or nodes.new k d ≡ adopted origin number a (slice_index_or nodes.old k d) }
+    ensures { (a k : ℕ) (d : Node) → a ≡ first + k → k < length nodes.old
+        → slice_index_or nodes.new k d ≡ adopted origin number a (slice_index_or nodes.old k d) }
 {
     match origin {
         Origin::Top => {}
@@ -87,10 +93,12 @@ pub(crate) fn push_begun(nodes: &mut Vec<Node, Heap>, first: u32, origin: Origin
     requires few { first + vec_len nodes.old < MAX_ACTIONS }
     requires room { vec_len nodes.old < vec_capacity nodes.old }
     requires between { ComesBetween first (first + vec_len nodes.old) origin }
-    requires shallow { at_parent 0 origin (depth_at first (rows_of nodes.old.items)) < MAX_ACTION_DEPTH }
+    requires shallow { at_parent 0 origin (depth_at first (rows_of nodes.old.items)) <
+        MAX_ACTION_DEPTH }
     ensures number { result ≡ first + vec_len nodes.old }
     ensures nodes { AreNodes first nodes.new.items }
-    ensures rows { rows_of nodes.new.items ≡ record { origin = origin; status = Live } ∷ rows_of nodes.old.items }
+    ensures rows { rows_of nodes.new.items ≡ record { origin = origin; status = Live }
+        ∷ rows_of nodes.old.items }
     ensures len { vec_len nodes.new ≡ vec_len nodes.old + 1 }
     ensures capacity { vec_capacity nodes.new ≡ vec_capacity nodes.old }
 {
@@ -127,7 +135,8 @@ pub(crate) fn abort_under(nodes: &mut [Node], first: u32, a: u32)
     requires held { first ≤ a }
     requires begun { a < first + length nodes.old }
     ensures nodes { AreNodes first nodes.new }
-    ensures rows { let rows = rows_of nodes.old in rows_of nodes.new ≡ mark first (is_above first rows a) Aborted rows }
+    ensures rows { let rows = rows_of nodes.old in
+        rows_of nodes.new ≡ mark first (is_above first rows a) Aborted rows }
 {
     finish(nodes, first, a, Status::Aborted);
     let mut sub = nodes[(a - first) as usize].newest_sub;
@@ -143,7 +152,9 @@ pub(crate) fn abort_siblings(nodes: &mut [Node], first: u32, a: u32, under: u32)
     requires nodes { AreNodes first nodes.old }
     requires under { under_at first (rows_of nodes.old) a ≡ Some under }
     ensures nodes { AreNodes first nodes.new }
-    ensures rows { let rows = rows_of nodes.old in rows_of nodes.new ≡ mark first (has_ancestor (is_live_sibling_of first rows a) first rows) Aborted rows }
+    ensures rows { let rows = rows_of nodes.old in
+        rows_of nodes.new ≡ mark first (has_ancestor (is_live_sibling_of first rows a) first rows)
+        Aborted rows }
 {
     let mut child = nodes[(under - first) as usize].newest_child;
     while child != NONE {

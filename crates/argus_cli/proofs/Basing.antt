@@ -1,10 +1,12 @@
 -- One change more of the bases, and one line more of their listing.
-use Rattle.std.proofs.Common.{◌≡◌, ℕ, ◌+◌, ◌<◌, ◌≤◌, List, [], ◌∷◌, ◌++◌, fold, length, take, drop, get_or, slice_get, slice_set, slice_index_or, Option, Some, None, refl, sym, ◌∙◌, ap, append_assoc, append-nil, add-one, drop-cons}
+use Rattle.std.proofs.Common.{◌≡◌, ℕ, ◌+◌, ◌<◌, ◌≤◌, List, [], ◌∷◌, ◌++◌, fold, length, take, drop, get_or, slice_get}
+use Rattle.std.proofs.Common.{slice_set, slice_index_or, Option, Some, None, refl, sym, ◌∙◌, ap, append_assoc}
+use Rattle.std.proofs.Common.{append-nil, add-one, drop-cons}
 use Rattle.std.proofs.lemmas.List.{map-set, map-append, get_or_default, take_more}
 use Rattle.std.proofs.lemmas.List as lists
 use Rattle.std.proofs.lemmas.Option.{slice_get-get_or}
 use Rattle.std.specs.Option.{option_map}
-use Rattle.argus_contents.specs.Change.{PlainChange, result}
+use Rattle.argus_contents.specs.Change.{PlainChange, outcome}
 use Rattle.argus_contents.specs.Content.{PlainContent, plain_option}
 use Rattle.argus_contents.specs.Shape as shape
 use Rattle.argus_contents.specs.Ty as ty
@@ -16,22 +18,28 @@ use Rattle.argus_cli.specs.Work.{all_absent, changed}
 use Rattle.argus_cli.specs.declared.work.Work.{Work}
 
 -- the base at a number was changed
-pub changed_at : (bases : List (Option Content)) (i : ℕ) (old new : Option Content) (c : PlainChange) → i < length bases → old ≡ slice_index_or bases i old
-    → plain_option new ≡ (result c (plain_option old)).0 → plain_bases (slice_set bases i new) ≡ changed (plain_bases bases) (i, c)
+pub changed_at : (bases : List (Option Content)) (i : ℕ) (old new : Option Content) (c : PlainChange) → i < length bases
+    → old ≡ slice_index_or bases i old
+    → plain_option new ≡ (outcome c (plain_option old)).0
+    → plain_bases (slice_set bases i new) ≡ changed (plain_bases bases) (i, c)
 changed_at bases i old new c within is e =
     let here : plain_option old ≡ slice_index_or (plain_bases bases) i None =
     ap plain_option is ∙ sym (lists.get_or-map plain_option bases i old None within) in
-    map-set plain_option bases i new ∙ ap (slice_set (plain_bases bases) i) (e ∙ ap (λ o. (result c o).0) here)
+    map-set plain_option bases i new ∙ ap (slice_set (plain_bases bases) i) (e ∙ ap (λ o. (outcome c o).0) here)
 
 -- a change is done
-pub done_more : (old new : List (Option Content)) (all rest : List Work) (w : Work) (total : List (Option PlainContent)) → all ≡ w ∷ rest
-    → plain_bases new ≡ changed (plain_bases old) (plain_work w) → fold changed (plain_bases old) (plain_works all) ≡ total
+pub done_more : (old new : List (Option Content)) (all rest : List Work) (w : Work) (total : List (Option PlainContent))
+    → all ≡ w ∷ rest
+    → plain_bases new ≡ changed (plain_bases old) (plain_work w)
+    → fold changed (plain_bases old) (plain_works all) ≡ total
     → fold changed (plain_bases new) (plain_works rest) ≡ total
 done_more old new all rest w total popped e h =
-    ap (λ bs. fold changed bs (plain_works rest)) e ∙ ap (λ ws. fold changed (plain_bases old) (plain_works ws)) (sym popped) ∙ h
+    ap (λ bs. fold changed bs (plain_works rest)) e ∙ ap (λ ws. fold changed (plain_bases old) (plain_works ws))
+    (sym popped) ∙ h
 
 -- an object more is absent
-pub absent_more : (objects : List Object) (i : ℕ) (old new : List (Option Content)) → i < length objects → new ≡ old ++ None ∷ []
+pub absent_more : (objects : List Object) (i : ℕ) (old new : List (Option Content)) → i < length objects
+    → new ≡ old ++ None ∷ []
     → plain_bases old ≡ all_absent (take i objects) → plain_bases new ≡ all_absent (take (i + 1) objects)
 absent_more objects i old new within pushed e =
     let d : Object = ([], shape.arr ty.null) in
@@ -48,14 +56,18 @@ drop_here : {A : Type 0} (xs : List A) (i : ℕ) (d : A) → i < length xs → d
 drop_here xs i d h = rw (add-one, drop-cons xs i d) refl
 
 -- no base is left
-pub listed_all : (objects : List Object) (bases : List (Option Content)) (i : ℕ) (text : List ℕ) (total : List ℕ) → length bases ≤ i
+pub listed_all : (objects : List Object) (bases : List (Option Content)) (i : ℕ) (text : List ℕ) (total : List ℕ)
+    → length bases ≤ i
     → text ++ listing (drop i objects) (plain_bases (drop i bases)) ≡ total → text ≡ total
 listed_all objects bases i text total past e =
-    sym (ap (λ bs. text ++ listing (drop i objects) (plain_bases bs)) (lists.drop_all i bases past) ∙ ap (λ t. text ++ t) (listing_nil (drop i objects)) ∙ append-nil text) ∙ e
+    sym (ap (λ bs. text ++ listing (drop i objects) (plain_bases bs)) (lists.drop_all i bases past)
+    ∙ ap (λ t. text ++ t) (listing_nil (drop i objects)) ∙ append-nil text) ∙ e
 
 -- one line more is listed
-pub listed_more : (objects : List Object) (bases : List (Option Content)) (i : ℕ) (old new name : List ℕ) (base : Option Content) (total : List ℕ)
-    → i < length objects → i < length bases → Some name ≡ option_map (λ o. o.0) (slice_get objects i) → base ≡ slice_index_or bases i base
+pub listed_more : (objects : List Object) (bases : List (Option Content)) (i : ℕ) (old new name : List ℕ)
+    (base : Option Content) (total : List ℕ)
+    → i < length objects → i < length bases → Some name ≡ option_map (λ o. o.0) (slice_get objects i)
+    → base ≡ slice_index_or bases i base
     → new ≡ old ++ base_line name (plain_option base)
     → old ++ listing (drop i objects) (plain_bases (drop i bases)) ≡ total
     → new ++ listing (drop (i + 1) objects) (plain_bases (drop (i + 1) bases)) ≡ total

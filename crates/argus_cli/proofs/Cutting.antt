@@ -1,5 +1,6 @@
 -- Bytes that were passed, in front of the lines and words of what is left.
-use Rattle.std.proofs.Common.{◌≡◌, ◌≢◌, ℕ, ◌+◌, ◌<◌, ◌≤◌, ◌==◌, true, false, cond, List, [], ◌∷◌, ◌++◌, length, take, drop, get_or, reverse, refl, sym, ◌∙◌, ap, subst, append_assoc, add-one, drop-cons, arith}
+use Rattle.std.proofs.Common.{◌≡◌, ◌≢◌, ℕ, ◌+◌, ◌<◌, ◌≤◌, ◌==◌, true, false, cond, List, [], ◌∷◌, ◌++◌, length, take}
+use Rattle.std.proofs.Common.{drop, get_or, reverse, refl, sym, ◌∙◌, ap, subst, append_assoc, add-one, drop-cons, arith}
 use Rattle.std.proofs.lemmas.List.{take_more, reverse-append, reverse-reverse, append-nil}
 use Rattle.std.proofs.Math.Seq.{take-length, drop-length}
 use Rattle.std.proofs.lemmas.Bool.Decides.{nat_tests}
@@ -39,7 +40,8 @@ lines_of_feed : (b : ℕ) (bs : List ℕ) → b ≡ 10 → lines_of (b ∷ bs) �
 lines_of_feed b bs e = subst (λ x. lines_of (x ∷ bs) ≡ (x ∷ []) ∷ lines_of bs) (sym e) refl
 
 -- a byte more was passed that is no line feed
-pub pass : (bs : List ℕ) (i : ℕ) → i < length bs → get_or bs i 0 ≢ 10 → lines_of bs ≡ glue (take i bs) (lines_of (drop i bs))
+pub pass : (bs : List ℕ) (i : ℕ) → i < length bs → get_or bs i 0 ≢ 10
+    → lines_of bs ≡ glue (take i bs) (lines_of (drop i bs))
     → lines_of bs ≡ glue (take (i + 1) bs) (lines_of (drop (i + 1) bs))
 pass bs i h other e = e ∙ ap (λ d. glue (take i bs) (lines_of d)) (drop_here bs i h)
     ∙ ap (glue (take i bs)) (lines_of_other (get_or bs i 0) (drop (i + 1) bs) other)
@@ -47,14 +49,16 @@ pass bs i h other e = e ∙ ap (λ d. glue (take i bs) (lines_of d)) (drop_here 
     ∙ ap (λ t. glue t (lines_of (drop (i + 1) bs))) (sym (take_more bs i 0 h))
 
 -- the byte at i is a line feed: the first line is whole
-pub meet : (bs : List ℕ) (i : ℕ) → i < length bs → get_or bs i 0 ≡ 10 → lines_of bs ≡ glue (take i bs) (lines_of (drop i bs))
+pub meet : (bs : List ℕ) (i : ℕ) → i < length bs → get_or bs i 0 ≡ 10
+    → lines_of bs ≡ glue (take i bs) (lines_of (drop i bs))
     → lines_of bs ≡ take (i + 1) bs ∷ lines_of (drop (i + 1) bs)
 meet bs i h feed e = e ∙ ap (λ d. glue (take i bs) (lines_of d)) (drop_here bs i h)
     ∙ ap (glue (take i bs)) (lines_of_feed (get_or bs i 0) (drop (i + 1) bs) feed)
     ∙ glue_line (take i bs) (get_or bs i 0 ∷ []) (lines_of (drop (i + 1) bs))
     ∙ ap (λ t. t ∷ lines_of (drop (i + 1) bs)) (sym (take_more bs i 0 h))
 
-word_other : (b : ℕ) (bs : List ℕ) → is_blank b ≡ false → (word (b ∷ bs) ≡ b ∷ word bs) × (behind_word (b ∷ bs) ≡ behind_word bs)
+word_other : (b : ℕ) (bs : List ℕ) → is_blank b ≡ false
+    → (word (b ∷ bs) ≡ b ∷ word bs) × (behind_word (b ∷ bs) ≡ behind_word bs)
 word_other b bs e = (ap (λ t. cond t [] (b ∷ word bs)) e, ap (λ t. cond t (b ∷ bs) (behind_word bs)) e)
 
 word_blank : (b : ℕ) (bs : List ℕ) → is_blank b ≡ true → (word (b ∷ bs) ≡ []) × (behind_word (b ∷ bs) ≡ b ∷ bs)
@@ -65,7 +69,8 @@ pub record Passed (bs : List ℕ) (i : ℕ) : Type 0 where
   pub word : word bs ≡ take i bs ++ word (drop i bs)
   pub behind : behind_word bs ≡ behind_word (drop i bs)
 
-pub passed_more : (bs : List ℕ) (i : ℕ) → i < length bs → is_blank (get_or bs i 0) ≡ false → Passed bs i → Passed bs (i + 1)
+pub passed_more : (bs : List ℕ) (i : ℕ) → i < length bs → is_blank (get_or bs i 0) ≡ false → Passed bs i
+    → Passed bs (i + 1)
 passed_more bs i h e p =
     let here = drop_here bs i h in
     let w = word_other (get_or bs i 0) (drop (i + 1) bs) e in
@@ -76,7 +81,8 @@ passed_more bs i h e p =
       behind = p.behind ∙ ap behind_word here ∙ w.1;
     }
 
-pub passed_word : (bs : List ℕ) (i : ℕ) → i < length bs → is_blank (get_or bs i 0) ≡ true → Passed bs i → (take i bs ≡ word bs) × (drop i bs ≡ behind_word bs)
+pub passed_word : (bs : List ℕ) (i : ℕ) → i < length bs → is_blank (get_or bs i 0) ≡ true → Passed bs i
+    → (take i bs ≡ word bs) × (drop i bs ≡ behind_word bs)
 passed_word bs i h e p =
     let here = drop_here bs i h in
     let w = word_blank (get_or bs i 0) (drop (i + 1) bs) e in (
@@ -95,7 +101,8 @@ before_blanks-other bs b e = ap (λ r. reverse (behind_blanks r)) (reverse-appen
     ∙ reverse-reverse (bs ++ b ∷ [])
 
 -- no line feed came: the last line is all
-pub reach_end : (bs : List ℕ) (i : ℕ) → 0 < length bs → length bs ≤ i → i ≤ length bs → lines_of bs ≡ glue (take i bs) (lines_of (drop i bs))
+pub reach_end : (bs : List ℕ) (i : ℕ) → 0 < length bs → length bs ≤ i → i ≤ length bs
+    → lines_of bs ≡ glue (take i bs) (lines_of (drop i bs))
     → lines_of bs ≡ take (length bs) bs ∷ lines_of (drop (length bs) bs)
 reach_end bs i some low high e =
     let same : i ≡ length bs = omega arith in

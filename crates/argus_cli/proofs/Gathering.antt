@@ -15,7 +15,8 @@ went_more : (front : Changes) (w : ℕ × PlainChange) (more : Option Changes)
 went_more front w None = refl
 went_more front w (Some m) = ap Some (append_assoc front (w ∷ []) m)
 
-pub gathered : (objects : List Object) (n : ℕ) (old new : List Work) (w : Work) (all rest : List Step) (step : Step) (total : Option Changes)
+pub gathered : (objects : List Object) (n : ℕ) (old new : List Work) (w : Work) (all rest : List Step) (step : Step)
+    (total : Option Changes)
     → new ≡ old ++ w ∷ [] → all ≡ step ∷ rest → went (plain_work w ∷ []) ≡ deed objects n (plain_step step)
     → option_map (λ m. plain_works old ++ m) (work_of objects n (plain_steps all)) ≡ total
     → option_map (λ m. plain_works new ++ m) (work_of objects n (plain_steps rest)) ≡ total

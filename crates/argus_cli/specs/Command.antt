@@ -1,5 +1,6 @@
 -- What a line says: its command with the command's words and texts.
-use Rattle.std.specs.Prelude.{ℕ, Bool, false, ◌&&◌, ◌||◌, ◌==◌, not, if◌then◌else◌, List, [], ◌∷◌, codes, length}
+use Rattle.std.specs.Prelude.{ℕ, Bool, false, ◌&&◌, ◌||◌, ◌==◌, not, if◌then◌else◌, List, [], ◌∷◌}
+use Rattle.std.specs.Prelude.{codes, length}
 use Rattle.std.specs.Str.{bytes_eq, is_utf8}
 use Rattle.argus_contents.specs.Name.{is_name}
 use Rattle.argus_cli.specs.Lines.{word, others}
@@ -41,10 +42,13 @@ is_word bs = not (is_empty bs) && is_empty (others bs)
 
 -- what a command says with the words behind its first
 abbrev pub command : Verb → List ℕ → Command
-command verb.Declare rest = if is_name (word rest) && is_word (others rest) then declare (word rest) (others rest) else bad
+command verb.Declare rest =
+    if is_name (word rest) && is_word (others rest) then declare (word rest) (others rest) else bad
 command verb.Enter rest = if bytes_eq rest (codes "topaction") then enter else bad
-command verb.Create rest = if is_name (word rest) && not (is_empty (others rest)) then create (word rest) (others rest) else bad
-command verb.Get rest = if is_name (word rest) && is_name (others rest) then get (word rest) (others rest) else bad
+command verb.Create rest = if is_name (word rest)
+    && not (is_empty (others rest)) then create (word rest) (others rest) else bad
+command verb.Get rest =
+    if is_name (word rest) && is_name (others rest) then get (word rest) (others rest) else bad
 command verb.Set rest =
     if is_name (word rest) && is_name (word (others rest)) && not (is_empty (others (others rest)))
     then set (word rest) (word (others rest)) (others (others rest)) else bad
@@ -60,8 +64,10 @@ is_comment (b ∷ bs) = b == 35
 
 -- what a text says: nothing where it is empty or a comment
 abbrev pub text_says : List ℕ → Command
-text_says text = if is_empty text || is_comment text then nothing else command (verb_of (word text)) (others text)
+text_says text = if is_empty text || is_comment text then nothing else
+    command (verb_of (word text)) (others text)
 
--- what the bytes of a line say, blanks and line end dropped; a line that isn't UTF-8 is bad, a comment too
+-- what the bytes of a line say, blanks and line end dropped; a line that isn't UTF-8 is bad, a
+-- comment too
 abbrev pub says : List ℕ → Command
 says bytes = if is_utf8 bytes then text_says bytes else bad

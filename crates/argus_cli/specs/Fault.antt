@@ -1,5 +1,7 @@
 -- The first faulty line of a script, and why it is faulty.
-use Rattle.std.specs.Prelude.{◌≡◌, ℕ, ◌+◌, ◌<◌, nat_lt, nat_le, Bool, true, false, ◌&&◌, ◌||◌, if◌then◌else◌, ◌⊎◌, List, [], ◌∷◌, drop, fold, length, take, slice_get, Option, Some, None, is_some}
+use Rattle.std.specs.Prelude.{◌≡◌, ℕ, ◌+◌, ◌<◌, nat_lt, nat_le, Bool, true, false, ◌&&◌, ◌||◌}
+use Rattle.std.specs.Prelude.{if◌then◌else◌, ◌⊎◌, List, [], ◌∷◌, drop, fold, length, take}
+use Rattle.std.specs.Prelude.{slice_get, Option, Some, None, is_some}
 use Rattle.argus_contents.specs.Shape.{PlainShape, rec}
 use Rattle.argus_contents.specs.Shape as shape
 use Rattle.argus_contents.specs.declared.limits.TheConstants.{MAX_OBJECTS}
@@ -13,12 +15,14 @@ use Rattle.argus_cli.specs.Object.{Object, number_of, shape_of}
 use Rattle.argus_cli.specs.Script.{Declares}
 use Rattle.argus_cli.specs.declared.fault_kind.FaultKind.{FaultKind}
 use Rattle.argus_cli.specs.declared.fault_kind.FaultKind.TheVariants as kind
-use Rattle.argus_cli.specs.declared.limits.TheConstants.{MAX_LINES, MAX_LINE_BYTES, MAX_SCRIPT_BYTES}
+use Rattle.argus_cli.specs.declared.limits.TheConstants.{MAX_LINES, MAX_LINE_BYTES}
+use Rattle.argus_cli.specs.declared.limits.TheConstants.{MAX_SCRIPT_BYTES}
 use Rattle.argus_cli.specs.declared.script_fault.ScriptFault.{ScriptFault}
 use Rattle.argus_cli.specs.declared.verb.Verb.{Verb}
 use Rattle.argus_cli.specs.declared.verb.Verb.TheVariants as verb
 
--- What stands before a line: how many lines and bytes, and the numbers of the lines whose blocks are open, the innermost first.
+-- What stands before a line: how many lines and bytes, and the numbers of the lines whose blocks
+-- are open, the innermost first.
 pub record Place : Type 0 where
   pub lines : ℕ
   pub bytes : ℕ
@@ -51,7 +55,8 @@ begins_declare v = false
 abbrev pub is_too_long : Place → ℕ → List ℕ → Bool
 is_too_long p objects line =
     (nat_lt MAX_LINE_BYTES (length (ended line)) || nat_lt MAX_SCRIPT_BYTES (p.bytes + length line))
-    || (nat_le MAX_LINES p.lines || (nat_le MAX_OBJECTS objects && begins_declare (verb_of (word (said_in line)))))
+    || (nat_le MAX_LINES p.lines || (nat_le MAX_OBJECTS objects
+    && begins_declare (verb_of (word (said_in line)))))
 
 -- the words are no command
 abbrev pub is_bad : Command → Bool
@@ -72,13 +77,16 @@ may_stand c (b ∷ blocks) = true
 -- what is wrong with a field's name on an object with this shape
 abbrev pub field_fault : List ℕ → Option PlainShape → Option FaultKind
 field_fault field None = Some kind.UnknownName
-field_fault field (Some (shape.rec fields)) = if is_some (field_of field fields) then None else Some kind.UnknownName
+field_fault field (Some (shape.rec fields)) =
+    if is_some (field_of field fields) then None else Some kind.UnknownName
 field_fault field (Some s) = Some kind.BadType
 
 -- what is wrong with the names of a command
 abbrev pub name_fault : Command → List Object → Option FaultKind
-name_fault (command.declare name shape) objects = if is_some (number_of name objects) then Some kind.NameTwice else None
-name_fault (command.create name content) objects = if is_some (number_of name objects) then None else Some kind.UnknownName
+name_fault (command.declare name shape) objects =
+    if is_some (number_of name objects) then Some kind.NameTwice else None
+name_fault (command.create name content) objects =
+    if is_some (number_of name objects) then None else Some kind.UnknownName
 name_fault (command.get name field) objects = field_fault field (shape_of name objects)
 name_fault (command.set name field value) objects = field_fault field (shape_of name objects)
 name_fault c objects = None
@@ -86,12 +94,14 @@ name_fault c objects = None
 -- what is wrong with a command, but for its texts
 abbrev pub word_fault : Command → List ℕ → List Object → Option FaultKind
 word_fault c blocks objects =
-    if is_bad c then Some kind.BadWord else (if may_stand c blocks then name_fault c objects else Some kind.Misplaced)
+    if is_bad c then Some kind.BadWord else (if may_stand c blocks then name_fault c objects else
+    Some kind.Misplaced)
 
 -- what is wrong with a line, but for its texts
 abbrev pub line_fault : Place → List Object → List ℕ → Option FaultKind
 line_fault p objects line =
-    if is_too_long p (length objects) line then Some kind.TooLong else word_fault (says (said_in line)) p.open_blocks objects
+    if is_too_long p (length objects) line then Some kind.TooLong else
+    word_fault (says (said_in line)) p.open_blocks objects
 
 -- the text of a command is no written form, which is a fault of this kind
 abbrev pub TextFault : Command → FaultKind → Type 0
@@ -110,7 +120,8 @@ TextIsFine c = Unit {0}
 -- the line has a fault of this kind; its texts are looked at last
 abbrev pub HasFault : Place → List Object → List ℕ → FaultKind → Type 0
 HasFault p objects line k =
-    (line_fault p objects line ≡ Some k) ⊎ ((line_fault p objects line ≡ None) × TextFault (says (said_in line)) k)
+    (line_fault p objects line ≡ Some k) ⊎ ((line_fault p objects line ≡ None)
+    × TextFault (says (said_in line)) k)
 
 -- the line has no fault
 abbrev pub IsFine : Place → List Object → List ℕ → Type 0
@@ -137,16 +148,19 @@ pub record FirstFault (lines : List (List ℕ)) (i : ℕ) (k : FaultKind) : Type
   pub fault : HasFault (place_behind (take i lines)) objects line k
   pub before : FineBefore lines i
 
--- no line has a fault, and blocks are open at the end, the innermost since the line with this number
+-- no line has a fault, and blocks are open at the end, the innermost since the line with this
+-- number
 pub record Unclosed (lines : List (List ℕ)) (number : ℕ) : Type 0 where
   pub outer : List ℕ
   pub open_blocks : (place_behind lines).open_blocks ≡ number ∷ outer
   pub before : FineBefore lines (length lines)
 
--- The fault of a script: its first faulty line, numbered from 1; where none is, the block that isn't closed.
+-- The fault of a script: its first faulty line, numbered from 1; where none is, the block that
+-- isn't closed.
 abbrev pub IsFaultOf : List (List ℕ) → ScriptFault → Type 0
 IsFaultOf lines fault =
-    ((i : ℕ) × (fault.line ≡ i + 1) × FirstFault lines i fault.kind) ⊎ ((fault.kind ≡ kind.Unclosed) × Unclosed lines fault.line)
+    ((i : ℕ) × (fault.line ≡ i + 1) × FirstFault lines i fault.kind)
+    ⊎ ((fault.kind ≡ kind.Unclosed) × Unclosed lines fault.line)
 
 -- no line has a fault, and no block is open at the end
 pub record NoFault (lines : List (List ℕ)) : Type 0 where

@@ -1,5 +1,6 @@
 -- How a script is cut into lines, and what of a line counts.
-use Rattle.std.specs.Prelude.{ℕ, ◌-◌, ◌==◌, nat_lt, Bool, ◌&&◌, ◌||◌, if◌then◌else◌, List, [], ◌∷◌, length, take, reverse, slice_index}
+use Rattle.std.specs.Prelude.{ℕ, ◌-◌, ◌==◌, nat_lt, Bool, ◌&&◌, ◌||◌, if◌then◌else◌, List, [], ◌∷◌}
+use Rattle.std.specs.Prelude.{length, take, reverse, slice_index}
 
 -- a byte in front of the first line
 abbrev pub onto : ℕ → List (List ℕ) → List (List ℕ)
@@ -13,7 +14,8 @@ lines_of (b ∷ bs) = if b == 10 then (10 ∷ []) ∷ lines_of bs else onto b (l
 
 -- the bytes without the last one, where that is c
 abbrev pub without_last : ℕ → List ℕ → List ℕ
-without_last c bs = if nat_lt 0 (length bs) && slice_index bs (length bs - 1) == c then take (length bs - 1) bs else bs
+without_last c bs = if nat_lt 0 (length bs) && slice_index bs (length bs - 1) == c then take
+    (length bs - 1) bs else bs
 
 -- a line without its line feed, and without one carriage return before it
 abbrev pub ended : List ℕ → List ℕ

@@ -15,7 +15,8 @@ pub record ReadUpTo (limit : ℕ) (old new : Option (List ℕ)) (bytes : List �
   pub most : length bytes ≤ limit
   pub whole : length bytes < limit → IsAtEnd new
 
--- The bytes spell a script without a faulty line, and the text lists what its objects hold for good.
+-- The bytes spell a script without a faulty line, and the text lists what its objects hold for
+-- good.
 pub record Lists (bytes text : List ℕ) : Type 0 where
   pub script : PlainScript
   pub spelled : Spells (lines_of bytes) script
@@ -31,7 +32,8 @@ pub record Ran (limit : ℕ) (reader reader' writer writer' : Option (List ℕ))
   pub written : Appends writer writer' text
 
 -- a run whose script was refused: this is the fault of what was read, and nothing was written
-pub record Refused (limit : ℕ) (reader reader' writer writer' : Option (List ℕ)) (f : ScriptFault) : Type 0 where
+pub record Refused (limit : ℕ) (reader reader' writer writer' : Option (List ℕ))
+    (f : ScriptFault) : Type 0 where
   pub bytes : List ℕ
   pub read : ReadUpTo limit reader reader' bytes
   pub fault : IsFaultOf (lines_of bytes) f
@@ -48,11 +50,13 @@ pub record CutShort (limit : ℕ) (reader reader' writer writer' : Option (List 
   pub written : Appends writer writer' (take count text)
 
 -- A run that failed, after which the reader, the writer have failed or not.
-abbrev pub Failed : CliFault → ℕ → Option (List ℕ) → Option (List ℕ) → Bool → Option (List ℕ) → Option (List ℕ) → Bool → Type 0
+abbrev pub Failed : CliFault → ℕ → Option (List ℕ) → Option (List ℕ) → Bool → Option (List ℕ)
+    → Option (List ℕ) → Bool → Type 0
 Failed (fault.Script f) limit r r' reader_failed w w' writer_failed = Refused limit r r' w w' f
 Failed fault.Memory limit r r' reader_failed w w' writer_failed = w' ≡ w
 Failed fault.Read limit r r' reader_failed w w' writer_failed = (reader_failed ≡ true) × (w' ≡ w)
-Failed fault.Write limit r r' reader_failed w w' writer_failed = (writer_failed ≡ true) × CutShort limit r r' w w'
+Failed fault.Write limit r r' reader_failed w w' writer_failed =
+    (writer_failed ≡ true) × CutShort limit r r' w w'
 
 -- why there is no listing of bytes: the fault of their script, or want of memory
 abbrev pub IsListingFault : List ℕ → CliFault → Type 0

@@ -1,7 +1,8 @@
 -- What the blocks of a script do, and what its objects then hold.
-use Rattle.std.specs.Prelude.{ℕ, ◌+◌, if◌then◌else◌, List, [], ◌∷◌, ◌++◌, fold, map, slice_index_or, slice_set, Option, Some, None, unwrap_or}
+use Rattle.std.specs.Prelude.{ℕ, ◌+◌, if◌then◌else◌, List, [], ◌∷◌, ◌++◌, fold, map, slice_index_or}
+use Rattle.std.specs.Prelude.{slice_set, Option, Some, None, unwrap_or}
 use Rattle.std.specs.Option.{option_and_then, option_map}
-use Rattle.argus_contents.specs.Change.{PlainChange, plain_change, result}
+use Rattle.argus_contents.specs.Change.{PlainChange, plain_change, outcome}
 use Rattle.argus_contents.specs.Change as change
 use Rattle.argus_contents.specs.Content.{PlainContent}
 use Rattle.argus_contents.specs.Fitting.{change_suits, query_suits}
@@ -9,7 +10,8 @@ use Rattle.argus_contents.specs.Shape.{PlainShape, rec}
 use Rattle.argus_contents.specs.declared.query.Query.TheVariants as query
 use Rattle.argus_cli.specs.Fields.{field_of}
 use Rattle.argus_cli.specs.Object.{Object, number_of, shape_at}
-use Rattle.argus_cli.specs.Script.{PlainStep, PlainPart, PlainScript, create, get, set, leave, abort_leave, declare, block}
+use Rattle.argus_cli.specs.Script.{PlainStep, PlainPart, PlainScript, create, get, set, leave}
+use Rattle.argus_cli.specs.Script.{abort_leave, declare, block}
 
 -- changes, each with its object's number
 abbrev pub Changes : Type 0
@@ -28,22 +30,28 @@ number_in field s = None
 
 -- what comes of a step on the object with this name; without one the block is dropped
 abbrev pub on_object : List Object → List ℕ → (ℕ → PlainShape → Deed) → Deed
-on_object objects name f = unwrap_or (option_and_then (λ o. option_map (f o) (shape_at objects o)) (number_of name objects)) dropped
+on_object objects name f = unwrap_or (option_and_then (λ o. option_map (f o) (shape_at objects o))
+    (number_of name objects)) dropped
 
 -- the same on a field of the object
 abbrev pub on_field : List Object → List ℕ → List ℕ → (ℕ → PlainShape → ℕ → Deed) → Deed
-on_field objects name field f = on_object objects name (λ o s. unwrap_or (option_map (f o s) (number_in field s)) dropped)
+on_field objects name field f =
+    on_object objects name (λ o s. unwrap_or (option_map (f o s) (number_in field s)) dropped)
 
--- What comes of a step where n objects are declared. An access that doesn't suit the object's shape drops the block.
+-- What comes of a step where n objects are declared. An access that doesn't suit the object's shape
+-- drops the block.
 abbrev pub deed : List Object → ℕ → PlainStep → Deed
 deed objects n leave = committed
 deed objects n abort_leave = dropped
 deed objects n (create name c) =
-    on_object objects name (λ o s. if change_suits s n (change.create c) then went ((o, change.create c) ∷ []) else dropped)
+    on_object objects name (λ o s. if change_suits s n (change.create c) then went
+    ((o, change.create c) ∷ []) else dropped)
 deed objects n (get name field) =
-    on_field objects name field (λ o s i. if query_suits s (query.Field i) then went [] else dropped)
+    on_field objects name field (λ o s i. if query_suits s (query.Field i) then went [] else
+    dropped)
 deed objects n (set name field v) =
-    on_field objects name field (λ o s i. if change_suits s n (change.set_field i v) then went ((o, change.set_field i v) ∷ []) else dropped)
+    on_field objects name field (λ o s i. if change_suits s n (change.set_field i v) then went
+    ((o, change.set_field i v) ∷ []) else dropped)
 
 -- a step's deed, and then the changes of the steps behind it
 abbrev pub and_then : Deed → Option Changes → Option Changes
@@ -58,13 +66,15 @@ work_of objects n (step ∷ steps) = and_then (deed objects n step) (work_of obj
 
 -- the contents after one more change
 abbrev pub changed : List (Option PlainContent) → ℕ × PlainChange → List (Option PlainContent)
-changed bases w = slice_set bases w.0 (result w.1 (slice_index_or bases w.0 None)).0
+changed bases w = slice_set bases w.0 (outcome w.1 (slice_index_or bases w.0 None)).0
 
 -- the contents after parts, before which n objects were declared
-abbrev pub run_parts : List Object → ℕ → List PlainPart → List (Option PlainContent) → List (Option PlainContent)
+abbrev pub run_parts : List Object → ℕ → List PlainPart → List (Option PlainContent)
+    → List (Option PlainContent)
 run_parts objects n [] bases = bases
 run_parts objects n (declare name shape ∷ parts) bases = run_parts objects (n + 1) parts bases
-run_parts objects n (block steps ∷ parts) bases = run_parts objects n parts (fold changed bases (unwrap_or (work_of objects n steps) []))
+run_parts objects n (block steps ∷ parts) bases =
+    run_parts objects n parts (fold changed bases (unwrap_or (work_of objects n steps) []))
 
 -- no object has a content yet
 abbrev pub all_absent : List Object → List (Option PlainContent)

@@ -25,7 +25,8 @@ pub(crate) fn bases_after<'a>(
     parts: Vec<Part<'a>, Heap>,
 ) -> Result<Bases, OutOfMemory>
     requires { length parts.items < 2 ^ 32 }
-    ensures { IfOk result (λ bases. plain_bases bases.items ≡ run_parts objects.now 0 (plain_parts parts.entry.items) (all_absent objects.now)) }
+    ensures { IfOk result (λ bases. plain_bases bases.items
+        ≡ run_parts objects.now 0 (plain_parts parts.entry.items) (all_absent objects.now)) }
 {
     let mut bases = absent(heap, objects)?;
     run(heap, objects, parts, &mut bases)?;
@@ -52,7 +53,8 @@ fn run<'a>(
 ) -> Result<(), OutOfMemory>
     requires few { length parts.items < 2 ^ 32 }
     requires limits { AllKeep bases.old.items }
-    ensures { OnOk result (plain_bases bases.new.items ≡ run_parts objects.now 0 (plain_parts parts.entry.items) (plain_bases bases.old.items)) }
+    ensures { OnOk result (plain_bases bases.new.items
+        ≡ run_parts objects.now 0 (plain_parts parts.entry.items) (plain_bases bases.old.items)) }
 {
     let mut parts = VecDeque::from_vec(parts);
     let mut declared = 0;
@@ -71,7 +73,8 @@ fn run<'a>(
 fn carry_out(bases: &mut Bases, work: Vec<Work, Heap>) -> Result<(), OutOfMemory>
     requires limits { AllKeep bases.old.items }
     requires kept { All IsKept work.items }
-    ensures done { OnOk result (plain_bases bases.new.items ≡ fold changed (plain_bases bases.old.items) (plain_works work.items)) }
+    ensures done { OnOk result (plain_bases bases.new.items
+        ≡ fold changed (plain_bases bases.old.items) (plain_works work.items)) }
     ensures limits { OnOk result (AllKeep bases.new.items) }
 {
     let mut work = VecDeque::from_vec(work);
@@ -84,7 +87,8 @@ fn carry_out(bases: &mut Bases, work: Vec<Work, Heap>) -> Result<(), OutOfMemory
 fn change_base(bases: &mut Bases, object: usize, change: Change) -> Result<(), OutOfMemory>
     requires limits { AllKeep bases.old.items }
     requires kept { CreatesWithin (plain_change change) }
-    ensures done { OnOk result (plain_bases bases.new.items ≡ changed (plain_bases bases.old.items) (object, plain_change change)) }
+    ensures done { OnOk result (plain_bases bases.new.items
+        ≡ changed (plain_bases bases.old.items) (object, plain_change change)) }
     ensures limits { OnOk result (AllKeep bases.new.items) }
 {
     if object < bases.len() {

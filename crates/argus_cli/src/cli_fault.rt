@@ -7,7 +7,8 @@ use crate::script_fault::ScriptFault;
 use argus_memory::OutOfMemory;
 use thiserror::Error;
 
-/// Why a run has no listing, or not all of it. Its text is what the program writes to standard error.
+/// Why a run has no listing, or not all of it. Its text is what the program writes to standard
+/// error.
 ///
 /// | Fault | Text | Status |
 /// |---|---|---|

@@ -11,8 +11,8 @@ use std::alloc::{AllocError, Global};
 
 /// What the words behind the program's name ask for. Without any, the bases are listed.
 ///
-/// `Usage` has the text with which the program ends and its status: 2 where the words are no command
-/// line of this program, 0 for `--help`. `OutOfMemory` may come in place of any answer.
+/// `Usage` has the text with which the program ends and its status: 2 where the words are no
+/// command line of this program, 0 for `--help`. `OutOfMemory` may come in place of any answer.
 ///
 /// ```text
 /// let options = options(rt.alloc(), words)?;       // of `argus --list bases`

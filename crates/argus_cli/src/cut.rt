@@ -1,7 +1,8 @@
 //! Cutting a script into lines, and a line's ends off.
 
 ghost use Rattle.std.specs.Prelude.{◌≡◌, ◌∷◌, ◌<◌, ◌≤◌, length, take, drop};
-ghost use Rattle.argus_cli.specs.Lines.{before_blanks, behind_blanks, ended, is_blank, lines_of, without_last};
+ghost use Rattle.argus_cli.specs.Lines.{before_blanks, behind_blanks, ended, is_blank, lines_of};
+ghost use Rattle.argus_cli.specs.Lines.{without_last};
 
 /// The length of the first line, its line feed counted.
 pub(crate) fn first_line_len(bytes: &[u8]) -> usize

@@ -1,7 +1,7 @@
 //! Scripts: read, run, and what their objects then hold.
 //!
-//! `run` goes from the bytes of a script to the listing of what its objects hold; `options` reads the
-//! command line of the program that calls it.
+//! `run` goes from the bytes of a script to the listing of what its objects hold; `options` reads
+//! the command line of the program that calls it.
 #![tactic(auto)]
 
 mod bases;

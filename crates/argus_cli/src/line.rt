@@ -1,15 +1,13 @@
 //! `Line`: what a line says.
 
 ghost use Rattle.std.specs.Prelude.{◌≡◌, if◌then◌else◌};
-ghost use Rattle.argus_contents.specs.Name.{is_name, is_name_byte};
-ghost use Rattle.std.specs.List.{list_all};
 ghost use Rattle.argus_cli.specs.Command.{command, is_word, says, text_says};
 ghost use Rattle.argus_cli.specs.declared.verb.Verb.TheVariants as verb;
 ghost use Rattle.argus_cli.specs.Said.{said};
 
 use crate::verb::{Verb, verb_in};
 use crate::words::split_word;
-use argus_contents::limits::MAX_NAME_BYTES;
+use argus_contents::Name;
 use std::str::from_utf8;
 
 /// What a line says, with the names and the texts as they stand in it.
@@ -27,7 +25,8 @@ pub(crate) enum Line<'a> {
     End,
 }
 
-/// What the line says, which has no blanks at its ends. Names have a name's form, and no text is empty.
+/// What the line says, which has no blanks at its ends. Names have a name's form, and no text is
+/// empty.
 pub(crate) fn read_line(bytes: &[u8]) -> Line<'_>
     ensures { said result ≡ says bytes.now }
 {
@@ -76,7 +75,7 @@ fn read_declare(rest: &str) -> Line<'_>
     ensures { said result ≡ command verb.Declare rest.now }
 {
     let (name, shape) = split_word(rest);
-    if has_name_form(name) && has_one_word(shape) {
+    if Name::is_name(name) && has_one_word(shape) {
         return Line::Declare(name, shape);
     }
     Line::Bad
@@ -86,7 +85,7 @@ fn read_create(rest: &str) -> Line<'_>
     ensures { said result ≡ command verb.Create rest.now }
 {
     let (name, content) = split_word(rest);
-    if has_name_form(name) && !content.is_empty() {
+    if Name::is_name(name) && !content.is_empty() {
         return Line::Create(name, content);
     }
     Line::Bad
@@ -96,7 +95,7 @@ fn read_get(rest: &str) -> Line<'_>
     ensures { said result ≡ command verb.Get rest.now }
 {
     let (name, field) = split_word(rest);
-    if has_name_form(name) && has_name_form(field) {
+    if Name::is_name(name) && Name::is_name(field) {
         return Line::Get(name, field);
     }
     Line::Bad
@@ -107,7 +106,7 @@ fn read_set(rest: &str) -> Line<'_>
 {
     let (name, rest) = split_word(rest);
     let (field, value) = split_word(rest);
-    if has_name_form(name) && has_name_form(field) && !value.is_empty() {
+    if Name::is_name(name) && Name::is_name(field) && !value.is_empty() {
         return Line::Set(name, field, value);
     }
     Line::Bad
@@ -118,26 +117,4 @@ fn has_one_word(text: &str) -> bool
 {
     let (_, others) = split_word(text);
     !text.is_empty() && others.is_empty()
-}
-
-fn has_name_form(text: &str) -> bool
-    ensures { result ≡ is_name text.now }
-{
-    let bytes = text.as_bytes();
-    if bytes.is_empty() || bytes.len() > MAX_NAME_BYTES {
-        return false;
-    }
-    has_only_name_bytes(bytes)
-}
-
-fn has_only_name_bytes(bytes: &[u8]) -> bool
-    ensures { result ≡ list_all is_name_byte bytes.now }
-{
-    bytes.iter().all(|b| may_stand_in_name(*b))
-}
-
-fn may_stand_in_name(byte: u8) -> bool
-    ensures { result ≡ is_name_byte byte }
-{
-    matches!(byte, b'a'..=b'z' | b'0'..=b'9' | b'_')
 }

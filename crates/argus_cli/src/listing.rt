@@ -16,7 +16,8 @@ pub(crate) fn list_bases(
     objects: &Objects<'_>,
     bases: &[Option<Content>],
 ) -> Result<String<Heap>, OutOfMemory>
-    ensures { IfOk result (λ text. string_bytes text ≡ listing objects.now (plain_bases bases.now)) }
+    ensures { IfOk result (λ text. string_bytes text
+        ≡ listing objects.now (plain_bases bases.now)) }
 {
     let mut text = String::new(heap);
     for i in 0..objects.len() {
@@ -36,7 +37,8 @@ fn append_base(
     base: &Option<Content>,
     text: &mut String<Heap>,
 ) -> Result<(), OutOfMemory>
-    ensures { OnOk result (string_bytes text.new ≡ string_bytes text.old ++ base_line name.now (plain_option base.now)) }
+    ensures { OnOk result (string_bytes text.new ≡ string_bytes text.old
+        ++ base_line name.now (plain_option base.now)) }
 {
     text.push_str(name)?;
     text.push_str(" ")?;

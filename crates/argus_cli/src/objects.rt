@@ -1,6 +1,7 @@
 //! `Objects`: the declared objects, in order and by name.
 
-ghost use Rattle.std.specs.Prelude.{◌≡◌, [], ◌∷◌, ◌++◌, length, slice_get, Some, None, IfSome, OnOk};
+ghost use Rattle.std.specs.Prelude.{◌≡◌, [], ◌∷◌, ◌++◌, length, slice_get, Some, None, IfSome};
+ghost use Rattle.std.specs.Prelude.{OnOk};
 ghost use Rattle.std.specs.Option.{option_map};
 ghost use Rattle.argus_cli.specs.Object.{number_of, shape_at};
 
@@ -61,7 +62,8 @@ impl<'a> Objects<'a> {
 
     /// The name of the object with this number.
     pub(crate) fn name(&self, number: usize) -> Option<&'a str>
-        ensures { option_map (λ name. name.now) result ≡ option_map (λ o. o.0) (slice_get self.now number) }
+        ensures { option_map (λ name. name.now) result
+            ≡ option_map (λ o. o.0) (slice_get self.now number) }
     {
         match self.shapes.get_index(number) {
             Some((name, _)) => Some(*name),

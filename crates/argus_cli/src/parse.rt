@@ -50,7 +50,8 @@ fn fault_at(line: u32, kind: FaultKind) -> ParseError
 
 // The script that was read, or the block that isn't closed.
 fn whole(reading: Reading<'_>) -> Result<Script<'_>, ParseError>
-    ensures ok { IfOk result (λ script. (reading.entry.block ≡ None) × (script.objects ≡ reading.entry.objects) × (script.parts ≡ reading.entry.parts)) }
+    ensures ok { IfOk result (λ script. (reading.entry.block ≡ None)
+        × (script.objects ≡ reading.entry.objects) × (script.parts ≡ reading.entry.parts)) }
     ensures unclosed { IfErr result (IsUnclosedAt (opened reading.entry.block)) }
 {
     let Reading {

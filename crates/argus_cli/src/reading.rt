@@ -1,15 +1,19 @@
 //! `Reading`: a script that is being read, line by line.
 
-ghost use Rattle.std.specs.Prelude.{◌≡◌, ℕ, List, true, false, ◌+◌, ◌≤◌, ◌<◌, ◌^◌, [], ◌∷◌, ◌++◌, length, map, None, IsSome, IfErr, OnOk};
+ghost use Rattle.std.specs.Prelude.{◌≡◌, ℕ, List, true, false, ◌+◌, ◌≤◌, ◌<◌, ◌^◌, [], ◌∷◌, ◌++◌};
+ghost use Rattle.std.specs.Prelude.{length, map, None, IsSome, IfErr, OnOk};
 ghost use Rattle.argus_texts.specs.Fault.{IsContentText, IsValueText};
 ghost use Rattle.argus_texts.specs.ShapeSpelling.{IsShapeText};
 ghost use Rattle.argus_cli.specs.Command.{says, verb_of};
 ghost use Rattle.argus_cli.specs.Command as command;
-ghost use Rattle.argus_cli.specs.Fault.{begins_declare, field_fault, HasFault, is_bad, is_too_long, IsFine, may_stand, name_fault, open_after, TextFault, TextIsFine, word_fault};
+ghost use Rattle.argus_cli.specs.Fault.{begins_declare, field_fault, HasFault, is_bad, is_too_long};
+ghost use Rattle.argus_cli.specs.Fault.{IsFine, may_stand, name_fault, open_after, TextFault};
+ghost use Rattle.argus_cli.specs.Fault.{TextIsFine, word_fault};
 ghost use Rattle.argus_cli.specs.declared.line_error.LineError.TheVariants as LineError;
 ghost use Rattle.argus_cli.specs.Lines.{before_blanks, behind_blanks, said_in, word};
 ghost use Rattle.argus_cli.specs.Object.{AllMakeable, number_of, shape_of, spelled};
-ghost use Rattle.argus_cli.specs.Reading.{block_text, OnKind, opened, place_at, plain_parts, plain_step, so_far};
+ghost use Rattle.argus_cli.specs.Reading.{block_text, OnKind, opened, place_at, plain_parts};
+ghost use Rattle.argus_cli.specs.Reading.{plain_step, so_far};
 ghost use Rattle.argus_cli.specs.Said.{said};
 ghost use Rattle.argus_cli.specs.Script.{declared_by, step_text, text_of, told};
 
@@ -55,7 +59,8 @@ impl<'a> Reading<'a> {
     /// Whether a limit is passed at this line, where so many lines and bytes stand before it.
     fn is_too_long(&self, lines: u32, bytes: usize, line: &[u8]) -> bool
         requires { bytes + length line.now < 2 ^ 64 }
-        ensures { result ≡ is_too_long (place_at lines bytes None) (length self.now.objects) line.now }
+        ensures { result ≡ is_too_long (place_at lines bytes None) (length self.now.objects)
+            line.now }
     {
         let text = without_end(line);
         if text.len() > MAX_LINE_BYTES || bytes + line.len() > MAX_SCRIPT_BYTES {
@@ -68,12 +73,17 @@ impl<'a> Reading<'a> {
     fn declare(&mut self, heap: Heap, name: &'a str, shape: &'a str) -> Result<(), LineError>
         requires at_top { self.old.block ≡ None }
         requires new { number_of name.now self.old.objects ≡ None }
-        ensures fault { IfErr result (λ e. OnKind e (λ k. TextFault (command.declare name.now shape.now) k)) }
+        ensures fault { IfErr result (λ e. OnKind e
+            (λ k. TextFault (command.declare name.now shape.now) k)) }
         ensures fine { OnOk result (IsShapeText shape.now) }
-        ensures objects { OnOk result (map spelled self.new.objects ≡ map spelled self.old.objects ++ (name.now, shape.now) ∷ []) }
-        ensures makeable { OnOk result (AllMakeable self.old.objects → AllMakeable self.new.objects) }
+        ensures objects { OnOk result (map spelled self.new.objects ≡ map spelled self.old.objects
+            ++ (name.now, shape.now) ∷ []) }
+        ensures makeable { OnOk result (AllMakeable self.old.objects
+            → AllMakeable self.new.objects) }
         ensures block { OnOk result (self.new.block ≡ None) }
-        ensures text { OnOk result (text_of (plain_parts self.new.parts.items) ≡ text_of (plain_parts self.old.parts.items) ++ command.declare name.now shape.now ∷ []) }
+        ensures text { OnOk result (text_of (plain_parts self.new.parts.items)
+            ≡ text_of (plain_parts self.old.parts.items) ++ command.declare name.now shape.now
+            ∷ []) }
         ensures few { OnOk result (length self.new.parts.items ≤ length self.old.parts.items + 1) }
     {
         let Some(made) = read_shape(heap, shape)? else {
@@ -88,8 +98,10 @@ impl<'a> Reading<'a> {
     fn enter(&mut self, heap: Heap, number: u32) -> Result<(), LineError>
         requires { self.old.block ≡ None }
         ensures fault { IfErr result (λ e. e ≡ LineError.OutOfMemory) }
-        ensures same { OnOk result ((self.new.objects ≡ self.old.objects) × (self.new.parts ≡ self.old.parts)) }
-        ensures block { OnOk result ((opened self.new.block ≡ number ∷ []) × (block_text self.new.block ≡ command.enter ∷ [])) }
+        ensures same { OnOk result ((self.new.objects ≡ self.old.objects)
+            × (self.new.parts ≡ self.old.parts)) }
+        ensures block { OnOk result ((opened self.new.block ≡ number ∷ [])
+            × (block_text self.new.block ≡ command.enter ∷ [])) }
     {
         self.block = Some(Block {
             line: number,
@@ -101,11 +113,14 @@ impl<'a> Reading<'a> {
     /// Creates an object with the content of a written form.
     fn create(&mut self, heap: Heap, name: &'a str, text: &'a str) -> Result<(), LineError>
         requires { IsSome self.old.block }
-        ensures fault { IfErr result (λ e. OnKind e (λ k. TextFault (command.create name.now text.now) k)) }
+        ensures fault { IfErr result (λ e. OnKind e
+            (λ k. TextFault (command.create name.now text.now) k)) }
         ensures fine { OnOk result (IsContentText text.now) }
-        ensures same { OnOk result ((self.new.objects ≡ self.old.objects) × (self.new.parts ≡ self.old.parts)) }
+        ensures same { OnOk result ((self.new.objects ≡ self.old.objects)
+            × (self.new.parts ≡ self.old.parts)) }
         ensures opened { OnOk result (opened self.new.block ≡ opened self.old.block) }
-        ensures text { OnOk result (block_text self.new.block ≡ block_text self.old.block ++ command.create name.now text.now ∷ []) }
+        ensures text { OnOk result (block_text self.new.block ≡ block_text self.old.block
+            ++ command.create name.now text.now ∷ []) }
     {
         match read_content(heap, text) {
             Ok(content) => self.step(Step::Create(name, content)),
@@ -123,11 +138,14 @@ impl<'a> Reading<'a> {
         text: &'a str,
     ) -> Result<(), LineError>
         requires { IsSome self.old.block }
-        ensures fault { IfErr result (λ e. OnKind e (λ k. TextFault (command.set name.now field.now text.now) k)) }
+        ensures fault { IfErr result (λ e. OnKind e
+            (λ k. TextFault (command.set name.now field.now text.now) k)) }
         ensures fine { OnOk result (IsValueText text.now) }
-        ensures same { OnOk result ((self.new.objects ≡ self.old.objects) × (self.new.parts ≡ self.old.parts)) }
+        ensures same { OnOk result ((self.new.objects ≡ self.old.objects)
+            × (self.new.parts ≡ self.old.parts)) }
         ensures opened { OnOk result (opened self.new.block ≡ opened self.old.block) }
-        ensures text { OnOk result (block_text self.new.block ≡ block_text self.old.block ++ command.set name.now field.now text.now ∷ []) }
+        ensures text { OnOk result (block_text self.new.block ≡ block_text self.old.block
+            ++ command.set name.now field.now text.now ∷ []) }
     {
         match read_value(heap, text) {
             Ok(value) => self.step(Step::Set(name, field, value)),
@@ -140,9 +158,11 @@ impl<'a> Reading<'a> {
     fn step(&mut self, step: Step<'a>) -> Result<(), LineError>
         requires { IsSome self.old.block }
         ensures fault { IfErr result (λ e. e ≡ LineError.OutOfMemory) }
-        ensures same { OnOk result ((self.new.objects ≡ self.old.objects) × (self.new.parts ≡ self.old.parts)) }
+        ensures same { OnOk result ((self.new.objects ≡ self.old.objects)
+            × (self.new.parts ≡ self.old.parts)) }
         ensures opened { OnOk result (opened self.new.block ≡ opened self.old.block) }
-        ensures text { OnOk result (block_text self.new.block ≡ block_text self.old.block ++ step_text (plain_step step.entry) ∷ []) }
+        ensures text { OnOk result (block_text self.new.block ≡ block_text self.old.block
+            ++ step_text (plain_step step.entry) ∷ []) }
     {
         let Some(mut block) = self.block.take() else {
             return Ok(());
@@ -158,7 +178,8 @@ impl<'a> Reading<'a> {
         ensures fault { IfErr result (λ e. e ≡ LineError.OutOfMemory) }
         ensures same { OnOk result (self.new.objects ≡ self.old.objects) }
         ensures block { OnOk result (self.new.block ≡ None) }
-        ensures text { OnOk result (text_of (plain_parts self.new.parts.items) ≡ so_far self.old.parts.items self.old.block ++ command.«end» ∷ []) }
+        ensures text { OnOk result (text_of (plain_parts self.new.parts.items)
+            ≡ so_far self.old.parts.items self.old.block ++ command.«end» ∷ []) }
         ensures few { OnOk result (length self.new.parts.items ≤ length self.old.parts.items + 1) }
     {
         let Some(block) = self.block.take() else {
@@ -183,8 +204,8 @@ impl<'a> Reading<'a> {
 }
 
 impl<'a> Reading<'a> {
-    /// Reads one more line, before which so many lines and bytes stand, or tells its fault. After an
-    /// error nothing more is to be read.
+    /// Reads one more line, before which so many lines and bytes stand, or tells its fault. After
+    /// an error nothing more is to be read.
     pub(crate) fn take(
         &mut self,
         heap: Heap,
@@ -193,12 +214,18 @@ impl<'a> Reading<'a> {
         line: &'a [u8],
     ) -> Result<(), LineError>
         requires { bytes + length line.now < 2 ^ 64 }
-        ensures fault { IfErr result (λ e. OnKind e (λ k. HasFault (place_at lines bytes self.old.block) self.old.objects line.now k)) }
-        ensures fine { OnOk result (IsFine (place_at lines bytes self.old.block) self.old.objects line.now) }
-        ensures objects { OnOk result (map spelled self.new.objects ≡ map spelled self.old.objects ++ declared_by (says (said_in line.now))) }
-        ensures makeable { OnOk result (AllMakeable self.old.objects → AllMakeable self.new.objects) }
-        ensures open_blocks { OnOk result (opened self.new.block ≡ open_after (says (said_in line.now)) (lines + 1) (opened self.old.block)) }
-        ensures text { OnOk result (so_far self.new.parts.items self.new.block ≡ so_far self.old.parts.items self.old.block ++ told (says (said_in line.now))) }
+        ensures fault { IfErr result (λ e. OnKind e
+            (λ k. HasFault (place_at lines bytes self.old.block) self.old.objects line.now k)) }
+        ensures fine { OnOk result (IsFine (place_at lines bytes self.old.block)
+            self.old.objects line.now) }
+        ensures objects { OnOk result (map spelled self.new.objects ≡ map spelled self.old.objects
+            ++ declared_by (says (said_in line.now))) }
+        ensures makeable { OnOk result (AllMakeable self.old.objects
+            → AllMakeable self.new.objects) }
+        ensures open_blocks { OnOk result (opened self.new.block
+            ≡ open_after (says (said_in line.now)) (lines + 1) (opened self.old.block)) }
+        ensures text { OnOk result (so_far self.new.parts.items self.new.block
+            ≡ so_far self.old.parts.items self.old.block ++ told (says (said_in line.now))) }
         ensures counted { OnOk result (lines < MAX_LINES) }
         ensures few { OnOk result (length self.new.parts.items ≤ length self.old.parts.items + 1) }
     {
@@ -217,10 +244,14 @@ impl<'a> Reading<'a> {
         requires { word_fault (said line) (opened self.old.block) self.old.objects ≡ None }
         ensures fault { IfErr result (λ e. OnKind e (λ k. TextFault (said line.entry) k)) }
         ensures fine { OnOk result (TextIsFine (said line.entry)) }
-        ensures objects { OnOk result (map spelled self.new.objects ≡ map spelled self.old.objects ++ declared_by (said line.entry)) }
-        ensures makeable { OnOk result (AllMakeable self.old.objects → AllMakeable self.new.objects) }
-        ensures open_blocks { OnOk result (opened self.new.block ≡ open_after (said line.entry) number (opened self.old.block)) }
-        ensures text { OnOk result (so_far self.new.parts.items self.new.block ≡ so_far self.old.parts.items self.old.block ++ told (said line.entry)) }
+        ensures objects { OnOk result (map spelled self.new.objects ≡ map spelled self.old.objects
+            ++ declared_by (said line.entry)) }
+        ensures makeable { OnOk result (AllMakeable self.old.objects
+            → AllMakeable self.new.objects) }
+        ensures open_blocks { OnOk result (opened self.new.block
+            ≡ open_after (said line.entry) number (opened self.old.block)) }
+        ensures text { OnOk result (so_far self.new.parts.items self.new.block
+            ≡ so_far self.old.parts.items self.old.block ++ told (said line.entry)) }
         ensures few { OnOk result (length self.new.parts.items ≤ length self.old.parts.items + 1) }
     {
         match line {

@@ -21,8 +21,9 @@ use std::io::{Read, Write};
 
 /// Reads a script, runs it and writes the listing of what its objects then hold.
 ///
-/// A script is read up to 16,777,217 bytes: one more than it may have. The listing has a line for each
-/// declared object, in order: its name, a space, and its content as it is written, or `absent`.
+/// A script is read up to 16,777,217 bytes: one more than it may have. The listing has a line for
+/// each declared object, in order: its name, a space, and its content as it is written, or
+/// `absent`.
 ///
 /// | Error | When | What was written |
 /// |---|---|---|

@@ -7,8 +7,9 @@ ghost use Rattle.argus_cli.specs.Watched.{has_failed, inner_of, unless_failed};
 
 use std::io::{Read, Write};
 
-/// A reader or a writer, and whether it has failed. It is called through this alone, and never again
-/// once it has failed: whatever the error, an interruption too, and a write that takes nothing.
+/// A reader or a writer, and whether it has failed. It is called through this alone, and never
+/// again once it has failed: whatever the error, an interruption too, and a write that takes
+/// nothing.
 ///
 /// Nothing outside can change what it remembers: a stream that has failed isn't given back.
 ///

@@ -23,14 +23,16 @@ use argus_contents::{Change, Content, Query, Shape, ShapeView, Value, change_fit
 use argus_memory::{Heap, OutOfMemory};
 use std::collections::VecDeque;
 
-/// The changes of a block that commits, where so many objects are declared; None where it is dropped.
+/// The changes of a block that commits, where so many objects are declared; None where it is
+/// dropped.
 pub(crate) fn gather<'a>(
     heap: Heap,
     objects: &Objects<'a>,
     declared: u32,
     steps: Vec<Step<'a>, Heap>,
 ) -> Result<Option<Vec<Work, Heap>>, OutOfMemory>
-    ensures work { IfOk result (λ r. option_map (λ w. plain_works w.items) r ≡ work_of objects.now declared (plain_steps steps.entry.items)) }
+    ensures work { IfOk result (λ r. option_map (λ w. plain_works w.items) r
+        ≡ work_of objects.now declared (plain_steps steps.entry.items)) }
     ensures kept { IfOk result (λ r. IfSome r (λ w. All IsKept w.items)) }
 {
     let mut steps = VecDeque::from_vec(steps);
@@ -60,7 +62,8 @@ fn deed_of<'a>(objects: &Objects<'a>, declared: u32, step: Step<'a>) -> Deed
 }
 
 fn create<'a>(objects: &Objects<'a>, declared: u32, name: &'a str, content: Content) -> Deed
-    ensures deed { plain_deed result ≡ deed objects.now declared (plain.create name.now (plain_content content)) }
+    ensures deed { plain_deed result ≡ deed objects.now declared
+        (plain.create name.now (plain_content content)) }
     ensures kept { KeepsIt result }
 {
     let Some((object, shape)) = objects.find(name) else {
@@ -90,7 +93,8 @@ fn get<'a>(objects: &Objects<'a>, name: &'a str, field: &str) -> Deed
 }
 
 fn set<'a>(objects: &Objects<'a>, declared: u32, name: &'a str, field: &str, value: Value) -> Deed
-    ensures deed { plain_deed result ≡ deed objects.now declared (plain.set name.now field.now (plain_value value)) }
+    ensures deed { plain_deed result ≡ deed objects.now declared
+        (plain.set name.now field.now (plain_value value)) }
     ensures kept { KeepsIt result }
 {
     let Some((object, shape)) = objects.find(name) else {

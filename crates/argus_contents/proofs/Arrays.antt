@@ -1,5 +1,6 @@
 -- Items and fields that are written, and what a trim leaves.
-use Rattle.std.proofs.Common.{◌≡◌, ℕ, ◌<◌, ℤ, pos, ◌+ℤ◌, ◌-ℤ◌, ◌≤ℤ◌, ◌<ℤ◌, List, length, take, drop, Some, true, false, refl, arith, nat_lt}
+use Rattle.std.proofs.Common.{◌≡◌, ℕ, ◌<◌, ℤ, pos, ◌+ℤ◌, ◌-ℤ◌, ◌≤ℤ◌, ◌<ℤ◌, List, length, take, drop, Some, true, false}
+use Rattle.std.proofs.Common.{refl, arith, nat_lt}
 use Rattle.std.specs.Prelude.{int_lt, unsigned_abs}
 use Rattle.std.proofs.lemmas.List.{map-set, length-map, drop-map}
 use Rattle.std.proofs.lemmas.Int.{ints}
@@ -9,21 +10,26 @@ use lib.ListN.{set}
 use Rattle.argus_contents.specs.Value.{PlainValue, plain_value, plain_list}
 use Rattle.argus_contents.specs.Content.{rec, arr}
 use Rattle.argus_contents.specs.Answer.{done}
-use Rattle.argus_contents.specs.Change.{array_result, store, set_in, trimmed, signals}
+use Rattle.argus_contents.specs.Change.{array_outcome, store, set_in, trimmed, signals}
 use Rattle.argus_contents.specs.Place.{place_of}
 use Rattle.argus_contents.specs.declared.value.Value.{Value}
 use Rattle.argus_contents.specs.declared.limits.TheConstants.{MAX_BOUND}
 use Rattle.argus_contents.specs.declared.signal.Signal.TheVariants.{Bounds, Limits}
 use Rattle.argus_contents.proofs.Places.{place_of-plain}
 
-pub stored : (vs : List Value) (low i : ℤ) (place : ℕ) (v : Value) → Some place ≡ place_of low (length vs) i → (Some (arr low (plain_list (set vs place v))), done) ≡ array_result (store i (plain_value v)) low (plain_list vs)
+pub stored : (vs : List Value) (low i : ℤ) (place : ℕ) (v : Value) → Some place ≡ place_of low (length vs) i
+    → (Some (arr low (plain_list (set vs place v))), done) ≡ array_outcome (store i (plain_value v)) low (plain_list vs)
 stored vs low i place v e = rw (place_of-plain vs low i, ← e, map-set plain_value vs place v) refl
 
 within_true : (i n m : ℕ) → m ≡ n → i < n → nat_lt i m ≡ true
 within_true i n m e h = grind (arith, nat_tests)
 
-pub field_written : (vs : List Value) (i : ℕ) (v : Value) → i < length vs → (Some (rec (plain_list (set vs i v))), done) ≡ set_in i (plain_value v) (plain_list vs)
-field_written vs i v h = rw (within_true i (length vs) (length (plain_list vs)) (length-map vs plain_value) h, map-set plain_value vs i v) refl
+pub field_written : (vs : List Value) (i : ℕ) (v : Value) → i < length vs → (Some (rec (plain_list (set vs i v))), done)
+    ≡ set_in i (plain_value v) (plain_list vs)
+field_written vs i v h = rw (
+  within_true i (length vs) (length (plain_list vs)) (length-map vs plain_value) h,
+  map-set plain_value vs i v,
+) refl
 
 pub below_true : (a b : ℤ) → a <ℤ b → int_lt a b ≡ true
 below_true a b h = grind (arith, ints)
@@ -32,22 +38,40 @@ pub below_false : (a b : ℤ) → b ≤ℤ a → int_lt a b ≡ false
 below_false a b h = grind (arith, ints)
 
 -- a trim from below the low bound
-pub trim_below : (vs : List PlainValue) (low from count : ℤ) → pos 0 ≤ℤ count → from <ℤ low → signals Bounds (arr low vs) ≡ trimmed from count low vs
+pub trim_below : (vs : List PlainValue) (low from count : ℤ) → pos 0 ≤ℤ count → from <ℤ low
+    → signals Bounds (arr low vs) ≡ trimmed from count low vs
 trim_below vs low from count c b = rw (below_false count (pos 0) c, below_true from low b) refl
 
 -- a trim from past the high bound
-pub trim_above : (vs : List PlainValue) (low from count : ℤ) → pos 0 ≤ℤ count → low ≤ℤ from → (low +ℤ pos (length vs)) <ℤ from → signals Bounds (arr low vs) ≡ trimmed from count low vs
-trim_above vs low from count c b a = rw (below_false count (pos 0) c, below_false from low b, below_true (low +ℤ pos (length vs)) from a) refl
+pub trim_above : (vs : List PlainValue) (low from count : ℤ) → pos 0 ≤ℤ count → low ≤ℤ from
+    → (low +ℤ pos (length vs)) <ℤ from → signals Bounds (arr low vs) ≡ trimmed from count low vs
+trim_above vs low from count c b a =
+    rw (below_false count (pos 0) c, below_false from low b, below_true (low +ℤ pos (length vs)) from a) refl
 
 -- a trim to a low bound past the greatest
-pub trim_past : (vs : List PlainValue) (low from count : ℤ) → pos 0 ≤ℤ count → low ≤ℤ from → from ≤ℤ (low +ℤ pos (length vs)) → MAX_BOUND <ℤ from → signals Limits (arr low vs) ≡ trimmed from count low vs
-trim_past vs low from count c b a m = rw (below_false count (pos 0) c, below_false from low b, below_false (low +ℤ pos (length vs)) from a, below_true MAX_BOUND from m) refl
+pub trim_past : (vs : List PlainValue) (low from count : ℤ) → pos 0 ≤ℤ count → low ≤ℤ from
+    → from ≤ℤ (low +ℤ pos (length vs)) → MAX_BOUND <ℤ from → signals Limits (arr low vs) ≡ trimmed from count low vs
+trim_past vs low from count c b a m = rw (
+  below_false count (pos 0) c,
+  below_false from low b,
+  below_false (low +ℤ pos (length vs)) from a,
+  below_true MAX_BOUND from m,
+) refl
 
 -- a trim that is made
-pub trim_made : (vs : List PlainValue) (low from count : ℤ) → pos 0 ≤ℤ count → low ≤ℤ from → from ≤ℤ (low +ℤ pos (length vs)) → from ≤ℤ MAX_BOUND → (Some (arr from (take (unsigned_abs count) (drop (unsigned_abs (from -ℤ low)) vs))), done) ≡ trimmed from count low vs
-trim_made vs low from count c b a m = rw (below_false count (pos 0) c, below_false from low b, below_false (low +ℤ pos (length vs)) from a, below_false MAX_BOUND from m) refl
+pub trim_made : (vs : List PlainValue) (low from count : ℤ) → pos 0 ≤ℤ count → low ≤ℤ from
+    → from ≤ℤ (low +ℤ pos (length vs)) → from ≤ℤ MAX_BOUND
+    → (Some (arr from (take (unsigned_abs count) (drop (unsigned_abs (from -ℤ low)) vs))), done)
+    ≡ trimmed from count low vs
+trim_made vs low from count c b a m = rw (
+  below_false count (pos 0) c,
+  below_false from low b,
+  below_false (low +ℤ pos (length vs)) from a,
+  below_false MAX_BOUND from m,
+) refl
 
 -- what is kept of the items, and what it says
-pub kept_items : (vs : List Value) (k m k' m' : ℕ) (dropped kept : List Value) → k ≡ k' → dropped ≡ drop k vs → m ≡ m' → kept ≡ take m dropped → plain_list kept ≡ take m' (drop k' (plain_list vs))
+pub kept_items : (vs : List Value) (k m k' m' : ℕ) (dropped kept : List Value) → k ≡ k' → dropped ≡ drop k vs → m ≡ m'
+    → kept ≡ take m dropped → plain_list kept ≡ take m' (drop k' (plain_list vs))
 kept_items vs k m k' m' dropped kept ek ed em et =
     rw (et, ed, ← take-map plain_value m (drop k vs), ← drop-map plain_value k vs, ek, em) refl

@@ -1,4 +1,5 @@
--- Names, types, shapes, values, contents, changes, queries and answers may cross to another thread, and be looked at from there: as a set for `search`, `crosses`.
+-- Names, types, shapes, values, contents, changes, queries and answers may cross to another thread, and be looked at
+-- from there: as a set for `search`, `crosses`.
 use denote.Param.Send.{IsSend, IsSync, recorded_send, recorded_sync, sendable, struct_send, struct_sync}
 use denote.RattleType.{RattleType}
 use denote.Struct.Declared.{shape}
@@ -18,10 +19,12 @@ use Rattle.argus_contents.proofs.ty.Ty.TheLaws.TheKnot.{send-Ty, sync-Ty}
 use Rattle.argus_contents.proofs.value.Value.TheLaws.TheKnot.{send-Value, sync-Value}
 
 pub value_field_sends : IsSend value_field.row
-value_field_sends = send-Value (search sendable) (search sendable) (search (sendable, memory.crosses)) (search sendable) memory.list_sends (search sendable) memory.box_sends
+value_field_sends = send-Value (search sendable) (search sendable) (search (sendable, memory.crosses)) (search sendable)
+    memory.list_sends (search sendable) memory.box_sends
 
 pub value_field_syncs : IsSync value_field.row
-value_field_syncs = sync-Value (search sendable) (search sendable) (search (sendable, memory.crosses)) (search sendable) memory.list_syncs (search sendable) memory.box_syncs
+value_field_syncs = sync-Value (search sendable) (search sendable) (search (sendable, memory.crosses)) (search sendable)
+    memory.list_syncs (search sendable) memory.box_syncs
 
 pub value_sends : IsSend value_row
 value_sends = search (sendable, value_field_sends)
@@ -49,10 +52,12 @@ name_syncs = search (sendable, memory.crosses) depth 12
 
 -- a name beside what may cross
 pair_sends : (h : RattleType) → IsSend h → IsSend (Tuple (name_row ∷ h ∷ []))
-pair_sends h s = let t = tuple_type (name_row ∷ h ∷ []) in recorded_send (Struct (shape t)) t.D t.to t.to_one (struct_send (shape t) (name_sends, (s, tt)))
+pair_sends h s = let t = tuple_type (name_row ∷ h ∷ []) in
+    recorded_send (Struct (shape t)) t.D t.to t.to_one (struct_send (shape t) (name_sends, (s, tt)))
 
 pair_syncs : (h : RattleType) → IsSync h → IsSync (Tuple (name_row ∷ h ∷ []))
-pair_syncs h s = let t = tuple_type (name_row ∷ h ∷ []) in recorded_sync (Struct (shape t)) t.D t.to t.to_one (struct_sync (shape t) (name_syncs, (s, tt)))
+pair_syncs h s = let t = tuple_type (name_row ∷ h ∷ []) in
+    recorded_sync (Struct (shape t)) t.D t.to t.to_one (struct_sync (shape t) (name_syncs, (s, tt)))
 
 pub ty_field_sends : IsSend ty_field.row
 ty_field_sends = send-Ty memory.box_sends (λ h s. memory.list_sends (Tuple (name_row ∷ h ∷ [])) (pair_sends h s))

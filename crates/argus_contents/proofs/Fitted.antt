@@ -1,11 +1,13 @@
 -- A content that fits keeps the limits, and so does one that a change creates that suits.
 use Rattle.std.proofs.Common.{◌≡◌, ℕ, ◌≤◌, ℤ, ◌≤ℤ◌, Bool, true, false, not, nat_le, length, Some, refl, arith}
 use Rattle.std.specs.Prelude.{int_lt, ◌&&◌}
+use Rattle.std.proofs.lemmas.Bool.{and_from}
 use Rattle.std.proofs.lemmas.Int.{ints}
 use Rattle.std.proofs.lemmas.Bool.Decides.{nat_tests}
-use Rattle.argus_contents.specs.Content.{PlainContent, rec, arr, var, KeepsBounds, KeepsLimits}
-use Rattle.argus_contents.specs.Change.{PlainChange, CreatesWithin, create, set_field, store, addh, addl, remh, reml, set_low, trim, change_tag, touch}
-use Rattle.argus_contents.specs.Fitting.{change_suits, is_fitting, is_within}
+use Rattle.argus_contents.specs.Content.{PlainContent, rec, arr, var, KeepsBounds, KeepsLimits, is_within}
+use Rattle.argus_contents.specs.Change.{PlainChange, CreatesWithin, create, set_field, store, addh, addl, remh, reml}
+use Rattle.argus_contents.specs.Change.{set_low, trim, change_tag, touch}
+use Rattle.argus_contents.specs.Fitting.{change_suits, is_fitting}
 use Rattle.argus_contents.specs.Place.{high_of}
 use Rattle.argus_contents.specs.Shape.{PlainShape}
 use Rattle.argus_contents.specs.Shape as shape
@@ -29,7 +31,7 @@ not_below a b e = let f : int_lt a b ≡ false = other (int_lt a b) e in grind (
 at_most : (m n : ℕ) → nat_le m n ≡ true → m ≤ n
 at_most m n e = grind (arith, nat_tests)
 
--- the test of an array's limits
+-- an array that passes the test keeps the limits
 pub within_keeps : (low : ℤ) (size : ℕ) → is_within low size ≡ true → KeepsBounds low size
 within_keeps low size e =
     let front = both_left _ (not (int_lt MAX_BOUND (high_of low size)) && nat_le size MAX_ITEMS) e in
@@ -41,6 +43,24 @@ within_keeps low size e =
       high = omega (arith, ints);
       items = at_most size MAX_ITEMS (both_right (not (int_lt MAX_BOUND (high_of low size))) _ back);
     }
+
+below_not : (a b : ℤ) → b ≤ℤ a → not (int_lt a b) ≡ true
+below_not a b e = grind (arith, ints)
+
+most_at : (m n : ℕ) → m ≤ n → nat_le m n ≡ true
+most_at m n e = grind (arith, nat_tests)
+
+-- an array that keeps the limits passes the test
+pub keeps_within : (low : ℤ) (size : ℕ) → KeepsBounds low size → is_within low size ≡ true
+keeps_within low size k =
+    let a = not (int_lt low MIN_BOUND) in
+    let b = not (int_lt MAX_BOUND low) in
+    let c = not (int_lt MAX_BOUND (high_of low size)) in
+    let d = nat_le size MAX_ITEMS in
+    let high = k.high in
+    and_from (a && b) (c && d)
+    (and_from a b (below_not low MIN_BOUND k.from) (below_not MAX_BOUND low k.to))
+    (and_from c d (below_not MAX_BOUND (high_of low size) (omega (arith, ints))) (most_at size MAX_ITEMS k.items))
 
 -- the test of a content
 pub fitting_keeps : (s : PlainShape) (n : ℕ) (c : PlainContent) → is_fitting s n c ≡ true → KeepsLimits (Some c)

@@ -1,5 +1,7 @@
 -- What a change leaves keeps the limits.
-use Rattle.std.proofs.Common.{◌≡◌, ℕ, ◌<◌, ◌≤◌, ◌-◌, ℤ, pos, negsuc, ◌+ℤ◌, ◌-ℤ◌, ◌≤ℤ◌, List, [], ◌∷◌, length, take, drop, Option, Some, None, Bool, true, false, refl, arith, nat_lt, nat_le, length-append, length-take, length-drop, sym}
+use Rattle.std.proofs.Common.{◌≡◌, ℕ, ◌<◌, ◌≤◌, ◌-◌, ℤ, pos, negsuc, ◌+ℤ◌, ◌-ℤ◌, ◌≤ℤ◌, List, [], ◌∷◌, length, take}
+use Rattle.std.proofs.Common.{drop, Option, Some, None, Bool, true, false, refl, arith, nat_lt, nat_le, length-append}
+use Rattle.std.proofs.Common.{length-take, length-drop, sym}
 use Rattle.std.specs.Prelude.{int_lt, unsigned_abs, ◌||◌, if◌then◌else◌}
 use Rattle.std.specs.Ordering.{int_eq}
 use Rattle.std.proofs.lemmas.Int.{ints, by_lt_z}
@@ -8,12 +10,15 @@ use Rattle.std.proofs.lemmas.Bool.{false_from_ne_true}
 use Rattle.std.proofs.Math.ListN.{length-set}
 use Rattle.argus_contents.specs.Value.{PlainValue}
 use Rattle.argus_contents.specs.Content.{PlainContent, rec, arr, var, KeepsBounds, KeepsLimits}
-use Rattle.argus_contents.specs.Change.{PlainChange, Outcome, result, array_result, CreatesWithin, stored_at, removed_low, is_full_high, is_full_low, is_out_of_limits, trimmed, create, set_field, store, addh, addl, remh, reml, set_low, trim, change_tag, touch}
+use Rattle.argus_contents.specs.Change.{PlainChange, Outcome, outcome, array_outcome, CreatesWithin, stored_at}
+use Rattle.argus_contents.specs.Change.{removed_low, is_full_high, is_full_low, is_out_of_limits, trimmed, create}
+use Rattle.argus_contents.specs.Change.{set_field, store, addh, addl, remh, reml, set_low, trim, change_tag, touch}
 use Rattle.argus_contents.specs.Place.{place_of, high_of}
 use Rattle.argus_contents.specs.declared.limits.TheConstants.{MIN_BOUND, MAX_BOUND, MAX_ITEMS}
 
 -- a choice has a property where each of its arms has
-by_if : {A : Type 0} (P : A → Type 0) (b : Bool) (x y : A) → (b ≡ true → P x) → (b ≡ false → P y) → P (if b then x else y)
+by_if : {A : Type 0} (P : A → Type 0) (b : Bool) (x y : A) → (b ≡ true → P x) → (b ≡ false → P y)
+    → P (if b then x else y)
 by_if P true x y t f = t refl
 by_if P false x y t f = f refl
 
@@ -48,18 +53,21 @@ at_other a b e =
     let differ : ¬ (a ≡ b) = not_from_Decides (int_eq a b) (Decides-int_eq a b) e in
     false_from_ne_true (int_eq b a) (λ same. differ (sym ((Decides-int_eq b a).0 same)))
 
-stored_keeps : (place : Option ℕ) (v : PlainValue) (low : ℤ) (vs : List PlainValue) → KeepsBounds low (length vs) → Keeps (stored_at place v low vs)
+stored_keeps : (place : Option ℕ) (v : PlainValue) (low : ℤ) (vs : List PlainValue) → KeepsBounds low (length vs)
+    → Keeps (stored_at place v low vs)
 stored_keeps None v low vs k = k
 stored_keeps (Some place) v low vs k = rw (length-set vs place v) k
 
-addh_keeps : (v : PlainValue) (low : ℤ) (vs : List PlainValue) → KeepsBounds low (length vs) → Keeps (array_result (addh v) low vs)
+addh_keeps : (v : PlainValue) (low : ℤ) (vs : List PlainValue) → KeepsBounds low (length vs)
+    → Keeps (array_outcome (addh v) low vs)
 addh_keeps v low vs k = by_if Keeps (is_full_high low (length vs)) _ _ (λ e. k) (λ e.
     let room : length vs < MAX_ITEMS = not_full _ _ (neither_left (nat_le MAX_ITEMS (length vs)) _ e) in
     let high = not_below MAX_BOUND (low +ℤ pos (length vs)) (neither_right (nat_le MAX_ITEMS (length vs)) _ e) in
     let size = length-append vs (v ∷ []) in
     record { from = k.from; to = k.to; high = omega (arith, ints); items = omega arith })
 
-addl_keeps : (v : PlainValue) (low : ℤ) (vs : List PlainValue) → KeepsBounds low (length vs) → Keeps (array_result (addl v) low vs)
+addl_keeps : (v : PlainValue) (low : ℤ) (vs : List PlainValue) → KeepsBounds low (length vs)
+    → Keeps (array_outcome (addl v) low vs)
 addl_keeps v low vs k = by_if Keeps (is_full_low low (length vs)) _ _ (λ e. k) (λ e.
     let room : length vs < MAX_ITEMS = not_full _ _ (neither_left (nat_le MAX_ITEMS (length vs)) _ e) in
     let above = other low MIN_BOUND k.from (neither_right (nat_le MAX_ITEMS (length vs)) _ e) in
@@ -68,7 +76,7 @@ addl_keeps v low vs k = by_if Keeps (is_full_low low (length vs)) _ _ (λ e. k) 
     let high = k.high in
     record { from = omega (arith, ints); to = omega (arith, ints); high = omega (arith, ints); items = omega arith })
 
-remh_keeps : (low : ℤ) (vs : List PlainValue) → KeepsBounds low (length vs) → Keeps (array_result remh low vs)
+remh_keeps : (low : ℤ) (vs : List PlainValue) → KeepsBounds low (length vs) → Keeps (array_outcome remh low vs)
 remh_keeps low vs k =
     let size : length (take (length vs - 1) vs) ≤ length vs = omega (arith, length-take (length vs - 1) vs) in
     let high = k.high in
@@ -84,17 +92,22 @@ reml_keeps low (v ∷ vs) k = by_if Keeps (int_eq low MAX_BOUND) _ _ (λ e. k) (
     let items = k.items in
     record { from = omega (arith, ints); to = omega (arith, ints); high = omega (arith, ints); items = omega arith })
 
-set_low_keeps : (i low : ℤ) (vs : List PlainValue) → KeepsBounds low (length vs) → Keeps (array_result (set_low i) low vs)
+set_low_keeps : (i low : ℤ) (vs : List PlainValue) → KeepsBounds low (length vs)
+    → Keeps (array_outcome (set_low i) low vs)
 set_low_keeps i low vs k = by_if Keeps (is_out_of_limits i (length vs)) _ _ (λ e. k) (λ e.
-    let from = not_below i MIN_BOUND (neither_left (int_lt i MIN_BOUND) _ (neither_left (int_lt i MIN_BOUND || int_lt MAX_BOUND i) _ e)) in
-    let to = not_below MAX_BOUND i (neither_right (int_lt i MIN_BOUND) _ (neither_left (int_lt i MIN_BOUND || int_lt MAX_BOUND i) _ e)) in
-    let high = not_below MAX_BOUND (high_of i (length vs)) (neither_right (int_lt i MIN_BOUND || int_lt MAX_BOUND i) _ e) in
+    let from = not_below i MIN_BOUND (neither_left (int_lt i MIN_BOUND) _
+    (neither_left (int_lt i MIN_BOUND || int_lt MAX_BOUND i) _ e)) in
+    let to = not_below MAX_BOUND i (neither_right (int_lt i MIN_BOUND) _
+    (neither_left (int_lt i MIN_BOUND || int_lt MAX_BOUND i) _ e)) in
+    let high =
+    not_below MAX_BOUND (high_of i (length vs)) (neither_right (int_lt i MIN_BOUND || int_lt MAX_BOUND i) _ e) in
     record { from = from; to = to; high = omega (arith, ints); items = k.items })
 
 trim_size : (count k : ℕ) (vs : List PlainValue) → length (take count (drop k vs)) ≤ length vs - k
 trim_size count k vs = omega (arith, length-take count (drop k vs), length-drop k vs)
 
-trim_keeps : (from count low : ℤ) (vs : List PlainValue) → KeepsBounds low (length vs) → Keeps (trimmed from count low vs)
+trim_keeps : (from count low : ℤ) (vs : List PlainValue) → KeepsBounds low (length vs)
+    → Keeps (trimmed from count low vs)
 trim_keeps from count low vs k =
     by_if Keeps (int_lt count (pos 0)) _ _ (λ e. k) (λ e.
     by_if Keeps (int_lt from low || int_lt (low +ℤ pos (length vs)) from) _ _ (λ o. k) (λ o.
@@ -110,7 +123,8 @@ trim_keeps from count low vs k =
     record { from = omega (arith, ints); to = to; high = omega (arith, ints); items = omega arith })))
 
 -- what a change of an array leaves keeps the limits
-pub array_keeps : (c : PlainChange) (low : ℤ) (vs : List PlainValue) → KeepsBounds low (length vs) → KeepsLimits (array_result c low vs).0
+pub array_keeps : (c : PlainChange) (low : ℤ) (vs : List PlainValue) → KeepsBounds low (length vs)
+    → KeepsLimits (array_outcome c low vs).0
 array_keeps (create c) low vs k = k
 array_keeps touch low vs k = k
 array_keeps (store i v) low vs k = stored_keeps (place_of low (length vs) i) v low vs k
@@ -124,38 +138,39 @@ array_keeps (set_field i v) low vs k = k
 array_keeps (change_tag t v) low vs k = k
 
 -- what a change leaves keeps the limits
-pub result_keeps : (c : PlainChange) (content : Option PlainContent) → CreatesWithin c → KeepsLimits content → KeepsLimits (result c content).0
-result_keeps c (Some (arr low vs)) w k = array_keeps c low vs k
-result_keeps (create c) None w k = w
-result_keeps touch None w k = k
-result_keeps (store i v) None w k = k
-result_keeps (addh v) None w k = k
-result_keeps (addl v) None w k = k
-result_keeps remh None w k = k
-result_keeps reml None w k = k
-result_keeps (set_low i) None w k = k
-result_keeps (trim from count) None w k = k
-result_keeps (set_field i v) None w k = k
-result_keeps (change_tag t v) None w k = k
-result_keeps (create c) (Some (rec vs)) w k = k
-result_keeps touch (Some (rec vs)) w k = k
-result_keeps (store i v) (Some (rec vs)) w k = k
-result_keeps (addh v) (Some (rec vs)) w k = k
-result_keeps (addl v) (Some (rec vs)) w k = k
-result_keeps remh (Some (rec vs)) w k = k
-result_keeps reml (Some (rec vs)) w k = k
-result_keeps (set_low i) (Some (rec vs)) w k = k
-result_keeps (trim from count) (Some (rec vs)) w k = k
-result_keeps (set_field i v) (Some (rec vs)) w k = by_if Keeps (nat_lt i (length vs)) _ _ (λ e. tt) (λ e. tt)
-result_keeps (change_tag t v) (Some (rec vs)) w k = k
-result_keeps (create c) (Some (var u x)) w k = k
-result_keeps touch (Some (var u x)) w k = k
-result_keeps (store i v) (Some (var u x)) w k = k
-result_keeps (addh v) (Some (var u x)) w k = k
-result_keeps (addl v) (Some (var u x)) w k = k
-result_keeps remh (Some (var u x)) w k = k
-result_keeps reml (Some (var u x)) w k = k
-result_keeps (set_low i) (Some (var u x)) w k = k
-result_keeps (trim from count) (Some (var u x)) w k = k
-result_keeps (set_field i v) (Some (var u x)) w k = k
-result_keeps (change_tag t v) (Some (var u x)) w k = k
+pub outcome_keeps : (c : PlainChange) (content : Option PlainContent) → CreatesWithin c → KeepsLimits content
+    → KeepsLimits (outcome c content).0
+outcome_keeps c (Some (arr low vs)) w k = array_keeps c low vs k
+outcome_keeps (create c) None w k = w
+outcome_keeps touch None w k = k
+outcome_keeps (store i v) None w k = k
+outcome_keeps (addh v) None w k = k
+outcome_keeps (addl v) None w k = k
+outcome_keeps remh None w k = k
+outcome_keeps reml None w k = k
+outcome_keeps (set_low i) None w k = k
+outcome_keeps (trim from count) None w k = k
+outcome_keeps (set_field i v) None w k = k
+outcome_keeps (change_tag t v) None w k = k
+outcome_keeps (create c) (Some (rec vs)) w k = k
+outcome_keeps touch (Some (rec vs)) w k = k
+outcome_keeps (store i v) (Some (rec vs)) w k = k
+outcome_keeps (addh v) (Some (rec vs)) w k = k
+outcome_keeps (addl v) (Some (rec vs)) w k = k
+outcome_keeps remh (Some (rec vs)) w k = k
+outcome_keeps reml (Some (rec vs)) w k = k
+outcome_keeps (set_low i) (Some (rec vs)) w k = k
+outcome_keeps (trim from count) (Some (rec vs)) w k = k
+outcome_keeps (set_field i v) (Some (rec vs)) w k = by_if Keeps (nat_lt i (length vs)) _ _ (λ e. tt) (λ e. tt)
+outcome_keeps (change_tag t v) (Some (rec vs)) w k = k
+outcome_keeps (create c) (Some (var u x)) w k = k
+outcome_keeps touch (Some (var u x)) w k = k
+outcome_keeps (store i v) (Some (var u x)) w k = k
+outcome_keeps (addh v) (Some (var u x)) w k = k
+outcome_keeps (addl v) (Some (var u x)) w k = k
+outcome_keeps remh (Some (var u x)) w k = k
+outcome_keeps reml (Some (var u x)) w k = k
+outcome_keeps (set_low i) (Some (var u x)) w k = k
+outcome_keeps (trim from count) (Some (var u x)) w k = k
+outcome_keeps (set_field i v) (Some (var u x)) w k = k
+outcome_keeps (change_tag t v) (Some (var u x)) w k = k

@@ -1,5 +1,9 @@
 -- What a change says, and what it does, by cases of the operation and the content.
-use Rattle.std.specs.Prelude.{◌≡◌, ℕ, ℤ, Bool, pos, ◌+ℤ◌, ◌-ℤ◌, ◌-◌, int_lt, unsigned_abs, nat_lt, nat_le, ◌||◌, if◌then◌else◌, List, [], ◌∷◌, ◌++◌, length, take, drop, slice_get, slice_set, Option, Some, None}
+use Rattle.std.specs.Prelude.{◌≡◌, ℕ, ℤ, Bool, pos, ◌+ℤ◌, ◌-ℤ◌, ◌-◌, int_lt, unsigned_abs, nat_lt}
+use Rattle.std.specs.Prelude.{nat_le, ◌||◌}
+use Rattle.std.specs.Prelude.{if◌then◌else◌, List, [], ◌∷◌, ◌++◌, length, take, drop, slice_get}
+use Rattle.std.specs.Prelude.{slice_set, Option}
+use Rattle.std.specs.Prelude.{Some, None}
 use Rattle.std.specs.Ordering.{int_eq}
 use Rattle.argus_contents.specs.Value.{PlainValue, plain_list, plain_value}
 use Rattle.argus_contents.specs.Content.{PlainContent, rec, arr, var, plain_content, KeepsLimits}
@@ -9,7 +13,8 @@ use Rattle.argus_contents.specs.declared.limits.TheConstants.{MIN_BOUND, MAX_BOU
 use Rattle.argus_contents.specs.declared.value.Value.{Value}
 use Rattle.argus_contents.specs.declared.answer.Answer.{Answer}
 use Rattle.argus_contents.specs.declared.signal.Signal.{Signal}
-use Rattle.argus_contents.specs.declared.signal.Signal.TheVariants.{Absent, Exists, Bounds, NegativeSize, Limits}
+use Rattle.argus_contents.specs.declared.signal.Signal.TheVariants.{Absent, Exists, Bounds}
+use Rattle.argus_contents.specs.declared.signal.Signal.TheVariants.{NegativeSize, Limits}
 use Rattle.argus_contents.specs.declared.change.Change.{Change}
 use Rattle.argus_contents.specs.declared.change.Change.TheVariants as change
 
@@ -51,7 +56,8 @@ signals s c = (Some c, signal s)
 
 -- what a change of the field at i does
 abbrev pub set_in : ℕ → PlainValue → List PlainValue → Outcome
-set_in i v vs = if nat_lt i (length vs) then (Some (rec (slice_set vs i v)), done) else signals Absent (rec vs)
+set_in i v vs =
+    if nat_lt i (length vs) then (Some (rec (slice_set vs i v)), done) else signals Absent (rec vs)
 
 -- what a store at a place does; None is out of bounds
 abbrev pub stored_at : Option ℕ → PlainValue → ℤ → List PlainValue → Outcome
@@ -70,67 +76,108 @@ is_full_low low size = nat_le MAX_ITEMS size || int_eq low MIN_BOUND
 abbrev pub removed_low : ℤ → List PlainValue → Outcome
 removed_low low [] = signals Bounds (arr low [])
 removed_low low (v ∷ vs) =
-    if int_eq low MAX_BOUND then signals Limits (arr low (v ∷ vs)) else (Some (arr (low +ℤ pos 1) vs), val v)
+    if int_eq low MAX_BOUND then signals Limits (arr low (v ∷ vs))
+    else (Some (arr (low +ℤ pos 1) vs), val v)
 
 -- no array of so many items may begin at i
 abbrev pub is_out_of_limits : ℤ → ℕ → Bool
-is_out_of_limits i size = int_lt i MIN_BOUND || int_lt MAX_BOUND i || int_lt MAX_BOUND (high_of i size)
+is_out_of_limits i size =
+    int_lt i MIN_BOUND || int_lt MAX_BOUND i || int_lt MAX_BOUND (high_of i size)
 
 -- the items from an index on are kept, at most so many of them
 abbrev pub trimmed : ℤ → ℤ → ℤ → List PlainValue → Outcome
 trimmed from count low vs =
     if int_lt count (pos 0) then signals NegativeSize (arr low vs) else
-    (if int_lt from low || int_lt (low +ℤ pos (length vs)) from then signals Bounds (arr low vs) else
+    (if int_lt from low || int_lt (low +ℤ pos (length vs)) from then signals Bounds (arr low vs)
+    else
     (if int_lt MAX_BOUND from then signals Limits (arr low vs) else
     (Some (arr from (take (unsigned_abs count) (drop (unsigned_abs (from -ℤ low)) vs))), done)))
 
 -- what a change does to an array
-abbrev pub array_result : PlainChange → ℤ → List PlainValue → Outcome
-array_result (create c) low vs = signals Exists (arr low vs)
-array_result touch low vs = (Some (arr low vs), done)
-array_result (store i v) low vs = stored_at (place_of low (length vs) i) v low vs
-array_result (addh v) low vs =
-    if is_full_high low (length vs) then signals Limits (arr low vs) else (Some (arr low (vs ++ v ∷ [])), done)
-array_result (addl v) low vs =
-    if is_full_low low (length vs) then signals Limits (arr low vs) else (Some (arr (low -ℤ pos 1) (v ∷ vs)), done)
-array_result remh low vs = (Some (arr low (take (length vs - 1) vs)), value_or Bounds (slice_get vs (length vs - 1)))
-array_result reml low vs = removed_low low vs
-array_result (set_low i) low vs = if is_out_of_limits i (length vs) then signals Limits (arr low vs) else (Some (arr i vs), done)
-array_result (trim from count) low vs = trimmed from count low vs
-array_result _ low vs = signals Absent (arr low vs)
+abbrev pub array_outcome : PlainChange → ℤ → List PlainValue → Outcome
+array_outcome (create c) low vs = signals Exists (arr low vs)
+array_outcome touch low vs = (Some (arr low vs), done)
+array_outcome (store i v) low vs = stored_at (place_of low (length vs) i) v low vs
+array_outcome (addh v) low vs =
+    if is_full_high low (length vs) then signals Limits (arr low vs)
+    else (Some (arr low (vs ++ v ∷ [])), done)
+array_outcome (addl v) low vs =
+    if is_full_low low (length vs) then signals Limits (arr low vs)
+    else (Some (arr (low -ℤ pos 1) (v ∷ vs)), done)
+array_outcome remh low vs =
+    (Some (arr low (take (length vs - 1) vs)), value_or Bounds (slice_get vs (length vs - 1)))
+array_outcome reml low vs = removed_low low vs
+array_outcome (set_low i) low vs =
+    if is_out_of_limits i (length vs) then signals Limits (arr low vs) else (Some (arr i vs), done)
+array_outcome (trim from count) low vs = trimmed from count low vs
+array_outcome (set_field field v) low vs = signals Absent (arr low vs)
+array_outcome (change_tag tag v) low vs = signals Absent (arr low vs)
 
 -- the change of an array answers so, and leaves this low bound and these items of those
 abbrev pub Leaves : PlainChange → ℤ → List Value → ℤ → List Value → Answer → Type 0
-Leaves c low vs left_low left answer = (Some (arr left_low (plain_list left)), plain_answer answer) ≡ array_result c low (plain_list vs)
+Leaves c low vs left_low left answer =
+    (Some (arr left_low (plain_list left)), plain_answer answer)
+    ≡ array_outcome c low (plain_list vs)
 
 -- what a change does to a record
-abbrev pub record_result : PlainChange → List PlainValue → Outcome
-record_result (create c) vs = signals Exists (rec vs)
-record_result touch vs = (Some (rec vs), done)
-record_result (set_field i v) vs = set_in i v vs
-record_result _ vs = signals Absent (rec vs)
+abbrev pub record_outcome : PlainChange → List PlainValue → Outcome
+record_outcome (create c) vs = signals Exists (rec vs)
+record_outcome touch vs = (Some (rec vs), done)
+record_outcome (set_field i v) vs = set_in i v vs
+record_outcome (store i v) vs = signals Absent (rec vs)
+record_outcome (addh v) vs = signals Absent (rec vs)
+record_outcome (addl v) vs = signals Absent (rec vs)
+record_outcome remh vs = signals Absent (rec vs)
+record_outcome reml vs = signals Absent (rec vs)
+record_outcome (set_low i) vs = signals Absent (rec vs)
+record_outcome (trim from count) vs = signals Absent (rec vs)
+record_outcome (change_tag t v) vs = signals Absent (rec vs)
 
 -- what a change does to a variant
-abbrev pub variant_result : PlainChange → ℕ → PlainValue → Outcome
-variant_result (create c) t v = signals Exists (var t v)
-variant_result touch t v = (Some (var t v), done)
-variant_result (change_tag u w) t v = (Some (var u w), done)
-variant_result _ t v = signals Absent (var t v)
+abbrev pub variant_outcome : PlainChange → ℕ → PlainValue → Outcome
+variant_outcome (create c) t v = signals Exists (var t v)
+variant_outcome touch t v = (Some (var t v), done)
+variant_outcome (change_tag u w) t v = (Some (var u w), done)
+variant_outcome (set_field i w) t v = signals Absent (var t v)
+variant_outcome (store i w) t v = signals Absent (var t v)
+variant_outcome (addh w) t v = signals Absent (var t v)
+variant_outcome (addl w) t v = signals Absent (var t v)
+variant_outcome remh t v = signals Absent (var t v)
+variant_outcome reml t v = signals Absent (var t v)
+variant_outcome (set_low i) t v = signals Absent (var t v)
+variant_outcome (trim from count) t v = signals Absent (var t v)
 
 -- what a change does where there is no content
-abbrev pub absent_result : PlainChange → Outcome
-absent_result (create c) = (Some c, done)
-absent_result touch = (None, done)
-absent_result _ = (None, signal Absent)
+abbrev pub absent_outcome : PlainChange → Outcome
+absent_outcome (create c) = (Some c, done)
+absent_outcome touch = (None, done)
+absent_outcome (set_field i v) = (None, signal Absent)
+absent_outcome (store i v) = (None, signal Absent)
+absent_outcome (addh v) = (None, signal Absent)
+absent_outcome (addl v) = (None, signal Absent)
+absent_outcome remh = (None, signal Absent)
+absent_outcome reml = (None, signal Absent)
+absent_outcome (set_low i) = (None, signal Absent)
+absent_outcome (trim from count) = (None, signal Absent)
+absent_outcome (change_tag t v) = (None, signal Absent)
 
 -- what a change does; an operation of another kind than the content signals absent
-abbrev pub result : PlainChange → Option PlainContent → Outcome
-result c None = absent_result c
-result c (Some (rec vs)) = record_result c vs
-result c (Some (arr low vs)) = array_result c low vs
-result c (Some (var t v)) = variant_result c t v
+abbrev pub outcome : PlainChange → Option PlainContent → Outcome
+outcome c None = absent_outcome c
+outcome c (Some (rec vs)) = record_outcome c vs
+outcome c (Some (arr low vs)) = array_outcome c low vs
+outcome c (Some (var t v)) = variant_outcome c t v
 
 -- a content that the change makes keeps the limits, if it makes one
 abbrev pub CreatesWithin : PlainChange → Type 0
 CreatesWithin (create c) = KeepsLimits (Some c)
-CreatesWithin _ = Unit {0}
+CreatesWithin (set_field i v) = Unit {0}
+CreatesWithin (store i v) = Unit {0}
+CreatesWithin (addh v) = Unit {0}
+CreatesWithin (addl v) = Unit {0}
+CreatesWithin remh = Unit {0}
+CreatesWithin reml = Unit {0}
+CreatesWithin (set_low i) = Unit {0}
+CreatesWithin (trim from count) = Unit {0}
+CreatesWithin (change_tag t v) = Unit {0}
+CreatesWithin touch = Unit {0}

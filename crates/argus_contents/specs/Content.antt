@@ -1,11 +1,14 @@
 -- What the content of an object says, and the limits that an array keeps.
 use Rattle.std.specs.Prelude.{ℕ, ℤ, ◌≤ℤ◌, ◌+ℤ◌, ◌≤◌, pos, List, length, Option, Some, None}
+use Rattle.std.specs.Prelude.{Bool, int_lt, nat_le, not, ◌&&◌}
+use Rattle.argus_contents.specs.Place.{high_of}
 use Rattle.argus_contents.specs.Value.{PlainValue, plain_value, plain_list}
 use Rattle.argus_contents.specs.declared.content.Content.{Content}
 use Rattle.argus_contents.specs.declared.content.Content.TheVariants.{Rec, Arr, Var}
 use Rattle.argus_contents.specs.declared.limits.TheConstants.{MIN_BOUND, MAX_BOUND, MAX_ITEMS}
 
--- a plain content: the fields of a record, the low bound and the items of an array, the tag and the value of a variant
+-- a plain content: the fields of a record, the low bound and the items of an array, the tag and the
+-- value of a variant
 pub data PlainContent : Type 0 where
   rec : List PlainValue → PlainContent
   arr : ℤ → List PlainValue → PlainContent
@@ -29,7 +32,15 @@ pub record KeepsBounds (low : ℤ) (size : ℕ) : Type 0 where
   pub high : (low +ℤ pos size) ≤ℤ (MAX_BOUND +ℤ pos 1)
   pub items : size ≤ MAX_ITEMS
 
+-- the test of these limits
+abbrev pub is_within : ℤ → ℕ → Bool
+is_within low size =
+    (not (int_lt low MIN_BOUND) && not (int_lt MAX_BOUND low))
+    && (not (int_lt MAX_BOUND (high_of low size)) && nat_le size MAX_ITEMS)
+
 -- a present array keeps the limits
 abbrev pub KeepsLimits : Option PlainContent → Type 0
 KeepsLimits (Some (arr low vs)) = KeepsBounds low (length vs)
-KeepsLimits _ = Unit {0}
+KeepsLimits None = Unit {0}
+KeepsLimits (Some (rec vs)) = Unit {0}
+KeepsLimits (Some (var tag v)) = Unit {0}

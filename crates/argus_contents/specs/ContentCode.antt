@@ -1,5 +1,6 @@
 -- The code of a plain content: a tree of numbers that gives it back.
-use Rattle.std.specs.Prelude.{◌≡◌, ℕ, ℤ, pos, negsuc, Bool, true, false, List, [], ◌∷◌, ◌==◌, if◌then◌else◌, refl}
+use Rattle.std.specs.Prelude.{◌≡◌, ℕ, ℤ, pos, negsuc, Bool, true, false, List, [], ◌∷◌, ◌==◌}
+use Rattle.std.specs.Prelude.{if◌then◌else◌, refl}
 use Rattle.std.proofs.Common.{ap, sym, ◌∙◌}
 use Rattle.std.specs.Coded.{Coded}
 use base.Stored.{Gv, gnil, gnum, gcons, num}
@@ -46,18 +47,22 @@ abbrev mutual
   values_code value.none = gnil
   values_code (value.more v vs) = gcons (value_code v) (values_code vs)
 
--- the value of a kind: from what its second part is as a scalar, as values, and as the value of a choice
+-- the value of a kind: from what its second part is as a scalar, as values, and as the value of a
+-- choice
 abbrev pub value_of : ℕ → Gv → PlainValues → PlainValue → PlainValue
 value_of k g vs v =
-    if k == 0 then value.null else (if k == 1 then value.bool (bool_at g) else (if k == 2 then value.int (int_at g) else
-    (if k == 3 then value.text (bytes_at g) else (if k == 4 then value.atomic (num g) else (if k == 5 then value.sequence vs else
+    if k == 0 then value.null else (if k == 1 then value.bool (bool_at g)
+    else (if k == 2 then value.int (int_at g) else
+    (if k == 3 then value.text (bytes_at g) else (if k == 4 then value.atomic (num g)
+    else (if k == 5 then value.sequence vs else
     (if k == 6 then value.fields vs else value.choice (num (first g)) v))))))
 
 -- what a tree is as a value, what it is as a list of values, and what its second part is as a value
 abbrev pub seen : Gv → PlainValue × PlainValues × PlainValue
 seen gnil = (value.null, value.none, value.null)
 seen (gnum n) = (value.null, value.none, value.null)
-seen (gcons a b) = (value_of (num a) b (seen b).1 (seen b).2, value.more (seen a).0 (seen b).1, (seen b).0)
+seen (gcons a b) =
+    (value_of (num a) b (seen b).1 (seen b).2, value.more (seen a).0 (seen b).1, (seen b).0)
 
 mutual
   pub value_back : (v : PlainValue) → (seen (value_code v)).0 ≡ v
@@ -72,7 +77,9 @@ mutual
 
   pub values_back : (vs : PlainValues) → (seen (values_code vs)).1 ≡ vs
   values_back value.none = refl
-  values_back (value.more v vs) = ap (λ x. value.more x (seen (values_code vs)).1) (value_back v) ∙ ap (value.more v) (values_back vs)
+  values_back (value.more v vs) =
+      ap (λ x. value.more x (seen (values_code vs)).1) (value_back v)
+      ∙ ap (value.more v) (values_back vs)
 
 abbrev pub list_code : List PlainValue → Gv
 list_code [] = gnil
@@ -85,7 +92,8 @@ list_at (gcons a b) = (seen a).0 ∷ list_at b
 
 pub list_back : (vs : List PlainValue) → list_at (list_code vs) ≡ vs
 list_back [] = refl
-list_back (v ∷ vs) = ap (λ x. x ∷ list_at (list_code vs)) (value_back v) ∙ ap (λ rest. v ∷ rest) (list_back vs)
+list_back (v ∷ vs) =
+    ap (λ x. x ∷ list_at (list_code vs)) (value_back v) ∙ ap (λ rest. v ∷ rest) (list_back vs)
 
 abbrev pub content_code : PlainContent → Gv
 content_code (content.rec vs) = gcons (gnum 0) (list_code vs)
@@ -95,12 +103,15 @@ content_code (content.var t v) = gcons (gnum 2) (gcons (gnum t) (value_code v))
 abbrev pub content_at : Gv → PlainContent
 content_at g =
     if num (first g) == 0 then content.rec (list_at (second g)) else
-    (if num (first g) == 1 then content.arr (int_at (first (second g))) (list_at (second (second g))) else
+    (if num (first g) == 1 then content.arr (int_at (first (second g)))
+    (list_at (second (second g))) else
     content.var (num (first (second g))) (seen (second (second g))).0)
 
 pub content_back : (c : PlainContent) → content_at (content_code c) ≡ c
 content_back (content.rec vs) = ap content.rec (list_back vs)
-content_back (content.arr low vs) = ap (λ n. content.arr n (list_at (list_code vs))) (int_back low) ∙ ap (content.arr low) (list_back vs)
+content_back (content.arr low vs) =
+    ap (λ n. content.arr n (list_at (list_code vs))) (int_back low)
+    ∙ ap (content.arr low) (list_back vs)
 content_back (content.var t v) = ap (content.var t) (value_back v)
 
 pub content_injective : (c d : PlainContent) → content_code c ≡ content_code d → c ≡ d

@@ -12,7 +12,9 @@ use Rattle.argus_contents.specs.Change.{PlainChange}
 use Rattle.argus_contents.specs.Change as change
 use Rattle.argus_contents.specs.Content.{PlainContent}
 use Rattle.argus_contents.specs.Content as content
-use Rattle.argus_contents.specs.Same.{same_answer, same_change, same_content, same_fields, same_shape, same_signal, same_ty, same_value, same_values}
+use Rattle.argus_contents.specs.Same.{same_answer, same_change, same_content, same_fields}
+use Rattle.argus_contents.specs.Same.{same_shape, same_signal}
+use Rattle.argus_contents.specs.Same.{same_ty, same_value, same_values}
 use Rattle.argus_contents.specs.Shape.{PlainShape}
 use Rattle.argus_contents.specs.Shape as shape
 use Rattle.argus_contents.specs.Ty.{PlainFields, PlainTy}
@@ -44,7 +46,8 @@ mutual
   values_told value.none value.none e = refl
   values_told (value.more a rest) (value.more b others) e =
       let q = both (same_value a b) (same_values rest others) e in
-      ap (λ x. value.more x rest) (value_told a b q.0) ∙ ap (value.more b) (values_told rest others q.1)
+      ap (λ x. value.more x rest) (value_told a b q.0)
+      ∙ ap (value.more b) (values_told rest others q.1)
   values_told _ _ e = absurd (false≢true e)
 
 mutual
@@ -56,11 +59,13 @@ mutual
   value_itself (value.atomic a) = eq-eqb a a refl
   value_itself (value.sequence a) = values_itself a
   value_itself (value.fields a) = values_itself a
-  value_itself (value.choice t a) = and_from (t == t) (same_value a a) (eq-eqb t t refl) (value_itself a)
+  value_itself (value.choice t a) =
+      and_from (t == t) (same_value a a) (eq-eqb t t refl) (value_itself a)
 
   values_itself : (a : PlainValues) → same_values a a ≡ true
   values_itself value.none = refl
-  values_itself (value.more a rest) = and_from (same_value a a) (same_values rest rest) (value_itself a) (values_itself rest)
+  values_itself (value.more a rest) =
+      and_from (same_value a a) (same_values rest rest) (value_itself a) (values_itself rest)
 
 mutual
   ty_told : (a b : PlainTy) → same_ty a b ≡ true → a ≡ b
@@ -79,7 +84,9 @@ mutual
   fields_told (ty.more m a rest) (ty.more n b others) e =
       let q = both (pointwise nat_eq m n) (same_ty a b && same_fields rest others) e in
       let r = both (same_ty a b) (same_fields rest others) q.1 in
-      ap (λ x. ty.more x a rest) ((bytes_decides m n).0 q.0) ∙ ap (λ x. ty.more n x rest) (ty_told a b r.0) ∙ ap (ty.more n b) (fields_told rest others r.1)
+      ap (λ x. ty.more x a rest) ((bytes_decides m n).0 q.0)
+      ∙ ap (λ x. ty.more n x rest) (ty_told a b r.0)
+      ∙ ap (ty.more n b) (fields_told rest others r.1)
   fields_told _ _ e = absurd (false≢true e)
 
 mutual
@@ -96,7 +103,8 @@ mutual
   fields_itself : (a : PlainFields) → same_fields a a ≡ true
   fields_itself ty.none = refl
   fields_itself (ty.more m a rest) =
-      and_from (pointwise nat_eq m m) (same_ty a a && same_fields rest rest) ((bytes_decides m m).1 refl)
+      and_from (pointwise nat_eq m m) (same_ty a a && same_fields rest rest)
+      ((bytes_decides m m).1 refl)
       (and_from (same_ty a a) (same_fields rest rest) (ty_itself a) (fields_itself rest))
 
 shape_told : (a b : PlainShape) → same_shape a b ≡ true → a ≡ b
@@ -120,13 +128,15 @@ listed_back [] = refl
 listed_back (v ∷ vs) = ap (λ u. v ∷ u) (listed_back vs)
 
 list_told : (a b : List PlainValue) → same_values (listed a) (listed b) ≡ true → a ≡ b
-list_told a b e = sym (listed_back a) ∙ ap unlisted (values_told (listed a) (listed b) e) ∙ listed_back b
+list_told a b e =
+    sym (listed_back a) ∙ ap unlisted (values_told (listed a) (listed b) e) ∙ listed_back b
 
 content_told : (a b : PlainContent) → same_content a b ≡ true → a ≡ b
 content_told (content.rec a) (content.rec b) e = ap content.rec (list_told a b e)
 content_told (content.arr low a) (content.arr bound b) e =
     let q = both (int_eq low bound) (same_values (listed a) (listed b)) e in
-    ap (λ x. content.arr x a) ((signed_Decides low bound).0 q.0) ∙ ap (content.arr bound) (list_told a b q.1)
+    ap (λ x. content.arr x a) ((signed_Decides low bound).0 q.0)
+    ∙ ap (content.arr bound) (list_told a b q.1)
 content_told (content.var t a) (content.var u b) e =
     let q = both (t == u) (same_value a b) e in
     ap (λ x. content.var x a) (eqb-true t u q.0) ∙ ap (content.var u) (value_told a b q.1)
@@ -134,8 +144,10 @@ content_told _ _ e = absurd (false≢true e)
 
 content_itself : (a : PlainContent) → same_content a a ≡ true
 content_itself (content.rec a) = values_itself (listed a)
-content_itself (content.arr low a) = and_from (int_eq low low) (same_values (listed a) (listed a)) ((signed_Decides low low).1 refl) (values_itself (listed a))
-content_itself (content.var t a) = and_from (t == t) (same_value a a) (eq-eqb t t refl) (value_itself a)
+content_itself (content.arr low a) = and_from (int_eq low low) (same_values (listed a) (listed a))
+    ((signed_Decides low low).1 refl) (values_itself (listed a))
+content_itself (content.var t a) =
+    and_from (t == t) (same_value a a) (eq-eqb t t refl) (value_itself a)
 
 change_told : (a b : PlainChange) → same_change a b ≡ true → a ≡ b
 change_told (change.create a) (change.create b) e = ap change.create (content_told a b e)
@@ -144,7 +156,8 @@ change_told (change.set_field i a) (change.set_field j b) e =
     ap (λ x. change.set_field x a) (eqb-true i j q.0) ∙ ap (change.set_field j) (value_told a b q.1)
 change_told (change.store i a) (change.store j b) e =
     let q = both (int_eq i j) (same_value a b) e in
-    ap (λ x. change.store x a) ((signed_Decides i j).0 q.0) ∙ ap (change.store j) (value_told a b q.1)
+    ap (λ x. change.store x a) ((signed_Decides i j).0 q.0)
+    ∙ ap (change.store j) (value_told a b q.1)
 change_told (change.addh a) (change.addh b) e = ap change.addh (value_told a b e)
 change_told (change.addl a) (change.addl b) e = ap change.addl (value_told a b e)
 change_told change.remh change.remh e = refl
@@ -152,24 +165,30 @@ change_told change.reml change.reml e = refl
 change_told (change.set_low i) (change.set_low j) e = ap change.set_low ((signed_Decides i j).0 e)
 change_told (change.trim i m) (change.trim j n) e =
     let q = both (int_eq i j) (int_eq m n) e in
-    ap (λ x. change.trim x m) ((signed_Decides i j).0 q.0) ∙ ap (change.trim j) ((signed_Decides m n).0 q.1)
+    ap (λ x. change.trim x m) ((signed_Decides i j).0 q.0)
+    ∙ ap (change.trim j) ((signed_Decides m n).0 q.1)
 change_told (change.change_tag t a) (change.change_tag u b) e =
     let q = both (t == u) (same_value a b) e in
-    ap (λ x. change.change_tag x a) (eqb-true t u q.0) ∙ ap (change.change_tag u) (value_told a b q.1)
+    ap (λ x. change.change_tag x a) (eqb-true t u q.0)
+    ∙ ap (change.change_tag u) (value_told a b q.1)
 change_told change.touch change.touch e = refl
 change_told _ _ e = absurd (false≢true e)
 
 change_itself : (a : PlainChange) → same_change a a ≡ true
 change_itself (change.create a) = content_itself a
-change_itself (change.set_field i a) = and_from (i == i) (same_value a a) (eq-eqb i i refl) (value_itself a)
-change_itself (change.store i a) = and_from (int_eq i i) (same_value a a) ((signed_Decides i i).1 refl) (value_itself a)
+change_itself (change.set_field i a) =
+    and_from (i == i) (same_value a a) (eq-eqb i i refl) (value_itself a)
+change_itself (change.store i a) =
+    and_from (int_eq i i) (same_value a a) ((signed_Decides i i).1 refl) (value_itself a)
 change_itself (change.addh a) = value_itself a
 change_itself (change.addl a) = value_itself a
 change_itself change.remh = refl
 change_itself change.reml = refl
 change_itself (change.set_low i) = (signed_Decides i i).1 refl
-change_itself (change.trim i m) = and_from (int_eq i i) (int_eq m m) ((signed_Decides i i).1 refl) ((signed_Decides m m).1 refl)
-change_itself (change.change_tag t a) = and_from (t == t) (same_value a a) (eq-eqb t t refl) (value_itself a)
+change_itself (change.trim i m) =
+    and_from (int_eq i i) (int_eq m m) ((signed_Decides i i).1 refl) ((signed_Decides m m).1 refl)
+change_itself (change.change_tag t a) =
+    and_from (t == t) (same_value a a) (eq-eqb t t refl) (value_itself a)
 change_itself change.touch = refl
 
 signal_told : (a b : Signal) → same_signal a b ≡ true → a ≡ b
@@ -207,7 +226,9 @@ answer_itself (answer.body a) = content_itself a
 answer_itself (answer.signal a) = signal_itself a
 
 -- a test that holds of what is the same, and of nothing else
-pub decided : {P : Type 0} (E : P → P → Bool) → ((a b : P) → E a b ≡ true → a ≡ b) → ((a : P) → E a a ≡ true) → (a b : P) → Decides (E a b) (a ≡ b)
+pub decided : {P : Type 0} (E : P → P → Bool) → ((a b : P) → E a b ≡ true → a ≡ b)
+    → ((a : P) → E a a ≡ true)
+    → (a b : P) → Decides (E a b) (a ≡ b)
 decided E told itself a b = (told a b, λ e. subst (λ x. E a x ≡ true) e (itself a))
 
 pub value_decided : (a b : PlainValue) → Decides (same_value a b) (a ≡ b)
@@ -246,9 +267,14 @@ answer_decided = decided same_answer answer_told answer_itself
 pub answer_answered : (r : Bool) (a b : PlainAnswer) → (r ≡ true) ↔ (a ≡ b) → r ≡ same_answer a b
 answer_answered r a b d = one_answer r (same_answer a b) d (answer_decided a b)
 
--- a test that tells what is the same tells it of what is said, too, whichever way round and from one to the next
-pub said_equivalence : {K P : Type 0} (said : K → P) (E : P → P → Bool) → ((a b : P) → Decides (E a b) (a ≡ b)) → IsPartialEquivalence (λ a b. E (said a) (said b))
+-- a test that tells what is the same tells it of what is said, too, whichever way round and from
+-- one to the next
+pub said_equivalence : {K P : Type 0} (said : K → P) (E : P → P → Bool)
+    → ((a b : P) → Decides (E a b) (a ≡ b))
+    → IsPartialEquivalence (λ a b. E (said a) (said b))
 said_equivalence said E d = record {
-  symm = λ x y. one_answer (E (said x) (said y)) (E (said y) (said x)) (d (said x) (said y)) (λ e. sym ((d (said y) (said x)).0 e), λ e. (d (said y) (said x)).1 (sym e));
-  trans = λ x y z p q. (d (said x) (said z)).1 ((d (said x) (said y)).0 p ∙ (d (said y) (said z)).0 q);
+  symm = λ x y. one_answer (E (said x) (said y)) (E (said y) (said x)) (d (said x) (said y))
+      (λ e. sym ((d (said y) (said x)).0 e), λ e. (d (said y) (said x)).1 (sym e));
+  trans = λ x y z p q. (d (said x) (said z)).1 ((d (said x) (said y)).0 p
+      ∙ (d (said y) (said z)).0 q);
 }

@@ -1,58 +1,94 @@
 -- When a content fits a shape, and when an operation suits one.
-use Rattle.std.specs.Prelude.{ℕ, ℤ, Bool, true, false, ◌&&◌, not, nat_lt, nat_le, int_lt, length}
-use Rattle.argus_contents.specs.Value.{listed}
+use Rattle.std.specs.Prelude.{ℕ, Bool, true, false, ◌&&◌, nat_lt, length}
+use Rattle.argus_contents.specs.Value.{PlainValue, listed}
 use Rattle.argus_contents.specs.Typing.{is_typed, all_typed, each_typed, is_typed_at}
 use Rattle.argus_contents.specs.Ty.{PlainFields}
 use Rattle.argus_contents.specs.Shape.{PlainShape, names_of}
 use Rattle.argus_contents.specs.Shape as shape
-use Rattle.argus_contents.specs.Content.{PlainContent, rec, arr, var}
-use Rattle.argus_contents.specs.Place.{high_of}
-use Rattle.argus_contents.specs.Change.{PlainChange, create, set_field, store, addh, addl, remh, reml, set_low, trim, change_tag, touch}
-use Rattle.argus_contents.specs.declared.limits.TheConstants.{MIN_BOUND, MAX_BOUND, MAX_ITEMS}
+use Rattle.argus_contents.specs.Content.{PlainContent, arr, is_within, rec, var}
+use Rattle.argus_contents.specs.Change.{PlainChange, create, set_field, store, addh, addl, remh}
+use Rattle.argus_contents.specs.Change.{reml, set_low, trim}
+use Rattle.argus_contents.specs.Change.{change_tag, touch}
 use Rattle.argus_contents.specs.declared.query.Query.{Query}
-use Rattle.argus_contents.specs.declared.query.Query.TheVariants.{Whole, Field, Low, High, Size, Fetch, Bottom, Top, IsTag, TagValue}
-
--- an array with this low bound and so many items keeps the limits
-abbrev pub is_within : ℤ → ℕ → Bool
-is_within low size =
-    (not (int_lt low MIN_BOUND) && not (int_lt MAX_BOUND low)) && (not (int_lt MAX_BOUND (high_of low size)) && nat_le size MAX_ITEMS)
+use Rattle.argus_contents.specs.declared.query.Query.TheVariants.{Whole, Field, Low, High, Size}
+use Rattle.argus_contents.specs.declared.query.Query.TheVariants.{Fetch, Bottom, Top}
+use Rattle.argus_contents.specs.declared.query.Query.TheVariants.{IsTag, TagValue}
 
 -- the content is of the shape's kind, its parts are of their types, and an array keeps the limits
 abbrev pub is_fitting : PlainShape → ℕ → PlainContent → Bool
 is_fitting (shape.rec fs) n (rec vs) = each_typed fs n (listed vs)
 is_fitting (shape.arr t) n (arr low vs) = is_within low (length vs) && all_typed t n (listed vs)
 is_fitting (shape.var fs) n (var t v) = is_typed_at fs t n v
-is_fitting _ n _ = false
+is_fitting (shape.rec fs) n (arr low vs) = false
+is_fitting (shape.rec fs) n (var t v) = false
+is_fitting (shape.arr x) n (rec vs) = false
+is_fitting (shape.arr x) n (var t v) = false
+is_fitting (shape.var fs) n (rec vs) = false
+is_fitting (shape.var fs) n (arr low vs) = false
 
 -- there is a field or a tag with this number
 abbrev pub has_number : PlainFields → ℕ → Bool
 has_number fs i = nat_lt i (length (names_of fs))
 
+-- the shape is an array's
+abbrev pub is_array : PlainShape → Bool
+is_array (shape.rec fs) = false
+is_array (shape.arr x) = true
+is_array (shape.var fs) = false
+
+-- the shape is a record's, with a field of this number
+abbrev pub has_field : PlainShape → ℕ → Bool
+has_field (shape.rec fs) i = has_number fs i
+has_field (shape.arr x) i = false
+has_field (shape.var fs) i = false
+
+-- the shape is a variant's, with a tag of this number
+abbrev pub has_tag : PlainShape → ℕ → Bool
+has_tag (shape.rec fs) t = false
+has_tag (shape.arr x) t = false
+has_tag (shape.var fs) t = has_number fs t
+
 -- the query is one of the shape's kind, and its field or tag is there
 abbrev pub query_suits : PlainShape → Query → Bool
 query_suits s Whole = true
-query_suits (shape.rec fs) (Field i) = has_number fs i
-query_suits (shape.arr t) Low = true
-query_suits (shape.arr t) High = true
-query_suits (shape.arr t) Size = true
-query_suits (shape.arr t) (Fetch i) = true
-query_suits (shape.arr t) Bottom = true
-query_suits (shape.arr t) Top = true
-query_suits (shape.var fs) (IsTag t) = has_number fs t
-query_suits (shape.var fs) (TagValue t) = has_number fs t
-query_suits _ _ = false
+query_suits s (Field i) = has_field s i
+query_suits s Low = is_array s
+query_suits s High = is_array s
+query_suits s Size = is_array s
+query_suits s (Fetch i) = is_array s
+query_suits s Bottom = is_array s
+query_suits s Top = is_array s
+query_suits s (IsTag t) = has_tag s t
+query_suits s (TagValue t) = has_tag s t
+
+-- the shape is a record's, and the value is of the type of the field with this number
+abbrev pub field_suits : PlainShape → ℕ → ℕ → PlainValue → Bool
+field_suits (shape.rec fs) n i v = is_typed_at fs i n v
+field_suits (shape.arr x) n i v = false
+field_suits (shape.var fs) n i v = false
+
+-- the shape is an array's, and the value is of its type
+abbrev pub item_suits : PlainShape → ℕ → PlainValue → Bool
+item_suits (shape.rec fs) n v = false
+item_suits (shape.arr x) n v = is_typed x n v
+item_suits (shape.var fs) n v = false
+
+-- the shape is a variant's, and the value is of the type of the tag with this number
+abbrev pub tag_suits : PlainShape → ℕ → ℕ → PlainValue → Bool
+tag_suits (shape.rec fs) n t v = false
+tag_suits (shape.arr x) n t v = false
+tag_suits (shape.var fs) n t v = is_typed_at fs t n v
 
 -- the change is one of the shape's kind, its field or tag is there, and its value or content fits
 abbrev pub change_suits : PlainShape → ℕ → PlainChange → Bool
 change_suits s n touch = true
 change_suits s n (create c) = is_fitting s n c
-change_suits (shape.rec fs) n (set_field i v) = is_typed_at fs i n v
-change_suits (shape.arr t) n (store i v) = is_typed t n v
-change_suits (shape.arr t) n (addh v) = is_typed t n v
-change_suits (shape.arr t) n (addl v) = is_typed t n v
-change_suits (shape.arr t) n remh = true
-change_suits (shape.arr t) n reml = true
-change_suits (shape.arr t) n (set_low i) = true
-change_suits (shape.arr t) n (trim from count) = true
-change_suits (shape.var fs) n (change_tag t v) = is_typed_at fs t n v
-change_suits _ n _ = false
+change_suits s n (set_field i v) = field_suits s n i v
+change_suits s n (store i v) = item_suits s n v
+change_suits s n (addh v) = item_suits s n v
+change_suits s n (addl v) = item_suits s n v
+change_suits s n remh = is_array s
+change_suits s n reml = is_array s
+change_suits s n (set_low i) = is_array s
+change_suits s n (trim from count) = is_array s
+change_suits s n (change_tag t v) = tag_suits s n t v

@@ -9,4 +9,5 @@ is_name_byte b = (nat_le 97 b && nat_le b 122) || (nat_le 48 b && nat_le b 57) |
 
 -- 1 to 32 such bytes
 abbrev pub is_name : List ℕ → Bool
-is_name text = nat_lt 0 (length text) && nat_le (length text) MAX_NAME_BYTES && list_all is_name_byte text
+is_name text =
+    nat_lt 0 (length text) && nat_le (length text) MAX_NAME_BYTES && list_all is_name_byte text

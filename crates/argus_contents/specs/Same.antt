@@ -1,4 +1,5 @@
--- Tests of what is said: whether two values, types, shapes, contents, changes or answers say the same.
+-- Tests of what is said: whether two values, types, shapes, contents, changes or answers say the
+-- same.
 use lib.Pointwise.{pointwise}
 use Rattle.std.specs.Bool.{beq}
 use Rattle.std.specs.Ordering.{int_eq}
@@ -53,7 +54,8 @@ abbrev mutual
   -- as many names with types, and each says the same as the other list's
   pub same_fields : PlainFields → PlainFields → Bool
   same_fields ty.none ty.none = true
-  same_fields (ty.more m a rest) (ty.more n b others) = pointwise nat_eq m n && (same_ty a b && same_fields rest others)
+  same_fields (ty.more m a rest) (ty.more n b others) =
+      pointwise nat_eq m n && (same_ty a b && same_fields rest others)
   same_fields _ _ = false
 
 -- two shapes say the same
@@ -66,7 +68,8 @@ same_shape _ _ = false
 -- two contents say the same
 abbrev pub same_content : PlainContent → PlainContent → Bool
 same_content (content.rec a) (content.rec b) = same_values (listed a) (listed b)
-same_content (content.arr low a) (content.arr bound b) = int_eq low bound && same_values (listed a) (listed b)
+same_content (content.arr low a) (content.arr bound b) =
+    int_eq low bound && same_values (listed a) (listed b)
 same_content (content.var t a) (content.var u b) = t == u && same_value a b
 same_content _ _ = false
 

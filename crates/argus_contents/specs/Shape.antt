@@ -1,12 +1,15 @@
 -- What a shape says, and when one can be made.
-use Rattle.std.specs.Prelude.{ℕ, ◌+◌, max, nat_eq, nat_lt, Bool, true, false, ◌||◌, if◌then◌else◌, List, [], ◌∷◌, length, Option, Some, None}
+use Rattle.std.specs.Prelude.{ℕ, ◌+◌, max, nat_eq, nat_lt, Bool, true, false, ◌||◌, if◌then◌else◌}
+use Rattle.std.specs.Prelude.{List, [], ◌∷◌}
+use Rattle.std.specs.Prelude.{length, Option, Some, None}
 use lib.Pointwise.{pointwise}
 use Rattle.std.specs.List.{list_any}
 use Rattle.argus_contents.specs.Ty.{PlainTy, PlainFields, plain_ty, plain_fields}
 use Rattle.argus_contents.specs.Ty as ty
 use Rattle.argus_contents.specs.declared.limits.TheConstants.{MAX_NAMES, MAX_VALUE_DEPTH}
 use Rattle.argus_contents.specs.declared.shape_fault.ShapeFault.{ShapeFault}
-use Rattle.argus_contents.specs.declared.shape_fault.ShapeFault.TheVariants.{NameTwice, NoNames, TooManyNames, TooDeep}
+use Rattle.argus_contents.specs.declared.shape_fault.ShapeFault.TheVariants.{NameTwice, NoNames}
+use Rattle.argus_contents.specs.declared.shape_fault.ShapeFault.TheVariants.{TooManyNames, TooDeep}
 
 -- a plain shape
 pub data PlainShape : Type 0 where
@@ -25,7 +28,11 @@ abbrev mutual
   in_ty test (ty.sequence x) = in_ty test x
   in_ty test (ty.fields fs) = test (names_of fs) || in_fields test fs
   in_ty test (ty.choice fs) = test (names_of fs) || in_fields test fs
-  in_ty test _ = false
+  in_ty test ty.null = false
+  in_ty test ty.bool = false
+  in_ty test ty.int = false
+  in_ty test ty.text = false
+  in_ty test ty.atomic = false
 
   -- a test holds of some list of names in the types of a list
   pub in_fields : (List (List ℕ) → Bool) → PlainFields → Bool
@@ -58,7 +65,11 @@ abbrev mutual
   depth_of (ty.sequence x) = depth_of x + 1
   depth_of (ty.fields fs) = deepest_of fs + 1
   depth_of (ty.choice fs) = deepest_of fs + 1
-  depth_of _ = 1
+  depth_of ty.null = 1
+  depth_of ty.bool = 1
+  depth_of ty.int = 1
+  depth_of ty.text = 1
+  depth_of ty.atomic = 1
 
   -- the depth of the deepest type of a list
   pub deepest_of : PlainFields → ℕ

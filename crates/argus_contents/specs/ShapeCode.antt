@@ -48,14 +48,20 @@ abbrev mutual
 -- the type of a kind, with the part that its kind has
 abbrev pub ty_of : ℕ → PlainTy → PlainFields → PlainTy
 ty_of k t fs =
-    if k == 0 then ty.null else (if k == 1 then ty.bool else (if k == 2 then ty.int else (if k == 3 then ty.text else
-    (if k == 4 then ty.atomic else (if k == 5 then ty.sequence t else (if k == 6 then ty.fields fs else ty.choice fs))))))
+    if k == 0 then ty.null else (if k == 1 then ty.bool else
+    (if k == 2 then ty.int else (if k == 3 then ty.text else
+    (if k == 4 then ty.atomic else (if k == 5 then ty.sequence t else
+    (if k == 6 then ty.fields fs else ty.choice fs))))))
 
 -- what a tree is as a type, what its second part is as a type, and what it is as a list of names
 abbrev pub seen : Gv → PlainTy × PlainTy × PlainFields
 seen gnil = (ty.null, ty.null, ty.none)
 seen (gnum n) = (ty.null, ty.null, ty.none)
-seen (gcons a b) = (ty_of (num a) (seen b).0 (seen b).2, (seen b).0, ty.more (bytes_at (first a)) (seen a).1 (seen b).2)
+seen (gcons a b) = (
+  ty_of (num a) (seen b).0 (seen b).2,
+  (seen b).0,
+  ty.more (bytes_at (first a)) (seen a).1 (seen b).2,
+)
 
 mutual
   pub ty_back : (t : PlainTy) → (seen (ty_code t)).0 ≡ t
@@ -72,7 +78,8 @@ mutual
   fields_back ty.none = refl
   fields_back (ty.more name t fs) =
       ap (λ n. ty.more n (seen (ty_code t)).0 (seen (fields_code fs)).2) (bytes_back name)
-      ∙ (ap (λ x. ty.more name x (seen (fields_code fs)).2) (ty_back t) ∙ ap (ty.more name t) (fields_back fs))
+      ∙ (ap (λ x. ty.more name x (seen (fields_code fs)).2) (ty_back t)
+      ∙ ap (ty.more name t) (fields_back fs))
 
 abbrev pub shape_code : PlainShape → Gv
 shape_code (rec fs) = gcons (gnum 0) (fields_code fs)
@@ -81,7 +88,8 @@ shape_code (var fs) = gcons (gnum 2) (fields_code fs)
 
 abbrev pub shape_at : Gv → PlainShape
 shape_at g =
-    if num (first g) == 0 then rec (seen (second g)).2 else (if num (first g) == 1 then arr (seen (second g)).0 else var (seen (second g)).2)
+    if num (first g) == 0 then rec (seen (second g)).2 else
+    (if num (first g) == 1 then arr (seen (second g)).0 else var (seen (second g)).2)
 
 pub shape_back : (s : PlainShape) → shape_at (shape_code s) ≡ s
 shape_back (rec fs) = ap rec (fields_back fs)

@@ -21,7 +21,8 @@ abbrev mutual
   is_typed ty.atomic n (value.atomic o) = nat_lt o n
   is_typed (ty.sequence x) n (value.sequence vs) = all_typed x n vs
   is_typed (ty.fields fs) n (value.fields vs) = each_typed fs n vs
-  is_typed (ty.choice fs) n (value.choice t v) = elim (ty_at fs t) [ None ↦ false | Some x ↦ is_typed x n v ]
+  is_typed (ty.choice fs) n (value.choice t v) =
+      elim (ty_at fs t) [ None ↦ false | Some x ↦ is_typed x n v ]
   is_typed _ n _ = false
 
   -- each value is of the one type
@@ -33,7 +34,8 @@ abbrev mutual
   pub each_typed : PlainFields → ℕ → PlainValues → Bool
   each_typed ty.none n value.none = true
   each_typed (ty.more name x fs) n (value.more v vs) = is_typed x n v && each_typed fs n vs
-  each_typed _ n _ = false
+  each_typed ty.none n (value.more v vs) = false
+  each_typed (ty.more name x fs) n value.none = false
 
 -- there is such a field or tag, and the value is of its type
 abbrev pub is_typed_at : PlainFields → ℕ → ℕ → PlainValue → Bool

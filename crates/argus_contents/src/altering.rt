@@ -2,14 +2,16 @@
 
 ghost use Rattle.std.specs.Prelude.{◌≡◌, Some, None, length, IfOk, OnErr};
 ghost use Rattle.argus_contents.specs.Answer.{plain_answer};
-ghost use Rattle.argus_contents.specs.Change.{absent_result, array_result, CreatesWithin, plain_change, result as outcome_of, variant_result};
-ghost use Rattle.argus_contents.specs.Content.{arr, KeepsBounds, KeepsLimits, plain_content, plain_option, var};
+ghost use Rattle.argus_contents.specs.Change.{absent_outcome, array_outcome, CreatesWithin};
+ghost use Rattle.argus_contents.specs.Change.{outcome, plain_change, variant_outcome};
+ghost use Rattle.argus_contents.specs.Content.{arr, KeepsBounds, KeepsLimits, plain_content};
+ghost use Rattle.argus_contents.specs.Content.{plain_option, var};
 ghost use Rattle.argus_contents.specs.Value.{plain_list, plain_value};
 
 use crate::answer::Answer;
 use crate::array::alter_array;
 use crate::change::Change;
-use crate::content::{Content, duplicate_option};
+use crate::content::Content;
 use crate::record::alter_record;
 use crate::signal::Signal;
 use crate::value::Value;
@@ -26,8 +28,10 @@ pub fn alter(
     change: &Change,
 ) -> Result<(Option<Content>, Answer), OutOfMemory>
     requires { KeepsLimits (plain_option content.now) }
-    ensures ok { IfOk result (λ left. (plain_option left.0, plain_answer left.1) ≡ outcome_of (plain_change change.now) (plain_option content.now)) }
-    ensures kept { CreatesWithin (plain_change change.now) → IfOk result (λ left. KeepsLimits (plain_option left.0)) }
+    ensures ok { IfOk result (λ left. (plain_option left.0, plain_answer left.1)
+        ≡ outcome (plain_change change.now) (plain_option content.now)) }
+    ensures kept { CreatesWithin (plain_change change.now)
+        → IfOk result (λ left. KeepsLimits (plain_option left.0)) }
 {
     alter_copy(heap, content, change.duplicate(heap)?)
 }
@@ -41,10 +45,12 @@ pub fn alter_copy(
     change: Change,
 ) -> Result<(Option<Content>, Answer), OutOfMemory>
     requires { KeepsLimits (plain_option content.now) }
-    ensures ok { IfOk result (λ left. (plain_option left.0, plain_answer left.1) ≡ outcome_of (plain_change change) (plain_option content.now)) }
-    ensures kept { CreatesWithin (plain_change change) → IfOk result (λ left. KeepsLimits (plain_option left.0)) }
+    ensures ok { IfOk result (λ left. (plain_option left.0, plain_answer left.1)
+        ≡ outcome (plain_change change) (plain_option content.now)) }
+    ensures kept { CreatesWithin (plain_change change)
+        → IfOk result (λ left. KeepsLimits (plain_option left.0)) }
 {
-    let mut copy = duplicate_option(heap, content)?;
+    let mut copy = Content::duplicate_option(heap, content)?;
     let answer = alter_in_place(&mut copy, change)?;
     Ok((copy, answer))
 }
@@ -56,7 +62,8 @@ pub fn alter_copy(
 /// for an `Addh` or `Addl` that finds no room left and grows the queue to twice its size.
 pub fn alter_in_place(content: &mut Option<Content>, change: Change) -> Result<Answer, OutOfMemory>
     requires { KeepsLimits (plain_option content.old) }
-    ensures ok { IfOk result (λ answer. (plain_option content.new, plain_answer answer) ≡ outcome_of (plain_change change) (plain_option content.old)) }
+    ensures ok { IfOk result (λ answer. (plain_option content.new, plain_answer answer)
+        ≡ outcome (plain_change change) (plain_option content.old)) }
     ensures err { OnErr result (plain_option content.new ≡ plain_option content.old) }
     ensures kept { CreatesWithin (plain_change change) → KeepsLimits (plain_option content.new) }
 {
@@ -87,7 +94,8 @@ fn alter_parts(
     change: Change,
 ) -> (Content, Result<Answer, OutOfMemory>)
     requires { KeepsBounds low (length items.items) }
-    ensures ok { IfOk result.1 (λ answer. (Some (plain_content result.0), plain_answer answer) ≡ array_result (plain_change change) low (plain_list items.items)) }
+    ensures ok { IfOk result.1 (λ answer. (Some (plain_content result.0), plain_answer answer)
+        ≡ array_outcome (plain_change change) low (plain_list items.items)) }
     ensures err { OnErr result.1 (plain_content result.0 ≡ arr low (plain_list items.items)) }
     ensures kept { KeepsLimits (Some (plain_content result.0)) }
 {
@@ -97,7 +105,8 @@ fn alter_parts(
 
 fn alter_absent(content: &mut Option<Content>, change: Change) -> Answer
     requires { plain_option content.old ≡ None }
-    ensures { (plain_option content.new, plain_answer result) ≡ absent_result (plain_change change) }
+    ensures { (plain_option content.new, plain_answer result)
+        ≡ absent_outcome (plain_change change) }
 {
     match change {
         Change::Create(made) => {
@@ -105,12 +114,21 @@ fn alter_absent(content: &mut Option<Content>, change: Change) -> Answer
             Answer::Done
         }
         Change::Touch => Answer::Done,
-        _ => Answer::Signal(Signal::Absent),
+        Change::SetField(_, _)
+        | Change::Store(_, _)
+        | Change::Addh(_)
+        | Change::Addl(_)
+        | Change::Remh
+        | Change::Reml
+        | Change::SetLow(_)
+        | Change::Trim(_, _)
+        | Change::ChangeTag(_, _) => Answer::Signal(Signal::Absent),
     }
 }
 
 fn alter_variant(tag: &mut u8, value: &mut Value, change: Change) -> Answer
-    ensures { (Some (var tag.new (plain_value value.new)), plain_answer result) ≡ variant_result (plain_change change) tag.old (plain_value value.old) }
+    ensures { (Some (var tag.new (plain_value value.new)), plain_answer result)
+        ≡ variant_outcome (plain_change change) tag.old (plain_value value.old) }
 {
     match change {
         Change::Create(_) => Answer::Signal(Signal::Exists),
@@ -120,6 +138,13 @@ fn alter_variant(tag: &mut u8, value: &mut Value, change: Change) -> Answer
             *value = new_value;
             Answer::Done
         }
-        _ => Answer::Signal(Signal::Absent),
+        Change::SetField(_, _)
+        | Change::Store(_, _)
+        | Change::Addh(_)
+        | Change::Addl(_)
+        | Change::Remh
+        | Change::Reml
+        | Change::SetLow(_)
+        | Change::Trim(_, _) => Answer::Signal(Signal::Absent),
     }
 }

@@ -2,7 +2,9 @@
 
 ghost use Rattle.std.specs.Prelude.{◌≡◌, if◌then◌else◌, length, IfOk};
 ghost use Rattle.argus_contents.specs.Answer.{done, plain_answer, signal};
-ghost use Rattle.argus_contents.specs.Change.{absent_result, array_result, plain_change, record_result, reml, result as outcome_of, store, trimmed, variant_result};
+ghost use Rattle.argus_contents.specs.Change.{absent_outcome, array_outcome, plain_change, outcome};
+ghost use Rattle.argus_contents.specs.Change.{record_outcome, reml, store, trimmed};
+ghost use Rattle.argus_contents.specs.Change.{variant_outcome};
 ghost use Rattle.argus_contents.specs.Content.{KeepsBounds, KeepsLimits, plain_option};
 ghost use Rattle.argus_contents.specs.Value.{plain_value, plain_list};
 
@@ -20,16 +22,17 @@ use std::collections::VecDeque;
 /// What [`alter`](crate::alter) answers, without the content that it leaves; [`Change`] has the
 /// table. So an answer can be had before the change is made.
 ///
-/// A present array has to keep the limits, as `fits` tests. Nothing is changed. The answer owns what
-/// it holds: it's a copy, which only `Remh` and `Reml` make.
-/// `OutOfMemory`: there was no memory for it.
+/// A present array has to keep the limits, as `fits` tests. Nothing is changed. The answer owns
+/// what it holds: it's a copy, which only `Remh` and `Reml` make. `OutOfMemory`: there was no
+/// memory for it.
 pub fn change_answer(
     heap: Heap,
     content: &Option<Content>,
     change: &Change,
 ) -> Result<Answer, OutOfMemory>
     requires { KeepsLimits (plain_option content.now) }
-    ensures { IfOk result (λ answer. plain_answer answer ≡ (outcome_of (plain_change change.now) (plain_option content.now)).1) }
+    ensures { IfOk result (λ answer. plain_answer answer
+        ≡ (outcome (plain_change change.now) (plain_option content.now)).1) }
 {
     match content {
         None => Ok(absent_answer(change)),
@@ -40,33 +43,57 @@ pub fn change_answer(
 }
 
 fn absent_answer(change: &Change) -> Answer
-    ensures { plain_answer result ≡ (absent_result (plain_change change.now)).1 }
+    ensures { plain_answer result ≡ (absent_outcome (plain_change change.now)).1 }
 {
     match change {
         Change::Create(_) | Change::Touch => Answer::Done,
-        _ => Answer::Signal(Signal::Absent),
+        Change::SetField(_, _)
+        | Change::Store(_, _)
+        | Change::Addh(_)
+        | Change::Addl(_)
+        | Change::Remh
+        | Change::Reml
+        | Change::SetLow(_)
+        | Change::Trim(_, _)
+        | Change::ChangeTag(_, _) => Answer::Signal(Signal::Absent),
     }
 }
 
 fn record_answer(fields: &[Value], change: &Change) -> Answer
-    ensures { plain_answer result ≡ (record_result (plain_change change.now) (plain_list fields.now)).1 }
+    ensures { plain_answer result ≡ (record_outcome (plain_change change.now)
+        (plain_list fields.now)).1 }
 {
     match change {
         Change::Create(_) => Answer::Signal(Signal::Exists),
         Change::Touch => Answer::Done,
         Change::SetField(field, _) => done_unless(*field as usize >= fields.len(), Signal::Absent),
-        _ => Answer::Signal(Signal::Absent),
+        Change::Store(_, _)
+        | Change::Addh(_)
+        | Change::Addl(_)
+        | Change::Remh
+        | Change::Reml
+        | Change::SetLow(_)
+        | Change::Trim(_, _)
+        | Change::ChangeTag(_, _) => Answer::Signal(Signal::Absent),
     }
 }
 
 // The variant's own tag and value decide nothing.
 fn variant_answer(tag: u8, value: &Value, change: &Change) -> Answer
-    ensures { plain_answer result ≡ (variant_result (plain_change change.now) tag (plain_value value.now)).1 }
+    ensures { plain_answer result ≡ (variant_outcome (plain_change change.now) tag
+        (plain_value value.now)).1 }
 {
     match change {
         Change::Create(_) => Answer::Signal(Signal::Exists),
         Change::Touch | Change::ChangeTag(_, _) => Answer::Done,
-        _ => Answer::Signal(Signal::Absent),
+        Change::SetField(_, _)
+        | Change::Store(_, _)
+        | Change::Addh(_)
+        | Change::Addl(_)
+        | Change::Remh
+        | Change::Reml
+        | Change::SetLow(_)
+        | Change::Trim(_, _) => Answer::Signal(Signal::Absent),
     }
 }
 
@@ -77,7 +104,8 @@ fn array_answer(
     change: &Change,
 ) -> Result<Answer, OutOfMemory>
     requires { KeepsBounds low (length items.now.items) }
-    ensures { IfOk result (λ answer. plain_answer answer ≡ (array_result (plain_change change.now) low (plain_list items.now.items)).1) }
+    ensures { IfOk result (λ answer. plain_answer answer
+        ≡ (array_outcome (plain_change change.now) low (plain_list items.now.items)).1) }
 {
     let size = items.len();
     match change {
@@ -90,7 +118,7 @@ fn array_answer(
         Change::Reml => first_answer(heap, low, items),
         Change::SetLow(bound) => Ok(done_unless(is_out_of_limits(*bound, size), Signal::Limits)),
         Change::Trim(from, count) => Ok(trim_answer(low, items, *from, *count)),
-        _ => Ok(Answer::Signal(Signal::Absent)),
+        Change::SetField(_, _) | Change::ChangeTag(_, _) => Ok(Answer::Signal(Signal::Absent)),
     }
 }
 
@@ -106,7 +134,8 @@ fn done_unless(is_refused: bool, why: Signal) -> Answer
 
 fn store_answer(low: i64, items: &VecDeque<Value, Heap>, index: i64, value: &Value) -> Answer
     requires { KeepsBounds low (length items.now.items) }
-    ensures { plain_answer result ≡ (array_result (store index (plain_value value.now)) low (plain_list items.now.items)).1 }
+    ensures { plain_answer result ≡ (array_outcome (store index (plain_value value.now)) low
+        (plain_list items.now.items)).1 }
 {
     match place_in(low, items.len(), index) {
         None => Answer::Signal(Signal::Bounds),
@@ -116,7 +145,8 @@ fn store_answer(low: i64, items: &VecDeque<Value, Heap>, index: i64, value: &Val
 
 fn first_answer(heap: Heap, low: i64, items: &VecDeque<Value, Heap>) -> Result<Answer, OutOfMemory>
     requires { KeepsBounds low (length items.now.items) }
-    ensures { IfOk result (λ answer. plain_answer answer ≡ (array_result reml low (plain_list items.now.items)).1) }
+    ensures { IfOk result (λ answer. plain_answer answer
+        ≡ (array_outcome reml low (plain_list items.now.items)).1) }
 {
     if !items.is_empty() && low == MAX_BOUND {
         return Ok(Answer::Signal(Signal::Limits));

@@ -1,8 +1,11 @@
 //! What a change does to an array.
 
-ghost use Rattle.std.specs.Prelude.{◌≡◌, ◌≤◌, ◌-◌, Some, length, take, drop, slice_get, IfOk, OnErr};
+ghost use Rattle.std.specs.Prelude.{◌≡◌, ◌≤◌, ◌-◌, Some, length, take, drop, slice_get, IfOk};
+ghost use Rattle.std.specs.Prelude.{OnErr};
 ghost use Rattle.argus_contents.specs.Answer.{plain_answer, value_or};
-ghost use Rattle.argus_contents.specs.Change.{addh, addl, is_full_high, is_full_low, is_out_of_limits, Leaves, plain_change, reml, set_low, store, trim};
+ghost use Rattle.argus_contents.specs.Change.{addh, addl, is_full_high, is_full_low};
+ghost use Rattle.argus_contents.specs.Change.{is_out_of_limits, Leaves, plain_change, reml};
+ghost use Rattle.argus_contents.specs.Change.{set_low, store, trim};
 ghost use Rattle.argus_contents.specs.Content.{KeepsBounds};
 ghost use Rattle.argus_contents.specs.declared.limits.TheConstants.{MAX_ITEMS};
 ghost use Rattle.argus_contents.specs.Value.{plain_value, plain_list};
@@ -22,7 +25,8 @@ pub(crate) fn alter_array(
     change: Change,
 ) -> Result<Answer, OutOfMemory>
     requires { KeepsBounds low.old (length items.old.items) }
-    ensures ok { IfOk result (λ answer. Leaves (plain_change change) low.old items.old.items low.new items.new.items answer) }
+    ensures ok { IfOk result (λ answer. Leaves (plain_change change)
+        low.old items.old.items low.new items.new.items answer) }
     ensures err_low { OnErr result (low.new ≡ low.old) }
     ensures err_items { OnErr result (items.new.items ≡ items.old.items) }
 {
@@ -36,7 +40,7 @@ pub(crate) fn alter_array(
         Change::Reml => Ok(remove_low(low, items)),
         Change::SetLow(bound) => Ok(move_low(low, items, bound)),
         Change::Trim(from, count) => Ok(trim_items(low, items, from, count)),
-        _ => Ok(Answer::Signal(Signal::Absent)),
+        Change::SetField(_, _) | Change::ChangeTag(_, _) => Ok(Answer::Signal(Signal::Absent)),
     }
 }
 
@@ -65,7 +69,8 @@ pub(crate) fn is_out_of_limits(bound: i64, size: usize) -> bool
 
 fn store_item(low: i64, items: &mut VecDeque<Value, Heap>, index: i64, value: Value) -> Answer
     requires { KeepsBounds low (length items.old.items) }
-    ensures { Leaves (store index (plain_value value)) low items.old.items low items.new.items result }
+    ensures { Leaves (store index (plain_value value))
+        low items.old.items low items.new.items result }
 {
     match place_in(low, items.len(), index) {
         None => Answer::Signal(Signal::Bounds),
@@ -82,7 +87,8 @@ fn add_high(
     value: Value,
 ) -> Result<Answer, OutOfMemory>
     requires { KeepsBounds low (length items.old.items) }
-    ensures ok { IfOk result (λ answer. Leaves (addh (plain_value value)) low items.old.items low items.new.items answer) }
+    ensures ok { IfOk result (λ answer. Leaves (addh (plain_value value))
+        low items.old.items low items.new.items answer) }
     ensures err { OnErr result (items.new.items ≡ items.old.items) }
 {
     if is_full_high(low, items.len()) {
@@ -98,7 +104,8 @@ fn add_low(
     value: Value,
 ) -> Result<Answer, OutOfMemory>
     requires { KeepsBounds low.old (length items.old.items) }
-    ensures ok { IfOk result (λ answer. Leaves (addl (plain_value value)) low.old items.old.items low.new items.new.items answer) }
+    ensures ok { IfOk result (λ answer. Leaves (addl (plain_value value))
+        low.old items.old.items low.new items.new.items answer) }
     ensures err_low { OnErr result (low.new ≡ low.old) }
     ensures err_items { OnErr result (items.new.items ≡ items.old.items) }
 {
@@ -111,8 +118,10 @@ fn add_low(
 }
 
 fn remove_high(items: &mut VecDeque<Value, Heap>) -> Answer
-    ensures items { plain_list items.new.items ≡ take (length (plain_list items.old.items) - 1) (plain_list items.old.items) }
-    ensures answer { plain_answer result ≡ value_or Signal.Bounds (slice_get (plain_list items.old.items) (length (plain_list items.old.items) - 1)) }
+    ensures items { plain_list items.new.items ≡ take (length (plain_list items.old.items) - 1)
+        (plain_list items.old.items) }
+    ensures answer { plain_answer result ≡ value_or Signal.Bounds
+        (slice_get (plain_list items.old.items) (length (plain_list items.old.items) - 1)) }
 {
     match items.pop_back() {
         None => Answer::Signal(Signal::Bounds),

@@ -1,17 +1,19 @@
 //! `ask`: what a query answers.
 
-ghost use Rattle.std.specs.Prelude.{◌≡◌, ◌≤◌, ℕ, ℤ, pos, length, slice_get, Option, Some, None, IfOk, MatchOption};
-ghost use Rattle.argus_contents.specs.Answer.{plain_answer, value_or};
-ghost use Rattle.argus_contents.specs.Content.{KeepsBounds, KeepsLimits, plain_content, plain_option, arr, rec};
+ghost use Rattle.std.specs.Prelude.{◌≡◌, ◌≤◌, ℕ, ℤ, pos, length, slice_get, Option, Some, None};
+ghost use Rattle.std.specs.Prelude.{IfOk, MatchOption};
+ghost use Rattle.argus_contents.specs.Answer.{body, plain_answer, value_or};
+ghost use Rattle.argus_contents.specs.Content.{KeepsBounds, KeepsLimits, plain_content};
+ghost use Rattle.argus_contents.specs.Content.{plain_option, arr, rec};
 ghost use Rattle.argus_contents.specs.Place.{place_of, high_of};
-ghost use Rattle.argus_contents.specs.Query.{array_reply, variant_reply, reply};
+ghost use Rattle.argus_contents.specs.Query.{array_reply, record_reply, reply, variant_reply};
 ghost use Rattle.argus_contents.specs.Value.{plain_value, plain_list, plain_found};
 
 use crate::answer::Answer;
-use crate::content::Content;
+use crate::content::{Content, duplicate_items};
 use crate::query::Query;
 use crate::signal::Signal;
-use crate::value::Value;
+use crate::value::{Value, duplicate_all};
 use argus_memory::{Heap, OutOfMemory};
 use std::collections::VecDeque;
 
@@ -22,17 +24,34 @@ use std::collections::VecDeque;
 /// `OutOfMemory`: there was no memory for it.
 pub fn ask(heap: Heap, content: &Option<Content>, query: &Query) -> Result<Answer, OutOfMemory>
     requires { KeepsLimits (plain_option content.now) }
-    ensures { IfOk result (λ answer. plain_answer answer ≡ reply query.now (plain_option content.now)) }
+    ensures { IfOk result (λ answer. plain_answer answer
+        ≡ reply query.now (plain_option content.now)) }
 {
-    match (query, content) {
-        (_, None) => Ok(Answer::Signal(Signal::Absent)),
-        (Query::Whole, Some(content)) => Ok(Answer::Body(content.duplicate(heap)?)),
-        (Query::Field(field), Some(Content::Rec(fields))) => {
+    match content {
+        None => Ok(Answer::Signal(Signal::Absent)),
+        Some(Content::Rec(fields)) => ask_record(heap, fields, query),
+        Some(Content::Arr { low, items }) => ask_array(heap, *low, items, query),
+        Some(Content::Var { tag, value }) => ask_variant(heap, *tag, value, query),
+    }
+}
+
+fn ask_record(heap: Heap, fields: &[Value], query: &Query) -> Result<Answer, OutOfMemory>
+    ensures { IfOk result (λ answer. plain_answer answer
+        ≡ record_reply query.now (plain_list fields.now)) }
+{
+    match query {
+        Query::Whole => Ok(Answer::Body(Content::Rec(duplicate_all(heap, fields)?))),
+        Query::Field(field) => {
             value_or_signal(heap, fields.get(*field as usize), Signal::Absent)
         }
-        (_, Some(Content::Rec(_))) => Ok(Answer::Signal(Signal::Absent)),
-        (_, Some(Content::Arr { low, items })) => ask_array(heap, *low, items, query),
-        (_, Some(Content::Var { tag, value })) => ask_variant(heap, *tag, value, query),
+        Query::Low
+        | Query::High
+        | Query::Size
+        | Query::Fetch(_)
+        | Query::Bottom
+        | Query::Top
+        | Query::IsTag(_)
+        | Query::TagValue(_) => Ok(Answer::Signal(Signal::Absent)),
     }
 }
 
@@ -43,21 +62,34 @@ fn ask_array(
     query: &Query,
 ) -> Result<Answer, OutOfMemory>
     requires { KeepsBounds low (length items.now.items) }
-    ensures { IfOk result (λ answer. plain_answer answer ≡ array_reply query.now low (plain_list items.now.items)) }
+    ensures { IfOk result (λ answer. plain_answer answer
+        ≡ array_reply query.now low (plain_list items.now.items)) }
 {
     match query {
+        Query::Whole => whole_array(heap, low, items),
         Query::Low => Ok(Answer::Num(low)),
         Query::High => Ok(Answer::Num(low + items.len() as i64 - 1)),
         Query::Size => Ok(Answer::Num(items.len() as i64)),
         Query::Fetch(index) => fetch(heap, low, items, *index),
         Query::Bottom => value_or_signal(heap, items.front(), Signal::Bounds),
         Query::Top => value_or_signal(heap, items.back(), Signal::Bounds),
-        _ => Ok(Answer::Signal(Signal::Absent)),
+        Query::Field(_) | Query::IsTag(_) | Query::TagValue(_) => {
+            Ok(Answer::Signal(Signal::Absent))
+        }
     }
 }
 
+fn whole_array(heap: Heap, low: i64, items: &VecDeque<Value, Heap>) -> Result<Answer, OutOfMemory>
+    ensures { IfOk result (λ answer. plain_answer answer
+        ≡ body (arr low (plain_list items.now.items))) }
+{
+    let items = duplicate_items(heap, items)?;
+    Ok(Answer::Body(Content::Arr { low, items }))
+}
+
 fn ask_variant(heap: Heap, tag: u8, value: &Value, query: &Query) -> Result<Answer, OutOfMemory>
-    ensures { IfOk result (λ answer. plain_answer answer ≡ variant_reply query.now tag (plain_value value.now)) }
+    ensures { IfOk result (λ answer. plain_answer answer
+        ≡ variant_reply query.now tag (plain_value value.now)) }
 {
     match query {
         Query::IsTag(asked) => Ok(Answer::Flag(*asked == tag)),
@@ -67,7 +99,17 @@ fn ask_variant(heap: Heap, tag: u8, value: &Value, query: &Query) -> Result<Answ
             }
             Ok(Answer::Val(value.duplicate(heap)?))
         }
-        _ => Ok(Answer::Signal(Signal::Absent)),
+        Query::Whole => Ok(Answer::Body(Content::Var {
+            tag,
+            value: value.duplicate(heap)?,
+        })),
+        Query::Field(_)
+        | Query::Low
+        | Query::High
+        | Query::Size
+        | Query::Fetch(_)
+        | Query::Bottom
+        | Query::Top => Ok(Answer::Signal(Signal::Absent)),
     }
 }
 
@@ -78,7 +120,8 @@ fn fetch(
     index: i64,
 ) -> Result<Answer, OutOfMemory>
     requires { KeepsBounds low (length items.now.items) }
-    ensures { IfOk result (λ answer. plain_answer answer ≡ array_reply (Query.Fetch index) low (plain_list items.now.items)) }
+    ensures { IfOk result (λ answer. plain_answer answer
+        ≡ array_reply (Query.Fetch index) low (plain_list items.now.items)) }
 {
     match place_in(low, items.len(), index) {
         None => Ok(Answer::Signal(Signal::Bounds)),
@@ -113,7 +156,8 @@ pub(crate) fn value_or_signal(
     value: Option<&Value>,
     signal: Signal,
 ) -> Result<Answer, OutOfMemory>
-    ensures { IfOk result (λ answer. plain_answer answer ≡ value_or signal (plain_found value.entry)) }
+    ensures { IfOk result (λ answer. plain_answer answer
+        ≡ value_or signal (plain_found value.entry)) }
 {
     match value {
         None => Ok(Answer::Signal(signal)),

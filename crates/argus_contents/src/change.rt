@@ -30,8 +30,8 @@ use argus_memory::{Heap, OutOfMemory};
 /// | `ChangeTag(t, v)` | a variant | tag and value become these, `Done` |
 /// | `Touch` | any, also absent | unchanged, `Done` |
 ///
-/// Source: in the manner of the built-in atomic types of the Argus Reference Manual (MIT/LCS/TR-400,
-/// 1987); the signals and their order are this project's own.
+/// Source: in the manner of the built-in atomic types of the Argus Reference Manual
+/// (MIT/LCS/TR-400, 1987); the signals and their order are this project's own.
 ///
 /// ```text
 /// let answer = alter_in_place(&mut content, Change::Addh(Value::Int(5)))?;

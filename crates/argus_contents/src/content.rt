@@ -58,6 +58,19 @@ impl Content {
             }),
         }
     }
+
+    /// A content equal to this one, or none where there is none. `OutOfMemory`: nothing was copied.
+    pub fn duplicate_option(
+        heap: Heap,
+        content: &Option<Content>,
+    ) -> Result<Option<Content>, OutOfMemory>
+        ensures { IfOk result (λ copy. plain_option copy ≡ plain_option content.now) }
+    {
+        match content {
+            None => Ok(None),
+            Some(content) => Ok(Some(content.duplicate(heap)?)),
+        }
+    }
 }
 
 impl PartialEq for Content {
@@ -98,12 +111,14 @@ fn is_same(a: &Content, b: &Content) -> bool
 
 // Queues of the same items may be split at different places.
 fn have_same_items(a: &VecDeque<Value, Heap>, b: &VecDeque<Value, Heap>) -> bool
-    ensures { result ≡ same_values (listed (plain_list a.now.items)) (listed (plain_list b.now.items)) }
+    ensures { result ≡ same_values (listed (plain_list a.now.items))
+        (listed (plain_list b.now.items)) }
 {
     a == b
 }
 
-fn duplicate_items(
+/// Items equal to these, in the same order.
+pub(crate) fn duplicate_items(
     heap: Heap,
     items: &VecDeque<Value, Heap>,
 ) -> Result<VecDeque<Value, Heap>, OutOfMemory>
@@ -114,17 +129,4 @@ fn duplicate_items(
     append_copies(heap, front, &mut copies)?;
     append_copies(heap, back, &mut copies)?;
     Ok(VecDeque::from_vec(copies))
-}
-
-/// A content equal to this one, or none where there is none.
-pub(crate) fn duplicate_option(
-    heap: Heap,
-    content: &Option<Content>,
-) -> Result<Option<Content>, OutOfMemory>
-    ensures { IfOk result (λ copy. plain_option copy ≡ plain_option content.now) }
-{
-    match content {
-        None => Ok(None),
-        Some(content) => Ok(Some(content.duplicate(heap)?)),
-    }
 }

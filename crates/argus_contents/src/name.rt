@@ -37,6 +37,16 @@ impl Model for Name {
 }
 
 impl Name {
+    /// Whether the text has a name's form: 1 to 32 bytes of `[a-z0-9_]`.
+    pub fn is_name(text: &str) -> bool
+        ensures { result ≡ is_name text.now }
+    {
+        if text.is_empty() || text.len() > MAX_NAME_BYTES {
+            return false;
+        }
+        has_only_name_bytes(text.as_bytes())
+    }
+
     /// The name with this text.
     ///
     /// `BadName` comes exactly where the text has no name's form, `OutOfMemory` where there is no
@@ -45,7 +55,7 @@ impl Name {
         ensures ok { IfOk result (λ name. name ≡ text.now) }
         ensures bad { IsErrOf result NameError.BadName ↔ (is_name text.now ≡ false) }
     {
-        if !has_name_form(text.as_bytes()) {
+        if !Name::is_name(text) {
             return Err(NameError::BadName);
         }
         Ok(Name {
@@ -82,15 +92,6 @@ impl PartialEq for Name {
     {
         self.as_str() == other.as_str()
     }
-}
-
-fn has_name_form(text: &[u8]) -> bool
-    ensures { result ≡ is_name text.now }
-{
-    if text.is_empty() || text.len() > MAX_NAME_BYTES {
-        return false;
-    }
-    has_only_name_bytes(text)
 }
 
 fn has_only_name_bytes(text: &[u8]) -> bool

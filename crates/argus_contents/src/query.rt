@@ -16,8 +16,8 @@
 /// | `IsTag(t)` | a variant | `Flag` |
 /// | `TagValue(t)` | a variant | `WrongTag` if the tag isn't `t`; `Val` |
 ///
-/// Source: in the manner of the built-in atomic types of the Argus Reference Manual (MIT/LCS/TR-400,
-/// 1987); the signals and their order are this project's own.
+/// Source: in the manner of the built-in atomic types of the Argus Reference Manual
+/// (MIT/LCS/TR-400, 1987); the signals and their order are this project's own.
 ///
 /// ```text
 /// let answer = ask(heap, &content, &Query::Fetch(1))?;

@@ -2,8 +2,8 @@
 
 use thiserror::Error;
 
-/// Why no [`Shape`](crate::Shape) can be made. Where several apply, anywhere in the shape, the first
-/// of this list is answered.
+/// Why no [`Shape`](crate::Shape) can be made. Where several apply, anywhere in the shape, the
+/// first of this list is answered.
 ///
 /// ```text
 /// match Shape::rec(Vec::new(heap)) {

@@ -3,7 +3,8 @@
 ghost use lib.Pointwise.{pointwise};
 ghost use Rattle.std.specs.Prelude.{◌≡◌, ◌||◌, nat_eq, nat_le};
 ghost use Rattle.std.specs.List.{list_any};
-ghost use Rattle.argus_contents.specs.Shape.{anywhere, deepest_of, depth_in, depth_of, fault_of, has_twice, in_fields, in_ty, names_of};
+ghost use Rattle.argus_contents.specs.Shape.{anywhere, deepest_of, depth_in, depth_of, fault_of};
+ghost use Rattle.argus_contents.specs.Shape.{has_twice, in_fields, in_ty, names_of};
 ghost use Rattle.argus_contents.specs.ShapeKind.{plain_kind, test_of};
 ghost use Rattle.argus_contents.specs.Ty.{plain_fields, plain_ty};
 
@@ -58,14 +59,15 @@ fn holds_in_ty(ty: &Ty, test: NameTest) -> bool
         Ty::Sequence(item) => holds_in_ty(item, test),
         Ty::Fields(fields) => holds_in_list(fields, test),
         Ty::Choice(tags) => holds_in_list(tags, test),
-        _ => false,
+        Ty::Null | Ty::Bool | Ty::Int | Ty::Text | Ty::Atomic => false,
     }
 }
 
 // Of the list's own names, or of a list in one of its types.
 #[cycle(holds)]
 fn holds_in_list(fields: &[(Name, Ty)], test: NameTest) -> bool
-    ensures { result ≡ (test_of test (names_of (plain_fields fields.now)) || in_fields (test_of test) (plain_fields fields.now)) }
+    ensures { result ≡ (test_of test (names_of (plain_fields fields.now))
+        || in_fields (test_of test) (plain_fields fields.now)) }
 {
     holds_of(fields, test) || holds_in_fields(fields, test)
 }
@@ -105,7 +107,8 @@ fn has_name_twice(fields: &[(Name, Ty)]) -> bool
 }
 
 fn has_name(fields: &[(Name, Ty)], name: &Name) -> bool
-    ensures { result ≡ list_any (λ other. pointwise nat_eq other name.now) (names_of (plain_fields fields.now)) }
+    ensures { result ≡ list_any (λ other. pointwise nat_eq other name.now)
+        (names_of (plain_fields fields.now)) }
 {
     for (other, _) in fields {
         if other.as_str() == name.as_str() {
@@ -136,7 +139,7 @@ fn is_within(ty: &Ty, levels: usize) -> bool
         Ty::Sequence(item) => is_within(item, levels - 1),
         Ty::Fields(fields) => are_within(fields, levels - 1),
         Ty::Choice(tags) => are_within(tags, levels - 1),
-        _ => true,
+        Ty::Null | Ty::Bool | Ty::Int | Ty::Text | Ty::Atomic => true,
     }
 }
 

@@ -1,9 +1,11 @@
 //! `typed`, `fits`, `query_fits` and `change_fits`: what suits a type or a shape.
 
-ghost use Rattle.std.specs.Prelude.{◌≡◌, drop, length, Some, true};
+ghost use Rattle.std.specs.Prelude.{◌≡◌, ◌↔◌, drop, length, Some, true};
 ghost use Rattle.argus_contents.specs.Change.{CreatesWithin, plain_change};
-ghost use Rattle.argus_contents.specs.Content.{KeepsLimits, plain_content};
-ghost use Rattle.argus_contents.specs.Fitting.{change_suits, has_number, is_fitting, is_within, query_suits};
+ghost use Rattle.argus_contents.specs.Content.{is_within, KeepsBounds, KeepsLimits, plain_content};
+ghost use Rattle.argus_contents.specs.Fitting.{change_suits, field_suits, has_field, has_number};
+ghost use Rattle.argus_contents.specs.Fitting.{has_tag, is_array};
+ghost use Rattle.argus_contents.specs.Fitting.{is_fitting, item_suits, query_suits, tag_suits};
 ghost use Rattle.argus_contents.specs.Ty.{plain_fields, plain_ty};
 ghost use Rattle.argus_contents.specs.Typing.{all_typed, each_typed, is_typed, is_typed_at};
 ghost use Rattle.argus_contents.specs.Value.{listed, plain_list, plain_value};
@@ -62,7 +64,8 @@ fn all_have_type(values: &[Value], ty: &Ty, declared: u32) -> bool
 
 #[cycle(typed)]
 fn each_has_type(values: &[Value], names: &[(Name, Ty)], declared: u32) -> bool
-    ensures { result ≡ each_typed (plain_fields names.now) declared (listed (plain_list values.now)) }
+    ensures { result ≡ each_typed (plain_fields names.now) declared
+        (listed (plain_list values.now)) }
 {
     if values.len() != names.len() {
         return false;
@@ -77,7 +80,8 @@ fn each_has_type(values: &[Value], names: &[(Name, Ty)], declared: u32) -> bool
 }
 
 fn has_type_at(value: &Value, number: u8, names: &[(Name, Ty)], declared: u32) -> bool
-    ensures { result ≡ is_typed_at (plain_fields names.now) number declared (plain_value value.now) }
+    ensures { result ≡ is_typed_at (plain_fields names.now) number declared
+        (plain_value value.now) }
 {
     match names.get(number as usize) {
         Some((_, ty)) => typed(ty, declared, value),
@@ -86,7 +90,8 @@ fn has_type_at(value: &Value, number: u8, names: &[(Name, Ty)], declared: u32) -
 }
 
 /// Whether the content fits the shape, where so many objects are declared: the kinds agree, each
-/// part is of its type, and an array keeps the limits. A content that fits may be asked and altered.
+/// part is of its type, and an array keeps the limits. A content that fits may be asked and
+/// altered.
 pub fn fits(shape: &Shape, declared: u32, content: &Content) -> bool
     ensures exact { result ≡ is_fitting shape.now declared (plain_content content.now) }
     ensures keeps { result ≡ true → KeepsLimits (Some (plain_content content.now)) }
@@ -99,12 +104,15 @@ pub fn fits(shape: &Shape, declared: u32, content: &Content) -> bool
         (ShapeView::Var(names), Content::Var { tag, value }) => {
             has_type_at(value, *tag, names, declared)
         }
-        _ => false,
+        (ShapeView::Rec(_), Content::Arr { .. } | Content::Var { .. }) => false,
+        (ShapeView::Arr(_), Content::Rec(_) | Content::Var { .. }) => false,
+        (ShapeView::Var(_), Content::Rec(_) | Content::Arr { .. }) => false,
     }
 }
 
 fn keeps_limits(low: i64, size: usize) -> bool
-    ensures { result ≡ is_within low size }
+    ensures exact { result ≡ is_within low size }
+    ensures keeps { (result ≡ true) ↔ KeepsBounds low size }
 {
     if size > MAX_ITEMS || low < MIN_BOUND || low > MAX_BOUND {
         return false;
@@ -124,14 +132,39 @@ fn items_have_type(items: &VecDeque<Value, Heap>, ty: &Ty, declared: u32) -> boo
 pub fn query_fits(shape: &Shape, query: &Query) -> bool
     ensures { result ≡ query_suits shape.now query.now }
 {
-    match (query, shape.view()) {
-        (Query::Whole, _) => true,
-        (Query::Field(field), ShapeView::Rec(names)) => have_number(names, *field),
-        (Query::Low | Query::High | Query::Size, ShapeView::Arr(_)) => true,
-        (Query::Fetch(_) | Query::Bottom | Query::Top, ShapeView::Arr(_)) => true,
-        (Query::IsTag(tag), ShapeView::Var(names)) => have_number(names, *tag),
-        (Query::TagValue(tag), ShapeView::Var(names)) => have_number(names, *tag),
-        _ => false,
+    match query {
+        Query::Whole => true,
+        Query::Field(field) => has_field(shape, *field),
+        Query::Low | Query::High | Query::Size => is_array(shape),
+        Query::Fetch(_) | Query::Bottom | Query::Top => is_array(shape),
+        Query::IsTag(tag) | Query::TagValue(tag) => has_tag(shape, *tag),
+    }
+}
+
+fn is_array(shape: &Shape) -> bool
+    ensures { result ≡ is_array shape.now }
+{
+    match shape.view() {
+        ShapeView::Arr(_) => true,
+        ShapeView::Rec(_) | ShapeView::Var(_) => false,
+    }
+}
+
+fn has_field(shape: &Shape, number: u8) -> bool
+    ensures { result ≡ has_field shape.now number }
+{
+    match shape.view() {
+        ShapeView::Rec(names) => have_number(names, number),
+        ShapeView::Arr(_) | ShapeView::Var(_) => false,
+    }
+}
+
+fn has_tag(shape: &Shape, number: u8) -> bool
+    ensures { result ≡ has_tag shape.now number }
+{
+    match shape.view() {
+        ShapeView::Var(names) => have_number(names, number),
+        ShapeView::Rec(_) | ShapeView::Arr(_) => false,
     }
 }
 
@@ -148,20 +181,41 @@ pub fn change_fits(shape: &Shape, declared: u32, change: &Change) -> bool
     ensures exact { result ≡ change_suits shape.now declared (plain_change change.now) }
     ensures keeps { result ≡ true → CreatesWithin (plain_change change.now) }
 {
-    match (change, shape.view()) {
-        (Change::Touch, _) => true,
-        (Change::Create(content), _) => fits(shape, declared, content),
-        (Change::SetField(field, value), ShapeView::Rec(names)) => {
-            has_type_at(value, *field, names, declared)
-        }
-        (Change::Store(_, value), ShapeView::Arr(item)) => typed(item, declared, value),
-        (Change::Addh(value), ShapeView::Arr(item)) => typed(item, declared, value),
-        (Change::Addl(value), ShapeView::Arr(item)) => typed(item, declared, value),
-        (Change::Remh | Change::Reml, ShapeView::Arr(_)) => true,
-        (Change::SetLow(_) | Change::Trim(_, _), ShapeView::Arr(_)) => true,
-        (Change::ChangeTag(tag, value), ShapeView::Var(names)) => {
-            has_type_at(value, *tag, names, declared)
-        }
-        _ => false,
+    match change {
+        Change::Touch => true,
+        Change::Create(content) => fits(shape, declared, content),
+        Change::SetField(field, value) => fits_field(shape, declared, *field, value),
+        Change::Store(_, value) => fits_item(shape, declared, value),
+        Change::Addh(value) | Change::Addl(value) => fits_item(shape, declared, value),
+        Change::Remh | Change::Reml => is_array(shape),
+        Change::SetLow(_) | Change::Trim(_, _) => is_array(shape),
+        Change::ChangeTag(tag, value) => fits_tag(shape, declared, *tag, value),
+    }
+}
+
+fn fits_field(shape: &Shape, declared: u32, number: u8, value: &Value) -> bool
+    ensures { result ≡ field_suits shape.now declared number (plain_value value.now) }
+{
+    match shape.view() {
+        ShapeView::Rec(names) => has_type_at(value, number, names, declared),
+        ShapeView::Arr(_) | ShapeView::Var(_) => false,
+    }
+}
+
+fn fits_item(shape: &Shape, declared: u32, value: &Value) -> bool
+    ensures { result ≡ item_suits shape.now declared (plain_value value.now) }
+{
+    match shape.view() {
+        ShapeView::Arr(item) => typed(item, declared, value),
+        ShapeView::Rec(_) | ShapeView::Var(_) => false,
+    }
+}
+
+fn fits_tag(shape: &Shape, declared: u32, number: u8, value: &Value) -> bool
+    ensures { result ≡ tag_suits shape.now declared number (plain_value value.now) }
+{
+    match shape.view() {
+        ShapeView::Var(names) => has_type_at(value, number, names, declared),
+        ShapeView::Rec(_) | ShapeView::Arr(_) => false,
     }
 }

@@ -75,7 +75,7 @@ fn is_same(a: &Value, b: &Value) -> bool
         (Value::Bool(a), Value::Bool(b)) => a == b,
         (Value::Int(a), Value::Int(b)) => a == b,
         (Value::Text(a), Value::Text(b)) => a.as_str() == b.as_str(),
-        (Value::Atomic(a), Value::Atomic(b)) => a.0 == b.0,
+        (Value::Atomic(a), Value::Atomic(b)) => a == b,
         (Value::Sequence(a), Value::Sequence(b)) => are_same(a, b),
         (Value::Fields(a), Value::Fields(b)) => are_same(a, b),
         (Value::Choice(tag, a), Value::Choice(other_tag, b)) => tag == other_tag && is_same(a, b),
@@ -137,7 +137,8 @@ pub(crate) fn append_copies(
     values: &[Value],
     copies: &mut Vec<Value, Heap>,
 ) -> Result<(), OutOfMemory>
-    ensures { OnOk result (plain_list copies.new.items ≡ plain_list copies.old.items ++ plain_list values.now) }
+    ensures { OnOk result (plain_list copies.new.items ≡ plain_list copies.old.items
+        ++ plain_list values.now) }
 {
     for value in values {
         match value {

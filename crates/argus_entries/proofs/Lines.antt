@@ -1,12 +1,14 @@
 -- A line tells its number, its call and its reply.
-use Rattle.std.proofs.Common.{Bool, List, [], ap, append_assoc, arith, false, get_or, inl, refl, sym, true, ℕ, ◌+◌, ◌++◌, ◌<◌, ◌^◌, ◌∙◌, ◌∷◌, ◌≡◌}
+use Rattle.std.proofs.Common.{Bool, List, [], ap, append_assoc, arith, false, get_or, inl, refl, sym, true, ℕ, ◌+◌}
+use Rattle.std.proofs.Common.{◌++◌, ◌<◌, ◌^◌, ◌∙◌, ◌∷◌, ◌≡◌}
 use Rattle.std.specs.Fmt.{decimal, signed_decimal}
 use Rattle.std.specs.Prelude.{codes, if◌then◌else◌, ◌==◌}
 use Rattle.std.proofs.lemmas.Bool.{eq-eqb, false≢true}
 use Rattle.argus_contents.specs.Answer.{PlainAnswer}
 use Rattle.argus_contents.specs.Answer as answer
 use Rattle.argus_contents.specs.declared.signal.Signal.{Signal}
-use Rattle.argus_contents.specs.declared.signal.Signal.TheVariants.{Absent, Bounds, Exists, Limits, NegativeSize, WrongTag}
+use Rattle.argus_contents.specs.declared.signal.Signal.TheVariants.{Absent, Bounds, Exists, Limits, NegativeSize}
+use Rattle.argus_contents.specs.declared.signal.Signal.TheVariants.{WrongTag}
 use Rattle.argus_texts.specs.ContentSpelling.{content_spelling}
 use Rattle.argus_texts.specs.Languages.{NotDigit}
 use Rattle.argus_texts.specs.Spelling.{spelling}
@@ -17,30 +19,37 @@ use Rattle.argus_texts.proofs.ShapeForms.{one_shape}
 use Rattle.argus_entries.specs.Call.{PlainCall}
 use Rattle.argus_entries.specs.Call as call
 use Rattle.argus_entries.specs.Entry.{PlainEntry}
-use Rattle.argus_entries.specs.EntrySpelling.{answer_spelling, call_spelling, entry_spelling, place_spelling, refusal_name, reply_spelling, signal_spelling}
+use Rattle.argus_entries.specs.EntrySpelling.{answer_spelling, call_spelling, entry_spelling, place_spelling}
+use Rattle.argus_entries.specs.EntrySpelling.{refusal_name, reply_spelling, signal_spelling}
 use Rattle.argus_entries.specs.Laws.{AnswerWithin, CallWithin, EntryWithin, ReplyWithin}
 use Rattle.argus_entries.specs.OperationSpelling.{change_spelling, query_spelling}
 use Rattle.argus_entries.specs.Reply.{PlainReply}
 use Rattle.argus_entries.specs.Reply as reply
 use Rattle.argus_entries.specs.declared.refusal.Refusal.{Refusal}
-use Rattle.argus_entries.specs.declared.refusal.Refusal.TheVariants.{Conflict, IllTyped, NoAction, NoObject, NoSiblings, Over, Suspended, TooDeep, TooMany}
+use Rattle.argus_entries.specs.declared.refusal.Refusal.TheVariants.{Conflict, IllTyped, NoAction, NoObject, NoSiblings}
+use Rattle.argus_entries.specs.declared.refusal.Refusal.TheVariants.{Over, Suspended, TooDeep, TooMany}
 use Rattle.argus_entries.proofs.Operations.{behind_word, four_pieces, one_change, one_int, one_query, one_value, wide}
 
 -- an action and an object behind a word
-one_place : (w : List ℕ) (a o b p : ℕ) (x y : List ℕ) → (a < 2 ^ 32) × (o < 2 ^ 32) → (b < 2 ^ 32) × (p < 2 ^ 32) → NotDigit x → NotDigit y
+one_place : (w : List ℕ) (a o b p : ℕ) (x y : List ℕ) → (a < 2 ^ 32) × (o < 2 ^ 32) → (b < 2 ^ 32) × (p < 2 ^ 32)
+    → NotDigit x → NotDigit y
     → place_spelling w a o ++ x ≡ place_spelling w b p ++ y → (a ≡ b) × ((o ≡ p) × (x ≡ y))
 one_place w a o b p x y s t nx ny e =
     let after = λ (n m : ℕ) (z : List ℕ). decimal n ++ 32 ∷ 111 ∷ (decimal m ++ z) in
-    let f = cancel w (after a o x) (after b p y) (sym (four_pieces w (decimal a) (codes " o") (decimal o) x) ∙ e ∙ four_pieces w (decimal b) (codes " o") (decimal p) y) in
-    let r = one_decimal a b (32 ∷ 111 ∷ (decimal o ++ x)) (32 ∷ 111 ∷ (decimal p ++ y)) (wide a s.0) (wide b t.0) (inl (omega arith)) (inl (omega arith)) f in
+    let f = cancel w (after a o x) (after b p y) (sym (four_pieces w (decimal a) (codes " o") (decimal o) x) ∙ e
+    ∙ four_pieces w (decimal b) (codes " o") (decimal p) y) in
+    let r = one_decimal a b (32 ∷ 111 ∷ (decimal o ++ x)) (32 ∷ 111 ∷ (decimal p ++ y)) (wide a s.0) (wide b t.0)
+    (inl (omega arith)) (inl (omega arith)) f in
     let q = one_decimal o p x y (wide o s.1) (wide p t.1) nx ny (tail_of (tail_of r.1)) in
     (r.0, (q.0, q.1))
 
 three_pieces : (a b c x : List ℕ) → a ++ b ++ c ++ x ≡ a ++ (b ++ (c ++ x))
 three_pieces a b c x = simp append_assoc
 
-one_number : (w : List ℕ) (m n : ℕ) (x y : List ℕ) → m < 2 ^ 32 → n < 2 ^ 32 → NotDigit x → NotDigit y → (w ++ decimal m) ++ x ≡ (w ++ decimal n) ++ y → (m ≡ n) × (x ≡ y)
-one_number w m n x y a b nx ny e = one_decimal m n x y (wide m a) (wide n b) nx ny (behind_word w (decimal m) (decimal n) x y e)
+one_number : (w : List ℕ) (m n : ℕ) (x y : List ℕ) → m < 2 ^ 32 → n < 2 ^ 32 → NotDigit x → NotDigit y
+    → (w ++ decimal m) ++ x ≡ (w ++ decimal n) ++ y → (m ≡ n) × (x ≡ y)
+one_number w m n x y a b nx ny e =
+    one_decimal m n x y (wide m a) (wide n b) nx ny (behind_word w (decimal m) (decimal n) x y e)
 
 -- what tells the words of calls apart
 abbrev call_key : List ℕ → ℕ
@@ -74,7 +83,8 @@ call_key_is (call.alter a o c) x = refl
 call_key_is (call.test_read a o) x = refl
 call_key_is (call.test_write a o) x = refl
 
-call_told : (k : ℕ) (c d : PlainCall) (x y : List ℕ) → CallWithin k c → CallWithin k d → NotDigit x → NotDigit y → (call_kind c == call_kind d) ≡ true → call_spelling c ++ x ≡ call_spelling d ++ y → (c ≡ d) × (x ≡ y)
+call_told : (k : ℕ) (c d : PlainCall) (x y : List ℕ) → CallWithin k c → CallWithin k d → NotDigit x → NotDigit y
+    → (call_kind c == call_kind d) ≡ true → call_spelling c ++ x ≡ call_spelling d ++ y → (c ≡ d) × (x ≡ y)
 call_told k (call.declare s) (call.declare t) x y a b nx ny q e =
     let r = one_shape s t x y a b (cancel (codes "declare ") _ _ e) in (ap call.declare r.0, r.1)
 call_told k call.begin_top call.begin_top x y a b nx ny q e = (refl, cancel (codes "begin_top") x y e)
@@ -90,29 +100,38 @@ call_told k (call.abort_others m) (call.abort_others n) x y a b nx ny q e =
     let r = one_number (codes "abort_others a") m n x y a b nx ny e in (ap call.abort_others r.0, r.1)
 call_told k (call.ask m o u) (call.ask n p v) x y a b nx ny q e =
     let w = codes "ask a" in
-    let f = sym (three_pieces (place_spelling w m o) (codes " ") (query_spelling u) x) ∙ e ∙ three_pieces (place_spelling w n p) (codes " ") (query_spelling v) y in
-    let r = one_place w m o n p (32 ∷ (query_spelling u ++ x)) (32 ∷ (query_spelling v ++ y)) (a.0, a.1) (b.0, b.1) (inl (omega arith)) (inl (omega arith)) f in
+    let f = sym (three_pieces (place_spelling w m o) (codes " ") (query_spelling u) x) ∙ e
+    ∙ three_pieces (place_spelling w n p) (codes " ") (query_spelling v) y in
+    let r = one_place w m o n p (32 ∷ (query_spelling u ++ x)) (32 ∷ (query_spelling v ++ y)) (a.0, a.1) (b.0, b.1)
+    (inl (omega arith)) (inl (omega arith)) f in
     let s = one_query u v x y a.2 b.2 nx ny (tail_of r.1.1) in
     (ap (λ z. call.ask z o u) r.0 ∙ ap (λ z. call.ask n z u) r.1.0 ∙ ap (call.ask n p) s.0, s.1)
 call_told k (call.alter m o u) (call.alter n p v) x y a b nx ny q e =
     let w = codes "alter a" in
-    let f = sym (three_pieces (place_spelling w m o) (codes " ") (change_spelling u) x) ∙ e ∙ three_pieces (place_spelling w n p) (codes " ") (change_spelling v) y in
-    let r = one_place w m o n p (32 ∷ (change_spelling u ++ x)) (32 ∷ (change_spelling v ++ y)) (a.0, a.1) (b.0, b.1) (inl (omega arith)) (inl (omega arith)) f in
+    let f = sym (three_pieces (place_spelling w m o) (codes " ") (change_spelling u) x) ∙ e
+    ∙ three_pieces (place_spelling w n p) (codes " ") (change_spelling v) y in
+    let r = one_place w m o n p (32 ∷ (change_spelling u ++ x)) (32 ∷ (change_spelling v ++ y)) (a.0, a.1) (b.0, b.1)
+    (inl (omega arith)) (inl (omega arith)) f in
     let s = one_change k u v x y a.2 b.2 nx ny (tail_of r.1.1) in
     (ap (λ z. call.alter z o u) r.0 ∙ ap (λ z. call.alter n z u) r.1.0 ∙ ap (call.alter n p) s.0, s.1)
 call_told k (call.test_read m o) (call.test_read n p) x y a b nx ny q e =
-    let r = one_place (codes "test_read a") m o n p x y a b nx ny e in (ap (λ z. call.test_read z o) r.0 ∙ ap (call.test_read n) r.1.0, r.1.1)
+    let r = one_place (codes "test_read a") m o n p x y a b nx ny e in
+    (ap (λ z. call.test_read z o) r.0 ∙ ap (call.test_read n) r.1.0, r.1.1)
 call_told k (call.test_write m o) (call.test_write n p) x y a b nx ny q e =
-    let r = one_place (codes "test_write a") m o n p x y a b nx ny e in (ap (λ z. call.test_write z o) r.0 ∙ ap (call.test_write n) r.1.0, r.1.1)
+    let r = one_place (codes "test_write a") m o n p x y a b nx ny e in
+    (ap (λ z. call.test_write z o) r.0 ∙ ap (call.test_write n) r.1.0, r.1.1)
 call_told k _ _ x y a b nx ny q e = absurd (false≢true q)
 
-one_call : (k : ℕ) (c d : PlainCall) (x y : List ℕ) → CallWithin k c → CallWithin k d → NotDigit x → NotDigit y → call_spelling c ++ x ≡ call_spelling d ++ y → (c ≡ d) × (x ≡ y)
-one_call k c d x y a b nx ny e = call_told k c d x y a b nx ny (eq-eqb (call_kind c) (call_kind d) (sym (call_key_is c x) ∙ ap call_key e ∙ call_key_is d y)) e
+one_call : (k : ℕ) (c d : PlainCall) (x y : List ℕ) → CallWithin k c → CallWithin k d → NotDigit x → NotDigit y
+    → call_spelling c ++ x ≡ call_spelling d ++ y → (c ≡ d) × (x ≡ y)
+one_call k c d x y a b nx ny e = call_told k c d x y a b nx ny
+    (eq-eqb (call_kind c) (call_kind d) (sym (call_key_is c x) ∙ ap call_key e ∙ call_key_is d y)) e
 
 -- a signal, back from its words
 abbrev signal_at : List ℕ → Signal
 signal_at t =
-    if get_or t 7 0 == 97 then Absent else if get_or t 7 0 == 101 then Exists else if get_or t 7 0 == 98 then Bounds else
+    if get_or t 7 0 == 97 then Absent else if get_or t 7 0 == 101 then Exists else
+    if get_or t 7 0 == 98 then Bounds else
     if get_or t 7 0 == 119 then WrongTag else if get_or t 7 0 == 110 then NegativeSize else Limits
 
 signal_back : (s : Signal) → signal_at (signal_spelling s) ≡ s
@@ -126,8 +145,10 @@ signal_back Limits = refl
 -- a refusal, back from its name
 abbrev refusal_at : List ℕ → Refusal
 refusal_at t =
-    if get_or t 0 0 == 79 then Over else if get_or t 0 0 == 83 then Suspended else if get_or t 0 0 == 73 then IllTyped else
-    if get_or t 0 0 == 67 then Conflict else if get_or t 0 0 == 84 then (if get_or t 3 0 == 68 then TooDeep else TooMany) else
+    if get_or t 0 0 == 79 then Over else if get_or t 0 0 == 83 then Suspended else
+    if get_or t 0 0 == 73 then IllTyped else
+    if get_or t 0 0 == 67 then Conflict else if get_or t 0 0 ==
+    84 then (if get_or t 3 0 == 68 then TooDeep else TooMany) else
     if get_or t 2 0 == 65 then NoAction else if get_or t 2 0 == 79 then NoObject else NoSiblings
 
 refusal_back : (r : Refusal) → refusal_at (refusal_name r) ≡ r
@@ -179,20 +200,27 @@ flag_back false = refl
 ended : (s t : List ℕ) → s ≡ t → s ++ [] ≡ t ++ []
 ended s t e = ap (λ u. u ++ []) e
 
-answer_told : (k : ℕ) (a b : PlainAnswer) → AnswerWithin k a → AnswerWithin k b → (answer_kind a == answer_kind b) ≡ true → answer_spelling a ≡ answer_spelling b → a ≡ b
+answer_told : (k : ℕ) (a b : PlainAnswer) → AnswerWithin k a → AnswerWithin k b
+    → (answer_kind a == answer_kind b) ≡ true → answer_spelling a ≡ answer_spelling b → a ≡ b
 answer_told k answer.done answer.done s t q e = refl
 answer_told k (answer.val v) (answer.val w) s t q e =
-    ap answer.val (one_value k v w [] [] s t tt tt (ended (spelling v) (spelling w) (cancel (codes "val ") (spelling v) (spelling w) e))).0
+    ap answer.val (one_value k v w [] [] s t tt tt (ended (spelling v) (spelling w)
+    (cancel (codes "val ") (spelling v) (spelling w) e))).0
 answer_told k (answer.num m) (answer.num n) s t q e =
-    ap answer.num (one_int m n [] [] s t tt tt (ended (signed_decimal m) (signed_decimal n) (cancel (codes "num ") (signed_decimal m) (signed_decimal n) e))).0
+    ap answer.num (one_int m n [] [] s t tt tt (ended (signed_decimal m) (signed_decimal n)
+    (cancel (codes "num ") (signed_decimal m) (signed_decimal n) e))).0
 answer_told k (answer.flag p) (answer.flag r) s t q e = ap answer.flag (sym (flag_back p) ∙ ap flag_at e ∙ flag_back r)
 answer_told k (answer.body c) (answer.body d) s t q e =
-    ap answer.body (one_content k c d [] [] s t (ended (content_spelling c) (content_spelling d) (cancel (codes "body ") (content_spelling c) (content_spelling d) e))).0
-answer_told k (answer.signal r) (answer.signal u) s t q e = ap answer.signal (sym (signal_back r) ∙ ap signal_at e ∙ signal_back u)
+    ap answer.body (one_content k c d [] [] s t (ended (content_spelling c) (content_spelling d)
+    (cancel (codes "body ") (content_spelling c) (content_spelling d) e))).0
+answer_told k (answer.signal r) (answer.signal u) s t q e =
+    ap answer.signal (sym (signal_back r) ∙ ap signal_at e ∙ signal_back u)
 answer_told k _ _ s t q e = absurd (false≢true q)
 
-one_answer : (k : ℕ) (a b : PlainAnswer) → AnswerWithin k a → AnswerWithin k b → answer_spelling a ≡ answer_spelling b → a ≡ b
-one_answer k a b s t e = answer_told k a b s t (eq-eqb (answer_kind a) (answer_kind b) (sym (answer_key_is a) ∙ ap answer_key e ∙ answer_key_is b)) e
+one_answer : (k : ℕ) (a b : PlainAnswer) → AnswerWithin k a → AnswerWithin k b → answer_spelling a ≡ answer_spelling b
+    → a ≡ b
+one_answer k a b s t e = answer_told k a b s t (eq-eqb (answer_kind a) (answer_kind b)
+    (sym (answer_key_is a) ∙ ap answer_key e ∙ answer_key_is b)) e
 
 -- what tells the kinds of replies apart
 abbrev reply_key : List ℕ → ℕ
@@ -221,26 +249,35 @@ reply_key_is (reply.answered (answer.signal NegativeSize)) = refl
 reply_key_is (reply.answered (answer.signal Limits)) = refl
 reply_key_is (reply.refused r) = refl
 
-reply_told : (k : ℕ) (r s : PlainReply) → ReplyWithin k r → ReplyWithin k s → (reply_kind r == reply_kind s) ≡ true → reply_spelling r ≡ reply_spelling s → r ≡ s
-reply_told k (reply.object m) (reply.object n) a b q e = ap reply.object (one_number (codes "o") m n [] [] a b tt tt (ended (codes "o" ++ decimal m) (codes "o" ++ decimal n) e)).0
-reply_told k (reply.begun m) (reply.begun n) a b q e = ap reply.begun (one_number (codes "a") m n [] [] a b tt tt (ended (codes "a" ++ decimal m) (codes "a" ++ decimal n) e)).0
+reply_told : (k : ℕ) (r s : PlainReply) → ReplyWithin k r → ReplyWithin k s → (reply_kind r == reply_kind s) ≡ true
+    → reply_spelling r ≡ reply_spelling s → r ≡ s
+reply_told k (reply.object m) (reply.object n) a b q e =
+    ap reply.object (one_number (codes "o") m n [] [] a b tt tt
+    (ended (codes "o" ++ decimal m) (codes "o" ++ decimal n) e)).0
+reply_told k (reply.begun m) (reply.begun n) a b q e = ap reply.begun
+    (one_number (codes "a") m n [] [] a b tt tt (ended (codes "a" ++ decimal m) (codes "a" ++ decimal n) e)).0
 reply_told k (reply.answered m) (reply.answered n) a b q e = ap reply.answered (one_answer k m n a b e)
 reply_told k (reply.refused m) (reply.refused n) a b q e =
-    ap reply.refused (sym (refusal_back m) ∙ ap refusal_at (cancel (codes "refused ") (refusal_name m) (refusal_name n) e) ∙ refusal_back n)
+    ap reply.refused (sym (refusal_back m) ∙ ap refusal_at
+    (cancel (codes "refused ") (refusal_name m) (refusal_name n) e) ∙ refusal_back n)
 reply_told k _ _ a b q e = absurd (false≢true q)
 
 one_reply : (k : ℕ) (r s : PlainReply) → ReplyWithin k r → ReplyWithin k s → reply_spelling r ≡ reply_spelling s → r ≡ s
-one_reply k r s a b e = reply_told k r s a b (eq-eqb (reply_kind r) (reply_kind s) (sym (reply_key_is r) ∙ ap reply_key e ∙ reply_key_is s)) e
+one_reply k r s a b e = reply_told k r s a b (eq-eqb (reply_kind r) (reply_kind s)
+    (sym (reply_key_is r) ∙ ap reply_key e ∙ reply_key_is s)) e
 
-pub one_line : (k m n : ℕ) (d e : PlainEntry) → m < 2 ^ 64 → n < 2 ^ 64 → EntryWithin k d → EntryWithin k e → entry_spelling m d ≡ entry_spelling n e → (m ≡ n) × (d ≡ e)
+pub one_line : (k m n : ℕ) (d e : PlainEntry) → m < 2 ^ 64 → n < 2 ^ 64 → EntryWithin k d → EntryWithin k e
+    → entry_spelling m d ≡ entry_spelling n e → (m ≡ n) × (d ≡ e)
 one_line k m n d e a b s t q =
     let x = codes " -> " ++ reply_spelling d.reply in
     let y = codes " -> " ++ reply_spelling e.reply in
     let f = sym (four_pieces (decimal m) (codes " ") (call_spelling d.call) (codes " -> ") (reply_spelling d.reply)) ∙ q
     ∙ four_pieces (decimal n) (codes " ") (call_spelling e.call) (codes " -> ") (reply_spelling e.reply) in
-    let r = one_decimal m n (32 ∷ (call_spelling d.call ++ x)) (32 ∷ (call_spelling e.call ++ y)) a b (inl (omega arith)) (inl (omega arith)) f in
+    let r = one_decimal m n (32 ∷ (call_spelling d.call ++ x)) (32 ∷ (call_spelling e.call ++ y)) a b
+    (inl (omega arith)) (inl (omega arith)) f in
     let c = one_call k d.call e.call x y s.0 t.0 (inl (omega arith)) (inl (omega arith)) (tail_of r.1) in
-    let u = one_reply k d.reply e.reply s.1 t.1 (cancel (codes " -> ") (reply_spelling d.reply) (reply_spelling e.reply) c.1) in
+    let u = one_reply k d.reply e.reply s.1 t.1 (cancel (codes " -> ") (reply_spelling d.reply) (reply_spelling e.reply)
+    c.1) in
     let by_call : PlainCall → PlainEntry = λ z. record { call = z; reply = d.reply } in
     let by_reply : PlainReply → PlainEntry = λ z. record { call = e.call; reply = z } in
     (r.0, ap by_call c.0 ∙ ap by_reply u)

@@ -1,5 +1,6 @@
 -- The written forms of queries and changes tell them apart, whatever stands behind them.
-use Rattle.std.proofs.Common.{List, ap, append_assoc, arith, get_or, inl, refl, sym, true, ℕ, ℤ, ◌+◌, ◌++◌, ◌<◌, ◌^◌, ◌∙◌, ◌∷◌, ◌≡◌}
+use Rattle.std.proofs.Common.{List, ap, append_assoc, arith, get_or, inl, refl, sym, true, ℕ, ℤ, ◌+◌, ◌++◌, ◌<◌, ◌^◌}
+use Rattle.std.proofs.Common.{◌∙◌, ◌∷◌, ◌≡◌}
 use Rattle.std.specs.Fmt.{decimal, signed_decimal}
 use Rattle.std.specs.Prelude.{codes, if◌then◌else◌, ◌==◌}
 use Rattle.std.proofs.lemmas.Bool.{eq-eqb, false≢true}
@@ -28,7 +29,8 @@ byte_wide n l = omega arith
 pub behind_word : (w s t x y : List ℕ) → (w ++ s) ++ x ≡ (w ++ t) ++ y → s ++ x ≡ t ++ y
 behind_word w s t x y e = cancel w (s ++ x) (t ++ y) (sym (append_assoc w s x) ∙ e ∙ append_assoc w t y)
 
-pub one_value : (k : ℕ) (v w : PlainValue) (x y : List ℕ) → Within k v → Within k w → NotDigit x → NotDigit y → spelling v ++ x ≡ spelling w ++ y → (v ≡ w) × (x ≡ y)
+pub one_value : (k : ℕ) (v w : PlainValue) (x y : List ℕ) → Within k v → Within k w → NotDigit x → NotDigit y
+    → spelling v ++ x ≡ spelling w ++ y → (v ≡ w) × (x ≡ y)
 one_value k v w x y a b nx ny e = one_form k v w x y a b (value_ends v x nx) (value_ends w y ny) e
 
 -- an integer is written as the value that it makes
@@ -36,7 +38,8 @@ abbrev int_of : PlainValue → ℤ → ℤ
 int_of (value.int n) d = n
 int_of _ d = d
 
-pub one_int : (m n : ℤ) (x y : List ℕ) → IsI64 m → IsI64 n → NotDigit x → NotDigit y → signed_decimal m ++ x ≡ signed_decimal n ++ y → (m ≡ n) × (x ≡ y)
+pub one_int : (m n : ℤ) (x y : List ℕ) → IsI64 m → IsI64 n → NotDigit x → NotDigit y
+    → signed_decimal m ++ x ≡ signed_decimal n ++ y → (m ≡ n) × (x ≡ y)
 one_int m n x y a b nx ny e =
     let r = one_value 1 (value.int m) (value.int n) x y (omega arith, a) (omega arith, b) nx ny e in
     (ap (λ v. int_of v m) r.0, r.1)
@@ -45,12 +48,15 @@ pub four_pieces : (a b c d x : List ℕ) → a ++ b ++ c ++ d ++ x ≡ a ++ (b +
 four_pieces a b c d x = simp append_assoc
 
 -- a word, a number, a blank and what stands behind it
-spaced : (w m n s t x y : List ℕ) → (w ++ m ++ codes " " ++ s) ++ x ≡ (w ++ n ++ codes " " ++ t) ++ y → m ++ 32 ∷ (s ++ x) ≡ n ++ 32 ∷ (t ++ y)
-spaced w m n s t x y e = cancel w (m ++ 32 ∷ (s ++ x)) (n ++ 32 ∷ (t ++ y)) (sym (four_pieces w m (codes " ") s x) ∙ e ∙ four_pieces w n (codes " ") t y)
+spaced : (w m n s t x y : List ℕ) → (w ++ m ++ codes " " ++ s) ++ x ≡ (w ++ n ++ codes " " ++ t) ++ y
+    → m ++ 32 ∷ (s ++ x) ≡ n ++ 32 ∷ (t ++ y)
+spaced w m n s t x y e = cancel w (m ++ 32 ∷ (s ++ x)) (n ++ 32 ∷ (t ++ y))
+    (sym (four_pieces w m (codes " ") s x) ∙ e ∙ four_pieces w n (codes " ") t y)
 
 -- what tells the words of queries apart
 abbrev query_key : List ℕ → ℕ
-query_key t = if get_or t 0 0 == 102 then 256 + get_or t 1 0 else if get_or t 0 0 == 116 then 512 + get_or t 1 0 else get_or t 0 0
+query_key t =
+    if get_or t 0 0 == 102 then 256 + get_or t 1 0 else if get_or t 0 0 == 116 then 512 + get_or t 1 0 else get_or t 0 0
 
 abbrev query_kind : Query → ℕ
 query_kind query.Whole = 119
@@ -76,25 +82,32 @@ query_key_is query.Top x = refl
 query_key_is (query.IsTag t) x = refl
 query_key_is (query.TagValue t) x = refl
 
-query_told : (q r : Query) (x y : List ℕ) → QueryWithin q → QueryWithin r → NotDigit x → NotDigit y → (query_kind q == query_kind r) ≡ true → query_spelling q ++ x ≡ query_spelling r ++ y → (q ≡ r) × (x ≡ y)
+query_told : (q r : Query) (x y : List ℕ) → QueryWithin q → QueryWithin r → NotDigit x → NotDigit y
+    → (query_kind q == query_kind r) ≡ true → query_spelling q ++ x ≡ query_spelling r ++ y → (q ≡ r) × (x ≡ y)
 query_told query.Whole query.Whole x y a b nx ny k e = (refl, cancel (codes "whole") x y e)
 query_told (query.Field i) (query.Field j) x y a b nx ny k e =
-    let r = one_decimal i j x y (byte_wide i a) (byte_wide j b) nx ny (behind_word (codes "field ") (decimal i) (decimal j) x y e) in (ap query.Field r.0, r.1)
+    let r = one_decimal i j x y (byte_wide i a) (byte_wide j b) nx ny
+    (behind_word (codes "field ") (decimal i) (decimal j) x y e) in (ap query.Field r.0, r.1)
 query_told query.Low query.Low x y a b nx ny k e = (refl, cancel (codes "low") x y e)
 query_told query.High query.High x y a b nx ny k e = (refl, cancel (codes "high") x y e)
 query_told query.Size query.Size x y a b nx ny k e = (refl, cancel (codes "size") x y e)
 query_told (query.Fetch i) (query.Fetch j) x y a b nx ny k e =
-    let r = one_int i j x y a b nx ny (behind_word (codes "fetch ") (signed_decimal i) (signed_decimal j) x y e) in (ap query.Fetch r.0, r.1)
+    let r = one_int i j x y a b nx ny (behind_word (codes "fetch ") (signed_decimal i) (signed_decimal j) x y e) in
+    (ap query.Fetch r.0, r.1)
 query_told query.Bottom query.Bottom x y a b nx ny k e = (refl, cancel (codes "bottom") x y e)
 query_told query.Top query.Top x y a b nx ny k e = (refl, cancel (codes "top") x y e)
 query_told (query.IsTag t) (query.IsTag u) x y a b nx ny k e =
-    let r = one_decimal t u x y (byte_wide t a) (byte_wide u b) nx ny (behind_word (codes "is_tag ") (decimal t) (decimal u) x y e) in (ap query.IsTag r.0, r.1)
+    let r = one_decimal t u x y (byte_wide t a) (byte_wide u b) nx ny
+    (behind_word (codes "is_tag ") (decimal t) (decimal u) x y e) in (ap query.IsTag r.0, r.1)
 query_told (query.TagValue t) (query.TagValue u) x y a b nx ny k e =
-    let r = one_decimal t u x y (byte_wide t a) (byte_wide u b) nx ny (behind_word (codes "tag_value ") (decimal t) (decimal u) x y e) in (ap query.TagValue r.0, r.1)
+    let r = one_decimal t u x y (byte_wide t a) (byte_wide u b) nx ny
+    (behind_word (codes "tag_value ") (decimal t) (decimal u) x y e) in (ap query.TagValue r.0, r.1)
 query_told _ _ x y a b nx ny k e = absurd (false≢true k)
 
-pub one_query : (q r : Query) (x y : List ℕ) → QueryWithin q → QueryWithin r → NotDigit x → NotDigit y → query_spelling q ++ x ≡ query_spelling r ++ y → (q ≡ r) × (x ≡ y)
-one_query q r x y a b nx ny e = query_told q r x y a b nx ny (eq-eqb (query_kind q) (query_kind r) (sym (query_key_is q x) ∙ ap query_key e ∙ query_key_is r y)) e
+pub one_query : (q r : Query) (x y : List ℕ) → QueryWithin q → QueryWithin r → NotDigit x → NotDigit y
+    → query_spelling q ++ x ≡ query_spelling r ++ y → (q ≡ r) × (x ≡ y)
+one_query q r x y a b nx ny e = query_told q r x y a b nx ny
+    (eq-eqb (query_kind q) (query_kind r) (sym (query_key_is q x) ∙ ap query_key e ∙ query_key_is r y)) e
 
 -- what tells the words of changes apart
 abbrev change_key : List ℕ → ℕ
@@ -129,17 +142,20 @@ change_key_is (change.trim i n) x = refl
 change_key_is (change.change_tag t v) x = refl
 change_key_is change.touch x = refl
 
-change_told : (k : ℕ) (c d : PlainChange) (x y : List ℕ) → ChangeWithin k c → ChangeWithin k d → NotDigit x → NotDigit y → (change_kind c == change_kind d) ≡ true → change_spelling c ++ x ≡ change_spelling d ++ y → (c ≡ d) × (x ≡ y)
+change_told : (k : ℕ) (c d : PlainChange) (x y : List ℕ) → ChangeWithin k c → ChangeWithin k d → NotDigit x → NotDigit y
+    → (change_kind c == change_kind d) ≡ true → change_spelling c ++ x ≡ change_spelling d ++ y → (c ≡ d) × (x ≡ y)
 change_told k (change.create c) (change.create d) x y a b nx ny q e =
     let r = one_content k c d x y a b (cancel (codes "create ") _ _ e) in (ap change.create r.0, r.1)
 change_told k (change.set_field i v) (change.set_field j w) x y a b nx ny q e =
     let f = spaced (codes "set_field ") (decimal i) (decimal j) (spelling v) (spelling w) x y e in
-    let r = one_decimal i j (32 ∷ (spelling v ++ x)) (32 ∷ (spelling w ++ y)) (byte_wide i a.0) (byte_wide j b.0) (inl (omega arith)) (inl (omega arith)) f in
+    let r = one_decimal i j (32 ∷ (spelling v ++ x)) (32 ∷ (spelling w ++ y)) (byte_wide i a.0) (byte_wide j b.0)
+    (inl (omega arith)) (inl (omega arith)) f in
     let s = one_value k v w x y a.1 b.1 nx ny (tail_of r.1) in
     (ap (λ z. change.set_field z v) r.0 ∙ ap (change.set_field j) s.0, s.1)
 change_told k (change.store i v) (change.store j w) x y a b nx ny q e =
     let f = spaced (codes "store ") (signed_decimal i) (signed_decimal j) (spelling v) (spelling w) x y e in
-    let r = one_int i j (32 ∷ (spelling v ++ x)) (32 ∷ (spelling w ++ y)) a.0 b.0 (inl (omega arith)) (inl (omega arith)) f in
+    let r = one_int i j (32 ∷ (spelling v ++ x)) (32 ∷ (spelling w ++ y)) a.0 b.0 (inl (omega arith))
+    (inl (omega arith)) f in
     let s = one_value k v w x y a.1 b.1 nx ny (tail_of r.1) in
     (ap (λ z. change.store z v) r.0 ∙ ap (change.store j) s.0, s.1)
 change_told k (change.addh v) (change.addh w) x y a b nx ny q e =
@@ -152,16 +168,20 @@ change_told k (change.set_low i) (change.set_low j) x y a b nx ny q e =
     let r = one_int i j x y a b nx ny (cancel (codes "set_low ") _ _ e) in (ap change.set_low r.0, r.1)
 change_told k (change.trim i m) (change.trim j n) x y a b nx ny q e =
     let f = spaced (codes "trim ") (signed_decimal i) (signed_decimal j) (signed_decimal m) (signed_decimal n) x y e in
-    let r = one_int i j (32 ∷ (signed_decimal m ++ x)) (32 ∷ (signed_decimal n ++ y)) a.0 b.0 (inl (omega arith)) (inl (omega arith)) f in
+    let r = one_int i j (32 ∷ (signed_decimal m ++ x)) (32 ∷ (signed_decimal n ++ y)) a.0 b.0 (inl (omega arith))
+    (inl (omega arith)) f in
     let s = one_int m n x y a.1 b.1 nx ny (tail_of r.1) in
     (ap (λ z. change.trim z m) r.0 ∙ ap (change.trim j) s.0, s.1)
 change_told k (change.change_tag t v) (change.change_tag u w) x y a b nx ny q e =
     let f = spaced (codes "change_tag ") (decimal t) (decimal u) (spelling v) (spelling w) x y e in
-    let r = one_decimal t u (32 ∷ (spelling v ++ x)) (32 ∷ (spelling w ++ y)) (byte_wide t a.0) (byte_wide u b.0) (inl (omega arith)) (inl (omega arith)) f in
+    let r = one_decimal t u (32 ∷ (spelling v ++ x)) (32 ∷ (spelling w ++ y)) (byte_wide t a.0) (byte_wide u b.0)
+    (inl (omega arith)) (inl (omega arith)) f in
     let s = one_value k v w x y a.1 b.1 nx ny (tail_of r.1) in
     (ap (λ z. change.change_tag z v) r.0 ∙ ap (change.change_tag u) s.0, s.1)
 change_told k change.touch change.touch x y a b nx ny q e = (refl, cancel (codes "touch") x y e)
 change_told k _ _ x y a b nx ny q e = absurd (false≢true q)
 
-pub one_change : (k : ℕ) (c d : PlainChange) (x y : List ℕ) → ChangeWithin k c → ChangeWithin k d → NotDigit x → NotDigit y → change_spelling c ++ x ≡ change_spelling d ++ y → (c ≡ d) × (x ≡ y)
-one_change k c d x y a b nx ny e = change_told k c d x y a b nx ny (eq-eqb (change_kind c) (change_kind d) (sym (change_key_is c x) ∙ ap change_key e ∙ change_key_is d y)) e
+pub one_change : (k : ℕ) (c d : PlainChange) (x y : List ℕ) → ChangeWithin k c → ChangeWithin k d → NotDigit x
+    → NotDigit y → change_spelling c ++ x ≡ change_spelling d ++ y → (c ≡ d) × (x ≡ y)
+one_change k c d x y a b nx ny e = change_told k c d x y a b nx ny
+    (eq-eqb (change_kind c) (change_kind d) (sym (change_key_is c x) ∙ ap change_key e ∙ change_key_is d y)) e

@@ -12,6 +12,7 @@ regroup_line : (old n b c a r : List ℕ) → (((old ++ n) ++ b) ++ c) ++ a ++ r
 regroup_line old n b c a r = simp append_assoc
 
 -- a number, a blank, a call, an arrow and a reply
-pub line : (old one two three four n b c a r : List ℕ) → one ≡ old ++ n → two ≡ one ++ b → three ≡ two ++ c → four ≡ three ++ a → four ++ r ≡ old ++ (n ++ b ++ c ++ a ++ r)
+pub line : (old one two three four n b c a r : List ℕ) → one ≡ old ++ n → two ≡ one ++ b → three ≡ two ++ c
+    → four ≡ three ++ a → four ++ r ≡ old ++ (n ++ b ++ c ++ a ++ r)
 line old one two three four n b c a r e f g h =
     ap (λ x. x ++ r) (h ∙ ap (λ x. x ++ a) (g ∙ ap (λ x. x ++ c) (f ∙ ap (λ x. x ++ b) e))) ∙ regroup_line old n b c a r

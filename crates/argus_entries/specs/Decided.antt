@@ -53,11 +53,13 @@ call_told (call.abort_others x) (call.abort_others y) e = ap call.abort_others (
 call_told (call.ask x o q) (call.ask y p r) e =
     let s = and_parts (x == y) (o == p && same_query q r) e in
     let t = and_parts (o == p) (same_query q r) s.1 in
-    ap (λ z. call.ask z o q) (eqb-true x y s.0) ∙ ap (λ z. call.ask y z q) (eqb-true o p t.0) ∙ ap (call.ask y p) (query_told q r t.1)
+    ap (λ z. call.ask z o q) (eqb-true x y s.0) ∙ ap (λ z. call.ask y z q) (eqb-true o p t.0)
+    ∙ ap (call.ask y p) (query_told q r t.1)
 call_told (call.alter x o c) (call.alter y p d) e =
     let s = and_parts (x == y) (o == p && same_change c d) e in
     let t = and_parts (o == p) (same_change c d) s.1 in
-    ap (λ z. call.alter z o c) (eqb-true x y s.0) ∙ ap (λ z. call.alter y z c) (eqb-true o p t.0) ∙ ap (call.alter y p) ((change_decided c d).0 t.1)
+    ap (λ z. call.alter z o c) (eqb-true x y s.0) ∙ ap (λ z. call.alter y z c) (eqb-true o p t.0)
+    ∙ ap (call.alter y p) ((change_decided c d).0 t.1)
 call_told (call.test_read x o) (call.test_read y p) e =
     let s = and_parts (x == y) (o == p) e in
     ap (λ z. call.test_read z o) (eqb-true x y s.0) ∙ ap (call.test_read y) (eqb-true o p s.1)
@@ -74,9 +76,11 @@ call_itself (call.begin_nested x) = eq-eqb x x refl
 call_itself (call.commit x) = eq-eqb x x refl
 call_itself (call.abort x) = eq-eqb x x refl
 call_itself (call.abort_others x) = eq-eqb x x refl
-call_itself (call.ask x o q) = and_from (x == x) (o == o && same_query q q) (eq-eqb x x refl) (and_from (o == o) (same_query q q) (eq-eqb o o refl) (query_itself q))
+call_itself (call.ask x o q) = and_from (x == x) (o == o && same_query q q) (eq-eqb x x refl)
+    (and_from (o == o) (same_query q q) (eq-eqb o o refl) (query_itself q))
 call_itself (call.alter x o c) =
-    and_from (x == x) (o == o && same_change c c) (eq-eqb x x refl) (and_from (o == o) (same_change c c) (eq-eqb o o refl) ((change_decided c c).1 refl))
+    and_from (x == x) (o == o && same_change c c) (eq-eqb x x refl)
+    (and_from (o == o) (same_change c c) (eq-eqb o o refl) ((change_decided c c).1 refl))
 call_itself (call.test_read x o) = and_from (x == x) (o == o) (eq-eqb x x refl) (eq-eqb o o refl)
 call_itself (call.test_write x o) = and_from (x == x) (o == o) (eq-eqb x x refl) (eq-eqb o o refl)
 
@@ -124,7 +128,8 @@ entry_told a b e =
     ap by_call (call_told a.call b.call s.0) ∙ ap by_reply (reply_told a.reply b.reply s.1)
 
 entry_itself : (a : PlainEntry) → same_entry a a ≡ true
-entry_itself a = and_from (same_call a.call a.call) (same_reply a.reply a.reply) (call_itself a.call) (reply_itself a.reply)
+entry_itself a = and_from (same_call a.call a.call) (same_reply a.reply a.reply)
+    (call_itself a.call) (reply_itself a.reply)
 
 pub query_decided : (a b : Query) → Decides (same_query a b) (a ≡ b)
 query_decided = decided same_query query_told query_itself

@@ -7,12 +7,15 @@ use Rattle.argus_contents.specs.Shape.{PlainShape}
 use Rattle.argus_contents.specs.ShapeCode.{shape_coded}
 use Rattle.argus_contents.specs.declared.query.Query.{Query}
 use Rattle.argus_contents.specs.declared.query.Query.TheVariants.{Whole}
-use Rattle.argus_entries.specs.Call.{PlainCall, abort, abort_others, alter, ask, begin_nested, begin_sub, begin_top, commit, declare, test_read, test_write}
+use Rattle.argus_entries.specs.Call.{PlainCall, abort, abort_others, alter, ask, begin_nested}
+use Rattle.argus_entries.specs.Call.{begin_sub, begin_top, commit, declare, test_read, test_write}
 use Rattle.argus_entries.specs.Entry.{PlainEntry}
 use Rattle.argus_entries.specs.OperationCode.{answer_coded, change_coded, query_coded}
 use Rattle.argus_entries.specs.Reply.{PlainReply, answered, begun, object, refused}
 use Rattle.argus_entries.specs.declared.refusal.Refusal.{Refusal}
-use Rattle.argus_entries.specs.declared.refusal.Refusal.TheVariants.{Conflict, IllTyped, NoAction, NoObject, NoSiblings, Over, Suspended, TooDeep, TooMany}
+use Rattle.argus_entries.specs.declared.refusal.Refusal.TheVariants.{Conflict, IllTyped, NoAction}
+use Rattle.argus_entries.specs.declared.refusal.Refusal.TheVariants.{NoObject, NoSiblings, Over}
+use Rattle.argus_entries.specs.declared.refusal.Refusal.TheVariants.{Suspended, TooDeep, TooMany}
 
 abbrev pub refusal_number : Refusal → ℕ
 refusal_number NoAction = 1
@@ -27,8 +30,10 @@ refusal_number NoSiblings = 9
 
 abbrev pub refusal_from : ℕ → Refusal
 refusal_from n =
-    if n == 1 then NoAction else (if n == 2 then Over else (if n == 3 then Suspended else (if n == 4 then NoObject else
-    (if n == 5 then IllTyped else (if n == 6 then Conflict else (if n == 7 then TooDeep else (if n == 8 then TooMany else NoSiblings)))))))
+    if n == 1 then NoAction else (if n == 2 then Over else
+    (if n == 3 then Suspended else (if n == 4 then NoObject else
+    (if n == 5 then IllTyped else (if n == 6 then Conflict else
+    (if n == 7 then TooDeep else (if n == 8 then TooMany else NoSiblings)))))))
 
 pub refusal_back : (r : Refusal) → refusal_from (refusal_number r) ≡ r
 refusal_back NoAction = refl
@@ -55,7 +60,8 @@ reply_parts (answered a) = (2, (0, (a, NoAction)))
 reply_parts (refused r) = (3, (0, (done, r)))
 
 abbrev pub reply_from : ReplyParts → PlainReply
-reply_from p = if p.0 == 0 then object p.1.0 else (if p.0 == 1 then begun p.1.0 else (if p.0 == 2 then answered p.1.1.0 else refused p.1.1.1))
+reply_from p = if p.0 == 0 then object p.1.0 else
+    (if p.0 == 1 then begun p.1.0 else (if p.0 == 2 then answered p.1.1.0 else refused p.1.1.1))
 
 pub reply_back : (r : PlainReply) → reply_from (reply_parts r) ≡ r
 reply_back (object o) = refl
@@ -64,7 +70,8 @@ reply_back (answered a) = refl
 reply_back (refused r) = refl
 
 abbrev pub reply_coded : Coded PlainReply
-reply_coded = code_by ReplyParts (coded× coded_ℕ (coded× coded_ℕ (coded× answer_coded refusal_coded))) reply_parts reply_from reply_back
+reply_coded = code_by ReplyParts (coded× coded_ℕ
+    (coded× coded_ℕ (coded× answer_coded refusal_coded))) reply_parts reply_from reply_back
 
 -- a kind, with an action, an object, a shape, a query and a change
 abbrev pub CallParts : Type 0
@@ -89,10 +96,13 @@ declare_from (Some s) = declare s
 
 abbrev pub call_from : CallParts → PlainCall
 call_from p =
-    if p.0 == 0 then declare_from p.1.1.0 else (if p.0 == 1 then begin_top else (if p.0 == 2 then begin_sub p.1.0.0 else
-    (if p.0 == 3 then begin_nested p.1.0.0 else (if p.0 == 4 then commit p.1.0.0 else (if p.0 == 5 then abort p.1.0.0 else
+    if p.0 == 0 then declare_from p.1.1.0 else (if p.0 == 1 then begin_top else
+    (if p.0 == 2 then begin_sub p.1.0.0 else
+    (if p.0 == 3 then begin_nested p.1.0.0 else (if p.0 == 4 then commit p.1.0.0 else
+    (if p.0 == 5 then abort p.1.0.0 else
     (if p.0 == 6 then abort_others p.1.0.0 else (if p.0 == 7 then ask p.1.0.0 p.1.0.1 p.1.1.1.0 else
-    (if p.0 == 8 then alter p.1.0.0 p.1.0.1 p.1.1.1.1 else (if p.0 == 9 then test_read p.1.0.0 p.1.0.1 else
+    (if p.0 == 8 then alter p.1.0.0 p.1.0.1 p.1.1.1.1 else
+    (if p.0 == 9 then test_read p.1.0.0 p.1.0.1 else
     test_write p.1.0.0 p.1.0.1)))))))))
 
 pub call_back : (c : PlainCall) → call_from (call_parts c) ≡ c
@@ -110,9 +120,11 @@ call_back (test_write a o) = refl
 
 abbrev pub call_coded : Coded PlainCall
 call_coded =
-    code_by CallParts (coded× coded_ℕ (coded× (coded× coded_ℕ coded_ℕ) (coded× (coded_option shape_coded) (coded× query_coded change_coded))))
+    code_by CallParts (coded× coded_ℕ (coded× (coded× coded_ℕ coded_ℕ)
+    (coded× (coded_option shape_coded) (coded× query_coded change_coded))))
     call_parts call_from call_back
 
 abbrev pub entry_coded : Coded PlainEntry
 entry_coded =
-    code_by (PlainCall × PlainReply) (coded× call_coded reply_coded) (λ e. (e.call, e.reply)) (λ p. record { call = p.0; reply = p.1 }) (λ _. refl)
+    code_by (PlainCall × PlainReply) (coded× call_coded reply_coded) (λ e. (e.call, e.reply))
+    (λ p. record { call = p.0; reply = p.1 }) (λ _. refl)

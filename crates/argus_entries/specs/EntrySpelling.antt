@@ -1,18 +1,23 @@
--- The line of an entry: its number, the call, an arrow and the reply. Action 3 is `a3`, object 2 is `o2`.
+-- The line of an entry: its number, the call, an arrow and the reply. Action 3 is `a3`, object 2 is
+-- `o2`.
 use Rattle.std.specs.Fmt.{decimal, signed_decimal}
 use Rattle.std.specs.Prelude.{List, codes, false, true, ℕ, ◌++◌}
 use Rattle.argus_contents.specs.Answer.{PlainAnswer, body, done, flag, num, signal, val}
 use Rattle.argus_contents.specs.declared.signal.Signal.{Signal}
-use Rattle.argus_contents.specs.declared.signal.Signal.TheVariants.{Absent, Bounds, Exists, Limits, NegativeSize, WrongTag}
+use Rattle.argus_contents.specs.declared.signal.Signal.TheVariants.{Absent, Bounds, Exists, Limits}
+use Rattle.argus_contents.specs.declared.signal.Signal.TheVariants.{NegativeSize, WrongTag}
 use Rattle.argus_texts.specs.ContentSpelling.{content_spelling}
 use Rattle.argus_texts.specs.ShapeSpelling.{shape_spelling}
 use Rattle.argus_texts.specs.Spelling.{spelling}
-use Rattle.argus_entries.specs.Call.{PlainCall, abort, abort_others, alter, ask, begin_nested, begin_sub, begin_top, commit, declare, test_read, test_write}
+use Rattle.argus_entries.specs.Call.{PlainCall, abort, abort_others, alter, ask, begin_nested}
+use Rattle.argus_entries.specs.Call.{begin_sub, begin_top, commit, declare, test_read, test_write}
 use Rattle.argus_entries.specs.Entry.{PlainEntry}
 use Rattle.argus_entries.specs.OperationSpelling.{change_spelling, query_spelling}
 use Rattle.argus_entries.specs.Reply.{PlainReply, answered, begun, object, refused}
 use Rattle.argus_entries.specs.declared.refusal.Refusal.{Refusal}
-use Rattle.argus_entries.specs.declared.refusal.Refusal.TheVariants.{Conflict, IllTyped, NoAction, NoObject, NoSiblings, Over, Suspended, TooDeep, TooMany}
+use Rattle.argus_entries.specs.declared.refusal.Refusal.TheVariants.{Conflict, IllTyped, NoAction}
+use Rattle.argus_entries.specs.declared.refusal.Refusal.TheVariants.{NoObject, NoSiblings, Over}
+use Rattle.argus_entries.specs.declared.refusal.Refusal.TheVariants.{Suspended, TooDeep, TooMany}
 
 -- a word that ends with `a`, the number of an action, and an object
 abbrev pub place_spelling : List ℕ → ℕ → ℕ → List ℕ
@@ -26,8 +31,10 @@ call_spelling (begin_nested creator) = codes "begin_nested a" ++ decimal creator
 call_spelling (commit a) = codes "commit a" ++ decimal a
 call_spelling (abort a) = codes "abort a" ++ decimal a
 call_spelling (abort_others a) = codes "abort_others a" ++ decimal a
-call_spelling (ask a o query) = place_spelling (codes "ask a") a o ++ codes " " ++ query_spelling query
-call_spelling (alter a o change) = place_spelling (codes "alter a") a o ++ codes " " ++ change_spelling change
+call_spelling (ask a o query) =
+    place_spelling (codes "ask a") a o ++ codes " " ++ query_spelling query
+call_spelling (alter a o change) =
+    place_spelling (codes "alter a") a o ++ codes " " ++ change_spelling change
 call_spelling (test_read a o) = place_spelling (codes "test_read a") a o
 call_spelling (test_write a o) = place_spelling (codes "test_write a") a o
 
@@ -68,4 +75,5 @@ reply_spelling (refused r) = codes "refused " ++ refusal_name r
 
 -- the line of the entry with this number, without its end
 abbrev pub entry_spelling : ℕ → PlainEntry → List ℕ
-entry_spelling at e = decimal at ++ codes " " ++ call_spelling e.call ++ codes " -> " ++ reply_spelling e.reply
+entry_spelling at e =
+    decimal at ++ codes " " ++ call_spelling e.call ++ codes " -> " ++ reply_spelling e.reply

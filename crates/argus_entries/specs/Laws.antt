@@ -22,7 +22,12 @@ QueryWithin (query.Field i) = i < 2 ^ 8
 QueryWithin (query.Fetch i) = IsI64 i
 QueryWithin (query.IsTag t) = t < 2 ^ 8
 QueryWithin (query.TagValue t) = t < 2 ^ 8
-QueryWithin _ = Unit {0}
+QueryWithin query.Whole = Unit {0}
+QueryWithin query.Low = Unit {0}
+QueryWithin query.High = Unit {0}
+QueryWithin query.Size = Unit {0}
+QueryWithin query.Bottom = Unit {0}
+QueryWithin query.Top = Unit {0}
 
 -- a change whose numbers are in range, with values of depth at most k
 abbrev pub ChangeWithin : ℕ → PlainChange → Type 0
@@ -34,9 +39,12 @@ ChangeWithin k (change.addl v) = Within k v
 ChangeWithin k (change.set_low i) = IsI64 i
 ChangeWithin k (change.trim i n) = IsI64 i × IsI64 n
 ChangeWithin k (change.change_tag t v) = (t < 2 ^ 8) × Within k v
-ChangeWithin k _ = Unit {0}
+ChangeWithin k change.remh = Unit {0}
+ChangeWithin k change.reml = Unit {0}
+ChangeWithin k change.touch = Unit {0}
 
--- a call whose numbers are in range, with values of depth at most k; in a shape each name has a name's form
+-- a call whose numbers are in range, with values of depth at most k; in a shape each name has a
+-- name's form
 abbrev pub CallWithin : ℕ → PlainCall → Type 0
 CallWithin k (call.declare s) = HasNames s
 CallWithin k call.begin_top = Unit {0}
@@ -55,7 +63,9 @@ abbrev pub AnswerWithin : ℕ → PlainAnswer → Type 0
 AnswerWithin k (answer.val v) = Within k v
 AnswerWithin k (answer.num n) = IsI64 n
 AnswerWithin k (answer.body c) = PartsWithin k c
-AnswerWithin k _ = Unit {0}
+AnswerWithin k answer.done = Unit {0}
+AnswerWithin k (answer.flag b) = Unit {0}
+AnswerWithin k (answer.signal s) = Unit {0}
 
 -- a reply whose number is in range, with values of depth at most k
 abbrev pub ReplyWithin : ℕ → PlainReply → Type 0
@@ -68,7 +78,9 @@ ReplyWithin k (reply.refused r) = Unit {0}
 abbrev pub EntryWithin : ℕ → PlainEntry → Type 0
 EntryWithin k e = CallWithin k e.call × ReplyWithin k e.reply
 
--- numbered entries, with values of whatever depth, with one line are the same, and have the same number
+-- numbered entries, with values of whatever depth, with one line are the same, and have the same
+-- number
 abbrev pub EachEntryIsTold : Type 0
-EachEntryIsTold = (k m n : ℕ) (d e : PlainEntry) → m < 2 ^ 64 → n < 2 ^ 64 → EntryWithin k d → EntryWithin k e
+EachEntryIsTold =
+    (k m n : ℕ) (d e : PlainEntry) → m < 2 ^ 64 → n < 2 ^ 64 → EntryWithin k d → EntryWithin k e
     → entry_spelling m d ≡ entry_spelling n e → (m ≡ n) × (d ≡ e)

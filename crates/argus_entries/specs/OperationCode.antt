@@ -1,16 +1,20 @@
 -- Codes of queries, changes and answers: numbers, values and contents that give them back.
 use Rattle.std.proofs.Common.{ap, sym, ◌∙◌}
 use Rattle.std.specs.Coded.{Coded, code_by, coded_bool, coded_option, coded_ℕ, coded_ℤ, coded×}
-use Rattle.std.specs.Prelude.{Bool, None, Option, Some, false, if◌then◌else◌, pos, refl, ℕ, ℤ, ◌==◌, ◌≡◌}
+use Rattle.std.specs.Prelude.{Bool, None, Option, Some, false, if◌then◌else◌, pos, refl, ℕ, ℤ, ◌==◌}
+use Rattle.std.specs.Prelude.{◌≡◌}
 use Rattle.argus_contents.specs.Answer.{PlainAnswer, body, done, flag, num, signal, val}
-use Rattle.argus_contents.specs.Change.{PlainChange, addh, addl, change_tag, create, reml, remh, set_field, set_low, store, touch, trim}
+use Rattle.argus_contents.specs.Change.{PlainChange, addh, addl, change_tag, create, reml, remh}
+use Rattle.argus_contents.specs.Change.{set_field, set_low, store, touch, trim}
 use Rattle.argus_contents.specs.Content.{PlainContent}
 use Rattle.argus_contents.specs.ContentCode.{content_coded, seen, value_back, value_code}
 use Rattle.argus_contents.specs.Value.{PlainValue, null}
 use Rattle.argus_contents.specs.declared.query.Query.{Query}
-use Rattle.argus_contents.specs.declared.query.Query.TheVariants.{Bottom, Fetch, Field, High, IsTag, Low, Size, TagValue, Top, Whole}
+use Rattle.argus_contents.specs.declared.query.Query.TheVariants.{Bottom, Fetch, Field, High, IsTag}
+use Rattle.argus_contents.specs.declared.query.Query.TheVariants.{Low, Size, TagValue, Top, Whole}
 use Rattle.argus_contents.specs.declared.signal.Signal.{Signal}
-use Rattle.argus_contents.specs.declared.signal.Signal.TheVariants.{Absent, Bounds, Exists, Limits, NegativeSize, WrongTag}
+use Rattle.argus_contents.specs.declared.signal.Signal.TheVariants.{Absent, Bounds, Exists, Limits}
+use Rattle.argus_contents.specs.declared.signal.Signal.TheVariants.{NegativeSize, WrongTag}
 
 pub value_injective : (v w : PlainValue) → value_code v ≡ value_code w → v ≡ w
 value_injective v w e = sym (value_back v) ∙ (ap (λ g. (seen g).0) e ∙ value_back w)
@@ -33,8 +37,10 @@ query_parts (TagValue t) = (9, (t, pos 0))
 
 abbrev pub query_from : ℕ × (ℕ × ℤ) → Query
 query_from p =
-    if p.0 == 0 then Whole else (if p.0 == 1 then Field p.1.0 else (if p.0 == 2 then Low else (if p.0 == 3 then High else
-    (if p.0 == 4 then Size else (if p.0 == 5 then Fetch p.1.1 else (if p.0 == 6 then Bottom else (if p.0 == 7 then Top else
+    if p.0 == 0 then Whole else (if p.0 == 1 then Field p.1.0 else
+    (if p.0 == 2 then Low else (if p.0 == 3 then High else
+    (if p.0 == 4 then Size else (if p.0 == 5 then Fetch p.1.1 else
+    (if p.0 == 6 then Bottom else (if p.0 == 7 then Top else
     (if p.0 == 8 then IsTag p.1.0 else TagValue p.1.0))))))))
 
 pub query_back : (q : Query) → query_from (query_parts q) ≡ q
@@ -50,7 +56,8 @@ query_back (IsTag t) = refl
 query_back (TagValue t) = refl
 
 abbrev pub query_coded : Coded Query
-query_coded = code_by (ℕ × (ℕ × ℤ)) (coded× coded_ℕ (coded× coded_ℕ coded_ℤ)) query_parts query_from query_back
+query_coded = code_by (ℕ × (ℕ × ℤ)) (coded× coded_ℕ (coded× coded_ℕ coded_ℤ))
+    query_parts query_from query_back
 
 -- a kind, with a number, two indices, a content and a value
 abbrev pub ChangeParts : Type 0
@@ -76,9 +83,11 @@ create_from (Some c) = create c
 abbrev pub change_from : ChangeParts → PlainChange
 change_from p =
     if p.0 == 0 then create_from p.1.1.1.0 else (if p.0 == 1 then set_field p.1.0 p.1.1.1.1 else
-    (if p.0 == 2 then store p.1.1.0.0 p.1.1.1.1 else (if p.0 == 3 then addh p.1.1.1.1 else (if p.0 == 4 then addl p.1.1.1.1 else
+    (if p.0 == 2 then store p.1.1.0.0 p.1.1.1.1 else
+    (if p.0 == 3 then addh p.1.1.1.1 else (if p.0 == 4 then addl p.1.1.1.1 else
     (if p.0 == 5 then remh else (if p.0 == 6 then reml else (if p.0 == 7 then set_low p.1.1.0.0 else
-    (if p.0 == 8 then trim p.1.1.0.0 p.1.1.0.1 else (if p.0 == 9 then change_tag p.1.0 p.1.1.1.1 else touch)))))))))
+    (if p.0 == 8 then trim p.1.1.0.0 p.1.1.0.1 else
+    (if p.0 == 9 then change_tag p.1.0 p.1.1.1.1 else touch)))))))))
 
 pub change_back : (c : PlainChange) → change_from (change_parts c) ≡ c
 change_back (create c) = refl
@@ -95,7 +104,8 @@ change_back touch = refl
 
 abbrev pub change_coded : Coded PlainChange
 change_coded =
-    code_by ChangeParts (coded× coded_ℕ (coded× coded_ℕ (coded× (coded× coded_ℤ coded_ℤ) (coded× (coded_option content_coded) value_coded))))
+    code_by ChangeParts (coded× coded_ℕ (coded× coded_ℕ
+    (coded× (coded× coded_ℤ coded_ℤ) (coded× (coded_option content_coded) value_coded))))
     change_parts change_from change_back
 
 abbrev pub signal_number : Signal → ℕ
@@ -108,7 +118,8 @@ signal_number Limits = 5
 
 abbrev pub signal_from : ℕ → Signal
 signal_from n =
-    if n == 0 then Absent else (if n == 1 then Exists else (if n == 2 then Bounds else (if n == 3 then WrongTag else
+    if n == 0 then Absent else (if n == 1 then Exists else
+    (if n == 2 then Bounds else (if n == 3 then WrongTag else
     (if n == 4 then NegativeSize else Limits))))
 
 pub signal_back : (s : Signal) → signal_from (signal_number s) ≡ s
@@ -141,7 +152,8 @@ body_from (Some c) = body c
 abbrev pub answer_from : AnswerParts → PlainAnswer
 answer_from p =
     if p.0 == 0 then done else (if p.0 == 1 then val p.1.1.1.0 else (if p.0 == 2 then num p.1.0 else
-    (if p.0 == 3 then flag p.1.1.0 else (if p.0 == 4 then body_from p.1.1.1.1.0 else signal p.1.1.1.1.1))))
+    (if p.0 == 3 then flag p.1.1.0 else (if p.0 == 4 then body_from p.1.1.1.1.0 else
+    signal p.1.1.1.1.1))))
 
 pub answer_back : (a : PlainAnswer) → answer_from (answer_parts a) ≡ a
 answer_back done = refl
@@ -153,5 +165,7 @@ answer_back (signal s) = refl
 
 abbrev pub answer_coded : Coded PlainAnswer
 answer_coded =
-    code_by AnswerParts (coded× coded_ℕ (coded× coded_ℤ (coded× coded_bool (coded× value_coded (coded× (coded_option content_coded) signal_coded)))))
+    code_by AnswerParts (coded× coded_ℕ (coded× coded_ℤ
+    (coded× coded_bool (coded× value_coded (coded× (coded_option content_coded)
+    signal_coded)))))
     answer_parts answer_from answer_back

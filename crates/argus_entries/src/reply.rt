@@ -66,8 +66,8 @@ pub(crate) fn is_same(a: &Reply, b: &Reply) -> bool
     ensures { result ≡ same_reply (plain_reply a.now) (plain_reply b.now) }
 {
     match (a, b) {
-        (Reply::Object(o), Reply::Object(p)) => o.0 == p.0,
-        (Reply::Begun(a), Reply::Begun(b)) => a.0 == b.0,
+        (Reply::Object(o), Reply::Object(p)) => o == p,
+        (Reply::Begun(a), Reply::Begun(b)) => a == b,
         (Reply::Answered(a), Reply::Answered(b)) => a == b,
         (Reply::Refused(r), Reply::Refused(q)) => r == q,
         _ => false,

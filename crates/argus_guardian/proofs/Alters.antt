@@ -7,7 +7,7 @@ use Rattle.argus_actions.specs.Refusals.{commit_refusal}
 use Rattle.argus_actions.specs.declared.action_id.ActionId.{ActionId}
 use Rattle.argus_contents.specs.Content.{KeepsLimits}
 use Rattle.argus_contents.specs.Fitting.{change_suits}
-use Rattle.argus_contents.specs.Change.{PlainChange, result}
+use Rattle.argus_contents.specs.Change.{PlainChange, outcome}
 use Rattle.argus_contents.specs.Answer.{PlainAnswer}
 use Rattle.argus_contents.specs.declared.obj_id.ObjId.{ObjId}
 use Rattle.argus_entries.specs.Call.{alter}
@@ -67,13 +67,13 @@ module _ (t : Tree) (objects : List AtomicObject) (holdings : Holdings) (s : Ope
     pub alter_limits : (d : AtomicObject) → KeepsLimits (seen_at t a objects o.0 d)
     alter_limits d = seen_limits t objects holdings s j k a o.0 (acts t objects holdings s j k a o.0 parts.accepted) d parts.low (alter_reads d)
 
-    pub alter_right : (d : AtomicObject) → answered (result change (seen_at t a objects o.0 d)).1 ≡ answer s j (alter a.0 o.0 change)
+    pub alter_right : (d : AtomicObject) → answered (outcome change (seen_at t a objects o.0 d)).1 ≡ answer s j (alter a.0 o.0 change)
     alter_right d =
-        ap (λ x. answered (result change x).1) (seen_is t objects holdings s j k a o.0 (acts t objects holdings s j k a o.0 parts.accepted) d parts.low (alter_reads d))
+        ap (λ x. answered (outcome change x).1) (seen_is t objects holdings s j k a o.0 (acts t objects holdings s j k a o.0 parts.accepted) d parts.low (alter_reads d))
         ∙ sym (ap (λ r. or_refused r (granted s (history s j) (shapes s j) (alter a.0 o.0 change))) (sym alter_is ∙ e))
 
     -- what was read at any object is the answer
-    pub alter_told : (x : PlainAnswer) → ((d : AtomicObject) → x ≡ (result change (seen_at t a objects o.0 d)).1) → answered x ≡ answer s j (alter a.0 o.0 change)
+    pub alter_told : (x : PlainAnswer) → ((d : AtomicObject) → x ≡ (outcome change (seen_at t a objects o.0 d)).1) → answered x ≡ answer s j (alter a.0 o.0 change)
     alter_told x f = let d : AtomicObject = some_object objects o.0 parts.low in ap answered (f d) ∙ alter_right d
 
     pub kept_alter : (objects' : List AtomicObject) (holdings' : Holdings) (x : PlainAnswer) (reply : PlainReply) → reply ≡ answered x → answered x ≡ answer s j (alter a.0 o.0 change) → IsAccessed (IsAltered t a change) a o objects objects' holdings holdings' → IsKept t objects' holdings' s (entry_with (alter a.0 o.0 change) reply ∷ j)
@@ -87,6 +87,6 @@ module _ (t : Tree) (objects : List AtomicObject) (holdings : Holdings) (s : Ope
         may_read_is s (history s j) w t k.parts.actions o.0 c i a la
         ∙ sym (reads_agree t objects holdings s j k a o.0 la d parts.low)
         ∙ alter_reads d in
-        let left : (changed t a change c).0 ≡ (result change (sees entries (opened s) (history s j) (a.0 + 1) o.0)).0 =
-        ap (λ x. (result change x).0) (visible_is s (history s j) w t k.parts.actions o.0 c i a la may) in
+        let left : (changed t a change c).0 ≡ (outcome change (sees entries (opened s) (history s j) (a.0 + 1) o.0)).0 =
+        ap (λ x. (outcome change x).0) (visible_is s (history s j) w t k.parts.actions o.0 c i a la may) in
         written_cell s (history s j) t k.parts.actions a o.0 (entry_with (alter a.0 o.0 change) (answered x)) l refl c c' (changed t a change c).0 i left r.base r.readers r.versions r.lawful) moved

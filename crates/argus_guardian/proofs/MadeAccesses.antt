@@ -4,7 +4,7 @@ use Rattle.std.specs.Prelude.{slice_index_or}
 use Rattle.std.proofs.lemmas.Bool.{and_parts}
 use Rattle.argus_actions.specs.Tree.{Tree}
 use Rattle.argus_actions.specs.declared.action_id.ActionId.{ActionId}
-use Rattle.argus_contents.specs.Change.{PlainChange, result}
+use Rattle.argus_contents.specs.Change.{PlainChange, outcome}
 use Rattle.argus_contents.specs.Content.{PlainContent, plain_option}
 use Rattle.argus_contents.specs.declared.content.Content.{Content}
 use Rattle.argus_contents.specs.declared.obj_id.ObjId.{ObjId}
@@ -85,7 +85,7 @@ pub made_change : (p : Parts) (e : PlainEntry) (a : ActionId) (o : ObjId) (k : K
     (holdings' : Holdings) (change : PlainChange)
     → e.reply ≡ reply_to (said_of p) e.call
     → IsFree p.tree p.objects.items a o (λ cell. may_write p.tree cell a) → TellsAccess p e a o true
-    → ((seen : Option PlainContent) → left_by e.call seen ≡ (result change seen).0)
+    → ((seen : Option PlainContent) → left_by e.call seen ≡ (outcome change seen).0)
     → IsAccessed (IsAltered p.tree a change) a o p.objects.items objects' p.holdings holdings'
     → IsKept p.tree objects' holdings' (opening_in p.journal) (e ∷ entries_in p.journal)
 made_change p e a o k objects' holdings' change right free told left moved =
@@ -109,7 +109,7 @@ made_change p e a o k objects' holdings' change right free told left moved =
     ∙ sym (reads_agree t xs p.holdings s j k a o.0 la d free.low)
     ∙ reads in
     let is : (changed t a change c).0 ≡ left_by e.call (sees entries (opened s) h (a.0 + 1) o.0) =
-    ap (λ x. (result change x).0) (visible_is s h (lawful s j k.legal) t k.parts.actions o.0 c i a la may)
+    ap (λ x. (outcome change x).0) (visible_is s h (lawful s j k.legal) t k.parts.actions o.0 c i a la may)
     ∙ sym (left (sees entries (opened s) h (a.0 + 1) o.0)) in
     written_cell s h t k.parts.actions a o.0 e l told.write c c' (changed t a change c).0 i is
     r.base r.readers r.versions r.lawful)

@@ -33,7 +33,7 @@ use Rattle.argus_model.specs.Holders as model
 use Rattle.argus_objects.specs.Moves.{changed}
 use Rattle.argus_objects.specs.Object.{Object, holders}
 use Rattle.argus_objects.specs.Rules.{all_above, may_read, may_write}
-use Rattle.argus_contents.specs.Change.{result, touch}
+use Rattle.argus_contents.specs.Change.{outcome, touch}
 use Rattle.argus_contents.specs.Content.{KeepsLimits}
 use Rattle.argus_journal.proofs.Legal.{lawful}
 use Rattle.argus_model.specs.Contents.{sees}
@@ -85,8 +85,8 @@ module _ (t : Tree) (objects : List AtomicObject) (holdings : Holdings) (s : Ope
         may_read_is s (history s j) w t k.parts.actions o.0 c i a la
         ∙ sym (reads_agree t objects holdings s j k a o.0 la d parts.low)
         ∙ reads d in
-        let left : (changed t a touch c).0 ≡ (result touch (sees entries (opened s) (history s j) (a.0 + 1) o.0)).0 =
-        ap (λ x. (result touch x).0) (visible_is s (history s j) w t k.parts.actions o.0 c i a la may) in
+        let left : (changed t a touch c).0 ≡ (outcome touch (sees entries (opened s) (history s j) (a.0 + 1) o.0)).0 =
+        ap (λ x. (outcome touch x).0) (visible_is s (history s j) w t k.parts.actions o.0 c i a la may) in
         written_cell s (history s j) t k.parts.actions a o.0 (entry_with (test_write a.0 o.0) (answered (flag true))) l refl c c' (changed t a touch c).0 i left r.base r.readers r.versions r.lawful) moved
 
     pub kept_write_no : answered (flag false) ≡ answer s j (test_write a.0 o.0) → IsKept t objects holdings s (entry_with (test_write a.0 o.0) (answered (flag false)) ∷ j)

@@ -2,7 +2,7 @@
 
 ghost use Rattle.std.specs.Prelude.{◌≡◌, ◌<◌, length, slice_index_or, true, IfOk};
 ghost use Rattle.argus_contents.specs.Answer.{plain_answer};
-ghost use Rattle.argus_contents.specs.Change.{plain_change, result as outcome_of};
+ghost use Rattle.argus_contents.specs.Change.{outcome, plain_change};
 ghost use Rattle.argus_contents.specs.Content.{KeepsLimits, plain_option};
 ghost use Rattle.argus_contents.specs.Query.{reply};
 ghost use Rattle.argus_entries.specs.Reply.{answered, plain_reply};
@@ -52,7 +52,7 @@ pub(crate) fn change_answer(
         → may_read tree.now (slice_index_or objects.now o.0 d).cell a ≡ true }
     requires limits { (d : AtomicObject) → KeepsLimits (seen_at tree.now a objects.now o.0 d) }
     ensures { (d : AtomicObject) → IfOk result (λ answer. plain_answer answer
-        ≡ (outcome_of (plain_change change.now) (seen_at tree.now a objects.now o.0 d)).1) }
+        ≡ (outcome (plain_change change.now) (seen_at tree.now a objects.now o.0 d)).1) }
 {
     let object = &objects[o.0 as usize];
     answer_of_change(heap, object.cell.visible(tree, a), change)
@@ -72,7 +72,7 @@ pub(crate) fn change_outcome(
         → may_read tree.now (slice_index_or objects.now o.0 d).cell a ≡ true }
     requires limits { (d : AtomicObject) → KeepsLimits (seen_at tree.now a objects.now o.0 d) }
     ensures { (d : AtomicObject) → IfOk result (λ left. (plain_option left.0, plain_answer left.1)
-        ≡ outcome_of (plain_change change.now) (seen_at tree.now a objects.now o.0 d)) }
+        ≡ outcome (plain_change change.now) (seen_at tree.now a objects.now o.0 d)) }
 {
     let object = &objects[o.0 as usize];
     alter(heap, object.cell.visible(tree, a), change)

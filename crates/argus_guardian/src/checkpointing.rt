@@ -42,16 +42,6 @@ fn is_busy(tree: &ActionTree, first: u32) -> bool
     false
 }
 
-/// A copy of a content that may be absent.
-fn copy_of(heap: Heap, content: &Option<Content>) -> Result<Option<Content>, OutOfMemory>
-    ensures { IfOk result (λ copy. plain_option copy ≡ plain_option content.now) }
-{
-    match content {
-        None => Ok(None),
-        Some(content) => Ok(Some(content.duplicate(heap)?)),
-    }
-}
-
 /// Copies of the shapes and of what is in the objects for good.
 fn copies_of(
     heap: Heap,
@@ -62,7 +52,7 @@ fn copies_of(
     let mut copies = Vec::new(heap);
     for object in objects {
         let shape = object.shape.duplicate(heap)?;
-        let base = copy_of(heap, object.cell.base())?;
+        let base = Content::duplicate_option(heap, object.cell.base())?;
         copies.push((shape, base))?;
     }
     Ok(copies)

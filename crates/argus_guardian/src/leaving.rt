@@ -132,16 +132,7 @@ fn version_content(
         ≡ unwrap_or (version_of a (newest_first versions.now)) None) }
 {
     match version_of(versions, a) {
-        Some(content) => duplicate_option(heap, content),
+        Some(content) => Content::duplicate_option(heap, content),
         None => Ok(None),
-    }
-}
-
-fn duplicate_option(heap: Heap, content: &Option<Content>) -> Result<Option<Content>, OutOfMemory>
-    ensures { IfOk result (λ copy. plain_option copy ≡ plain_option content.now) }
-{
-    match content {
-        None => Ok(None),
-        Some(content) => Ok(Some(content.duplicate(heap)?)),
     }
 }

@@ -1,7 +1,7 @@
 //! Writes in one go: in place where the action has a version, which no prepared write can be.
 
 ghost use Rattle.std.specs.Prelude.{◌≡◌, IfOk, Option, OnErr, OnOk, true};
-ghost use Rattle.argus_contents.specs.Change.{plain_change, result as outcome_of};
+ghost use Rattle.argus_contents.specs.Change.{outcome, plain_change};
 ghost use Rattle.argus_contents.specs.Content.{PlainContent};
 ghost use Rattle.argus_entries.specs.Call.{alter, test_write};
 ghost use Rattle.argus_entries.specs.Entry.{plain_entry};
@@ -102,7 +102,7 @@ fn write(
         (λ cell. may_write parts.old.tree cell a) }
     requires told { TellsAccess parts.old (plain_entry entry) a o true }
     requires left { (seen : Option PlainContent) → left_by (plain_entry entry).call seen
-        ≡ (outcome_of (plain_change change) seen).0 }
+        ≡ (outcome (plain_change change) seen).0 }
     ensures kept { Keeps parts.new }
     ensures ok { OnOk result (said_of parts.new
         ≡ with_entry (said_of parts.old) (plain_entry entry)) }

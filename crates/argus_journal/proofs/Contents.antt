@@ -1,15 +1,17 @@
 -- Whatever counts, what a legal journal leaves in an object fits its shape.
-use Rattle.std.proofs.Common.{Bool, List, None, Option, Some, [], arith, false, length, length-append, refl, subst, suc, sym, true, zero, ℕ, ◌++◌, ◌+◌, ◌∷◌, ◌≡◌}
+use Rattle.std.proofs.Common.{Bool, List, None, Option, Some, [], arith, false, length, length-append, refl, subst, suc}
+use Rattle.std.proofs.Common.{sym, true, zero, ℕ, ◌++◌, ◌+◌, ◌∷◌, ◌≡◌}
 use Rattle.std.specs.List.{list_all}
 use Rattle.std.specs.Prelude.{if◌then◌else◌, map, slice_get, ◌&&◌, ◌==◌}
 use Rattle.std.proofs.lemmas.Bool.{and_parts, eqb-true}
 use Rattle.std.proofs.lemmas.List.{length-map}
 use Rattle.argus_contents.specs.Answer.{flag}
-use Rattle.argus_contents.specs.Change.{PlainChange, result}
+use Rattle.argus_contents.specs.Change.{PlainChange, outcome}
 use Rattle.argus_contents.specs.Content.{PlainContent}
 use Rattle.argus_contents.specs.Fitting.{change_suits}
 use Rattle.argus_contents.specs.Shape.{PlainShape}
-use Rattle.argus_entries.specs.Call.{PlainCall, abort, abort_others, alter, ask, begin_nested, begin_sub, begin_top, commit, declare, test_read, test_write}
+use Rattle.argus_entries.specs.Call.{PlainCall, abort, abort_others, alter, ask, begin_nested, begin_sub, begin_top}
+use Rattle.argus_entries.specs.Call.{commit, declare, test_read, test_write}
 use Rattle.argus_entries.specs.Entry.{PlainEntry}
 use Rattle.argus_entries.specs.Reply.{PlainReply, answered, refused}
 use Rattle.argus_entries.specs.declared.refusal.Refusal.{Refusal}
@@ -24,8 +26,9 @@ use Rattle.argus_journal.specs.Events.{history, with_event}
 use Rattle.argus_journal.specs.Legal.{Legal}
 use Rattle.argus_journal.specs.Objects.{declared, declared_by, shape_of, shapes}
 use Rattle.argus_journal.specs.Opening.{Opening, content_in, fits_shape, is_sound}
-use Rattle.argus_journal.proofs.Fitting.{fits_more, nothing, result_fits, touch_keeps}
-use Rattle.argus_journal.proofs.Legal.{access_none, free_none, refused_is_none, test_read_event, test_write_event, tested, then_event}
+use Rattle.argus_journal.proofs.Fitting.{fits_more, nothing, outcome_fits, touch_keeps}
+use Rattle.argus_journal.proofs.Legal.{access_none, free_none, refused_is_none, test_read_event, test_write_event}
+use Rattle.argus_journal.proofs.Legal.{tested, then_event}
 
 -- a content that fits one of the shapes still fits when more are declared
 found_still : (xs ys : List PlainShape) (n : ℕ) (o : ℕ) (c : Option PlainContent)
@@ -82,9 +85,9 @@ module _ (counts : ℕ → Bool) (objects : List PlainShape) (o : ℕ) (c : Opti
 
   altered : (x : PlainChange) (s : Option PlainShape) (v : Option PlainContent)
       → suits (λ shape. change_suits shape (length objects) x) s ≡ true → fits_shape s (length objects) v ≡ true
-      → fits_shape s (length objects) (result x v).0 ≡ true
+      → fits_shape s (length objects) (outcome x v).0 ≡ true
   altered x None v h e = nothing h
-  altered x (Some s) v h e = result_fits x s (length objects) v h e
+  altered x (Some s) v h e = outcome_fits x s (length objects) v h e
 
   granted_fits : (s : Opening) (h : History PlainEntry) (call : PlainCall) → refusal h objects call ≡ None → AllFits h
       → AllFits (then_event call (granted s h objects call) h)

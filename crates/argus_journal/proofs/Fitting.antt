@@ -1,13 +1,16 @@
 -- A fitting change leaves a fitting content, and what fits goes on to fit when more objects are declared.
-use Rattle.std.proofs.Common.{Bool, List, None, Option, Some, [], arith, drop, false, length, nat_le, nat_lt, refl, suc, take, true, zero, ℕ, ℤ, pos, ◌++◌, ◌+ℤ◌, ◌-◌, ◌-ℤ◌, ◌∷◌, ◌≡◌, ◌≤ℤ◌, ◌≤◌}
+use Rattle.std.proofs.Common.{Bool, List, None, Option, Some, [], arith, drop, false, length, nat_le, nat_lt, refl, suc}
+use Rattle.std.proofs.Common.{take, true, zero, ℕ, ℤ, pos, ◌++◌, ◌+ℤ◌, ◌-◌, ◌-ℤ◌, ◌∷◌, ◌≡◌, ◌≤ℤ◌, ◌≤◌}
 use Rattle.std.specs.Prelude.{if◌then◌else◌, int_lt, not, slice_set, unsigned_abs, ◌&&◌, ◌||◌}
 use Rattle.std.specs.Ordering.{int_eq}
 use Rattle.std.proofs.lemmas.Bool.{and_from, and_parts, false≢true}
 use Rattle.std.proofs.lemmas.Bool.Decides.{nat_tests}
 use Rattle.std.proofs.lemmas.Int.{ints}
-use Rattle.argus_contents.specs.Change.{Outcome, PlainChange, addh, addl, array_result, change_tag, create, is_full_high, is_full_low, is_out_of_limits, reml, remh, removed_low, result, set_field, set_low, store, stored_at, touch, trim, trimmed}
-use Rattle.argus_contents.specs.Content.{KeepsBounds, KeepsLimits, PlainContent, arr, rec, var}
-use Rattle.argus_contents.specs.Fitting.{change_suits, is_fitting, is_within}
+use Rattle.argus_contents.specs.Change.{Outcome, PlainChange, addh, addl, array_outcome, change_tag, create}
+use Rattle.argus_contents.specs.Change.{is_full_high, is_full_low, is_out_of_limits, reml, remh, removed_low, outcome}
+use Rattle.argus_contents.specs.Change.{set_field, set_low, store, stored_at, touch, trim, trimmed}
+use Rattle.argus_contents.specs.Content.{KeepsLimits, PlainContent, arr, is_within, rec, var}
+use Rattle.argus_contents.specs.Fitting.{change_suits, is_fitting}
 use Rattle.argus_contents.specs.Place.{high_of, place_of}
 use Rattle.argus_contents.specs.Shape as shape
 use Rattle.argus_contents.specs.Shape.{PlainShape}
@@ -17,7 +20,7 @@ use Rattle.argus_contents.specs.Typing.{all_typed, each_typed, is_typed, is_type
 use Rattle.argus_contents.specs.Value as value
 use Rattle.argus_contents.specs.Value.{PlainValue, PlainValues, listed}
 use Rattle.argus_contents.specs.declared.limits.TheConstants.{MAX_BOUND, MAX_ITEMS, MIN_BOUND}
-use Rattle.argus_contents.proofs.Fitted.{within_keeps}
+use Rattle.argus_contents.proofs.Fitted.{keeps_within, within_keeps}
 use Rattle.argus_contents.proofs.Kept.{array_keeps}
 use Rattle.argus_journal.specs.Opening.{fits_shape}
 
@@ -154,7 +157,7 @@ trimmed_typed t n from count low vs e =
     (all_drop t n (unsigned_abs (from -ℤ low)) vs e))))
 
 array_typed : (c : PlainChange) (t : PlainTy) (n : ℕ) (low : ℤ) (vs : List PlainValue)
-    → change_suits (shape.arr t) n c ≡ true → all_typed t n (listed vs) ≡ true → Typed t n (array_result c low vs)
+    → change_suits (shape.arr t) n c ≡ true → all_typed t n (listed vs) ≡ true → Typed t n (array_outcome c low vs)
 array_typed (create d) t n low vs h e = e
 array_typed touch t n low vs h e = e
 array_typed (store i v) t n low vs h e = stored_typed t n (place_of low (length vs) i) v low vs h e
@@ -167,25 +170,6 @@ array_typed (set_low i) t n low vs h e = by_if (Typed t n) (is_out_of_limits i (
 array_typed (trim from count) t n low vs h e = trimmed_typed t n from count low vs e
 array_typed (set_field i v) t n low vs h e = e
 array_typed (change_tag k v) t n low vs h e = e
-
--- an array within the limits keeps them
-
-below_not : (a b : ℤ) → b ≤ℤ a → not (int_lt a b) ≡ true
-below_not a b e = grind (arith, ints)
-
-most_at : (m n : ℕ) → m ≤ n → nat_le m n ≡ true
-most_at m n e = grind (arith, nat_tests)
-
-pub keeps_within : (low : ℤ) (size : ℕ) → KeepsBounds low size → is_within low size ≡ true
-keeps_within low size k =
-    let a = not (int_lt low MIN_BOUND) in
-    let b = not (int_lt MAX_BOUND low) in
-    let c = not (int_lt MAX_BOUND (high_of low size)) in
-    let d = nat_le size MAX_ITEMS in
-    let high = k.high in
-    and_from (a && b) (c && d)
-    (and_from a b (below_not low MIN_BOUND k.from) (below_not MAX_BOUND low k.to))
-    (and_from c d (below_not MAX_BOUND (high_of low size) (omega (arith, ints))) (most_at size MAX_ITEMS k.items))
 
 array_fits : (t : PlainTy) (n : ℕ) (c : Option PlainContent) → KeepsLimits c → items_typed t n c ≡ true
     → fits_shape (Some (shape.arr t)) n c ≡ true
@@ -212,7 +196,7 @@ each_set (ty.more name x fs) n (w ∷ vs) (suc i) v h e =
 
 record_fits : (c : PlainChange) (fs : PlainFields) (n : ℕ) (vs : List PlainValue)
     → change_suits (shape.rec fs) n c ≡ true → each_typed fs n (listed vs) ≡ true
-    → fits_shape (Some (shape.rec fs)) n (result c (Some (rec vs))).0 ≡ true
+    → fits_shape (Some (shape.rec fs)) n (outcome c (Some (rec vs))).0 ≡ true
 record_fits (set_field i v) fs n vs h e =
     by_if (λ (o : Outcome). fits_shape (Some (shape.rec fs)) n o.0 ≡ true) (nat_lt i (length vs)) _ _
     (each_set fs n vs i v h e) e
@@ -221,32 +205,33 @@ record_fits touch fs n vs h e = e
 record_fits _ fs n vs h e = e
 
 variant_fits : (c : PlainChange) (fs : PlainFields) (n t : ℕ) (v : PlainValue) → change_suits (shape.var fs) n c ≡ true
-    → is_typed_at fs t n v ≡ true → fits_shape (Some (shape.var fs)) n (result c (Some (var t v))).0 ≡ true
+    → is_typed_at fs t n v ≡ true → fits_shape (Some (shape.var fs)) n (outcome c (Some (var t v))).0 ≡ true
 variant_fits (change_tag u w) fs n t v h e = h
 variant_fits (create d) fs n t v h e = e
 variant_fits touch fs n t v h e = e
 variant_fits _ fs n t v h e = e
 
 absent_fits : (c : PlainChange) (s : PlainShape) (n : ℕ) → change_suits s n c ≡ true
-    → fits_shape (Some s) n (result c None).0 ≡ true
+    → fits_shape (Some s) n (outcome c None).0 ≡ true
 absent_fits (create d) s n h = h
 absent_fits touch s n h = refl
 absent_fits _ s n h = refl
 
 -- a fitting change leaves a fitting content
-pub result_fits : (c : PlainChange) (s : PlainShape) (n : ℕ) (content : Option PlainContent) → change_suits s n c ≡ true
-    → fits_shape (Some s) n content ≡ true → fits_shape (Some s) n (result c content).0 ≡ true
-result_fits c s n None h e = absent_fits c s n h
-result_fits c (shape.rec fs) n (Some (rec vs)) h e = record_fits c fs n vs h e
-result_fits c (shape.arr t) n (Some (arr low vs)) h e =
+pub outcome_fits : (c : PlainChange) (s : PlainShape) (n : ℕ) (content : Option PlainContent)
+    → change_suits s n c ≡ true
+    → fits_shape (Some s) n content ≡ true → fits_shape (Some s) n (outcome c content).0 ≡ true
+outcome_fits c s n None h e = absent_fits c s n h
+outcome_fits c (shape.rec fs) n (Some (rec vs)) h e = record_fits c fs n vs h e
+outcome_fits c (shape.arr t) n (Some (arr low vs)) h e =
     let k = and_parts (is_within low (length vs)) (all_typed t n (listed vs)) e in
-    array_fits t n (array_result c low vs).0 (array_keeps c low vs (within_keeps low (length vs) k.0))
+    array_fits t n (array_outcome c low vs).0 (array_keeps c low vs (within_keeps low (length vs) k.0))
     (array_typed c t n low vs h k.1)
-result_fits c (shape.var fs) n (Some (var t v)) h e = variant_fits c fs n t v h e
-result_fits c _ n (Some _) h e = nothing e
+outcome_fits c (shape.var fs) n (Some (var t v)) h e = variant_fits c fs n t v h e
+outcome_fits c _ n (Some _) h e = nothing e
 
 -- touching leaves the content
-pub touch_keeps : (c : Option PlainContent) → (result touch c).0 ≡ c
+pub touch_keeps : (c : Option PlainContent) → (outcome touch c).0 ≡ c
 touch_keeps None = refl
 touch_keeps (Some (rec vs)) = refl
 touch_keeps (Some (arr low vs)) = refl

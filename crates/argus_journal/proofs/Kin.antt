@@ -1,17 +1,20 @@
 -- Of a legal journal, the parents, creators and ancestors that its entries tell are those of its history.
-use Rattle.std.proofs.Common.{Bool, List, None, Option, Some, [], ap, arith, cond, false, refl, subst, sym, true, ℕ, ⊎_elim, ◌+◌, ◌-◌, ◌<◌, ◌∙◌, ◌∷◌, ◌≡◌, ◌≢◌}
+use Rattle.std.proofs.Common.{Bool, List, None, Option, Some, [], ap, arith, cond, false, refl, subst, sym, true, ℕ}
+use Rattle.std.proofs.Common.{⊎_elim, ◌+◌, ◌-◌, ◌<◌, ◌∙◌, ◌∷◌, ◌≡◌, ◌≢◌}
 use Rattle.std.specs.List.{list_any}
 use Rattle.std.specs.Prelude.{not, ◌&&◌, ◌==◌, ◌||◌}
 use Rattle.std.proofs.lemmas.Bool.{cases_eq, eq-eqb, ne_eqb}
 use Rattle.std.proofs.lemmas.Bool.Decides.{nat_tests}
 use Rattle.argus_contents.specs.Answer.{done, flag}
 use Rattle.argus_contents.specs.Shape.{PlainShape}
-use Rattle.argus_entries.specs.Call.{PlainCall, abort, abort_others, alter, ask, begin_nested, begin_sub, begin_top, commit, declare, test_read, test_write}
+use Rattle.argus_entries.specs.Call.{PlainCall, abort, abort_others, alter, ask, begin_nested, begin_sub, begin_top}
+use Rattle.argus_entries.specs.Call.{commit, declare, test_read, test_write}
 use Rattle.argus_entries.specs.Entry.{PlainEntry}
 use Rattle.argus_entries.specs.Reply.{PlainReply, answered, begun, refused}
 use Rattle.argus_entries.specs.declared.refusal.Refusal.{Refusal}
 use Rattle.argus_model.specs.Ancestors.{creator, is_ancestor, lineage, parent}
-use Rattle.argus_model.specs.Event.{Aborted, Accessed, Began, Committed, Nested, Origin, Sub, Top, creator_of, parent_of}
+use Rattle.argus_model.specs.Event.{Aborted, Accessed, Began, Committed, Nested, Origin, Sub, Top, creator_of}
+use Rattle.argus_model.specs.Event.{parent_of}
 use Rattle.argus_model.specs.History.{History, Opened, next_action, ◌▹◌}
 use Rattle.argus_model.specs.Holders.{may_read, may_write}
 use Rattle.argus_model.specs.Numbers.{contains}
@@ -31,8 +34,10 @@ use Rattle.argus_journal.specs.Legal.{Legal}
 use Rattle.argus_journal.specs.Numbering.{unless_base}
 use Rattle.argus_journal.specs.Objects.{shapes}
 use Rattle.argus_journal.specs.Opening.{Opening, opened}
-use Rattle.argus_journal.specs.Told.{at_parent, begins, creator_by, is_the, parent_by, told_above, told_beside, told_creator, told_parent}
-use Rattle.argus_journal.proofs.Legal.{lawful, live_none, refused_is_none, test_read_event, test_write_event, tested, then_event}
+use Rattle.argus_journal.specs.Told.{at_parent, begins, creator_by, is_the, parent_by, told_above, told_beside}
+use Rattle.argus_journal.specs.Told.{told_creator, told_parent}
+use Rattle.argus_journal.proofs.Legal.{lawful, live_none, refused_is_none, test_read_event, test_write_event, tested}
+use Rattle.argus_journal.proofs.Legal.{then_event}
 use Rattle.argus_journal.proofs.Shifted.{before, not_base, one_more, or_none, zero_not_one_more}
 
 -- a number of the program is the one before the next action's

@@ -1,5 +1,6 @@
 -- What one more entry of a legal journal changes, by what it says happened, in the program's numbers.
-use Rattle.std.proofs.Common.{List, None, Option, Some, ap, arith, cond, refl, subst, sym, true, ℕ, ⊎_elim, ◌+◌, ◌-◌, ◌∙◌, ◌∷◌, ◌≡◌, ◌≢◌}
+use Rattle.std.proofs.Common.{List, None, Option, Some, ap, arith, cond, refl, subst, sym, true, ℕ, ⊎_elim, ◌+◌, ◌-◌}
+use Rattle.std.proofs.Common.{◌∙◌, ◌∷◌, ◌≡◌, ◌≢◌}
 use Rattle.std.specs.Prelude.{Bool, filter, is_none, not, ◌&&◌, ◌==◌, ◌||◌}
 use Rattle.std.proofs.lemmas.Bool.{cases_eq}
 use Rattle.argus_contents.specs.Content.{PlainContent}
@@ -18,9 +19,12 @@ use Rattle.argus_model.proofs.Ancestors.{next_pos}
 use Rattle.argus_model.proofs.Bools.{and_none}
 use Rattle.argus_model.proofs.Lawful.{lawful_orderly, lawful_steps}
 use Rattle.argus_model.proofs.Live.{contains_siblings, live_stands}
-use Rattle.argus_model.proofs.NextHolders.{holders_after_abort, holders_after_access, holders_after_begin, holders_after_commit, no_base_holder}
+use Rattle.argus_model.proofs.NextHolders.{holders_after_abort, holders_after_access, holders_after_begin}
+use Rattle.argus_model.proofs.NextHolders.{holders_after_commit, no_base_holder}
 use Rattle.argus_model.proofs.NextLive.{live_after_abort, live_after_begin, live_after_commit}
-use Rattle.argus_model.proofs.NextSees.{base_after_abort, base_after_access, base_after_begin, base_after_commit, sees_after_abort, sees_after_access_other, sees_after_access_own, sees_after_begin, sees_after_begin_new, sees_after_commit, sees_base}
+use Rattle.argus_model.proofs.NextSees.{base_after_abort, base_after_access, base_after_begin, base_after_commit}
+use Rattle.argus_model.proofs.NextSees.{sees_after_abort, sees_after_access_other, sees_after_access_own}
+use Rattle.argus_model.proofs.NextSees.{sees_after_begin, sees_after_begin_new, sees_after_commit, sees_base}
 use Rattle.argus_model.proofs.Owner.{base_above}
 use Rattle.argus_model.proofs.Serial.{guarded}
 use Rattle.argus_model.proofs.Standing.{Orderly}
@@ -29,9 +33,12 @@ use Rattle.argus_journal.specs.Events.{event_if, event_of, happens, history, is_
 use Rattle.argus_journal.specs.Legal.{Legal}
 use Rattle.argus_journal.specs.Numbering.{all_in_history, all_in_program, unless_base}
 use Rattle.argus_journal.specs.Opening.{Opening, opened}
-use Rattle.argus_journal.specs.Words.{base_of, handed_over, is_live_in, is_parent_above, is_under_in, live_siblings_in, next_number, parent_in, readers_of, seen_by, writers_of}
+use Rattle.argus_journal.specs.Words.{base_of, handed_over, is_live_in, is_parent_above, is_under_in, live_siblings_in}
+use Rattle.argus_journal.specs.Words.{next_number, parent_in, readers_of, seen_by, writers_of}
 use Rattle.argus_journal.proofs.Legal.{lawful}
-use Rattle.argus_journal.proofs.Shifted.{NoBase, after, all_back, any-map, contains_in_program, filter_in_program, handed_in_program, insert_in_program, is_next, is_none_base, map_cond, one_more, unless_base_none, unless_base_some}
+use Rattle.argus_journal.proofs.Shifted.{NoBase, after, all_back, any-map, contains_in_program, filter_in_program}
+use Rattle.argus_journal.proofs.Shifted.{handed_in_program, insert_in_program, is_next, is_none_base, map_cond}
+use Rattle.argus_journal.proofs.Shifted.{one_more, unless_base_none, unless_base_some}
 
 pub same_history : (s : Opening) (e : PlainEntry) (j : List PlainEntry) → happens s e j ≡ None
     → history s (e ∷ j) ≡ history s j

@@ -1,12 +1,14 @@
 -- Where references occur in a content, and that each names a declared object where the content fits.
-use Rattle.std.proofs.Common.{Bool, List, None, Option, Some, [], ap, arith, false, inl, inr, length, nat_lt, refl, sym, true, ℕ, ⊎_elim, ◌++◌, ◌<◌, ◌∙◌, ◌∷◌, ◌≡◌}
+use Rattle.std.proofs.Common.{Bool, List, None, Option, Some, [], ap, arith, false, inl, inr, length, nat_lt, refl, sym}
+use Rattle.std.proofs.Common.{true, ℕ, ⊎_elim, ◌++◌, ◌<◌, ◌∙◌, ◌∷◌, ◌≡◌}
 use Rattle.std.proofs.lemmas.Bool.{eq-eqb, eqb-true, or_cases}
 use Rattle.std.proofs.lemmas.Bool.Decides.{nat_tests}
 use Rattle.std.specs.List.{list_all}
 use Rattle.std.specs.Prelude.{◌==◌, ◌||◌}
 use Rattle.std.proofs.lemmas.Bool.{and_from, and_parts}
 use Rattle.argus_contents.specs.Content.{PlainContent, arr, rec, var}
-use Rattle.argus_contents.specs.Fitting.{is_fitting, is_within}
+use Rattle.argus_contents.specs.Content.{is_within}
+use Rattle.argus_contents.specs.Fitting.{is_fitting}
 use Rattle.argus_contents.specs.Shape as shape
 use Rattle.argus_contents.specs.Shape.{PlainShape}
 use Rattle.argus_contents.specs.Ty as ty

@@ -1,7 +1,9 @@
 -- The serial runs and the effects of a legal journal.
-use Rattle.std.proofs.Common.{Bool, List, None, Option, Some, [], append-nil, false, refl, subst, sym, true, ℕ, ⊎_elim, ◌++◌, ◌+◌, ◌∷◌, ◌≡◌}
+use Rattle.std.proofs.Common.{Bool, List, None, Option, Some, [], append-nil, false, refl, subst, sym, true, ℕ, ⊎_elim}
+use Rattle.std.proofs.Common.{◌++◌, ◌+◌, ◌∷◌, ◌≡◌}
 use Rattle.argus_contents.specs.Content.{PlainContent}
-use Rattle.argus_entries.specs.Call.{PlainCall, abort, abort_others, alter, ask, begin_nested, begin_sub, begin_top, commit, declare, test_read, test_write}
+use Rattle.argus_entries.specs.Call.{PlainCall, abort, abort_others, alter, ask, begin_nested, begin_sub, begin_top}
+use Rattle.argus_entries.specs.Call.{commit, declare, test_read, test_write}
 use Rattle.argus_entries.specs.Entry.{PlainEntry}
 use Rattle.argus_entries.specs.Reply.{PlainReply, answered}
 use Rattle.argus_model.specs.Effects.{effects}
@@ -12,7 +14,8 @@ use Rattle.argus_model.specs.Work.{Access, IsOnRecord}
 use Rattle.argus_model.proofs.Commits.{effects_step}
 use Rattle.argus_journal.specs.Effects.{added_by}
 use Rattle.argus_journal.specs.Entries.{entries, said_by}
-use Rattle.argus_journal.specs.Events.{event_if, event_of, happens, history, is_answered, is_begun_reply, says_yes, with_event}
+use Rattle.argus_journal.specs.Events.{event_if, event_of, happens, history, is_answered, is_begun_reply, says_yes}
+use Rattle.argus_journal.specs.Events.{with_event}
 use Rattle.argus_journal.specs.Legal.{Legal}
 use Rattle.argus_journal.specs.Opening.{Opening, opened}
 use Rattle.argus_journal.specs.Serial.{IsAnsweredAt}

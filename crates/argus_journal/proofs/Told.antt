@@ -1,5 +1,6 @@
 -- Of a legal journal, the owners that its entries tell are those of its history.
-use Rattle.std.proofs.Common.{Bool, List, None, Option, Some, [], ap, arith, cond, false, refl, subst, sym, true, ℕ, ⊎_elim, ◌+◌, ◌-◌, ◌<◌, ◌∙◌, ◌∷◌, ◌≡◌, ◌≢◌}
+use Rattle.std.proofs.Common.{Bool, List, None, Option, Some, [], ap, arith, cond, false, refl, subst, sym, true, ℕ}
+use Rattle.std.proofs.Common.{⊎_elim, ◌+◌, ◌-◌, ◌<◌, ◌∙◌, ◌∷◌, ◌≡◌, ◌≢◌}
 use Rattle.std.specs.List.{list_any}
 use Rattle.std.specs.Prelude.{is_some, nat_lt, not, ◌&&◌, ◌==◌}
 use Rattle.std.proofs.lemmas.Bool.{cases_Bool, cases_eq, eq-eqb, false≢true, not-true}
@@ -7,7 +8,8 @@ use Rattle.std.proofs.lemmas.Bool.Decides.{nat_tests}
 use Rattle.argus_actions.specs.declared.action_id.ActionId.{ActionId}
 use Rattle.argus_contents.specs.Answer.{done, flag}
 use Rattle.argus_contents.specs.Shape.{PlainShape}
-use Rattle.argus_entries.specs.Call.{PlainCall, abort, abort_others, alter, ask, begin_nested, begin_sub, begin_top, commit, declare, test_read, test_write}
+use Rattle.argus_entries.specs.Call.{PlainCall, abort, abort_others, alter, ask, begin_nested, begin_sub, begin_top}
+use Rattle.argus_entries.specs.Call.{commit, declare, test_read, test_write}
 use Rattle.argus_entries.specs.Entry.{PlainEntry}
 use Rattle.argus_entries.specs.Reply.{PlainReply, answered, begun, refused}
 use Rattle.argus_entries.specs.declared.refusal.Refusal.{Refusal}
@@ -24,7 +26,8 @@ use Rattle.argus_model.proofs.Ancestors.{next_pos}
 use Rattle.argus_model.proofs.Counting.{held_by_live}
 use Rattle.argus_model.proofs.Lawful.{lawful_orderly}
 use Rattle.argus_model.proofs.Live.{is_begun_parts}
-use Rattle.argus_model.proofs.NextLive.{new_owner, owner_after_abort, owner_after_access, owner_after_begin, owner_after_commit}
+use Rattle.argus_model.proofs.NextLive.{new_owner, owner_after_abort, owner_after_access, owner_after_begin}
+use Rattle.argus_model.proofs.NextLive.{owner_after_commit}
 use Rattle.argus_model.proofs.Siblings.{live_begun, under_siblings}
 use Rattle.argus_model.proofs.Standing.{Orderly}
 use Rattle.argus_journal.specs.Answers.{granted, if_created, or_refused, refusal}
@@ -34,12 +37,15 @@ use Rattle.argus_journal.specs.Legal.{Legal}
 use Rattle.argus_journal.specs.Numbering.{unless_base}
 use Rattle.argus_journal.specs.Objects.{shapes}
 use Rattle.argus_journal.specs.Opening.{Opening, opened}
-use Rattle.argus_journal.specs.Told.{at_parent, begins, gone_if, heir, owner_next, owner_then, told_above, told_beside, told_creator, told_owner, told_parent}
+use Rattle.argus_journal.specs.Told.{at_parent, begins, gone_if, heir, owner_next, owner_then, told_above, told_beside}
+use Rattle.argus_journal.specs.Told.{told_creator, told_owner, told_parent}
 use Rattle.argus_journal.specs.Words.{in_program_owner, owner_in}
 use Rattle.argus_journal.specs.declared.owner.Owner.{Owner}
 use Rattle.argus_journal.specs.declared.owner.Owner.TheVariants.{Base, Folded, Gone, Held}
-use Rattle.argus_journal.proofs.Kin.{above_told, beside_told, creator_told, entry_tree, is_last, not_last, parent_told, with_reply}
-use Rattle.argus_journal.proofs.Legal.{free_none, lawful, refused_is_none, test_read_event, test_write_event, tested, then_event, unless_none}
+use Rattle.argus_journal.proofs.Kin.{above_told, beside_told, creator_told, entry_tree, is_last, not_last, parent_told}
+use Rattle.argus_journal.proofs.Kin.{with_reply}
+use Rattle.argus_journal.proofs.Legal.{free_none, lawful, refused_is_none, test_read_event, test_write_event, tested}
+use Rattle.argus_journal.proofs.Legal.{then_event, unless_none}
 use Rattle.argus_journal.proofs.Shifted.{after, before, one_more, or_none, unless_base_none, unless_base_some}
 
 -- an owner, none of an action that hasn't begun, in the words of the history

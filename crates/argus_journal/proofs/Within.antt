@@ -1,10 +1,12 @@
 -- As many objects and actions as there may be.
-use Rattle.std.proofs.Common.{List, None, Option, Some, [], arith, length, length-append, nat_lt, refl, subst, sym, true, ℕ, ◌++◌, ◌+◌, ◌-◌, ◌<◌, ◌∷◌, ◌≡◌, ◌≤◌}
+use Rattle.std.proofs.Common.{List, None, Option, Some, [], arith, length, length-append, nat_lt, refl, subst, sym}
+use Rattle.std.proofs.Common.{true, ℕ, ◌++◌, ◌+◌, ◌-◌, ◌<◌, ◌∷◌, ◌≡◌, ◌≤◌}
 use Rattle.std.proofs.lemmas.Bool.Decides.{nat_tests}
 use Rattle.std.proofs.lemmas.List.{append-nil, length-map}
 use Rattle.argus_contents.specs.Shape.{PlainShape}
 use Rattle.argus_contents.specs.declared.limits.TheConstants.{MAX_ACTIONS, MAX_OBJECTS}
-use Rattle.argus_entries.specs.Call.{PlainCall, abort, abort_others, alter, ask, begin_nested, begin_sub, begin_top, commit, declare, test_read, test_write}
+use Rattle.argus_entries.specs.Call.{PlainCall, abort, abort_others, alter, ask, begin_nested, begin_sub, begin_top}
+use Rattle.argus_entries.specs.Call.{commit, declare, test_read, test_write}
 use Rattle.argus_entries.specs.Entry.{PlainEntry}
 use Rattle.argus_entries.specs.Reply.{refused}
 use Rattle.argus_entries.specs.declared.refusal.Refusal.{Refusal}
@@ -17,7 +19,8 @@ use Rattle.argus_journal.specs.Events.{history, with_event}
 use Rattle.argus_journal.specs.Legal.{Legal}
 use Rattle.argus_journal.specs.Objects.{declared, declared_by, shapes}
 use Rattle.argus_journal.specs.Opening.{Opening}
-use Rattle.argus_journal.proofs.Legal.{live_none, refused_is_none, test_read_event, test_write_event, tested, then_event, unless_none}
+use Rattle.argus_journal.proofs.Legal.{live_none, refused_is_none, test_read_event, test_write_event, tested}
+use Rattle.argus_journal.proofs.Legal.{then_event, unless_none}
 
 below : (m n : ℕ) → nat_lt m n ≡ true → m < n
 below m n e = grind (arith, nat_tests)

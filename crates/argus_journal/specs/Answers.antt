@@ -1,18 +1,24 @@
--- What a call is answered after a journal: the first refusal that applies, or else what it asked for.
-use Rattle.std.specs.Prelude.{Bool, List, None, Option, Some, false, length, nat_lt, not, slice_get, true, ℕ, ◌-◌, ◌==◌}
+-- What a call is answered after a journal: the first refusal that applies, or else what it asked
+-- for.
+use Rattle.std.specs.Prelude.{Bool, List, None, Option, Some, false, length, nat_lt, not, slice_get}
+use Rattle.std.specs.Prelude.{true, ℕ, ◌-◌, ◌==◌}
 use Rattle.argus_contents.specs.Answer.{done, flag}
-use Rattle.argus_contents.specs.Change.{PlainChange, result}
+use Rattle.argus_contents.specs.Change.{PlainChange, outcome}
 use Rattle.argus_contents.specs.Content.{PlainContent}
 use Rattle.argus_contents.specs.Fitting.{change_suits, query_suits}
 use Rattle.argus_contents.specs.Query.{reply}
 use Rattle.argus_contents.specs.Shape.{PlainShape}
 use Rattle.argus_contents.specs.declared.query.Query.{Query}
-use Rattle.argus_contents.specs.declared.limits.TheConstants.{MAX_ACTIONS, MAX_ACTION_DEPTH, MAX_OBJECTS}
-use Rattle.argus_entries.specs.Call.{PlainCall, abort, abort_others, alter, ask, begin_nested, begin_sub, begin_top, commit, declare, test_read, test_write}
+use Rattle.argus_contents.specs.declared.limits.TheConstants.{MAX_ACTIONS, MAX_ACTION_DEPTH}
+use Rattle.argus_contents.specs.declared.limits.TheConstants.{MAX_OBJECTS}
+use Rattle.argus_entries.specs.Call.{PlainCall, abort, abort_others, alter, ask, begin_nested}
+use Rattle.argus_entries.specs.Call.{begin_sub, begin_top, commit, declare, test_read, test_write}
 use Rattle.argus_entries.specs.Entry.{PlainEntry}
 use Rattle.argus_entries.specs.Reply.{PlainReply, answered, begun, object, refused}
 use Rattle.argus_entries.specs.declared.refusal.Refusal.{Refusal}
-use Rattle.argus_entries.specs.declared.refusal.Refusal.TheVariants.{Conflict, IllTyped, NoAction, NoObject, NoSiblings, Over, Suspended, TooDeep, TooMany}
+use Rattle.argus_entries.specs.declared.refusal.Refusal.TheVariants.{Conflict, IllTyped, NoAction}
+use Rattle.argus_entries.specs.declared.refusal.Refusal.TheVariants.{NoObject, NoSiblings, Over}
+use Rattle.argus_entries.specs.declared.refusal.Refusal.TheVariants.{Suspended, TooDeep, TooMany}
 use Rattle.argus_model.specs.Ancestors.{creator, lineage}
 use Rattle.argus_model.specs.Contents.{sees}
 use Rattle.argus_model.specs.History.{History, next_action}
@@ -31,7 +37,8 @@ unless false why rest = Some why
 
 -- the action has begun, and is live
 abbrev pub if_live : History PlainEntry → ℕ → Option Refusal → Option Refusal
-if_live h a rest = unless (nat_lt (in_history a) (next_action h)) NoAction (unless (is_live h (in_history a)) Over rest)
+if_live h a rest = unless (nat_lt (in_history a) (next_action h)) NoAction
+    (unless (is_live h (in_history a)) Over rest)
 
 -- and it has no live child
 abbrev pub if_free : History PlainEntry → ℕ → Option Refusal → Option Refusal
@@ -52,7 +59,8 @@ suits_query shapes o query = suits (λ shape. query_suits shape query) (slice_ge
 
 -- the change suits the shape of the object, and the references in it name declared objects
 abbrev pub suits_change : List PlainShape → ℕ → PlainChange → Bool
-suits_change shapes o change = suits (λ shape. change_suits shape (length shapes) change) (slice_get shapes o)
+suits_change shapes o change =
+    suits (λ shape. change_suits shape (length shapes) change) (slice_get shapes o)
 
 -- an action began it: its parent or its creator
 abbrev pub if_created : History PlainEntry → ℕ → Option Refusal
@@ -70,7 +78,8 @@ if_room h = unless (nat_lt (in_program (next_action h)) MAX_ACTIONS) TooMany Non
 abbrev pub if_shallow : History PlainEntry → ℕ → Option Refusal
 if_shallow h parent = unless (nat_lt (depth h parent) MAX_ACTION_DEPTH) TooDeep (if_room h)
 
--- the first refusal that applies, where these objects are declared (Argus Reference Manual 1987, locking rules)
+-- the first refusal that applies, where these objects are declared (Argus Reference Manual 1987,
+-- locking rules)
 abbrev pub refusal : History PlainEntry → List PlainShape → PlainCall → Option Refusal
 refusal h shapes (declare shape) = unless (nat_lt (length shapes) MAX_OBJECTS) TooMany None
 refusal h shapes begin_top = if_room h
@@ -104,7 +113,7 @@ granted s h shapes (commit a) = answered done
 granted s h shapes (abort a) = answered done
 granted s h shapes (abort_others a) = answered done
 granted s h shapes (ask a o query) = answered (reply query (seen s h a o))
-granted s h shapes (alter a o change) = answered (result change (seen s h a o)).1
+granted s h shapes (alter a o change) = answered (outcome change (seen s h a o)).1
 granted s h shapes (test_read a o) = answered (flag (may_read entries h (in_history a) o))
 granted s h shapes (test_write a o) = answered (flag (may_write entries h (in_history a) o))
 
@@ -116,4 +125,5 @@ or_refused (Some why) reply = refused why
 -- the reply after these entries
 abbrev pub answer : Opening → List PlainEntry → PlainCall → PlainReply
 answer s older call =
-    or_refused (refusal (history s older) (shapes s older) call) (granted s (history s older) (shapes s older) call)
+    or_refused (refusal (history s older) (shapes s older) call)
+    (granted s (history s older) (shapes s older) call)

@@ -8,7 +8,9 @@ use Rattle.argus_journal.specs.Entries.{entries}
 use Rattle.argus_journal.specs.Events.{history}
 use Rattle.argus_journal.specs.Opening.{Opening, opened}
 
--- the commit of a topaction adds what it sees in each object that it has written, and everything else nothing
-abbrev pub added_by : Opening → Option (Event PlainEntry) → List PlainEntry → List (List (ℕ × Option PlainContent))
+-- the commit of a topaction adds what it sees in each object that it has written, and everything
+-- else nothing
+abbrev pub added_by : Opening → Option (Event PlainEntry) → List PlainEntry
+    → List (List (ℕ × Option PlainContent))
 added_by s None j = []
 added_by s (Some event) j = added_effects entries (opened s) (history s j) event

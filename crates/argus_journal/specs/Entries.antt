@@ -3,10 +3,11 @@ use Rattle.std.proofs.Common.{refl, sym}
 use Rattle.std.proofs.lemmas.Bool.{false≢true}
 use Rattle.std.specs.Prelude.{Bool, Option, false, true, ◌≡◌}
 use Rattle.argus_contents.specs.Answer.{PlainAnswer, done, flag}
-use Rattle.argus_contents.specs.Change.{result, touch}
+use Rattle.argus_contents.specs.Change.{outcome, touch}
 use Rattle.argus_contents.specs.Content.{PlainContent}
 use Rattle.argus_contents.specs.Query.{reply}
-use Rattle.argus_entries.specs.Call.{PlainCall, abort, abort_others, alter, ask, begin_nested, begin_sub, begin_top, commit, declare, test_read, test_write}
+use Rattle.argus_entries.specs.Call.{PlainCall, abort, abort_others, alter, ask, begin_nested}
+use Rattle.argus_entries.specs.Call.{begin_sub, begin_top, commit, declare, test_read, test_write}
 use Rattle.argus_entries.specs.Entry.{PlainEntry}
 use Rattle.argus_entries.specs.Reply.{PlainReply, answered}
 use Rattle.argus_model.specs.Meaning.{Meaning}
@@ -27,8 +28,8 @@ is_write (test_read a o) = false
 
 -- what the call leaves of a content; a granted test for writing acts as the change `touch`
 abbrev pub left_by : PlainCall → Option PlainContent → Option PlainContent
-left_by (alter a o change) c = (result change c).0
-left_by (test_write a o) c = (result touch c).0
+left_by (alter a o change) c = (outcome change c).0
+left_by (test_write a o) c = (outcome touch c).0
 left_by (declare shape) c = c
 left_by begin_top c = c
 left_by (begin_sub parent) c = c
@@ -42,7 +43,7 @@ left_by (test_read a o) c = c
 -- what the call is answered at a content, where its lock is granted
 abbrev pub said_by : PlainCall → Option PlainContent → PlainAnswer
 said_by (ask a o query) c = reply query c
-said_by (alter a o change) c = (result change c).1
+said_by (alter a o change) c = (outcome change c).1
 said_by (test_read a o) c = flag true
 said_by (test_write a o) c = flag true
 said_by (declare shape) c = done
@@ -54,12 +55,22 @@ said_by (abort a) c = done
 said_by (abort_others a) c = done
 
 -- a call that needs no write lock leaves the content
-abbrev pub calls_keep : (call : PlainCall) → is_write call ≡ false → (c : Option PlainContent) → left_by call c ≡ c
+abbrev pub calls_keep : (call : PlainCall) → is_write call ≡ false → (c : Option PlainContent)
+    → left_by call c ≡ c
 calls_keep (alter a o change) n c = absurd (false≢true (sym n))
 calls_keep (test_write a o) n c = absurd (false≢true (sym n))
-calls_keep _ n c = refl
+calls_keep (declare shape) n c = refl
+calls_keep begin_top n c = refl
+calls_keep (begin_sub parent) n c = refl
+calls_keep (begin_nested creator) n c = refl
+calls_keep (commit a) n c = refl
+calls_keep (abort a) n c = refl
+calls_keep (abort_others a) n c = refl
+calls_keep (ask a o query) n c = refl
+calls_keep (test_read a o) n c = refl
 
-abbrev pub entry_keeps : (e : PlainEntry) → is_write e.call ≡ false → (c : Option PlainContent) → left_by e.call c ≡ c
+abbrev pub entry_keeps : (e : PlainEntry) → is_write e.call ≡ false → (c : Option PlainContent)
+    → left_by e.call c ≡ c
 entry_keeps e n c = calls_keep e.call n c
 
 -- the recorded reply is the one that the content gives

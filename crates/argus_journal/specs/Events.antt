@@ -1,7 +1,8 @@
 -- What the entries of a journal say happened, the newest entry first.
 use Rattle.std.specs.Prelude.{Bool, List, None, Option, Some, [], false, if◌then◌else◌, true, ◌∷◌}
 use Rattle.argus_contents.specs.Answer.{PlainAnswer, body, done, flag, num, signal, val}
-use Rattle.argus_entries.specs.Call.{PlainCall, abort, abort_others, alter, ask, begin_nested, begin_sub, begin_top, commit, declare, test_read, test_write}
+use Rattle.argus_entries.specs.Call.{PlainCall, abort, abort_others, alter, ask, begin_nested}
+use Rattle.argus_entries.specs.Call.{begin_sub, begin_top, commit, declare, test_read, test_write}
 use Rattle.argus_entries.specs.Entry.{PlainEntry}
 use Rattle.argus_entries.specs.Reply.{PlainReply, answered, begun, object, refused}
 use Rattle.argus_model.specs.Event.{Aborted, Accessed, Began, Committed, Event, Nested, Sub, Top}
@@ -44,15 +45,19 @@ says_yes (refused why) = false
 abbrev pub event_if : Bool → Event PlainEntry → Option (Event PlainEntry)
 event_if said event = if said then Some event else None
 
--- what a call with this reply says happened: nothing where it was refused, a declaration, or a test that says no
-abbrev pub event_of : History PlainEntry → PlainCall → PlainReply → PlainEntry → Option (Event PlainEntry)
+-- what a call with this reply says happened: nothing where it was refused, a declaration, or a test
+-- that says no
+abbrev pub event_of : History PlainEntry → PlainCall → PlainReply → PlainEntry
+    → Option (Event PlainEntry)
 event_of h (declare shape) r e = None
 event_of h begin_top r e = event_if (is_begun_reply r) (Began Top)
 event_of h (begin_sub parent) r e = event_if (is_begun_reply r) (Began (Sub (in_history parent)))
-event_of h (begin_nested creator) r e = event_if (is_begun_reply r) (Began (Nested (in_history creator)))
+event_of h (begin_nested creator) r e =
+    event_if (is_begun_reply r) (Began (Nested (in_history creator)))
 event_of h (commit a) r e = event_if (is_answered r) (Committed (in_history a))
 event_of h (abort a) r e = event_if (is_answered r) (Aborted (in_history a ∷ []))
-event_of h (abort_others a) r e = event_if (is_answered r) (Aborted (live_siblings h (in_history a)))
+event_of h (abort_others a) r e =
+    event_if (is_answered r) (Aborted (live_siblings h (in_history a)))
 event_of h (ask a o query) r e = event_if (is_answered r) (Accessed (in_history a) o e)
 event_of h (alter a o change) r e = event_if (is_answered r) (Accessed (in_history a) o e)
 event_of h (test_read a o) r e = event_if (says_yes r) (Accessed (in_history a) o e)

@@ -8,19 +8,21 @@ use Rattle.argus_journal.specs.Opening.{Opening}
 use Rattle.argus_journal.specs.Words.{base_of, next_number}
 
 -- objects of these shapes, each with the content that the function gives its number
-abbrev pub with_contents : (ℕ → Option PlainContent) → List PlainShape → List (PlainShape × Option PlainContent)
+abbrev pub with_contents : (ℕ → Option PlainContent) → List PlainShape
+    → List (PlainShape × Option PlainContent)
 with_contents content [] = []
-with_contents content (shape ∷ shapes) = (shape, content 0) ∷ with_contents (λ o. content (suc o)) shapes
+with_contents content (shape ∷ shapes) =
+    (shape, content 0) ∷ with_contents (λ o. content (suc o)) shapes
 
 -- the number that the next entry gets
 abbrev pub next_entry_number : Opening → List PlainEntry → ℕ
 next_entry_number s j = s.first_entry + length j
 
--- the opening that goes on where the journal ends: the objects with what is in them for good, and the next numbers
+-- the opening that goes on where the journal ends: the objects with what is in them for good, and
+-- the next numbers
 abbrev pub fold : Opening → List PlainEntry → Opening
 fold s j = record {
   objects = with_contents (base_of s j) (shapes s j);
   first_action = next_number s j;
-  first_entry =
-      next_entry_number s j;
+  first_entry = next_entry_number s j;
 }

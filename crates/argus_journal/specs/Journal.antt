@@ -1,5 +1,6 @@
 -- What contracts see of a `Journal`: its opening, its entries, and for how many more there is room.
-use Rattle.std.specs.Prelude.{List, None, Option, Some, if◌then◌else◌, map, nat_lt, reverse, slice_get, vec_len, ℕ, ◌-◌}
+use Rattle.std.specs.Prelude.{List, None, Option, Some, if◌then◌else◌, map, nat_lt, reverse}
+use Rattle.std.specs.Prelude.{slice_get, vec_len, ℕ, ◌-◌}
 use Rattle.std.specs.Borrow.{Bor}
 use Rattle.std.specs.Vec.{vec_capacity}
 use Rattle.argus_actions.specs.declared.action_id.ActionId.{ActionId}
@@ -18,7 +19,8 @@ abbrev pub opening_of : Journal → Opening
 opening_of j = opening_with j.objects.items j.first_action j.first_entry
 
 -- what an object of the opening says that was looked for
-abbrev pub plain_opened : Option (Bor Shape × Bor (Option Content)) → Option (PlainShape × Option PlainContent)
+abbrev pub plain_opened : Option (Bor Shape × Bor (Option Content))
+    → Option (PlainShape × Option PlainContent)
 plain_opened None = None
 plain_opened (Some object) = Some (object.0.now, plain_option object.1.now)
 
@@ -41,9 +43,11 @@ IsLegal-prop j = Legal-prop (opening_of j) (entries_of j)
 abbrev pub room_of : Journal → ℕ
 room_of j = vec_capacity j.entries - vec_len j.entries
 
--- the entry of a number, where the journal holds it; the first has the number of the opening's first entry
+-- the entry of a number, where the journal holds it; the first has the number of the opening's
+-- first entry
 abbrev pub entry_at : Opening → List PlainEntry → ℕ → Option PlainEntry
-entry_at s j at = if nat_lt at s.first_entry then None else slice_get (reverse j) (at - s.first_entry)
+entry_at s j at =
+    if nat_lt at s.first_entry then None else slice_get (reverse j) (at - s.first_entry)
 
 -- what an entry says that was looked for
 abbrev pub plain_found : Option (Bor Entry) → Option PlainEntry

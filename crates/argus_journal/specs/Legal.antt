@@ -14,4 +14,5 @@ Legal s (e ∷ older) = (e.reply ≡ answer s older e.call) × Legal s older
 -- a journal is legal in one way at most, so that the fact can stand in a type
 pub Legal-prop : (s : Opening) (j : List PlainEntry) → IsProp (Legal s j)
 Legal-prop s [] = Unit-prop
-Legal-prop s (e ∷ older) = ×_prop (Coded-set reply_coded e.reply (answer s older e.call)) (Legal-prop s older)
+Legal-prop s (e ∷ older) =
+    ×_prop (Coded-set reply_coded e.reply (answer s older e.call)) (Legal-prop s older)

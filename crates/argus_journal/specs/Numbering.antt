@@ -1,4 +1,5 @@
--- The numbers of actions: the program's action a is a + 1 in the history, where 0 is the base. The shift stands here alone.
+-- The numbers of actions: the program's action a is a + 1 in the history, where 0 is the base. The
+-- shift stands here alone.
 use Rattle.std.specs.Prelude.{List, None, Option, Some, if◌then◌else◌, map, ℕ, ◌+◌, ◌-◌, ◌==◌}
 
 -- the history's number of an action of the program

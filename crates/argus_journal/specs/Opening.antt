@@ -1,7 +1,8 @@
 -- Where a journal begins.
 use Rattle.std.specs.List.{list_all}
 use Rattle.std.specs.Option.{option_and_then}
-use Rattle.std.specs.Prelude.{Bool, List, None, Option, Some, [], false, length, map, slice_get, true, ℕ, ◌≤◌}
+use Rattle.std.specs.Prelude.{Bool, List, None, Option, Some, [], false, length, map, slice_get}
+use Rattle.std.specs.Prelude.{true, ℕ, ◌≤◌}
 use Rattle.argus_contents.specs.Content.{PlainContent, plain_option}
 use Rattle.argus_contents.specs.Fitting.{is_fitting}
 use Rattle.argus_contents.specs.Shape.{PlainShape}
@@ -11,7 +12,8 @@ use Rattle.argus_contents.specs.declared.limits.TheConstants.{MAX_ACTIONS, MAX_O
 use Rattle.argus_model.specs.History as model
 use Rattle.argus_journal.specs.declared.limits.TheConstants.{MAX_FIRST_ENTRY}
 
--- what went before is folded: the objects stay with shape and content, the actions and entries are forgotten
+-- what went before is folded: the objects stay with shape and content, the actions and entries are
+-- forgotten
 pub record Opening : Type 0 where
   -- in the order of the numbers, from 0
   pub objects : List (PlainShape × Option PlainContent)
@@ -30,7 +32,11 @@ content_in objects o = option_and_then (λ object. object.1) (slice_get objects 
 
 -- the opening of the history
 abbrev pub opened : Opening → model.Opening (Option PlainContent)
-opened s = record { contents = content_in s.objects; first_action = s.first_action; first_entry = s.first_entry }
+opened s = record {
+  contents = content_in s.objects;
+  first_action = s.first_action;
+  first_entry = s.first_entry;
+}
 
 -- an absent content fits every shape, and a present one no shape that isn't there
 abbrev pub fits_shape : Option PlainShape → ℕ → Option PlainContent → Bool
@@ -54,8 +60,10 @@ plain_object object = (object.0, plain_option object.1)
 
 -- an opening of these parts
 abbrev pub opening_at : List (PlainShape × Option PlainContent) → ℕ → ℕ → Opening
-opening_at objects first_action first_entry = record { objects = objects; first_action = first_action; first_entry = first_entry }
+opening_at objects first_action first_entry =
+    record { objects = objects; first_action = first_action; first_entry = first_entry }
 
 -- the opening with these objects
 abbrev pub opening_with : List (Shape × Option Content) → ℕ → ℕ → Opening
-opening_with objects first_action first_entry = opening_at (map plain_object objects) first_action first_entry
+opening_with objects first_action first_entry =
+    opening_at (map plain_object objects) first_action first_entry

@@ -1,8 +1,11 @@
--- What the numbers in a journal's entries tell, newest first. Of a legal journal it is what its history says.
-use Rattle.std.specs.Prelude.{◌&&◌, Bool, List, None, Option, Some, [], false, if◌then◌else◌, nat_lt, not, true, ℕ, ◌==◌, ◌||◌, ◌∷◌}
+-- What the numbers in a journal's entries tell, newest first. Of a legal journal it is what its
+-- history says.
+use Rattle.std.specs.Prelude.{◌&&◌, Bool, List, None, Option, Some, [], false, if◌then◌else◌}
+use Rattle.std.specs.Prelude.{nat_lt, not, true, ℕ, ◌==◌, ◌||◌, ◌∷◌}
 use Rattle.argus_actions.specs.declared.action_id.ActionId.{ActionId}
 use Rattle.argus_contents.specs.Content.{PlainContent}
-use Rattle.argus_entries.specs.Call.{PlainCall, abort, abort_others, alter, ask, begin_nested, begin_sub, begin_top, commit, declare, test_read, test_write}
+use Rattle.argus_entries.specs.Call.{PlainCall, abort, abort_others, alter, ask, begin_nested}
+use Rattle.argus_entries.specs.Call.{begin_sub, begin_top, commit, declare, test_read, test_write}
 use Rattle.argus_entries.specs.Entry.{PlainEntry}
 use Rattle.argus_entries.specs.Reply.{PlainReply, answered, begun, object, refused}
 use Rattle.argus_journal.specs.Entries.{left_by}
@@ -78,7 +81,8 @@ abbrev pub told_beside : List PlainEntry → ℕ → ℕ → ℕ → Bool
 told_beside [] c b x = false
 told_beside (e ∷ older) c b x =
     if begins e.reply x
-    then ((not (x == b) && is_the (creator_by e.call) c) || at_parent false (parent_by e.call) (told_beside older c b))
+    then ((not (x == b) && is_the (creator_by e.call) c)
+    || at_parent false (parent_by e.call) (told_beside older c b))
     else told_beside older c b x
 
 -- who is next to answer for what a committed action did
@@ -111,15 +115,19 @@ owner_next e older None = None
 owner_next e older (Some Folded) = Some Folded
 owner_next e older (Some Gone) = Some Gone
 owner_next e older (Some Base) = Some Base
-owner_next e older (Some (Held x)) = Some (if is_answered e.reply then owner_then e.call older x else Held x)
+owner_next e older (Some (Held x)) =
+    Some (if is_answered e.reply then owner_then e.call older x else Held x)
 
--- who answers for what an action did, where the first action has this number; none where it hasn't begun
+-- who answers for what an action did, where the first action has this number; none where it hasn't
+-- begun
 abbrev pub told_owner : ℕ → List PlainEntry → ℕ → Option Owner
 told_owner first [] a = if nat_lt a first then Some Folded else None
 told_owner first (e ∷ older) a =
-    if begins e.reply a then Some (Held (record { 0 = a })) else owner_next e older (told_owner first older a)
+    if begins e.reply a then Some (Held (record { 0 = a })) else
+    owner_next e older (told_owner first older a)
 
--- what has this owner counts for the reader: it is there for good, or held by the reader or one above it
+-- what has this owner counts for the reader: it is there for good, or held by the reader or one
+-- above it
 abbrev pub counts_with : List PlainEntry → Option ActionId → Option Owner → Bool
 counts_with j reader None = false
 counts_with j reader (Some Folded) = false
@@ -134,8 +142,10 @@ told_counts first j reader a = counts_with j reader (told_owner first j a)
 
 -- the action that writes the object by a call of this reply
 abbrev pub writer_by : PlainCall → PlainReply → ℕ → Option ActionId
-writer_by (alter a i change) reply o = if i == o && is_answered reply then Some (record { 0 = a }) else None
-writer_by (test_write a i) reply o = if i == o && says_yes reply then Some (record { 0 = a }) else None
+writer_by (alter a i change) reply o =
+    if i == o && is_answered reply then Some (record { 0 = a }) else None
+writer_by (test_write a i) reply o =
+    if i == o && says_yes reply then Some (record { 0 = a }) else None
 writer_by (declare shape) reply o = None
 writer_by begin_top reply o = None
 writer_by (begin_sub parent) reply o = None
@@ -147,7 +157,8 @@ writer_by (ask a i query) reply o = None
 writer_by (test_read a i) reply o = None
 
 -- what f leaves of the content, where there is a writer and it counts
-abbrev pub written_if : (ℕ → Bool) → (Option PlainContent → Option PlainContent) → Option ActionId → Option PlainContent
+abbrev pub written_if : (ℕ → Bool) → (Option PlainContent → Option PlainContent) → Option ActionId
+    → Option PlainContent
     → Option PlainContent
 written_if counts f None c = c
 written_if counts f (Some a) c = if counts a.0 then f c else c
@@ -156,7 +167,10 @@ written_if counts f (Some a) c = if counts a.0 then f c else c
 abbrev pub replay_next : (ℕ → Bool) → PlainEntry → ℕ → Option PlainContent → Option PlainContent
 replay_next counts e o c = written_if counts (left_by e.call) (writer_by e.call e.reply o) c
 
--- from the opening on, what each write to the object leaves, in order, where its action counts by the whole journal
-abbrev pub replayed : Opening → List PlainEntry → Option ActionId → ℕ → List PlainEntry → Option PlainContent
+-- from the opening on, what each write to the object leaves, in order, where its action counts by
+-- the whole journal
+abbrev pub replayed : Opening → List PlainEntry → Option ActionId → ℕ → List PlainEntry
+    → Option PlainContent
 replayed s j reader o [] = content_in s.objects o
-replayed s j reader o (e ∷ older) = replay_next (told_counts s.first_action j reader) e o (replayed s j reader o older)
+replayed s j reader o (e ∷ older) =
+    replay_next (told_counts s.first_action j reader) e o (replayed s j reader o older)

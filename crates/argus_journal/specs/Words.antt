@@ -12,7 +12,8 @@ use Rattle.argus_model.specs.Numbers.{contains, insert, without}
 use Rattle.argus_model.specs.Owner as model
 use Rattle.argus_model.specs.Owner.{owner}
 use Rattle.argus_model.specs.Status.{is_live, live_siblings}
-use Rattle.argus_model.specs.Work.{Access, committed_topactions, serial_order, serial_order_to, work}
+use Rattle.argus_model.specs.Work.{Access, committed_topactions, serial_order, serial_order_to}
+use Rattle.argus_model.specs.Work.{work}
 use Rattle.argus_journal.specs.Answers.{seen}
 use Rattle.argus_journal.specs.Entries.{entries}
 use Rattle.argus_journal.specs.Events.{history}
@@ -78,13 +79,15 @@ writers_of s j o = all_in_program (writers entries (history s j) o)
 -- these holders, after a has handed what it holds to its parent, if it has one
 abbrev pub handed_over : ℕ → Option ℕ → List ℕ → List ℕ
 handed_over a None holders = without a holders
-handed_over a (Some p) holders = if contains holders a then insert p (without a holders) else holders
+handed_over a (Some p) holders =
+    if contains holders a then insert p (without a holders) else holders
 
 -- what the action sees in the object
 abbrev pub seen_by : Opening → List PlainEntry → ℕ → ℕ → Option PlainContent
 seen_by s j a o = seen s (history s j) a o
 
--- each who holds the object for writing, from ancestor to descendant, with what it sees there: its version
+-- each who holds the object for writing, from ancestor to descendant, with what it sees there: its
+-- version
 abbrev pub versions_of : Opening → List PlainEntry → ℕ → List (ℕ × Option PlainContent)
 versions_of s j o = map (λ a. (a, seen_by s j a o)) (writers_of s j o)
 
@@ -104,7 +107,8 @@ effects_of s j = effects entries (opened s) (history s j)
 abbrev pub committed_in : Opening → List PlainEntry → List ℕ
 committed_in s j = all_in_program (committed_topactions (history s j))
 
--- the accesses of the committed topactions, one topaction after another in the order of their commits, the newest first
+-- the accesses of the committed topactions, one topaction after another in the order of their
+-- commits, the newest first
 abbrev pub serial_run : Opening → List PlainEntry → List (Access PlainEntry)
 serial_run s j = serial_order (history s j)
 

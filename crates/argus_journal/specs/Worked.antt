@@ -6,9 +6,11 @@ use Rattle.argus_contents.specs.Shape as shape
 use Rattle.argus_contents.specs.Shape.{PlainShape}
 use Rattle.argus_contents.specs.Ty as ty
 use Rattle.argus_contents.specs.Value as value
-use Rattle.argus_contents.specs.declared.query.Query.TheVariants.{Field, High, IsTag, TagValue, Whole}
+use Rattle.argus_contents.specs.declared.query.Query.TheVariants.{Field, High, IsTag, TagValue}
+use Rattle.argus_contents.specs.declared.query.Query.TheVariants.{Whole}
 use Rattle.argus_contents.specs.declared.limits.TheConstants.{MAX_ACTIONS}
-use Rattle.argus_entries.specs.Call.{PlainCall, abort, alter, ask, begin_nested, begin_sub, begin_top, commit, declare, test_write}
+use Rattle.argus_entries.specs.Call.{PlainCall, abort, alter, ask, begin_nested, begin_sub}
+use Rattle.argus_entries.specs.Call.{begin_top, commit, declare, test_write}
 use Rattle.argus_entries.specs.Entry.{PlainEntry}
 use Rattle.argus_entries.specs.Reply.{PlainReply}
 use Rattle.argus_journal.specs.Answers.{answer}
@@ -19,7 +21,8 @@ use Rattle.argus_journal.specs.declared.owner.Owner.TheVariants.{Held}
 -- the journal, with each of these calls and its answer after it
 abbrev pub then_calls : Opening → List PlainEntry → List PlainCall → List PlainEntry
 then_calls s j [] = j
-then_calls s j (call ∷ calls) = then_calls s (record { call = call; reply = answer s j call } ∷ j) calls
+then_calls s j (call ∷ calls) =
+    then_calls s (record { call = call; reply = answer s j call } ∷ j) calls
 
 -- the journal of these calls
 abbrev pub journal : List PlainCall → List PlainEntry
@@ -28,7 +31,8 @@ journal calls = then_calls empty [] calls
 -- what these calls are answered after the journal
 abbrev pub replies : Opening → List PlainEntry → List PlainCall → List PlainReply
 replies s j [] = []
-replies s j (call ∷ calls) = answer s j call ∷ replies s (record { call = call; reply = answer s j call } ∷ j) calls
+replies s j (call ∷ calls) =
+    answer s j call ∷ replies s (record { call = call; reply = answer s j call } ∷ j) calls
 
 -- the action that answers for some work
 abbrev pub held : ℕ → Option Owner
@@ -46,7 +50,8 @@ set_to n = set_field 0 (value.int (pos n))
 
 -- objects 0 and 1 hold 0: topaction 0 has created them
 abbrev pub prepared : List PlainCall
-prepared = declare number_shape ∷ declare number_shape ∷ begin_top ∷ alter 0 0 (create (holding 0)) ∷ alter 0 1
+prepared = declare number_shape ∷ declare number_shape ∷ begin_top ∷ alter 0 0 (create (holding 0))
+    ∷ alter 0 1
     (create (holding 0)) ∷ commit 0 ∷ []
 
 -- topaction 1 and its subaction 2 each set object 0
@@ -58,19 +63,22 @@ abbrev pub two_read : List PlainCall
 two_read = begin_top ∷ begin_sub 1 ∷ begin_sub 1 ∷ ask 2 0 (Field 0) ∷ ask 3 0 (Field 0) ∷ alter 2 0
     (set_to 1) ∷ commit 3 ∷ []
 
--- topaction 1 sets object 0 and begins the nested topaction 2, which can't read it, sets object 1 and commits; 1 is aborted
+-- topaction 1 sets object 0 and begins the nested topaction 2, which can't read it, sets object 1
+-- and commits; 1 is aborted
 abbrev pub nested_outlives : List PlainCall
 nested_outlives =
     begin_top ∷ alter 1 0 (set_to 9) ∷ begin_nested 1 ∷ ask 2 0 (Field 0) ∷ alter 2 1
     (set_to 8) ∷ commit 2 ∷ abort 1 ∷ []
 
--- topaction 1 is suspended by its subaction 2, and aborted; then calls that name what is over, not begun or not declared
+-- topaction 1 is suspended by its subaction 2, and aborted; then calls that name what is over, not
+-- begun or not declared
 abbrev pub refused_in_turn : List PlainCall
 refused_in_turn =
     begin_top ∷ begin_sub 1 ∷ ask 1 0 (Field 0) ∷ commit 1 ∷ abort 1 ∷ ask 2 9 (Field 0) ∷ ask 7 0
     (Field 0) ∷ begin_top ∷ ask 3 9 (Field 0) ∷ []
 
--- topaction 2 removes an item of the empty array 2, and has the write lock though it was only signalled
+-- topaction 2 removes an item of the empty array 2, and has the write lock though it was only
+-- signalled
 abbrev pub signal_holds : List PlainCall
 signal_holds =
     declare (shape.arr ty.int) ∷ begin_top ∷ alter 1 2
@@ -81,11 +89,13 @@ signal_ends =
     begin_top ∷ alter 3 2 (addh (value.int (pos 5))) ∷ abort 2 ∷ alter 3 2
     (addh (value.int (pos 5))) ∷ ask 3 2 High ∷ []
 
--- topaction 1 makes a variant, and topaction 2 changes its tag, at first with a value of another type
+-- topaction 1 makes a variant, and topaction 2 changes its tag, at first with a value of another
+-- type
 abbrev pub tag_changes : List PlainCall
 tag_changes =
     declare (shape.var (ty.more (codes "ok") ty.int (ty.more (codes "bad") ty.text ty.none)))
-    ∷ begin_top ∷ alter 1 2 (create (var 0 (value.int (pos 5)))) ∷ ask 1 2 (TagValue 1) ∷ ask 1 2 (IsTag 1) ∷ []
+    ∷ begin_top ∷ alter 1 2 (create (var 0 (value.int (pos 5)))) ∷ ask 1 2 (TagValue 1)
+    ∷ ask 1 2 (IsTag 1) ∷ []
 
 abbrev pub tag_refused : List PlainCall
 tag_refused = commit 1 ∷ begin_top ∷ alter 2 2 (change_tag 1 (value.int (pos 7))) ∷ []
@@ -102,10 +112,12 @@ abbrev pub turns : List PlainCall
 turns = begin_top ∷ begin_top ∷ alter 1 0 (set_to 1) ∷ alter 2 1 (set_to 2) ∷ commit 2 ∷ ask 1 1
     (Field 0) ∷ commit 1 ∷ []
 
--- subaction 2 of topaction 1 sets object 0: its parent, its sibling 3 and its nested topaction 4 all have to wait
+-- subaction 2 of topaction 1 sets object 0: its parent, its sibling 3 and its nested topaction 4
+-- all have to wait
 abbrev pub all_wait : List PlainCall
 all_wait =
-    begin_top ∷ begin_sub 1 ∷ alter 2 0 (set_to 1) ∷ alter 1 0 (set_to 2) ∷ begin_sub 1 ∷ alter 3 0 (set_to 2)
+    begin_top ∷ begin_sub 1 ∷ alter 2 0 (set_to 1) ∷ alter 1 0 (set_to 2) ∷ begin_sub 1
+    ∷ alter 3 0 (set_to 2)
     ∷ begin_nested 2 ∷ ask 4 0 (Field 0) ∷ commit 2 ∷ []
 
 -- a reference to an object that isn't declared, and again when it is

@@ -7,33 +7,43 @@ use Rattle.argus_contents.specs.Ty as ty
 use Rattle.argus_contents.specs.Value as value
 use Rattle.argus_contents.specs.declared.limits.TheConstants.{MAX_ACTIONS, MAX_ACTION_DEPTH}
 use Rattle.argus_contents.specs.declared.query.Query.TheVariants.{Field, High, Size}
-use Rattle.argus_entries.specs.Call.{PlainCall, abort, alter, ask, begin_nested, begin_sub, begin_top, commit, declare, test_read, test_write}
+use Rattle.argus_entries.specs.Call.{PlainCall, abort, alter, ask, begin_nested, begin_sub}
+use Rattle.argus_entries.specs.Call.{begin_top, commit, declare, test_read, test_write}
 use Rattle.argus_journal.specs.Opening.{Opening}
 use Rattle.argus_journal.specs.Worked.{chain, set_to}
 
--- topaction 2 makes an ill-typed change of object 0, which 1 has written, and asks it a question for arrays
+-- topaction 2 makes an ill-typed change of object 0, which 1 has written, and asks it a question
+-- for arrays
 abbrev pub ill_typed_and_held : List PlainCall
 ill_typed_and_held =
-    begin_top ∷ alter 1 0 (set_to 1) ∷ begin_top ∷ alter 2 0 (set_field 0 (value.text (codes "x"))) ∷ ask 2 0 High ∷ ask 2 0 (Field 0) ∷ []
+    begin_top ∷ alter 1 0 (set_to 1) ∷ begin_top ∷ alter 2 0 (set_field 0 (value.text (codes "x")))
+    ∷ ask 2 0 High ∷ ask 2 0 (Field 0) ∷ []
 
 -- topaction 1 is aborted while its nested topaction 2 lives: it is over, though it has a live child
 abbrev pub over_and_suspended : List PlainCall
-over_and_suspended = begin_top ∷ begin_nested 1 ∷ abort 1 ∷ commit 1 ∷ ask 1 0 (Field 0) ∷ abort 1 ∷ []
+over_and_suspended =
+    begin_top ∷ begin_nested 1 ∷ abort 1 ∷ commit 1 ∷ ask 1 0 (Field 0) ∷ abort 1 ∷ []
 
--- topaction 1 is suspended by its subaction 2 and asks, changes and tests an object that isn't declared; it may begin a nested topaction
+-- topaction 1 is suspended by its subaction 2 and asks, changes and tests an object that isn't
+-- declared; it may begin a nested topaction
 abbrev pub suspended_and_undeclared : List PlainCall
 suspended_and_undeclared =
-    begin_top ∷ begin_sub 1 ∷ ask 1 9 (Field 0) ∷ alter 1 9 (set_to 1) ∷ test_read 1 9 ∷ test_write 1 9 ∷ begin_nested 1 ∷ []
+    begin_top ∷ begin_sub 1 ∷ ask 1 9 (Field 0) ∷ alter 1 9 (set_to 1) ∷ test_read 1 9
+    ∷ test_write 1 9 ∷ begin_nested 1 ∷ []
 
--- tests of an object that isn't declared, by an action that is over, by one that hasn't begun and by a live one
+-- tests of an object that isn't declared, by an action that is over, by one that hasn't begun and
+-- by a live one
 abbrev pub tests_in_order : List PlainCall
 tests_in_order =
-    begin_top ∷ commit 1 ∷ test_read 1 9 ∷ test_write 1 9 ∷ test_read 5 9 ∷ test_write 5 9 ∷ begin_top ∷ test_read 2 9 ∷ test_write 2 9 ∷ []
+    begin_top ∷ commit 1 ∷ test_read 1 9 ∷ test_write 1 9 ∷ test_read 5 9 ∷ test_write 5 9
+    ∷ begin_top ∷ test_read 2 9 ∷ test_write 2 9 ∷ []
 
--- topaction 1 asks the absent array 2 for its size, and is signalled; topaction 2 then wants to create it
+-- topaction 1 asks the absent array 2 for its size, and is signalled; topaction 2 then wants to
+-- create it
 abbrev pub a_signalled_question : List PlainCall
 a_signalled_question =
-    declare (shape.arr ty.int) ∷ begin_top ∷ ask 1 2 Size ∷ begin_top ∷ alter 2 2 (create (arr (pos 1) [])) ∷ []
+    declare (shape.arr ty.int) ∷ begin_top ∷ ask 1 2 Size ∷ begin_top
+    ∷ alter 2 2 (create (arr (pos 1) [])) ∷ []
 
 -- subaction 2 tests object 0 for writing, which its parent 1 has set
 abbrev pub a_test_below_a_write : List PlainCall
@@ -47,13 +57,16 @@ a_reader = begin_top ∷ ask 1 0 (Field 0) ∷ commit 1 ∷ []
 abbrev pub going_on_at : ℕ → Opening
 going_on_at n = record { objects = []; first_action = n; first_entry = 0 }
 
--- the last action that there may be begins and is aborted; then begins of it, of one that hasn't begun, and of a topaction
+-- the last action that there may be begins and is aborted; then begins of it, of one that hasn't
+-- begun, and of a topaction
 abbrev pub the_last_action : List PlainCall
 the_last_action =
-    begin_top ∷ abort (MAX_ACTIONS - 1) ∷ begin_sub (MAX_ACTIONS - 1) ∷ begin_nested (MAX_ACTIONS - 1)
+    begin_top ∷ abort (MAX_ACTIONS - 1) ∷ begin_sub (MAX_ACTIONS - 1)
+    ∷ begin_nested (MAX_ACTIONS - 1)
     ∷ begin_sub MAX_ACTIONS ∷ begin_nested MAX_ACTIONS ∷ begin_top ∷ []
 
--- the last actions that there may be stand one under another, as deep as they may; then begins under the deepest
+-- the last actions that there may be stand one under another, as deep as they may; then begins
+-- under the deepest
 abbrev pub the_last_chain : List PlainCall
 the_last_chain = begin_top ∷ chain (MAX_ACTIONS - MAX_ACTION_DEPTH) 63
 

@@ -183,7 +183,7 @@ impl Journal {
             ≡ content_in (opening_of self.now).objects o.0) }
     {
         match self.objects.get(o.0 as usize) {
-            Some((_, content)) => copy_of(heap, content),
+            Some((_, content)) => Content::duplicate_option(heap, content),
             None => Ok(None),
         }
     }
@@ -192,14 +192,5 @@ impl Journal {
         ensures { plain_found result ≡ slice_get (map plain_entry entries.now) place }
     {
         entries.get(place)
-    }
-}
-
-fn copy_of(heap: Heap, content: &Option<Content>) -> Result<Option<Content>, OutOfMemory>
-    ensures { IfOk result (λ copy. plain_option copy ≡ plain_option content.now) }
-{
-    match content {
-        None => Ok(None),
-        Some(content) => Ok(Some(content.duplicate(heap)?)),
     }
 }

@@ -15,7 +15,7 @@ pub(crate) fn begins(reply: &Reply, a: ActionId) -> bool
     ensures { result ≡ told.begins (plain_reply reply.now) a.0 }
 {
     match reply {
-        Reply::Begun(n) => n.0 == a.0,
+        Reply::Begun(n) => *n == a,
         Reply::Object(_) | Reply::Answered(_) | Reply::Refused(_) => false,
     }
 }
@@ -81,7 +81,7 @@ pub(crate) fn is_above(entries: &[Entry], x: ActionId, a: ActionId) -> bool
     let mut rest = entries;
     while let Some((entry, older)) = rest.split_last() {
         if begins(&entry.reply, at) {
-            if at.0 == x.0 {
+            if at == x {
                 return true;
             }
             match parent_by(&entry.call) {
@@ -91,7 +91,7 @@ pub(crate) fn is_above(entries: &[Entry], x: ActionId, a: ActionId) -> bool
         }
         rest = older;
     }
-    x.0 == at.0
+    x == at
 }
 
 /// Whether `x`, or an ancestor of it, is another than `b` and was begun by `c`.
@@ -102,7 +102,7 @@ pub(crate) fn is_beside(entries: &[Entry], c: ActionId, b: ActionId, x: ActionId
     let mut rest = entries;
     while let Some((entry, older)) = rest.split_last() {
         if begins(&entry.reply, at) {
-            if at.0 != b.0 && is_the(creator_by(&entry.call), c) {
+            if at != b && is_the(creator_by(&entry.call), c) {
                 return true;
             }
             let Some(parent) = parent_by(&entry.call) else {
@@ -119,7 +119,7 @@ fn is_the(creator: Option<ActionId>, c: ActionId) -> bool
     ensures { result ≡ told.is_the (number_of creator) c.0 }
 {
     match creator {
-        Some(x) => x.0 == c.0,
+        Some(x) => x == c,
         None => false,
     }
 }

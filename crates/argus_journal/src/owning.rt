@@ -68,7 +68,7 @@ fn owner_then(older: &[Entry], call: &Call, x: ActionId) -> Owner
 {
     match call {
         Call::Commit(b) => {
-            if b.0 == x.0 {
+            if *b == x {
                 heir_of(older, *b)
             } else {
                 Owner::Held(x)

@@ -103,8 +103,8 @@ fn writer_of(entry: &Entry, o: ObjId) -> Option<ActionId>
     ensures { result ≡ writer_by (plain_entry entry.now).call (plain_entry entry.now).reply o.0 }
 {
     match &entry.call {
-        Call::Alter(a, i, _) => action_if(i.0 == o.0 && is_answered(&entry.reply), *a),
-        Call::TestWrite(a, i) => action_if(i.0 == o.0 && says_yes(&entry.reply), *a),
+        Call::Alter(a, i, _) => action_if(*i == o && is_answered(&entry.reply), *a),
+        Call::TestWrite(a, i) => action_if(*i == o && says_yes(&entry.reply), *a),
         Call::Declare(_) | Call::BeginTop | Call::BeginSub(_) | Call::BeginNested(_) => None,
         Call::Commit(_) | Call::Abort(_) | Call::AbortOthers(_) => None,
         Call::Ask(_, _, _) | Call::TestRead(_, _) => None,

@@ -69,7 +69,8 @@ pub fn readers_are_handed_up()
     ensures readers { readers_of empty (journal (prepared ++ two_read)) 0 ≡ 1 ∷ 2 ∷ [] }
     ensures then { answered done ∷ []
         ≡ replies empty (journal (prepared ++ two_read)) (alter 2 0 (set_to 1) ∷ []) }
-    ensures versions { versions_of empty (journal (prepared ++ two_read ++ alter 2 0 (set_to 1) ∷ [])) 0
+    ensures versions { versions_of empty (journal
+        (prepared ++ two_read ++ alter 2 0 (set_to 1) ∷ [])) 0
         ≡ (2, Some (holding 1)) ∷ [] }
 {}
 
@@ -92,7 +93,8 @@ pub fn refusals_come_in_order()
 /// A signal is a reply: the call has its lock and keeps it.
 pub fn a_signal_keeps_its_lock()
     ensures replies { replies empty (journal prepared) signal_holds
-        ≡ object 2 ∷ begun 1 ∷ answered done ∷ answered done ∷ begun 2 ∷ answered (signal Bounds) ∷ [] }
+        ≡ object 2 ∷ begun 1 ∷ answered done ∷ answered done ∷ begun 2 ∷ answered (signal Bounds)
+        ∷ [] }
     ensures versions { versions_of empty (journal (prepared ++ signal_holds)) 2
         ≡ (2, Some (arr (pos 1) [])) ∷ [] }
     ensures then { replies empty (journal (prepared ++ signal_holds)) signal_ends
@@ -103,7 +105,8 @@ pub fn a_signal_keeps_its_lock()
 /// that says no take theirs.
 pub fn what_suits_no_shape_is_refused()
     ensures replies { replies empty (journal prepared) tag_changes
-        ≡ object 2 ∷ begun 1 ∷ answered done ∷ answered (signal WrongTag) ∷ answered (flag false) ∷ [] }
+        ≡ object 2 ∷ begun 1 ∷ answered done ∷ answered (signal WrongTag) ∷ answered (flag false)
+        ∷ [] }
     ensures reader { readers_of empty (journal (prepared ++ tag_changes)) 2 ≡ 1 ∷ [] }
     ensures refused { replies empty (journal (prepared ++ tag_changes)) tag_refused
         ≡ answered done ∷ begun 2 ∷ refused IllTyped ∷ [] }
@@ -151,7 +154,8 @@ pub fn turns_are_taken()
 /// A write by a subaction keeps its parent, its sibling and its nested topaction out.
 pub fn all_others_wait()
     ensures { replies empty (journal prepared) all_wait
-        ≡ begun 1 ∷ begun 2 ∷ answered done ∷ refused Suspended ∷ begun 3 ∷ refused Conflict ∷ begun 4
+        ≡ begun 1 ∷ begun 2 ∷ answered done ∷ refused Suspended ∷ begun 3 ∷ refused Conflict
+        ∷ begun 4
         ∷ refused Conflict ∷ refused Suspended ∷ [] }
 {}
 

@@ -23,11 +23,12 @@ ghost use Rattle.argus_journal.specs.WorkedOrders.{suspended_and_undeclared, tes
 ghost use Rattle.argus_journal.specs.WorkedOrders.{the_last_action, the_last_chain};
 ghost use Rattle.argus_journal.specs.WorkedOrders.{under_the_deepest};
 
-/// A change that doesn't suit the object's shape is refused for that, whoever holds the object; so is
-/// a question for another kind of object.
+/// A change that doesn't suit the object's shape is refused for that, whoever holds the object; so
+/// is a question for another kind of object.
 pub fn ill_typed_before_conflict()
     ensures { replies empty (journal prepared) ill_typed_and_held
-        ≡ begun 1 ∷ answered done ∷ begun 2 ∷ refused IllTyped ∷ refused IllTyped ∷ refused Conflict ∷ [] }
+        ≡ begun 1 ∷ answered done ∷ begun 2 ∷ refused IllTyped ∷ refused IllTyped ∷ refused Conflict
+        ∷ [] }
 {}
 
 /// An action that was aborted is over, though its nested topaction lives.
@@ -46,7 +47,8 @@ pub fn suspended_before_no_object()
 /// Tests are refused in the same order.
 pub fn tests_are_refused_in_order()
     ensures { replies empty (journal prepared) tests_in_order
-        ≡ begun 1 ∷ answered done ∷ refused Over ∷ refused Over ∷ refused NoAction ∷ refused NoAction
+        ≡ begun 1 ∷ answered done ∷ refused Over ∷ refused Over ∷ refused NoAction
+        ∷ refused NoAction
         ∷ begun 2 ∷ refused NoObject ∷ refused NoObject ∷ [] }
 {}
 
@@ -73,8 +75,8 @@ pub fn a_reader_leaves_an_empty_effect()
         ≡ ((0, Some (holding 0)) ∷ (1, Some (holding 0)) ∷ []) ∷ [] ∷ [] }
 {}
 
-/// The last action that there may be begins, and no other; who is over or hasn't begun is refused for
-/// that, and who is too deep for that.
+/// The last action that there may be begins, and no other; who is over or hasn't begun is refused
+/// for that, and who is too deep for that.
 pub fn the_last_action_begins()
     ensures last { replies (going_on_at (MAX_ACTIONS - 1)) [] the_last_action
         ≡ begun (MAX_ACTIONS - 1) ∷ answered done ∷ refused Over ∷ refused Over

@@ -24,10 +24,14 @@ module _ {M : Type 1} {𝓤 : Ura M} (𝓛 : Logic 𝓤) (at_mem : Memory → SP
   abbrev pub at_asks : Lft → Share → Budget → ℕ × ℕ → Asks.Ghost
   at_asks κ q b c = (((κ, tt), (q, tt), tt, (record { ref_ptr = c; now = b }, tt), (vptr c.0 c.1 ∷ [], tt)), tt)
 
-module _ {M : Type 1} {𝓤 : Ura M} (𝓛 : Logic 𝓤) (at_mem : Memory → SProp 𝓤) (run : Routine → Fun 𝓤) (κ : Lft) (q : Share) (b : Budget) (c : ℕ × ℕ) where
+module _ {M : Type 1} {𝓤 : Ura M} (𝓛 : Logic 𝓤) (at_mem : Memory → SProp 𝓤) (run : Routine → Fun 𝓤) (κ : Lft)
+    (q : Share) (b : Budget) (c : ℕ × ℕ) where
   open 𝓛 use {H, A}
 
-  pub Asks-goes : ent 𝓤 (sep 𝓤 (sem 𝓛 (hidden_shr BU.the_row κ b c.0 c.1)) (A.lft κ q)) ((Asks 𝓛 at_mem run).pre (at_asks 𝓛 at_mem run κ q b c))
+  pub Asks-goes : ent 𝓤 (sep 𝓤 (sem 𝓛 (hidden_shr BU.the_row κ b c.0 c.1)) (A.lft κ q))
+      ((Asks 𝓛 at_mem run).pre (at_asks 𝓛 at_mem run κ q b c))
   Asks-goes =
-      qed 𝓛 (‵ (hidden_shr BU.the_row κ b c.0 c.1) ∷ ‵ (flft κ q) ∷ []) ∵ feq_i ! (List Val) (vptr c.0 c.1 ∷ []) (vptr c.0 c.1 ∷ []) refl $ fjoin ! $
-      nothing ! $ move ! (1 ∷ []) $ fjoin ! $ nothing ! $ move ! (2 ∷ []) $ join ! $ join ! $ nothing ! $ move ! (1 ∷ []) $ done !
+      qed 𝓛 (‵ (hidden_shr BU.the_row κ b c.0 c.1) ∷ ‵ (flft κ q) ∷ []) ∵ feq_i ! (List Val) (vptr c.0 c.1 ∷ [])
+      (vptr c.0 c.1 ∷ []) refl $ fjoin ! $
+      nothing ! $ move ! (1 ∷ []) $ fjoin ! $ nothing ! $ move ! (2 ∷ []) $ join ! $ join ! $ nothing ! $ move !
+      (1 ∷ []) $ done !

@@ -1,4 +1,5 @@
--- What lies in the heap may cross to another thread, or be looked at from there, where its parts may: as a set for `search`, `crosses`.
+-- What lies in the heap may cross to another thread, or be looked at from there, where its parts may: as a set for
+-- `search`, `crosses`.
 use denote.RattleType.{RattleType}
 use denote.Param.Send.{IsSend, IsSync, Frees}
 use Rattle.std.proofs.Crossing.{send, sync, frees}
@@ -67,4 +68,18 @@ text_sends = text.the_send heap rests heap_sends heap_frees
 pub text_syncs : IsSync (text_row heap rests)
 text_syncs = text.the_sync heap rests heap_syncs
 
-pub ruleset crosses = (heap_sends, heap_syncs, heap_frees, list_sends, list_syncs, queue_sends, queue_syncs, box_sends, box_syncs, shared_sends, shared_syncs, text_sends, text_syncs)
+pub ruleset crosses = (
+  heap_sends,
+  heap_syncs,
+  heap_frees,
+  list_sends,
+  list_syncs,
+  queue_sends,
+  queue_syncs,
+  box_sends,
+  box_syncs,
+  shared_sends,
+  shared_syncs,
+  text_sends,
+  text_syncs,
+)

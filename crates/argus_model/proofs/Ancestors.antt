@@ -1,5 +1,6 @@
 -- Lineages go down in number, and an ancestor's ancestors are ancestors.
-use Rattle.std.proofs.Common.{List, [], ap, arith, cond, inl, inr, refl, subst, sym, true, ℕ, ⊎_elim, ◌++◌, ◌+◌, ◌<◌, ◌∙◌, ◌∷◌, ◌≡◌, ◌≢◌, ◌≤◌, ◌⊎◌}
+use Rattle.std.proofs.Common.{List, [], ap, arith, cond, inl, inr, refl, subst, sym, true, ℕ, ⊎_elim, ◌++◌, ◌+◌, ◌<◌}
+use Rattle.std.proofs.Common.{◌∙◌, ◌∷◌, ◌≡◌, ◌≢◌, ◌≤◌, ◌⊎◌}
 use Rattle.std.specs.Prelude.{◌==◌}
 use Rattle.std.proofs.lemmas.Bool.{cases_eq, eqb-true, ne_eqb, or_cases}
 use Rattle.std.proofs.lemmas.Bool.Decides.{nat_tests}
@@ -177,8 +178,7 @@ child_at h from x y e k =
       child = y;
       real = omega (arith, next_pos h);
       started = omega arith;
-      below =
-          ancestor_self (Began from ▹ h) y;
+      below = ancestor_self (Began from ▹ h) y;
       of = ⊎_elim (λ w. w.1 ∙ k) (λ w. absurd (w.0 e)) (parent_cases h from y);
     }
 
@@ -190,8 +190,7 @@ child_up h from x y z k m =
       real = k.real;
       started = omega arith;
       below = m;
-      of =
-          ⊎_elim (λ w. absurd (omega arith)) (λ w. w.1 ∙ k.of) (parent_cases h from k.child);
+      of = ⊎_elim (λ w. absurd (omega arith)) (λ w. w.1 ∙ k.of) (parent_cases h from k.child);
     }
 
 pub ancestor_new : {V : Type 0} (h : History V) (from : Origin) (x y : ℕ) → y ≡ next_action h
@@ -219,8 +218,7 @@ child_on_path {V} (Opened n) x y f l ne a =
       real = omega (arith, k.1);
       started = l;
       below = ancestor_self {V = V} (Opened n) y;
-      of =
-          sym k.0;
+      of = sym k.0;
     })
     (opened_ancestor x y a)
 child_on_path (Began from ▹ h) x y f l ne a =

@@ -1,5 +1,6 @@
 -- What a commit adds to the effects and to the serial order, and how a history goes on from its fold.
-use Rattle.std.proofs.Common.{[], ap, append-nil, arith, cond, false, refl, sym, true, ℕ, ⊎_elim, ◌++◌, ◌-◌, ◌∙◌, ◌∷◌, ◌≡◌, ◌≢◌}
+use Rattle.std.proofs.Common.{[], ap, append-nil, arith, cond, false, refl, sym, true, ℕ, ⊎_elim, ◌++◌, ◌-◌, ◌∙◌, ◌∷◌}
+use Rattle.std.proofs.Common.{◌≡◌, ◌≢◌}
 use Rattle.std.specs.Prelude.{map, ◌==◌}
 use Rattle.std.proofs.lemmas.Bool.{cases_Bool, cases_eq, eq-eqb, ne_eqb}
 use Rattle.argus_model.specs.Ancestors.{parent}

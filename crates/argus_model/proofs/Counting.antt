@@ -1,8 +1,10 @@
 -- For whom an action's work counts, as time goes on.
-use Rattle.std.proofs.Common.{Bool, List, None, Option, Some, ap, arith, cond, false, inl, inr, refl, subst, sym, true, ℕ, ⊎_elim, ◌<◌, ◌∙◌, ◌∷◌, ◌≡◌, ◌≢◌}
+use Rattle.std.proofs.Common.{Bool, List, None, Option, Some, ap, arith, cond, false, inl, inr, refl, subst, sym, true}
+use Rattle.std.proofs.Common.{ℕ, ⊎_elim, ◌<◌, ◌∙◌, ◌∷◌, ◌≡◌, ◌≢◌}
 use Rattle.std.specs.List.{IsDistinct}
 use Rattle.std.specs.Prelude.{not, ◌&&◌, ◌==◌, ◌||◌}
-use Rattle.std.proofs.lemmas.Bool.{and_parts, both_ways, cases_Bool, cases_eq, eq-eqb, eqb-true, false_from_ne_true, false≢true, ne_eqb}
+use Rattle.std.proofs.lemmas.Bool.{and_parts, both_ways, cases_Bool, cases_eq, eq-eqb, eqb-true, false_from_ne_true}
+use Rattle.std.proofs.lemmas.Bool.{false≢true, ne_eqb}
 use Rattle.std.proofs.lemmas.Bool.Decides.{nat_tests}
 use Rattle.argus_model.specs.Ancestors.{is_ancestor, is_under, parent}
 use Rattle.argus_model.specs.Event.{Aborted, Accessed, Began, Committed, Event}
@@ -19,7 +21,9 @@ use Rattle.argus_model.proofs.Numbers.{different}
 use Rattle.argus_model.proofs.Owner.{owner_is, parent_unfolded}
 use Rattle.argus_model.proofs.OwnerRules.{committed_begun, committed_unfolded, owner_ancestor, owner_gone, owner_passed}
 use Rattle.argus_model.proofs.Serial.{base_stands}
-use Rattle.argus_model.proofs.Standing.{Orderly, at_some, handed_cases, handed_stays, kept_cases, kept_stays, owned_begun, owner_cases, parent_is, parents_are_older, some_at, stands_abort, stands_begun, stands_commit, stands_new, stands_old, stands_upward}
+use Rattle.argus_model.proofs.Standing.{Orderly, at_some, handed_cases, handed_stays, kept_cases, kept_stays}
+use Rattle.argus_model.proofs.Standing.{owned_begun, owner_cases, parent_is, parents_are_older, some_at, stands_abort}
+use Rattle.argus_model.proofs.Standing.{stands_begun, stands_commit, stands_new, stands_old, stands_upward}
 use Rattle.argus_model.proofs.Topactions.{tops_over}
 
 -- who answers is the base, or begun, and answers for itself

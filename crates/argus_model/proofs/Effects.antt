@@ -1,7 +1,9 @@
 -- The table of what the committed topactions left is the base, and an event at most adds one effect at the end.
-use Rattle.std.proofs.Common.{Bool, List, Some, [], ap, append-nil, arith, cond, false, refl, subst, sym, true, ℕ, ⊎_elim, ◌++◌, ◌∙◌, ◌∷◌, ◌≡◌, ◌≢◌}
+use Rattle.std.proofs.Common.{Bool, List, Some, [], ap, append-nil, arith, cond, false, refl, subst, sym, true, ℕ}
+use Rattle.std.proofs.Common.{⊎_elim, ◌++◌, ◌∙◌, ◌∷◌, ◌≡◌, ◌≢◌}
 use Rattle.std.specs.Prelude.{map, reverse, ◌&&◌, ◌==◌, ◌||◌}
-use Rattle.std.proofs.lemmas.Bool.{and_from, and_right, cases_Bool, cases_eq, eq-eqb, false≢true, ne_eqb, or_cases, or_left, or_right}
+use Rattle.std.proofs.lemmas.Bool.{and_from, and_right, cases_Bool, cases_eq, eq-eqb, false≢true, ne_eqb, or_cases}
+use Rattle.std.proofs.lemmas.Bool.{or_left, or_right}
 use Rattle.std.proofs.lemmas.List.{reverse-append}
 use Rattle.argus_model.specs.Ancestors.{is_under, lineage, parent}
 use Rattle.argus_model.specs.Effects.{content_by, effect_of, effects, effects_of, table, written_objects}
@@ -20,7 +22,8 @@ use Rattle.argus_model.proofs.Exclusion.{has_used_begun, has_used_cases}
 use Rattle.argus_model.proofs.HolderSteps.{used_by_found, used_by_from}
 use Rattle.argus_model.proofs.Numbers.{IsRising, contains_first, contains_insert, insert-IsRising}
 use Rattle.argus_model.proofs.Serial.{base_serial, lineage-base, orderly, serial_to-base, serials}
-use Rattle.argus_model.proofs.Standing.{Orderly, at_some, handed_cases, kept_cases, owner_cases, parents_are_older, some_at, stands_begun}
+use Rattle.argus_model.proofs.Standing.{Orderly, at_some, handed_cases, kept_cases, owner_cases, parents_are_older}
+use Rattle.argus_model.proofs.Standing.{some_at, stands_begun}
 use Rattle.argus_model.proofs.Topactions.{serial_tops, tops_over}
 use Rattle.argus_model.proofs.Work.{all_of_agree, touches, user_of, work_final}
 

@@ -1,7 +1,9 @@
 -- Of a write holder and any other holder, one is an ancestor of the other.
-use Rattle.std.proofs.Common.{Bool, None, Option, Some, ap, arith, cond, false, inl, inr, refl, subst, sym, true, ℕ, ⊎_elim, ◌<◌, ◌∙◌, ◌∷◌, ◌≡◌, ◌≢◌, ◌⊎◌}
+use Rattle.std.proofs.Common.{Bool, None, Option, Some, ap, arith, cond, false, inl, inr, refl, subst, sym, true, ℕ}
+use Rattle.std.proofs.Common.{⊎_elim, ◌<◌, ◌∙◌, ◌∷◌, ◌≡◌, ◌≢◌, ◌⊎◌}
 use Rattle.std.specs.Prelude.{◌&&◌, ◌==◌, ◌||◌}
-use Rattle.std.proofs.lemmas.Bool.{and_from, and_parts, cases_Bool, eq-eqb, eqb-true, false≢true, or_cases, or_left, or_right}
+use Rattle.std.proofs.lemmas.Bool.{and_from, and_parts, cases_Bool, eq-eqb, eqb-true, false≢true, or_cases, or_left}
+use Rattle.std.proofs.lemmas.Bool.{or_right}
 use Rattle.argus_model.specs.Ancestors.{is_ancestor, is_under, lineage, parent}
 use Rattle.argus_model.specs.Event.{Aborted, Accessed, Began, Committed}
 use Rattle.argus_model.specs.History.{History, Opened, next_action, ◌▹◌}
@@ -9,7 +11,8 @@ use Rattle.argus_model.specs.HolderSteps.{has_used, if_owned, may_by_steps}
 use Rattle.argus_model.specs.Numbers.{contains}
 use Rattle.argus_model.specs.OwnerSteps.{owner_by_steps, stands}
 use Rattle.argus_model.proofs.Ancestors.{ParentsAreOlder, ancestor_old, ancestor_self, ancestor_trans, parent_older}
-use Rattle.argus_model.proofs.Standing.{Orderly, at_some, handed_cases, kept_cases, owner_begun, owner_cases, parent_is, parents_are_older, stands_begun}
+use Rattle.argus_model.proofs.Standing.{Orderly, at_some, handed_cases, kept_cases, owner_begun, owner_cases, parent_is}
+use Rattle.argus_model.proofs.Standing.{parents_are_older, stands_begun}
 
 -- an ancestor of s other than s is one of its parent
 pub above_parent : {V : Type 0} (h : History V) → ParentsAreOlder h → (s x : ℕ) → s ≢ 0 → stands h s ≡ true → x ≢ s

@@ -17,7 +17,8 @@ use Rattle.argus_model.proofs.Bools.{and_split, kinds_apart, same_bool}
 use Rattle.argus_model.proofs.Exclusion.{has_used_begun, has_used_cases}
 use Rattle.argus_model.proofs.HolderSteps.{may_asks, may_if, used_by_agree, used_by_found}
 use Rattle.argus_model.proofs.Live.{begun_contains, begun_rising, contains_unfolded, is_begun_from}
-use Rattle.argus_model.proofs.Numbers.{IsRising, contains_filter, every_at, every_from, filter_contains, joined_cases, rising_filter}
+use Rattle.argus_model.proofs.Numbers.{IsRising, contains_filter, every_at, every_from, filter_contains, joined_cases}
+use Rattle.argus_model.proofs.Numbers.{rising_filter}
 use Rattle.argus_model.proofs.Owner.{base_above, is_held_by_is, owner_is, owner_unfolded}
 use Rattle.argus_model.proofs.Standing.{Orderly, at_some, owner_begun, parents_are_older, stands_unfolded}
 

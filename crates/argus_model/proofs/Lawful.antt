@@ -3,7 +3,8 @@ use Rattle.std.proofs.Common.{List, ap, cond, subst, sym, true, ℕ, ⊎_elim, �
 use Rattle.std.specs.List.{list_all}
 use Rattle.std.specs.Prelude.{◌==◌, ◌||◌}
 use Rattle.std.proofs.lemmas.Bool.{cases_Bool, eqb-true, or_cases}
-use Rattle.argus_model.specs.Event.{Aborted, Accessed, Began, Committed, Event, Nested, Origin, Sub, Top, creator_of, parent_of}
+use Rattle.argus_model.specs.Event.{Aborted, Accessed, Began, Committed, Event, Nested, Origin, Sub, Top, creator_of}
+use Rattle.argus_model.specs.Event.{parent_of}
 use Rattle.argus_model.specs.History.{History, Opened, Opening, ◌▹◌}
 use Rattle.argus_model.specs.HolderSteps.{may_by_steps}
 use Rattle.argus_model.specs.Holders.{may_read, may_write}

@@ -3,7 +3,8 @@ use Rattle.std.proofs.Common.{[], ap, arith, cond, false, refl, sym, true, ℕ, 
 use Rattle.std.specs.List.{list_all, list_any}
 use Rattle.std.specs.Prelude.{nat_lt, not, ◌&&◌, ◌==◌, ◌||◌}
 use Rattle.std.proofs.Math.Bool.{and_comm, or_comm}
-use Rattle.std.proofs.lemmas.Bool.{and_from, and_parts, both_ways, cases_eq, eq-eqb, false≢true, lt-ltb, ltb-true, ne_eqb, not-true, or_left}
+use Rattle.std.proofs.lemmas.Bool.{and_from, and_parts, both_ways, cases_eq, eq-eqb, false≢true, lt-ltb, ltb-true}
+use Rattle.std.proofs.lemmas.Bool.{ne_eqb, not-true, or_left}
 use Rattle.std.proofs.lemmas.Bool.Decides.{nat_tests}
 use Rattle.std.proofs.lemmas.List.Folds.{list_any-append}
 use Rattle.argus_model.specs.Ancestors.{creator, parent}
@@ -11,10 +12,12 @@ use Rattle.argus_model.specs.Event.{Aborted, Accessed, Began, Committed, creator
 use Rattle.argus_model.specs.History.{History, Opened, begun_actions, folded, next_action, ◌▹◌}
 use Rattle.argus_model.specs.Numbers.{contains}
 use Rattle.argus_model.specs.OwnerSteps.{owner_by_steps, standing_child, stands}
-use Rattle.argus_model.specs.Status.{has_committed, has_live_child, is_begun, is_doomed, is_live, is_sibling, live_siblings}
+use Rattle.argus_model.specs.Status.{has_committed, has_live_child, is_begun, is_doomed, is_live, is_sibling}
+use Rattle.argus_model.specs.Status.{live_siblings}
 use Rattle.argus_model.proofs.Ancestors.{folded_next}
 use Rattle.argus_model.proofs.Bools.{or_none, same_bool}
-use Rattle.argus_model.proofs.Numbers.{IsRising, any_agree, contains_filter, every_from, filter_contains, joined, joined_cases, joined_left, rising-more}
+use Rattle.argus_model.proofs.Numbers.{IsRising, any_agree, contains_filter, every_from, filter_contains, joined}
+use Rattle.argus_model.proofs.Numbers.{joined_cases, joined_left, rising-more}
 use Rattle.argus_model.proofs.OwnerRules.{owner_self, stands_plain}
 use Rattle.argus_model.proofs.Standing.{Orderly, some_at, stands_unfolded}
 

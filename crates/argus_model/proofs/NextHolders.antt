@@ -10,10 +10,12 @@ use Rattle.argus_model.specs.Holders.{holders, inherited, is_holder}
 use Rattle.argus_model.specs.Numbers.{contains, insert, without}
 use Rattle.argus_model.specs.OwnerSteps.{is_exactly, owner_by_steps}
 use Rattle.argus_model.proofs.Bools.{and_all, and_none, eqb_sym, same_bool}
-use Rattle.argus_model.proofs.HolderSteps.{holds_abort, holds_access, holds_begin, holds_commit_other, holds_commit_parent, used_by_found}
+use Rattle.argus_model.proofs.HolderSteps.{holds_abort, holds_access, holds_begin, holds_commit_other}
+use Rattle.argus_model.proofs.HolderSteps.{holds_commit_parent, used_by_found}
 use Rattle.argus_model.proofs.Holders.{contains_holders, holders_rising}
 use Rattle.argus_model.proofs.Live.{contains_unfolded}
-use Rattle.argus_model.proofs.Numbers.{IsRising, contains_filter, contains_insert, filter_contains, insert-IsRising, rising_filter, rising_same}
+use Rattle.argus_model.proofs.Numbers.{IsRising, contains_filter, contains_insert, filter_contains, insert-IsRising}
+use Rattle.argus_model.proofs.Numbers.{rising_filter, rising_same}
 use Rattle.argus_model.proofs.Standing.{Orderly, at_some, handed_cases, parent_is, parents_are_older}
 
 pub contains_filtered : (p : ℕ → Bool) (xs : List ℕ) (x : ℕ) → contains (filter p xs) x ≡ (contains xs x && p x)

@@ -1,7 +1,9 @@
 -- Which actions are live, and who their owners are, after one more event.
-use Rattle.std.proofs.Common.{Bool, List, None, Option, Some, ap, arith, cond, false, refl, subst, sym, true, ℕ, ⊎_elim, ◌∙◌, ◌∷◌, ◌≡◌, ◌≢◌}
+use Rattle.std.proofs.Common.{Bool, List, None, Option, Some, ap, arith, cond, false, refl, subst, sym, true, ℕ, ⊎_elim}
+use Rattle.std.proofs.Common.{◌∙◌, ◌∷◌, ◌≡◌, ◌≢◌}
 use Rattle.std.specs.Prelude.{not, ◌&&◌, ◌==◌, ◌||◌}
-use Rattle.std.proofs.lemmas.Bool.{and_from, and_parts, both_ways, cases_Bool, cases_eq, eq-eqb, false_from_ne_true, ne_eqb, not-true}
+use Rattle.std.proofs.lemmas.Bool.{and_from, and_parts, both_ways, cases_Bool, cases_eq, eq-eqb, false_from_ne_true}
+use Rattle.std.proofs.lemmas.Bool.{ne_eqb, not-true}
 use Rattle.argus_model.specs.Ancestors.{is_under, lineage, parent}
 use Rattle.argus_model.specs.Event.{Aborted, Accessed, Began, Committed, Origin, parent_of}
 use Rattle.argus_model.specs.History.{History, next_action, ◌▹◌}
@@ -13,7 +15,9 @@ use Rattle.argus_model.proofs.Bools.{same_bool}
 use Rattle.argus_model.proofs.Counting.{as_held, base_spared, begun_stays}
 use Rattle.argus_model.proofs.Live.{is_begun_from, is_begun_parts, stands_is_live}
 use Rattle.argus_model.proofs.Owner.{owner_is}
-use Rattle.argus_model.proofs.Standing.{Orderly, at_some, handed_from, handed_stays, kept_stays, owner_cases, parents_are_older, some_at, stands_abort, stands_commit, stands_new, stands_old, stands_upward}
+use Rattle.argus_model.proofs.Standing.{Orderly, at_some, handed_from, handed_stays, kept_stays, owner_cases}
+use Rattle.argus_model.proofs.Standing.{parents_are_older, some_at, stands_abort, stands_commit, stands_new, stands_old}
+use Rattle.argus_model.proofs.Standing.{stands_upward}
 
 -- the base is not called live
 pub zero_not_live : {V : Type 0} (h : History V) → is_live h 0 ≡ false

@@ -19,7 +19,8 @@ use Rattle.argus_model.proofs.Exclusion.{Guarded}
 use Rattle.argus_model.proofs.HolderSteps.{used_by_found, used_by_from}
 use Rattle.argus_model.proofs.Holders.{contains_holders, listed}
 use Rattle.argus_model.proofs.Sees.{base_is, sees_is}
-use Rattle.argus_model.proofs.Serial.{base_stands, lineage-base, seen_abort, seen_access_other, seen_access_own, seen_as_s, seen_aside, seen_begin_new, seen_begin_old, seen_same}
+use Rattle.argus_model.proofs.Serial.{base_stands, lineage-base, seen_abort, seen_access_other, seen_access_own}
+use Rattle.argus_model.proofs.Serial.{seen_as_s, seen_aside, seen_begin_new, seen_begin_old, seen_same}
 use Rattle.argus_model.proofs.Standing.{Orderly, alone, at_some, parents_are_older, some_at, stands_upward}
 
 module _ {V C A : Type 0} (meaning : Meaning V C A) (opening : Opening C) where

@@ -1,5 +1,6 @@
 -- The owner by the words of its definition is the owner by steps.
-use Rattle.std.proofs.Common.{None, Option, Some, [], ap, arith, cond, false, refl, subst, suc, sym, true, zero, ℕ, ⊎_elim, ◌<◌, ◌∙◌, ◌∷◌, ◌≡◌, ◌≢◌}
+use Rattle.std.proofs.Common.{None, Option, Some, [], ap, arith, cond, false, refl, subst, suc, sym, true, zero, ℕ}
+use Rattle.std.proofs.Common.{⊎_elim, ◌<◌, ◌∙◌, ◌∷◌, ◌≡◌, ◌≢◌}
 use Rattle.std.specs.Prelude.{◌==◌, ◌||◌}
 use Rattle.std.proofs.lemmas.Bool.{cases_Bool, cases_eq, eq-eqb, ne_eqb, or_right}
 use Rattle.std.proofs.lemmas.Bool.Decides.{nat_tests}
@@ -15,7 +16,8 @@ use Rattle.argus_model.proofs.Ancestors.{folded_next, lineage_cases, parent_case
 use Rattle.argus_model.proofs.Live.{is_begun_parts}
 use Rattle.argus_model.proofs.OwnerRules.{owner_gone, owner_passed, owner_self}
 use Rattle.argus_model.proofs.Serial.{base_stands, lineage-base}
-use Rattle.argus_model.proofs.Standing.{Orderly, at_some, handed_cases, kept_cases, owner_cases, parents_are_older, stands_begun, stands_unfolded}
+use Rattle.argus_model.proofs.Standing.{Orderly, at_some, handed_cases, kept_cases, owner_cases, parents_are_older}
+use Rattle.argus_model.proofs.Standing.{stands_begun, stands_unfolded}
 
 pub parent_unfolded : {V : Type 0} (h : History V) → Orderly h → (a : ℕ) → folded h < a → a < next_action h
     → parent h a ≢ 0 → folded h < parent h a

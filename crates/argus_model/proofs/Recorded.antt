@@ -5,7 +5,8 @@ use Rattle.std.proofs.lemmas.Bool.{cases_Bool}
 use Rattle.argus_model.specs.Ancestors.{lineage, parent}
 use Rattle.argus_model.specs.Event.{Aborted, Accessed, Began, Committed}
 use Rattle.argus_model.specs.History.{History, Opened, ◌▹◌}
-use Rattle.argus_model.specs.Work.{Access, IsOnRecord, all_of, committed_topactions, serial_order, serial_order_to, work}
+use Rattle.argus_model.specs.Work.{Access, IsOnRecord, all_of, committed_topactions, serial_order, serial_order_to}
+use Rattle.argus_model.specs.Work.{work}
 
 -- x is one of these
 abbrev IsOneOf : {X : Type 0} → List X → X → Type 0

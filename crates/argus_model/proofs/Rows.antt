@@ -1,17 +1,21 @@
 -- The rows have the origin and the status of each action.
-use Rattle.std.proofs.Common.{Bool, List, None, Option, Some, [], ap, arith, cond, false, length, refl, subst, suc, sym, true, zero, ℕ, ⊎_elim, ◌++◌, ◌+◌, ◌<◌, ◌∙◌, ◌∷◌, ◌≡◌, ◌≢◌}
+use Rattle.std.proofs.Common.{Bool, List, None, Option, Some, [], ap, arith, cond, false, length, refl, subst, suc, sym}
+use Rattle.std.proofs.Common.{true, zero, ℕ, ⊎_elim, ◌++◌, ◌+◌, ◌<◌, ◌∙◌, ◌∷◌, ◌≡◌, ◌≢◌}
 use Rattle.std.specs.List.{list_any}
 use Rattle.std.specs.Prelude.{not, unwrap_or, ◌&&◌, ◌==◌, ◌||◌}
 use Rattle.std.proofs.Math.Bool.{or_comm}
-use Rattle.std.proofs.lemmas.Bool.{and_from, and_parts, both_ways, cases_Bool, cases_eq, eq-eqb, eqb-true, false_from_ne_true, ne_eqb, or_cases}
+use Rattle.std.proofs.lemmas.Bool.{and_from, and_parts, both_ways, cases_Bool, cases_eq, eq-eqb, eqb-true}
+use Rattle.std.proofs.lemmas.Bool.{false_from_ne_true, ne_eqb, or_cases}
 use Rattle.std.proofs.lemmas.List.Folds.{list_any-append}
 use Rattle.argus_model.specs.Ancestors.{creator, is_ancestor, is_under, lineage, parent}
 use Rattle.argus_model.specs.Event.{Aborted, Accessed, Began, Committed, Origin, creator_of, parent_of}
 use Rattle.argus_model.specs.History.{History, Opened, begun_actions, folded, next_action, ◌▹◌}
 use Rattle.argus_model.specs.Numbers.{contains}
 use Rattle.argus_model.specs.OwnerSteps.{stands}
-use Rattle.argus_model.specs.Rows.{Row, has_live_row, is_above, is_live_status, mark, origin, row_at, row_of, rows, with_status}
-use Rattle.argus_model.specs.Status.{IsAborted, IsCommitted, IsFolded, IsLive, Status, has_committed, has_live_child, is_begun, is_doomed, is_live, status, was_aborted}
+use Rattle.argus_model.specs.Rows.{Row, has_live_row, is_above, is_live_status, mark, origin, row_at, row_of, rows}
+use Rattle.argus_model.specs.Rows.{with_status}
+use Rattle.argus_model.specs.Status.{IsAborted, IsCommitted, IsFolded, IsLive, Status, has_committed, has_live_child}
+use Rattle.argus_model.specs.Status.{is_begun, is_doomed, is_live, status, was_aborted}
 use Rattle.argus_model.proofs.Ancestors.{ancestor_le, folded_next, lineage_cases, parent_older}
 use Rattle.argus_model.proofs.Bools.{or_none, same_bool}
 use Rattle.argus_model.proofs.Live.{is_begun_from, is_begun_parts}

@@ -1,5 +1,6 @@
 -- What stands sees what the serial order up to it leaves, and that order gives each answer again.
-use Rattle.std.proofs.Common.{Bool, List, None, Option, Some, [], ap, append-nil, append_assoc, arith, cond, false, refl, subst, sym, true, ℕ, ⊎_elim, ◌++◌, ◌<◌, ◌∙◌, ◌∷◌, ◌≡◌, ◌≢◌}
+use Rattle.std.proofs.Common.{Bool, List, None, Option, Some, [], ap, append-nil, append_assoc, arith, cond, false}
+use Rattle.std.proofs.Common.{refl, subst, sym, true, ℕ, ⊎_elim, ◌++◌, ◌<◌, ◌∙◌, ◌∷◌, ◌≡◌, ◌≢◌}
 use Rattle.std.specs.Prelude.{◌==◌, ◌||◌}
 use Rattle.std.proofs.lemmas.Bool.{both_ways, cases_Bool, cases_eq, eq-eqb, false_from_ne_true, false≢true, ne_eqb}
 use Rattle.std.proofs.lemmas.Bool.Decides.{nat_tests}
@@ -12,13 +13,17 @@ use Rattle.argus_model.specs.Numbers.{contains}
 use Rattle.argus_model.specs.OwnerSteps.{handed_up, owner_by_steps, standing_child, stands, unless_lost}
 use Rattle.argus_model.specs.Work.{Access, all_of, content_after, serial_order_to, work}
 use Rattle.argus_model.specs.WorkSteps.{LawfulSteps, Replays, accesses_by, owner_passes, visible_accesses}
-use Rattle.argus_model.proofs.Ancestors.{ParentsAreOlder, Split, ancestor_le, ancestor_self, ancestor_trans, lineage_cases, lineage_old, next_pos, parent_older, split_lineage, under_below}
+use Rattle.argus_model.proofs.Ancestors.{ParentsAreOlder, Split, ancestor_le, ancestor_self, ancestor_trans}
+use Rattle.argus_model.proofs.Ancestors.{lineage_cases, lineage_old, next_pos, parent_older, split_lineage, under_below}
 use Rattle.argus_model.proofs.Bools.{same_bool}
 use Rattle.argus_model.proofs.Contents.{accesses_by_agree, content_front, content_past, replays_on}
 use Rattle.argus_model.proofs.Exclusion.{Guarded, above_parent, exclusion, has_used_all, has_used_begun}
 use Rattle.argus_model.proofs.Numbers.{any_found, joined_left}
-use Rattle.argus_model.proofs.Standing.{Orderly, alone, at_some, handed_from, handed_stays, kept_stays, owner_begun, owner_cases, parent_begun, parents_are_older, some_at, stands_abort, stands_begun, stands_commit, stands_old, stands_upward}
-use Rattle.argus_model.proofs.Work.{all_of-append, all_of_agree, find_writer, no_work, touches, touches-all_of, touches_all, user_of}
+use Rattle.argus_model.proofs.Standing.{Orderly, alone, at_some, handed_from, handed_stays, kept_stays, owner_begun}
+use Rattle.argus_model.proofs.Standing.{owner_cases, parent_begun, parents_are_older, some_at, stands_abort}
+use Rattle.argus_model.proofs.Standing.{stands_begun, stands_commit, stands_old, stands_upward}
+use Rattle.argus_model.proofs.Work.{all_of-append, all_of_agree, find_writer, no_work, touches, touches-all_of}
+use Rattle.argus_model.proofs.Work.{touches_all, user_of}
 
 -- the rest of a lineage: smaller numbers
 pub record Rest {V : Type 0} (h : History V) (y : ℕ) : Type 0 where
@@ -43,8 +48,7 @@ rest_of h f y l =
     (λ e. record {
       rest = [];
       is = subst (λ u. lineage h u ≡ u ∷ []) (sym e) (lineage-base h);
-      less =
-          λ z m. absurd (false≢true m);
+      less = λ z m. absurd (false≢true m);
     })
     (λ ne. let w = parent_older h y f (omega arith) l in
     record {

@@ -3,7 +3,8 @@ use Rattle.std.proofs.Common.{arith, cond, subst, sym, true, ℕ, ⊎_elim, ◌<
 use Rattle.std.specs.List.{list_any}
 use Rattle.std.specs.List.Sorted.{IsStrictlyIncreasing}
 use Rattle.std.specs.Prelude.{not, ◌&&◌, ◌==◌}
-use Rattle.std.proofs.lemmas.Bool.{and_from, and_parts, both_ways, cases_eq, eq-eqb, eqb-true, ne_eqb, not-true, or_cases}
+use Rattle.std.proofs.lemmas.Bool.{and_from, and_parts, both_ways, cases_eq, eq-eqb, eqb-true, ne_eqb, not-true}
+use Rattle.std.proofs.lemmas.Bool.{or_cases}
 use Rattle.argus_model.specs.Ancestors.{creator, is_ancestor, is_under, lineage}
 use Rattle.argus_model.specs.Event.{Aborted, Accessed, Began, Committed, creator_of}
 use Rattle.argus_model.specs.History.{History, Opened, Opening, begun_actions, next_action, ◌▹◌}

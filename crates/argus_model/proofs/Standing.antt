@@ -1,14 +1,18 @@
 -- Ancestors of what stands stand, and what a commit or an abort leaves standing.
-use Rattle.std.proofs.Common.{Bool, List, None, Option, Some, [], ap, arith, false, inl, inr, refl, subst, sym, true, ℕ, ⊎_elim, ◌<◌, ◌∙◌, ◌∷◌, ◌≡◌, ◌≢◌, ◌⊎◌}
+use Rattle.std.proofs.Common.{Bool, List, None, Option, Some, [], ap, arith, false, inl, inr, refl, subst, sym, true, ℕ}
+use Rattle.std.proofs.Common.{⊎_elim, ◌<◌, ◌∙◌, ◌∷◌, ◌≡◌, ◌≢◌, ◌⊎◌}
 use Rattle.std.specs.Prelude.{◌&&◌, ◌==◌, ◌||◌}
-use Rattle.std.proofs.lemmas.Bool.{and_from, both_ways, cases_Bool, cases_eq, eq-eqb, eqb-true, false≢true, or_left, or_right}
+use Rattle.std.proofs.lemmas.Bool.{and_from, both_ways, cases_Bool, cases_eq, eq-eqb, eqb-true, false≢true, or_left}
+use Rattle.std.proofs.lemmas.Bool.{or_right}
 use Rattle.std.proofs.lemmas.Bool.Decides.{nat_tests}
 use Rattle.argus_model.specs.Ancestors.{is_ancestor, is_under, lineage, parent}
 use Rattle.argus_model.specs.Event.{Aborted, Accessed, Began, Committed, Origin, creator_of, parent_of}
 use Rattle.argus_model.specs.History.{History, Opened, folded, next_action, ◌▹◌}
 use Rattle.argus_model.specs.Numbers.{contains}
-use Rattle.argus_model.specs.OwnerSteps.{AllStand, handed_up, is_exactly, owner_by_steps, standing_child, stands, unless_lost}
-use Rattle.argus_model.proofs.Ancestors.{ParentsAreOlder, ancestor_new_is, ancestor_old_is, ancestor_self, child_on_path, folded_next, parent_cases, parent_older, under_below}
+use Rattle.argus_model.specs.OwnerSteps.{AllStand, handed_up, is_exactly, owner_by_steps, standing_child, stands}
+use Rattle.argus_model.specs.OwnerSteps.{unless_lost}
+use Rattle.argus_model.proofs.Ancestors.{ParentsAreOlder, ancestor_new_is, ancestor_old_is, ancestor_self}
+use Rattle.argus_model.proofs.Ancestors.{child_on_path, folded_next, parent_cases, parent_older, under_below}
 
 -- what the laws need of each step, but for what is read and written
 abbrev pub Orderly : {V : Type 0} → History V → Type 0

@@ -1,7 +1,9 @@
 -- Whose work has accesses to which objects, and that the work of what is over stays.
-use Rattle.std.proofs.Common.{Bool, List, Some, [], ap, append_assoc, arith, cond, false, inl, inr, refl, subst, sym, true, ℕ, ⊎_elim, ◌++◌, ◌∙◌, ◌∷◌, ◌≡◌, ◌≢◌, ◌≤◌, ◌⊎◌}
+use Rattle.std.proofs.Common.{Bool, List, Some, [], ap, append_assoc, arith, cond, false, inl, inr, refl, subst, sym}
+use Rattle.std.proofs.Common.{true, ℕ, ⊎_elim, ◌++◌, ◌∙◌, ◌∷◌, ◌≡◌, ◌≢◌, ◌≤◌, ◌⊎◌}
 use Rattle.std.specs.Prelude.{◌&&◌, ◌==◌, ◌||◌}
-use Rattle.std.proofs.lemmas.Bool.{and_from, and_left, and_parts, both_ways, cases_Bool, cases_eq, eq-eqb, false≢true, ne_eqb, or_cases, or_from, or_left, or_parts, or_right}
+use Rattle.std.proofs.lemmas.Bool.{and_from, and_left, and_parts, both_ways, cases_Bool, cases_eq, eq-eqb, false≢true}
+use Rattle.std.proofs.lemmas.Bool.{ne_eqb, or_cases, or_from, or_left, or_parts, or_right}
 use Rattle.argus_model.specs.Ancestors.{is_under, parent}
 use Rattle.argus_model.specs.Event.{Aborted, Accessed, Began, Committed, Event}
 use Rattle.argus_model.specs.History.{History, Opened, next_action, ◌▹◌}
@@ -10,7 +12,9 @@ use Rattle.argus_model.specs.Numbers.{contains}
 use Rattle.argus_model.specs.OwnerSteps.{is_exactly, owner_by_steps, stands}
 use Rattle.argus_model.specs.Work.{Access, all_of, work}
 use Rattle.argus_model.proofs.Exclusion.{has_used_cases}
-use Rattle.argus_model.proofs.Standing.{Orderly, at_some, handed_from, handed_stays, kept_stays, owned_begun, owner_cases, parent_begun, parent_is, parents_are_older, some_at, stands_abort, stands_begun, stands_commit, stands_old, stands_upward}
+use Rattle.argus_model.proofs.Standing.{Orderly, at_some, handed_from, handed_stays, kept_stays, owned_begun}
+use Rattle.argus_model.proofs.Standing.{owner_cases, parent_begun, parent_is, parents_are_older, some_at, stands_abort}
+use Rattle.argus_model.proofs.Standing.{stands_begun, stands_commit, stands_old, stands_upward}
 
 -- what has not begun has done nothing
 pub no_work : {V : Type 0} (h : History V) → Orderly h → (y : ℕ) → next_action h ≤ y → work h y ≡ []
@@ -127,8 +131,7 @@ module _ {V : Type 0} (writes : V → Bool) where
       record {
         action = u.action;
         uses = u.uses;
-        owned =
-            handed_stays s p (owner_by_steps h u.action) y u.owned k.1;
+        owned = handed_stays s p (owner_by_steps h u.action) y u.owned k.1;
       } in
       ⊎_elim
       (λ e. ⊎_elim
@@ -136,8 +139,7 @@ module _ {V : Type 0} (writes : V → Bool) where
       record {
         action = u.action;
         uses = u.uses;
-        owned =
-            handed_from s p (owner_by_steps h u.action) u.owned ∙ ap Some e;
+        owned = handed_from s p (owner_by_steps h u.action) u.owned ∙ ap Some e;
       })
       ih
       (touches-append (work h s) (work h y) o all
@@ -149,8 +151,7 @@ module _ {V : Type 0} (writes : V → Bool) where
       record {
         action = u.action;
         uses = u.uses;
-        owned =
-            kept_stays (is_under h z) (owner_by_steps h u.action) y u.owned k.1;
+        owned = kept_stays (is_under h z) (owner_by_steps h u.action) y u.owned k.1;
       }
   user_of (Accessed a o' v ▹ h) w y o all l m =
       let ih : touches (work h y) o all ≡ true → User (Accessed a o' v ▹ h) y o all =
@@ -161,10 +162,8 @@ module _ {V : Type 0} (writes : V → Bool) where
       (λ k. ⊎_elim
       (λ q. record {
         action = a;
-        uses =
-            or_left (a == a && here) (has_used writes h a o all) (and_from (a == a) here (eq-eqb a a refl) q);
-        owned =
-            at_some (owner_by_steps h a) a w.0 ∙ ap Some k;
+        uses = or_left (a == a && here) (has_used writes h a o all) (and_from (a == a) here (eq-eqb a a refl) q);
+        owned = at_some (owner_by_steps h a) a w.0 ∙ ap Some k;
       })
       ih
       (or_cases here (touches (work h y) o all)

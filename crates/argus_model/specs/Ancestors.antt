@@ -28,7 +28,8 @@ to_base a = if a == 0 then 0 ∷ [] else a ∷ 0 ∷ []
 -- an action, its parent, the parent's parent and so on, down to the base
 abbrev pub lineage : {V : Type 0} → History V → ℕ → List ℕ
 lineage (Opened n) a = to_base a
-lineage (Began from ▹ older) a = if a == next_action older then a ∷ lineage older (parent_of from) else lineage older a
+lineage (Began from ▹ older) a =
+    if a == next_action older then a ∷ lineage older (parent_of from) else lineage older a
 lineage (Committed b ▹ older) a = lineage older a
 lineage (Aborted bs ▹ older) a = lineage older a
 lineage (Accessed b o v ▹ older) a = lineage older a

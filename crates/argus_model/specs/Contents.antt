@@ -6,7 +6,8 @@ use Rattle.argus_model.specs.Meaning.{Meaning}
 use Rattle.argus_model.specs.Owner.{counts_for, is_base, owner}
 
 module _ {V C A : Type 0} (meaning : Meaning V C A) where
-  -- from this content on, what each write access to the object leaves, in order, where its action counts
+  -- from this content on, what each write access to the object leaves, in order, where its action
+  -- counts
   abbrev pub replay : (ℕ → Bool) → ℕ → C → History V → C
   replay counts o c (Opened n) = c
   replay counts o c (Accessed a o' v ▹ older) =
@@ -16,7 +17,8 @@ module _ {V C A : Type 0} (meaning : Meaning V C A) where
   replay counts o c (Committed a ▹ older) = replay counts o c older
   replay counts o c (Aborted actions ▹ older) = replay counts o c older
 
-  -- what a sees in the object: what was written for good, and by those whose owner is an ancestor of a
+  -- what a sees in the object: what was written for good, and by those whose owner is an ancestor
+  -- of a
   abbrev pub sees : Opening C → History V → ℕ → ℕ → C
   sees opening h a o = replay (λ b. counts_for h a (owner h b)) o (opening.contents o) h
 

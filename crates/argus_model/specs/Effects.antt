@@ -24,7 +24,8 @@ module _ {V C A : Type 0} (meaning : Meaning V C A) where
   abbrev pub written_objects : List (Access V) → List ℕ
   written_objects [] = []
   written_objects (e ∷ older) =
-      if meaning.writes e.what then insert e.object (written_objects older) else written_objects older
+      if meaning.writes e.what then insert e.object (written_objects older) else
+      written_objects older
 
   -- what this work, done after that which was done before, leaves in each object that it writes
   abbrev pub effect_of : (ℕ → C) → (done before : List (Access V)) → List (ℕ × C)
@@ -41,11 +42,12 @@ module _ {V C A : Type 0} (meaning : Meaning V C A) where
   abbrev pub effects : Opening C → History V → List (List (ℕ × C))
   effects opening h = reverse (effects_of opening.contents (work h) (committed_topactions h))
 
-  -- what one more event adds to them: the commit of a topaction its effect, which is what the topaction sees in each
-  -- object that it has written, and every other event none
+  -- what one more event adds to them: the commit of a topaction its effect, which is what the
+  -- topaction sees in each object that it has written, and every other event none
   abbrev pub added_effects : Opening C → History V → Event V → List (List (ℕ × C))
   added_effects opening h (Committed a) =
-      if parent h a == 0 then map (λ o. (o, sees meaning opening h a o)) (written_objects (work h a)) ∷ [] else []
+      if parent h a == 0 then map (λ o. (o, sees meaning opening h a o))
+      (written_objects (work h a)) ∷ [] else []
   added_effects opening h (Began from) = []
   added_effects opening h (Aborted actions) = []
   added_effects opening h (Accessed a o v) = []

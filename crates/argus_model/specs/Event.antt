@@ -18,7 +18,8 @@ parent_of Top = 0
 parent_of (Sub parent) = parent
 parent_of (Nested creator) = 0
 
--- who began an action of this origin: a subaction's parent, a nested topaction's creator, and otherwise the base
+-- who began an action of this origin: a subaction's parent, a nested topaction's creator, and
+-- otherwise the base
 abbrev pub creator_of : Origin → ℕ
 creator_of Top = 0
 creator_of (Sub parent) = parent

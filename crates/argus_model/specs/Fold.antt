@@ -5,8 +5,12 @@ use Rattle.argus_model.specs.History.{History, Opening, next_action}
 use Rattle.argus_model.specs.Meaning.{Meaning}
 
 module _ {V C A : Type 0} (meaning : Meaning V C A) where
-  -- the opening that goes on where the history ends, when so many entries were journalled: what was there for good, and
-  -- the next numbers
+  -- the opening that goes on where the history ends, when so many entries were journalled: what was
+  -- there for good, and the next numbers
   abbrev pub fold : Opening C → History V → ℕ → Opening C
   fold opening h entries =
-      record { contents = base meaning opening h; first_action = next_action h - 1; first_entry = entries }
+      record {
+        contents = base meaning opening h;
+        first_action = next_action h - 1;
+        first_entry = entries;
+      }

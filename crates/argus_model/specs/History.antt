@@ -2,7 +2,8 @@
 use Rattle.std.specs.Prelude.{List, [], ℕ, ◌++◌, ◌+◌, ◌∷◌}
 use Rattle.argus_model.specs.Event.{Aborted, Accessed, Began, Committed, Event}
 
--- Where a history begins. What went before is folded into it: the contents stay, the actions are over and forgotten.
+-- Where a history begins. What went before is folded into it: the contents stay, the actions are
+-- over and forgotten.
 pub record Opening (C : Type 0) : Type 0 where
   -- what each object holds
   pub contents : ℕ → C

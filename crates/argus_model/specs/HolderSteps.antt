@@ -1,5 +1,6 @@
 -- A second form of holders and lock rules, for proofs: by the owners of the accesses.
-use Rattle.std.specs.Prelude.{Bool, None, Option, Some, false, if◌then◌else◌, true, ℕ, ◌&&◌, ◌==◌, ◌||◌}
+use Rattle.std.specs.Prelude.{Bool, None, Option, Some, false, if◌then◌else◌, true, ℕ, ◌&&◌, ◌==◌}
+use Rattle.std.specs.Prelude.{◌||◌}
 use Rattle.argus_model.specs.Ancestors.{is_ancestor}
 use Rattle.argus_model.specs.Event.{Aborted, Accessed, Began, Committed}
 use Rattle.argus_model.specs.History.{History, Opened, ◌▹◌}
@@ -10,13 +11,15 @@ abbrev pub if_owned : (ℕ → Bool) → Option ℕ → Bool
 if_owned test None = true
 if_owned test (Some x) = test x
 
--- Of each test here `all` says which accesses it speaks of: all of them, or the write accesses alone.
+-- Of each test here `all` says which accesses it speaks of: all of them, or the write accesses
+-- alone.
 module _ {V : Type 0} (writes : V → Bool) where
   -- each owner of an access to the object in k is an ancestor of a
   abbrev pub may_by_steps : History V → ℕ → ℕ → Bool → History V → Bool
   may_by_steps h a o all (Opened n) = true
   may_by_steps h a o all (Accessed b o' v ▹ k) =
-      (if o' == o && (all || writes v) then if_owned (λ x. is_ancestor h x a) (owner_by_steps h b) else true)
+      (if o' == o && (all || writes v) then if_owned (λ x. is_ancestor h x a)
+      (owner_by_steps h b) else true)
       && may_by_steps h a o all k
   may_by_steps h a o all (Began from ▹ k) = may_by_steps h a o all k
   may_by_steps h a o all (Committed b ▹ k) = may_by_steps h a o all k
@@ -25,7 +28,8 @@ module _ {V : Type 0} (writes : V → Bool) where
   -- the action has an access to the object
   abbrev pub has_used : History V → ℕ → ℕ → Bool → Bool
   has_used (Opened n) a o all = false
-  has_used (Accessed b o' v ▹ older) a o all = (b == a && (o' == o && (all || writes v))) || has_used older a o all
+  has_used (Accessed b o' v ▹ older) a o all =
+      (b == a && (o' == o && (all || writes v))) || has_used older a o all
   has_used (Began from ▹ older) a o all = has_used older a o all
   has_used (Committed b ▹ older) a o all = has_used older a o all
   has_used (Aborted bs ▹ older) a o all = has_used older a o all
@@ -33,7 +37,8 @@ module _ {V : Type 0} (writes : V → Bool) where
   -- an action that passes the test has an access to the object
   abbrev pub used_by : (ℕ → Bool) → ℕ → Bool → History V → Bool
   used_by test o all (Opened n) = false
-  used_by test o all (Accessed b o' v ▹ k) = ((o' == o && (all || writes v)) && test b) || used_by test o all k
+  used_by test o all (Accessed b o' v ▹ k) =
+      ((o' == o && (all || writes v)) && test b) || used_by test o all k
   used_by test o all (Began from ▹ k) = used_by test o all k
   used_by test o all (Committed b ▹ k) = used_by test o all k
   used_by test o all (Aborted bs ▹ k) = used_by test o all k

@@ -1,4 +1,5 @@
--- Who holds an object for reading and for writing, and the two lock rules (Moss 1981, locking rules).
+-- Who holds an object for reading and for writing, and the two lock rules (Moss 1981, locking
+-- rules).
 use Rattle.std.specs.List.{list_all}
 use Rattle.std.specs.Prelude.{Bool, List, false, filter, if◌then◌else◌, ℕ, ◌&&◌, ◌==◌, ◌||◌}
 use Rattle.argus_model.specs.Ancestors.{is_ancestor}
@@ -12,7 +13,8 @@ module _ {V : Type 0} (kind : V → Bool) where
   -- an action that passes the test has an access of this kind to the object
   abbrev pub has_access : (ℕ → Bool) → ℕ → History V → Bool
   has_access test o (Opened n) = false
-  has_access test o (Accessed a o' v ▹ older) = (o' == o && (kind v && test a)) || has_access test o older
+  has_access test o (Accessed a o' v ▹ older) =
+      (o' == o && (kind v && test a)) || has_access test o older
   has_access test o (Began from ▹ older) = has_access test o older
   has_access test o (Committed a ▹ older) = has_access test o older
   has_access test o (Aborted actions ▹ older) = has_access test o older
@@ -27,7 +29,8 @@ module _ {V : Type 0} (kind : V → Bool) where
 
 -- these holders, after a has handed what it holds to p; the base is no holder
 abbrev pub inherited : ℕ → ℕ → List ℕ → List ℕ
-inherited a p xs = if contains xs a then (if p == 0 then without a xs else insert p (without a xs)) else xs
+inherited a p xs =
+    if contains xs a then (if p == 0 then without a xs else insert p (without a xs)) else xs
 
 module _ {V C A : Type 0} (meaning : Meaning V C A) where
   -- who holds the object for reading; a write access doesn't make a reader
@@ -44,4 +47,5 @@ module _ {V C A : Type 0} (meaning : Meaning V C A) where
 
   -- each who holds the object, for reading or for writing, is an ancestor of a
   abbrev pub may_write : History V → ℕ → ℕ → Bool
-  may_write h a o = list_all (λ x. is_ancestor h x a) (readers h o) && list_all (λ x. is_ancestor h x a) (writers h o)
+  may_write h a o = list_all (λ x. is_ancestor h x a) (readers h o)
+      && list_all (λ x. is_ancestor h x a) (writers h o)

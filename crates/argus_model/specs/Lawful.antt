@@ -13,9 +13,8 @@ module _ {V C A : Type 0} (meaning : Meaning V C A) where
   abbrev pub may_access : History V → ℕ → ℕ → V → Bool
   may_access h a o v = if meaning.writes v then may_write meaning h a o else may_read meaning h a o
 
-  -- The event may come next. Who begins, commits, is aborted or accesses is live; who commits or accesses has no live
-  -- child;
-  -- an access gets its lock, and is answered by what the action sees.
+  -- The event may come next. Who begins, commits, is aborted or accesses is live; who commits or
+  -- accesses has no live child; an access gets its lock, and is answered by what the action sees.
   abbrev pub Allowed : Opening C → History V → Event V → Type 0
   Allowed opening h (Began from) = (creator_of from == 0 || is_live h (creator_of from)) ≡ true
   Allowed opening h (Committed a) = (is_live h a ≡ true) × (has_live_child h a ≡ false)

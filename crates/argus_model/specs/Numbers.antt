@@ -1,5 +1,6 @@
 -- Lists of numbers, and tests of their members.
-use Rattle.std.specs.Prelude.{Bool, List, [], false, filter, if◌then◌else◌, nat_lt, not, ℕ, ◌==◌, ◌||◌, ◌∷◌}
+use Rattle.std.specs.Prelude.{Bool, List, [], false, filter, if◌then◌else◌, nat_lt, not, ℕ, ◌==◌}
+use Rattle.std.specs.Prelude.{◌||◌, ◌∷◌}
 
 -- x is one of these
 abbrev pub contains : List ℕ → ℕ → Bool

@@ -1,5 +1,5 @@
--- Who answers for what an action did: itself until it commits, and then whoever answers for its parent (Moss 1981,
--- inheritance of locks).
+-- Who answers for what an action did: itself until it commits, and then whoever answers for its
+-- parent (Moss 1981, inheritance of locks).
 use Rattle.std.specs.Prelude.{Bool, List, [], false, if◌then◌else◌, true, ℕ, ◌==◌, ◌∷◌}
 use Rattle.argus_model.specs.Ancestors.{is_ancestor, lineage}
 use Rattle.argus_model.specs.History.{History}
@@ -16,11 +16,13 @@ pub data Owner : Type 0 where
   -- what it did is there for good
   Base : Owner
 
--- of a lineage: gone if the first is doomed, the first itself if it hasn't committed, else the owner of its parent
+-- of a lineage: gone if the first is doomed, the first itself if it hasn't committed, else the
+-- owner of its parent
 abbrev pub owner_up : {V : Type 0} → History V → List ℕ → Owner
 owner_up h [] = Base
 owner_up h (a ∷ up) =
-    if a == 0 then Base else if is_doomed h a then Gone else if has_committed h a then owner_up h up else Held a
+    if a == 0 then Base else if is_doomed h a then Gone else
+    if has_committed h a then owner_up h up else Held a
 
 -- who answers for what the action did
 abbrev pub owner : {V : Type 0} → History V → ℕ → Owner
@@ -36,19 +38,27 @@ counts_for h a Base = true
 -- it is there for good
 abbrev pub is_base : Owner → Bool
 is_base Base = true
-is_base _ = false
+is_base Folded = false
+is_base Gone = false
+is_base (Held x) = false
 
 -- it is what x answers for
 abbrev pub is_held_by : ℕ → Owner → Bool
 is_held_by x (Held y) = y == x
-is_held_by x _ = false
+is_held_by x Folded = false
+is_held_by x Gone = false
+is_held_by x Base = false
 
 -- the owner, after a has handed what it answers for to p
 abbrev pub passed_up : ℕ → ℕ → Owner → Owner
 passed_up a p (Held x) = if x == a then (if p == 0 then Base else Held p) else Held x
-passed_up a p x = x
+passed_up a p Folded = Folded
+passed_up a p Gone = Gone
+passed_up a p Base = Base
 
 -- the owner, after those that pass the test were aborted
 abbrev pub unless_gone : (ℕ → Bool) → Owner → Owner
 unless_gone test (Held x) = if test x then Gone else Held x
-unless_gone test x = x
+unless_gone test Folded = Folded
+unless_gone test Gone = Gone
+unless_gone test Base = Base

@@ -1,5 +1,6 @@
 -- A second form of owners and live actions, for proofs: what each event does to them.
-use Rattle.std.specs.Prelude.{Bool, List, None, Option, Some, false, if◌then◌else◌, true, ℕ, ◌&&◌, ◌==◌, ◌||◌, ◌≡◌, ◌≢◌}
+use Rattle.std.specs.Prelude.{Bool, List, None, Option, Some, false, if◌then◌else◌, true, ℕ, ◌&&◌}
+use Rattle.std.specs.Prelude.{◌==◌, ◌||◌, ◌≡◌, ◌≢◌}
 use Rattle.argus_model.specs.Ancestors.{is_under, parent}
 use Rattle.argus_model.specs.Event.{Aborted, Accessed, Began, Committed, creator_of, parent_of}
 use Rattle.argus_model.specs.History.{History, Opened, next_action, ◌▹◌}
@@ -16,11 +17,12 @@ abbrev pub unless_lost : (ℕ → Bool) → Option ℕ → Option ℕ
 unless_lost lost None = None
 unless_lost lost (Some x) = if lost x then None else Some x
 
--- Who answers for what the action did: itself at first, its owner's parent once that commits, and nobody after an
--- abort. The base answers for itself.
+-- Who answers for what the action did: itself at first, its owner's parent once that commits, and
+-- nobody after an abort. The base answers for itself.
 abbrev pub owner_by_steps : {V : Type 0} → History V → ℕ → Option ℕ
 owner_by_steps (Opened n) a = if a == 0 then Some 0 else None
-owner_by_steps (Began from ▹ older) a = if a == next_action older then Some a else owner_by_steps older a
+owner_by_steps (Began from ▹ older) a =
+    if a == next_action older then Some a else owner_by_steps older a
 owner_by_steps (Committed b ▹ older) a = handed_up b (parent older b) (owner_by_steps older a)
 owner_by_steps (Aborted bs ▹ older) a = unless_lost (is_under older bs) (owner_by_steps older a)
 owner_by_steps (Accessed b o v ▹ older) a = owner_by_steps older a
@@ -47,7 +49,8 @@ AllStand h actions = (a : ℕ) → contains actions a ≡ true → (a ≢ 0) × 
 abbrev pub standing_child : {V : Type 0} → History V → ℕ → History V → Bool
 standing_child h a (Opened n) = false
 standing_child h a (Began from ▹ k) =
-    ((parent_of from == a || creator_of from == a) && stands h (next_action k)) || standing_child h a k
+    ((parent_of from == a || creator_of from == a) && stands h (next_action k))
+    || standing_child h a k
 standing_child h a (Committed b ▹ k) = standing_child h a k
 standing_child h a (Aborted bs ▹ k) = standing_child h a k
 standing_child h a (Accessed b o v ▹ k) = standing_child h a k

@@ -1,9 +1,11 @@
 -- The actions as a list of rows, the newest first: how a tree of actions keeps them.
 use Rattle.std.specs.List.{list_any}
-use Rattle.std.specs.Prelude.{Bool, List, None, Option, Some, [], false, if◌then◌else◌, length, true, ℕ, ◌&&◌, ◌+◌, ◌==◌, ◌||◌, ◌∷◌}
-use Rattle.argus_model.specs.Event.{Aborted, Accessed, Began, Committed, Origin, Top, creator_of, parent_of}
+use Rattle.std.specs.Prelude.{Bool, List, None, Option, Some, [], false, if◌then◌else◌, length}
+use Rattle.std.specs.Prelude.{true, ℕ, ◌&&◌, ◌+◌, ◌==◌, ◌||◌, ◌∷◌}
+use Rattle.argus_model.specs.Event.{Aborted, Accessed, Began, Committed, Origin, Top, creator_of}
+use Rattle.argus_model.specs.Event.{parent_of}
 use Rattle.argus_model.specs.History.{History, Opened, folded, next_action, ◌▹◌}
-use Rattle.argus_model.specs.Status.{IsAborted, IsCommitted, IsLive, Status, status}
+use Rattle.argus_model.specs.Status.{IsAborted, IsCommitted, IsFolded, IsLive, Status, status}
 
 -- one action: its number is one more than how many are folded or have an older row
 pub record Row : Type 0 where
@@ -34,19 +36,22 @@ with_status s row = record { origin = row.origin; status = s }
 -- the rows, where those of the numbers that pass the test get this status
 abbrev pub mark : ℕ → (ℕ → Bool) → Status → List Row → List Row
 mark n test s [] = []
-mark n test s (row ∷ older) = (if test (n + length older + 1) then with_status s row else row) ∷ mark n test s older
+mark n test s (row ∷ older) =
+    (if test (n + length older + 1) then with_status s row else row) ∷ mark n test s older
 
 -- x is y, or above its parent; false where either has no row
 abbrev pub is_above : ℕ → List Row → ℕ → ℕ → Bool
 is_above n [] x y = false
 is_above n (row ∷ older) x y =
-    if y == n + length older + 1 then (x == y || is_above n older x (parent_of row.origin)) else is_above n older x y
+    if y == n + length older + 1 then (x == y || is_above n older x (parent_of row.origin)) else
+    is_above n older x y
 
 -- how many actions it takes from a number up to its topaction, both counted; 0 where it has no row
 abbrev pub depth_at : ℕ → List Row → ℕ → ℕ
 depth_at n [] a = 0
 depth_at n (row ∷ older) a =
-    if a == n + length older + 1 then depth_at n older (parent_of row.origin) + 1 else depth_at n older a
+    if a == n + length older + 1 then depth_at n older (parent_of row.origin) + 1 else
+    depth_at n older a
 
 -- the rows after each event: a commit marks one, an abort all that stand under those it names
 abbrev pub rows : {V : Type 0} → History V → List Row
@@ -54,16 +59,20 @@ rows (Opened n) = []
 rows (Began from ▹ older) = record { origin = from; status = IsLive } ∷ rows older
 rows (Committed a ▹ older) = mark (folded older) (λ x. x == a) IsCommitted (rows older)
 rows (Aborted actions ▹ older) =
-    mark (folded older) (λ x. list_any (λ a. is_above (folded older) (rows older) a x) actions) IsAborted (rows older)
+    mark (folded older) (λ x. list_any (λ a. is_above (folded older) (rows older) a x) actions)
+    IsAborted (rows older)
 rows (Accessed a o v ▹ older) = rows older
 
 -- the status of a live action
 abbrev pub is_live_status : Status → Bool
 is_live_status IsLive = true
-is_live_status _ = false
+is_live_status IsCommitted = false
+is_live_status IsAborted = false
+is_live_status IsFolded = false
 
 -- a row of this parent or creator is live
 abbrev pub has_live_row : List Row → ℕ → Bool
 has_live_row [] a = false
 has_live_row (row ∷ older) a =
-    (is_live_status row.status && (parent_of row.origin == a || creator_of row.origin == a)) || has_live_row older a
+    (is_live_status row.status && (parent_of row.origin == a || creator_of row.origin == a))
+    || has_live_row older a

@@ -6,7 +6,8 @@ use Rattle.argus_model.specs.Work.{Access}
 module _ {V C A : Type 0} (meaning : Meaning V C A) where
   -- the contents of all objects after one access
   abbrev pub after_access : (ℕ → C) → Access V → ℕ → C
-  after_access contents e o = if e.object == o then meaning.after e.what (contents o) else contents o
+  after_access contents e o =
+      if e.object == o then meaning.after e.what (contents o) else contents o
 
   -- each access, run on what those before it left, gives the recorded answer again
   abbrev pub AnswersAgain : (ℕ → C) → List (Access V) → Type 0

@@ -1,6 +1,7 @@
 -- What became of an action: live, committed or doomed (Argus Reference Manual 1987, actions).
 use Rattle.std.specs.List.{list_any}
-use Rattle.std.specs.Prelude.{Bool, List, false, filter, if◌then◌else◌, nat_lt, not, ℕ, ◌&&◌, ◌==◌, ◌||◌}
+use Rattle.std.specs.Prelude.{Bool, List, false, filter, if◌then◌else◌, nat_lt, not, ℕ, ◌&&◌, ◌==◌}
+use Rattle.std.specs.Prelude.{◌||◌}
 use Rattle.argus_model.specs.Ancestors.{creator, is_ancestor, parent}
 use Rattle.argus_model.specs.Event.{Aborted, Accessed, Began, Committed}
 use Rattle.argus_model.specs.History.{History, Opened, begun_actions, folded, next_action, ◌▹◌}
@@ -35,7 +36,8 @@ is_live h a = is_begun h a && (not (has_committed h a) && not (is_doomed h a))
 
 -- a live action has it as parent or as creator
 abbrev pub has_live_child : {V : Type 0} → History V → ℕ → Bool
-has_live_child h a = list_any (λ x. is_live h x && (parent h x == a || creator h x == a)) (begun_actions h)
+has_live_child h a =
+    list_any (λ x. is_live h x && (parent h x == a || creator h x == a)) (begun_actions h)
 
 -- another action of the same creator; the base is none
 abbrev pub is_sibling : {V : Type 0} → History V → ℕ → ℕ → Bool
@@ -57,4 +59,5 @@ pub data Status : Type 0 where
 abbrev pub status : {V : Type 0} → History V → ℕ → Status
 status h a =
     if is_begun h a then
-    (if is_doomed h a then IsAborted else if has_committed h a then IsCommitted else IsLive) else IsFolded
+    (if is_doomed h a then IsAborted else if has_committed h a then IsCommitted else IsLive) else
+    IsFolded

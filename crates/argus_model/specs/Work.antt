@@ -18,11 +18,14 @@ IsOnRecord (Began from ▹ older) e = IsOnRecord older e
 IsOnRecord (Committed a ▹ older) e = IsOnRecord older e
 IsOnRecord (Aborted actions ▹ older) e = IsOnRecord older e
 
--- the accesses of an action, newest first, with the whole work of each subaction where that committed
+-- the accesses of an action, newest first, with the whole work of each subaction where that
+-- committed
 abbrev pub work : {V : Type 0} → History V → ℕ → List (Access V)
 work (Opened n) a = []
-work (Accessed b o v ▹ older) a = if b == a then record { object = o; what = v } ∷ work older a else work older a
-work (Committed b ▹ older) a = if parent older b == a then work older b ++ work older a else work older a
+work (Accessed b o v ▹ older) a =
+    if b == a then record { object = o; what = v } ∷ work older a else work older a
+work (Committed b ▹ older) a =
+    if parent older b == a then work older b ++ work older a else work older a
 work (Began from ▹ older) a = work older a
 work (Aborted bs ▹ older) a = work older a
 
@@ -44,7 +47,8 @@ all_of f (x ∷ xs) = f x ++ all_of f xs
 abbrev pub serial_order : {V : Type 0} → History V → List (Access V)
 serial_order h = all_of (work h) (committed_topactions h)
 
--- the work of a, before it that of its parent and so on, and first of all the work that is there for good
+-- the work of a, before it that of its parent and so on, and first of all the work that is there
+-- for good
 abbrev pub serial_order_to : {V : Type 0} → History V → ℕ → List (Access V)
 serial_order_to h a = all_of (work h) (lineage h a)
 
@@ -53,7 +57,8 @@ module _ {V C A : Type 0} (meaning : Meaning V C A) where
   abbrev pub content_after : (ℕ → C) → ℕ → List (Access V) → C
   content_after contents o [] = contents o
   content_after contents o (e ∷ older) =
-      if e.object == o then meaning.after e.what (content_after contents o older) else content_after contents o older
+      if e.object == o then meaning.after e.what (content_after contents o older) else
+      content_after contents o older
 
   -- what the object of an access holds just before it, where these went before, newest first
   abbrev pub content_before : (ℕ → C) → Access V → List (Access V) → C

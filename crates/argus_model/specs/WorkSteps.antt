@@ -1,5 +1,7 @@
--- A second form of what an action sees and of what is lawful, for proofs: lists of accesses, and the events' own forms.
-use Rattle.std.specs.Prelude.{Bool, List, None, Option, Some, [], false, if◌then◌else◌, true, ℕ, ◌∷◌, ◌≡◌, ◌≢◌}
+-- A second form of what an action sees and of what is lawful, for proofs: lists of accesses, and
+-- the events' own forms.
+use Rattle.std.specs.Prelude.{Bool, List, None, Option, Some, [], false, if◌then◌else◌, true, ℕ}
+use Rattle.std.specs.Prelude.{◌∷◌, ◌≡◌, ◌≢◌}
 use Rattle.argus_model.specs.Ancestors.{is_ancestor}
 use Rattle.argus_model.specs.Event.{Aborted, Accessed, Began, Committed, parent_of}
 use Rattle.argus_model.specs.History.{History, Opened, ◌▹◌}
@@ -12,7 +14,8 @@ use Rattle.argus_model.specs.Work.{Access, content_after}
 abbrev pub accesses_by : {V : Type 0} → (ℕ → Bool) → History V → List (Access V)
 accesses_by test (Opened n) = []
 accesses_by test (Accessed a o v ▹ older) =
-    if test a then record { object = o; what = v } ∷ accesses_by test older else accesses_by test older
+    if test a then record { object = o; what = v } ∷ accesses_by test older else
+    accesses_by test older
 accesses_by test (Began from ▹ older) = accesses_by test older
 accesses_by test (Committed a ▹ older) = accesses_by test older
 accesses_by test (Aborted actions ▹ older) = accesses_by test older
@@ -24,13 +27,15 @@ owner_passes test (Some x) = test x
 
 -- the accesses that count for a: those of the base, of its ancestors and its own
 abbrev pub visible_accesses : {V : Type 0} → History V → ℕ → List (Access V)
-visible_accesses h a = accesses_by (λ b. owner_passes (λ x. is_ancestor h x a) (owner_by_steps h b)) h
+visible_accesses h a =
+    accesses_by (λ b. owner_passes (λ x. is_ancestor h x a) (owner_by_steps h b)) h
 
 module _ {V C A : Type 0} (meaning : Meaning V C A) (contents : ℕ → C) where
   -- each access, newest first, is answered by what those before it leave
   abbrev pub Replays : List (Access V) → Type 0
   Replays [] = Unit {0}
-  Replays (e ∷ older) = Fits meaning e.what (content_after meaning contents e.object older) × Replays older
+  Replays (e ∷ older) =
+      Fits meaning e.what (content_after meaning contents e.object older) × Replays older
 
   -- each event was allowed by those before it
   abbrev pub LawfulSteps : History V → Type 0
@@ -42,4 +47,5 @@ module _ {V C A : Type 0} (meaning : Meaning V C A) (contents : ℕ → C) where
   LawfulSteps (Accessed a o v ▹ older) =
       (stands older a ≡ true) × (standing_child older a older ≡ false)
       × (may_by_steps meaning.writes older a o (meaning.writes v) older ≡ true)
-      × Fits meaning v (content_after meaning contents o (visible_accesses older a)) × (a ≢ 0) × LawfulSteps older
+      × Fits meaning v (content_after meaning contents o (visible_accesses older a)) × (a ≢ 0)
+      × LawfulSteps older

@@ -38,8 +38,7 @@ numbers = record {
   after = number_after;
   answer = λ v c. c;
   recorded = answer_given;
-  reads_keep =
-      looks_keep;
+  reads_keep = looks_keep;
 }
 
 abbrev pub looked : ℕ → ℕ → Access Deed
@@ -58,30 +57,34 @@ opened_late = record { contents = λ o. if o == 0 then 4 else 0; first_action = 
 
 -- two subactions of one topaction, at one object: the second waits for the commit of the first
 abbrev pub pair_begins : History Deed
-pair_begins = followed_by (Opened 0) (Began Top ∷ Began (Sub 1) ∷ Began (Sub 1) ∷ Accessed 2 0 (Put 1 0) ∷ [])
+pair_begins =
+    followed_by (Opened 0) (Began Top ∷ Began (Sub 1) ∷ Began (Sub 1) ∷ Accessed 2 0 (Put 1 0) ∷ [])
 
 abbrev pub pair_goes_on : History Deed
 pair_goes_on =
-    followed_by pair_begins (Committed 2 ∷ Accessed 3 0 (Look 1) ∷ Accessed 3 0 (Put 5 1) ∷ Accessed 3 1 (Look 0) ∷ [])
+    followed_by pair_begins (Committed 2 ∷ Accessed 3 0 (Look 1) ∷ Accessed 3 0 (Put 5 1)
+    ∷ Accessed 3 1 (Look 0) ∷ [])
 
 abbrev pub pair_ends : History Deed
 pair_ends = followed_by pair_goes_on (Committed 3 ∷ Committed 1 ∷ [])
 
--- a topaction is aborted that has begun two nested topactions, one of them through a subaction; another subaction of
--- that one has committed
+-- a topaction is aborted that has begun two nested topactions, one of them through a subaction;
+-- another subaction of that one has committed
 abbrev pub creator_works : History Deed
 creator_works = followed_by (Opened 0) (Began Top ∷ Began (Nested 1) ∷ Accessed 2 0 (Put 7 0) ∷ [])
 
 abbrev pub creator_aborts : History Deed
 creator_aborts =
     followed_by creator_works
-    (Committed 2 ∷ Began (Sub 1) ∷ Accessed 3 1 (Put 1 0) ∷ Began (Nested 3) ∷ Began (Sub 3) ∷ Committed 5 ∷ Aborted
-    (1 ∷ []) ∷ [])
+    (Committed 2 ∷ Began (Sub 1) ∷ Accessed 3 1 (Put 1 0) ∷ Began (Nested 3) ∷ Began (Sub 3)
+    ∷ Committed 5 ∷ Aborted (1 ∷ []) ∷ [])
 
 abbrev pub creator_outlived : History Deed
-creator_outlived = followed_by creator_aborts (Accessed 4 1 (Look 0) ∷ Accessed 4 0 (Look 7) ∷ Committed 4 ∷ [])
+creator_outlived =
+    followed_by creator_aborts (Accessed 4 1 (Look 0) ∷ Accessed 4 0 (Look 7) ∷ Committed 4 ∷ [])
 
--- an action aborts all its live siblings: a committed one and those begun under them as topactions go on
+-- an action aborts all its live siblings: a committed one and those begun under them as topactions
+-- go on
 abbrev pub siblings_work : History Deed
 siblings_work =
     followed_by (Opened 2)
@@ -92,13 +95,16 @@ abbrev pub siblings_aborted : History Deed
 siblings_aborted = Aborted (live_siblings siblings_work 9) ▹ siblings_work
 
 abbrev pub siblings_end : History Deed
-siblings_end = followed_by siblings_aborted (Accessed 8 1 (Put 3 0) ∷ Committed 9 ∷ Committed 3 ∷ [])
+siblings_end =
+    followed_by siblings_aborted (Accessed 8 1 (Put 3 0) ∷ Committed 9 ∷ Committed 3 ∷ [])
 
 -- two topactions take turns, and the first to begin is the last to commit
 abbrev pub turns_taken : History Deed
 turns_taken =
     followed_by (Opened 2)
-    (Began Top ∷ Accessed 3 0 (Look 4) ∷ Began Top ∷ Accessed 4 1 (Put 2 0) ∷ Accessed 3 0 (Put 6 4) ∷ [])
+    (Began Top ∷ Accessed 3 0 (Look 4) ∷ Began Top ∷ Accessed 4 1 (Put 2 0) ∷ Accessed 3 0 (Put 6 4)
+    ∷ [])
 
 abbrev pub turns_end : History Deed
-turns_end = followed_by turns_taken (Committed 4 ∷ Accessed 3 1 (Look 2) ∷ Accessed 3 1 (Put 8 2) ∷ Committed 3 ∷ [])
+turns_end = followed_by turns_taken (Committed 4 ∷ Accessed 3 1 (Look 2) ∷ Accessed 3 1 (Put 8 2)
+    ∷ Committed 3 ∷ [])

@@ -9,7 +9,8 @@
 //! | seen by a live y | a sees as its parent | a sees what it left | as a saw it, where y is under p and a wrote | the same |
 //! | there for good | the same | the same | as a saw it, where p is the base and a wrote | the same |
 //! | serial order | the same | the same | with the work of a, where p is the base | the same |
-ghost use Rattle.std.specs.Prelude.{◌≡◌, ◌≢◌, ℕ, true, not, ◌&&◌, ◌||◌, ◌==◌, ◌∷◌, ◌++◌, List, [], filter, if◌then◌else◌};
+ghost use Rattle.std.specs.Prelude.{◌≡◌, ◌≢◌, ℕ, true, not, ◌&&◌, ◌||◌, ◌==◌, ◌∷◌, ◌++◌, List, []};
+ghost use Rattle.std.specs.Prelude.{filter, if◌then◌else◌};
 ghost use Rattle.argus_model.specs.Event.{Origin, Began, Committed, Aborted, Accessed, parent_of};
 ghost use Rattle.argus_model.specs.History.{Opening, History, ◌▹◌, next_action};
 ghost use Rattle.argus_model.specs.Numbers.{contains, insert};

@@ -1,15 +1,18 @@
 //! Ancestors, the actions as rows of a tree, and the siblings of an action.
-ghost use Rattle.std.specs.Prelude.{◌≡◌, ◌≢◌, ◌<◌, ◌≤◌, ℕ, ◌+◌, ◌-◌, true, false, not, ◌&&◌, ◌==◌, length, Some};
+ghost use Rattle.std.specs.Prelude.{◌≡◌, ◌≢◌, ◌<◌, ◌≤◌, ℕ, ◌+◌, ◌-◌, true, false, not, ◌&&◌, ◌==◌};
+ghost use Rattle.std.specs.Prelude.{length, Some};
 ghost use Rattle.std.specs.List.{list_any};
 ghost use Rattle.std.specs.List.Sorted.{IsStrictlyIncreasing};
 ghost use Rattle.argus_model.specs.Event.{Aborted, parent_of, creator_of};
 ghost use Rattle.argus_model.specs.History.{Opening, History, begun_actions, folded, next_action};
 ghost use Rattle.argus_model.specs.Numbers.{contains};
 ghost use Rattle.argus_model.specs.Ancestors.{parent, creator, lineage, is_ancestor, is_under};
-ghost use Rattle.argus_model.specs.Status.{is_begun, is_live, has_live_child, is_sibling, live_siblings};
+ghost use Rattle.argus_model.specs.Status.{is_begun, is_live, has_live_child, is_sibling};
+ghost use Rattle.argus_model.specs.Status.{live_siblings};
 ghost use Rattle.argus_model.specs.Meaning.{Meaning};
 ghost use Rattle.argus_model.specs.Lawful.{Allowed, Lawful};
-ghost use Rattle.argus_model.specs.Rows.{origin, row_of, row_at, is_above, depth_at, rows, has_live_row};
+ghost use Rattle.argus_model.specs.Rows.{origin, row_of, row_at, is_above, depth_at, rows};
+ghost use Rattle.argus_model.specs.Rows.{has_live_row};
 
 /// An action is its own ancestor, ancestors of ancestors are ancestors, and they are older; of a
 /// live action they are live, but for the base. A creator is older, too. Nothing live stands under

@@ -1,5 +1,6 @@
 -- What a change leaves of the versions, where it succeeds and where it finds no memory.
-use Rattle.std.proofs.Common.{◌≡◌, ℕ, ◌+◌, ◌<◌, true, List, [], ◌∷◌, length, take, get_or, set, Option, refl, sym, ◌∙◌, ap, arith}
+use Rattle.std.proofs.Common.{◌≡◌, ℕ, ◌+◌, ◌<◌, true, List, [], ◌∷◌, length, take, get_or, set, Option, refl, sym, ◌∙◌}
+use Rattle.std.proofs.Common.{ap, arith}
 use Rattle.std.specs.Prelude.{IfOk, OnOk, OnErr, Result, Ok, Err}
 use Rattle.std.proofs.lemmas.Bool.{cond-true, and_parts}
 use Rattle.std.proofs.lemmas.List.{take_all, take_more}
@@ -17,21 +18,26 @@ use Rattle.argus_objects.specs.Moves.{newest_content, with_version}
 use Rattle.argus_objects.proofs.Stacks.{newest_push, newest_set, version_set}
 
 -- the newest version and those below it
-pub newest_top : (vs : List Version) (k : ℕ) (d : Version) → k + 1 ≡ length vs → newest_first vs ≡ plain_version (get_or vs k d) ∷ newest_first (take k vs)
+pub newest_top : (vs : List Version) (k : ℕ) (d : Version) → k + 1 ≡ length vs
+    → newest_first vs ≡ plain_version (get_or vs k d) ∷ newest_first (take k vs)
 newest_top vs k d last =
     let below : k < length vs = omega arith in
-    ap newest_first (sym (take_all (k + 1) vs (omega arith)) ∙ take_more vs k d below) ∙ newest_push (take k vs) (get_or vs k d)
+    ap newest_first (sym (take_all (k + 1) vs (omega arith)) ∙ take_more vs k d below)
+    ∙ newest_push (take k vs) (get_or vs k d)
 
-pub content_on_top : (base : Option PlainContent) (vs : List Version) (k : ℕ) (d : Version) → k + 1 ≡ length vs → newest_content base (newest_first vs) ≡ plain_option (get_or vs k d).content
+pub content_on_top : (base : Option PlainContent) (vs : List Version) (k : ℕ) (d : Version) → k + 1 ≡ length vs
+    → newest_content base (newest_first vs) ≡ plain_option (get_or vs k d).content
 content_on_top base vs k d last = ap (newest_content base) (newest_top vs k d last)
 
 -- the newest version, changed in place, or as it was
-pub changed_in_place : (r : Result Answer OutOfMemory) (a : ActionId) (o : Outcome) (vs : List Version) (k : ℕ) (d v : Version)
+pub changed_in_place : (r : Result Answer OutOfMemory) (a : ActionId) (o : Outcome) (vs : List Version) (k : ℕ)
+    (d v : Version)
     → k + 1 ≡ length vs → is_ascending (writers vs) ≡ true → (get_or vs k d).holder.0 ≡ a.0
     → v.holder ≡ a → v.holder ≡ (get_or vs k d).holder
     → IfOk r (λ answer. (plain_option v.content, plain_answer answer) ≡ o)
     → OnErr r (plain_option v.content ≡ plain_option (get_or vs k d).content)
-    → OnOk r (newest_first (set vs k v) ≡ with_version a o.0 (newest_first vs)) × OnErr r (newest_first (set vs k v) ≡ newest_first vs)
+    → OnOk r (newest_first (set vs k v) ≡ with_version a o.0 (newest_first vs))
+    × OnErr r (newest_first (set vs k v) ≡ newest_first vs)
 changed_in_place (Ok answer) a o vs k d v last asc here mine same ok err =
     (version_set a o.0 vs k d v last asc here mine (ap (λ (p : Outcome). p.0) ok), tt)
 changed_in_place (Err refused) a o vs k d v last asc here mine same ok err = (
@@ -44,9 +50,11 @@ changed_in_place (Err refused) a o vs k d v last asc here mine same ok err = (
 )
 
 -- an action that may read sees what is on top
-pub seen_on_top : (t : Tree) (a : ActionId) (base : Option PlainContent) (vs : List PlainVersion) → all_above t a (holders vs) ≡ true → newest_content base vs ≡ seen_by t a base vs
+pub seen_on_top : (t : Tree) (a : ActionId) (base : Option PlainContent) (vs : List PlainVersion)
+    → all_above t a (holders vs) ≡ true → newest_content base vs ≡ seen_by t a base vs
 seen_on_top t a base [] up = refl
-seen_on_top t a base (v ∷ older) up = sym (cond-true _ _ _ (and_parts (is_ancestor t v.holder.0 a.0) (all_above t a (holders older)) up).0)
+seen_on_top t a base (v ∷ older) up =
+    sym (cond-true _ _ _ (and_parts (is_ancestor t v.holder.0 a.0) (all_above t a (holders older)) up).0)
 
 -- what holds in any case holds on Ok
 pub on_ok : (r : Result Answer OutOfMemory) (P : Type 0) → P → OnOk r P

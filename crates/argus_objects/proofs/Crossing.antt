@@ -1,4 +1,5 @@
--- A cell and the lists of locks may cross to another thread, and be looked at from there: as a set for `search`, `crosses`.
+-- A cell and the lists of locks may cross to another thread, and be looked at from there: as a set for `search`,
+-- `crosses`.
 use denote.Param.Send.{IsSend, IsSync, sendable}
 use Rattle.argus_contents.proofs.Crossing as contents
 use Rattle.argus_actions.proofs.Crossing as actions
@@ -25,4 +26,13 @@ cell_sends = search (sendable, contents.crosses, version_sends, version_syncs) d
 pub cell_syncs : IsSync cell_row
 cell_syncs = search (sendable, contents.crosses, version_sends, version_syncs) depth 12
 
-pub ruleset crosses = (contents.crosses, actions.crosses, cell_sends, cell_syncs, version_sends, version_syncs, holdings_sends, holdings_syncs)
+pub ruleset crosses = (
+  contents.crosses,
+  actions.crosses,
+  cell_sends,
+  cell_syncs,
+  version_sends,
+  version_syncs,
+  holdings_sends,
+  holdings_syncs,
+)

@@ -1,7 +1,10 @@
 -- A reader put in its place.
-use Rattle.std.proofs.Common.{◌≡◌, ℕ, ◌+◌, ◌<◌, ◌≤◌, Bool, true, false, not, cond, eqb, ltb, ◌||◌, List, [], ◌∷◌, ◌++◌, filter, length, take, drop, get_or, refl, sym, ◌∙◌, ap, arith, inl, inr, zero, suc, subst, ◌-◌}
+use Rattle.std.proofs.Common.{◌≡◌, ℕ, ◌+◌, ◌<◌, ◌≤◌, Bool, true, false, not, cond, eqb, ltb, ◌||◌, List, [], ◌∷◌, ◌++◌}
+use Rattle.std.proofs.Common.{filter, length, take, drop, get_or, refl, sym, ◌∙◌, ap, arith, inl, inr, zero, suc, subst}
+use Rattle.std.proofs.Common.{◌-◌}
 use Rattle.std.specs.List.{list_all}
-use Rattle.std.proofs.lemmas.Bool.{eq-eqb, ne_eqb, lt-ltb, le-ltb, ltb-true, cases_eq, cases_lt, cases_Bool, cond-true, cond-false, and_parts, and_from, false≢true}
+use Rattle.std.proofs.lemmas.Bool.{eq-eqb, ne_eqb, lt-ltb, le-ltb, ltb-true, cases_eq, cases_lt, cases_Bool, cond-true}
+use Rattle.std.proofs.lemmas.Bool.{cond-false, and_parts, and_from, false≢true}
 use Rattle.std.proofs.lemmas.List.{take_more, drop_more, append_assoc}
 use Rattle.argus_actions.specs.declared.action_id.ActionId.{ActionId}
 use Rattle.argus_objects.specs.Rules.{is_ascending}
@@ -20,7 +23,8 @@ past : (a x : ActionId) (xs : List ActionId) → x.0 < a.0 → with_reader a (x 
 past a x xs lt = cond-false _ _ _ (le-ltb a.0 x.0 (omega arith)) ∙ cond-false _ _ _ (ne_eqb x.0 a.0 (λ e. omega arith))
 
 -- a greater number at the end stays at the end
-greater_last : (a y : ActionId) (xs : List ActionId) → a.0 < y.0 → with_reader a (xs ++ y ∷ []) ≡ with_reader a xs ++ y ∷ []
+greater_last : (a y : ActionId) (xs : List ActionId) → a.0 < y.0
+    → with_reader a (xs ++ y ∷ []) ≡ with_reader a xs ++ y ∷ []
 greater_last a y [] lt = before a y [] lt
 greater_last a y (x ∷ xs) lt =
     elim (cases_lt a.0 x.0) [
@@ -29,15 +33,18 @@ greater_last a y (x ∷ xs) lt =
         | inl e ↦ there a x (xs ++ y ∷ []) e ∙ ap (λ zs. zs ++ y ∷ []) (sym (there a x xs e))
         | inr ne ↦
             let lt' : x.0 < a.0 = omega (arith, ne) in
-            past a x (xs ++ y ∷ []) lt' ∙ (ap (λ zs. x ∷ zs) (greater_last a y xs lt) ∙ ap (λ zs. zs ++ y ∷ []) (sym (past a x xs lt')))
+            past a x (xs ++ y ∷ []) lt' ∙ (ap (λ zs. x ∷ zs) (greater_last a y xs lt)
+            ∙ ap (λ zs. zs ++ y ∷ []) (sym (past a x xs lt')))
       ]
     ]
 
 -- past lower numbers the place is at the end
-lower_all : (a : ActionId) (xs ys : List ActionId) → list_all (λ x. ltb x.0 a.0) xs ≡ true → with_reader a (xs ++ ys) ≡ xs ++ with_reader a ys
+lower_all : (a : ActionId) (xs ys : List ActionId) → list_all (λ x. ltb x.0 a.0) xs ≡ true
+    → with_reader a (xs ++ ys) ≡ xs ++ with_reader a ys
 lower_all a [] ys low = refl
 lower_all a (x ∷ xs) ys low =
-    let parts : (ltb x.0 a.0 ≡ true) × (list_all (λ x. ltb x.0 a.0) xs ≡ true) = and_parts (ltb x.0 a.0) (list_all (λ x. ltb x.0 a.0) xs) low in
+    let parts : (ltb x.0 a.0 ≡ true) × (list_all (λ x. ltb x.0 a.0) xs ≡ true) =
+    and_parts (ltb x.0 a.0) (list_all (λ x. ltb x.0 a.0) xs) low in
     past a x (xs ++ ys) (ltb-true x.0 a.0 parts.0) ∙ ap (λ zs. x ∷ zs) (lower_all a xs ys parts.1)
 
 -- one place nearer to the front
@@ -49,12 +56,16 @@ place_more a xs k d below lt =
     ∙ (append_assoc (with_reader a (take k xs)) (get_or xs k d ∷ []) (drop (k + 1) xs)
     ∙ ap (λ zs. with_reader a (take k xs) ++ zs) (sym (drop_more xs k d below))))
 
-lower_than : (a : ActionId) (xs : List ActionId) (k : ℕ) (d : ActionId) → is_ascending xs ≡ true → k < length xs → (get_or xs k d).0 ≤ a.0 → list_all (λ x. ltb x.0 a.0) (take k xs) ≡ true
+lower_than : (a : ActionId) (xs : List ActionId) (k : ℕ) (d : ActionId) → is_ascending xs ≡ true → k < length xs
+    → (get_or xs k d).0 ≤ a.0 → list_all (λ x. ltb x.0 a.0) (take k xs) ≡ true
 lower_than a xs k d asc below le =
-    all_imp (λ x. ltb x.0 (get_or xs k d).0) (λ x. ltb x.0 a.0) (λ x h. let lt : x.0 < (get_or xs k d).0 = ltb-true x.0 (get_or xs k d).0 h in lt-ltb x.0 a.0 (omega arith)) (take k xs) (lower_before xs k d asc below)
+    all_imp (λ x. ltb x.0 (get_or xs k d).0) (λ x. ltb x.0 a.0)
+    (λ x h. let lt : x.0 < (get_or xs k d).0 = ltb-true x.0 (get_or xs k d).0 h in lt-ltb x.0 a.0 (omega arith))
+    (take k xs) (lower_before xs k d asc below)
 
 -- it is there already
-pub place_taken : (a : ActionId) (xs : List ActionId) (k : ℕ) (d : ActionId) → is_ascending xs ≡ true → k < length xs → (get_or xs k d).0 ≡ a.0
+pub place_taken : (a : ActionId) (xs : List ActionId) (k : ℕ) (d : ActionId) → is_ascending xs ≡ true → k < length xs
+    → (get_or xs k d).0 ≡ a.0
     → with_reader a (take (k + 1) xs) ≡ take (k + 1) xs
 place_taken a xs k d asc below e =
     ap (with_reader a) (take_more xs k d below)
@@ -62,16 +73,19 @@ place_taken a xs k d asc below e =
     ∙ (ap (λ zs. take k xs ++ zs) (there a (get_or xs k d) [] e) ∙ sym (take_more xs k d below)))
 
 -- it goes here
-pub place_free : (a : ActionId) (xs : List ActionId) (k : ℕ) (d : ActionId) → is_ascending xs ≡ true → k < length xs → (get_or xs k d).0 < a.0
+pub place_free : (a : ActionId) (xs : List ActionId) (k : ℕ) (d : ActionId) → is_ascending xs ≡ true → k < length xs
+    → (get_or xs k d).0 < a.0
     → with_reader a (take (k + 1) xs) ≡ take (k + 1) xs ++ a ∷ []
 place_free a xs k d asc below lt =
     ap (with_reader a) (take_more xs k d below)
     ∙ (lower_all a (take k xs) (get_or xs k d ∷ []) (lower_than a xs k d asc below (omega arith))
     ∙ (ap (λ zs. take k xs ++ zs) (past a (get_or xs k d) [] lt)
-    ∙ (sym (append_assoc (take k xs) (get_or xs k d ∷ []) (a ∷ [])) ∙ ap (λ zs. zs ++ a ∷ []) (sym (take_more xs k d below)))))
+    ∙ (sym (append_assoc (take k xs) (get_or xs k d ∷ []) (a ∷ []))
+    ∙ ap (λ zs. zs ++ a ∷ []) (sym (take_more xs k d below)))))
 
 -- what holds of a and of the rest holds of all
-pub all_with : (p : ActionId → Bool) (a : ActionId) (xs : List ActionId) → p a ≡ true → list_all p xs ≡ true → list_all p (with_reader a xs) ≡ true
+pub all_with : (p : ActionId → Bool) (a : ActionId) (xs : List ActionId) → p a ≡ true → list_all p xs ≡ true
+    → list_all p (with_reader a xs) ≡ true
 all_with p a [] pa all = and_from (p a) true pa refl
 all_with p a (x ∷ xs) pa all =
     let parts : (p x ≡ true) × (list_all p xs ≡ true) = and_parts (p x) (list_all p xs) all in
@@ -79,22 +93,28 @@ all_with p a (x ∷ xs) pa all =
       | inl less ↦ ap (list_all p) (before a x xs less) ∙ and_from (p a) _ pa all
       | inr le ↦ elim (cases_eq x.0 a.0) [
         | inl e ↦ ap (list_all p) (there a x xs e) ∙ all
-        | inr ne ↦ ap (list_all p) (past a x xs (omega (arith, ne))) ∙ and_from (p x) _ parts.0 (all_with p a xs pa parts.1)
+        | inr ne ↦ ap (list_all p) (past a x xs (omega (arith, ne)))
+            ∙ and_from (p x) _ parts.0 (all_with p a xs pa parts.1)
       ]
     ]
 
-pub ascending_with : (a : ActionId) (xs : List ActionId) → is_ascending xs ≡ true → is_ascending (with_reader a xs) ≡ true
+pub ascending_with : (a : ActionId) (xs : List ActionId) → is_ascending xs ≡ true
+    → is_ascending (with_reader a xs) ≡ true
 ascending_with a [] asc = refl
 ascending_with a (x ∷ xs) asc =
-    let parts : (list_all (λ y. ltb x.0 y.0) xs ≡ true) × (is_ascending xs ≡ true) = and_parts (list_all (λ y. ltb x.0 y.0) xs) (is_ascending xs) asc in
+    let parts : (list_all (λ y. ltb x.0 y.0) xs ≡ true) × (is_ascending xs ≡ true) =
+    and_parts (list_all (λ y. ltb x.0 y.0) xs) (is_ascending xs) asc in
     elim (cases_lt a.0 x.0) [
       | inl less ↦ ap is_ascending (before a x xs less)
-          ∙ and_from _ _ (and_from _ _ (lt-ltb a.0 x.0 less) (all_imp (λ y. ltb x.0 y.0) (λ y. ltb a.0 y.0) (λ y h. let lt : x.0 < y.0 = ltb-true x.0 y.0 h in lt-ltb a.0 y.0 (omega arith)) xs parts.0)) asc
+          ∙ and_from _ _ (and_from _ _ (lt-ltb a.0 x.0 less)
+          (all_imp (λ y. ltb x.0 y.0) (λ y. ltb a.0 y.0) (λ y h. let lt : x.0 < y.0 = ltb-true x.0 y.0 h in
+          lt-ltb a.0 y.0 (omega arith)) xs parts.0)) asc
       | inr le ↦ elim (cases_eq x.0 a.0) [
         | inl e ↦ ap is_ascending (there a x xs e) ∙ asc
         | inr ne ↦
             let lt : x.0 < a.0 = omega (arith, ne) in
-            ap is_ascending (past a x xs lt) ∙ and_from _ _ (all_with (λ y. ltb x.0 y.0) a xs (lt-ltb x.0 a.0 lt) parts.0) (ascending_with a xs parts.1)
+            ap is_ascending (past a x xs lt) ∙ and_from _ _ (all_with (λ y. ltb x.0 y.0) a xs (lt-ltb x.0 a.0 lt)
+            parts.0) (ascending_with a xs parts.1)
       ]
     ]
 
@@ -108,12 +128,15 @@ length_filter_le p (x ∷ xs) =
     ]
 
 -- a reader that goes leaves room
-pub fewer_readers : (s : ActionId) (xs : List ActionId) → is_reader s xs ≡ true → length (without_reader s xs) < length xs
+pub fewer_readers : (s : ActionId) (xs : List ActionId) → is_reader s xs ≡ true
+    → length (without_reader s xs) < length xs
 fewer_readers s [] is = absurd (false≢true is)
 fewer_readers s (x ∷ xs) is =
     elim (cases_Bool (eqb x.0 s.0)) [
-      | inl e ↦ let h : length (without_reader s xs) ≤ length xs = length_filter_le (λ (y : ActionId). not (eqb y.0 s.0)) xs in rw e (omega arith)
-      | inr e ↦ let h : length (without_reader s xs) < length xs = fewer_readers s xs (sym (ap (λ b. b || is_reader s xs) e) ∙ is) in rw e (omega arith)
+      | inl e ↦ let h : length (without_reader s xs) ≤ length xs =
+          length_filter_le (λ (y : ActionId). not (eqb y.0 s.0)) xs in rw e (omega arith)
+      | inr e ↦ let h : length (without_reader s xs) < length xs =
+          fewer_readers s xs (sym (ap (λ b. b || is_reader s xs) e) ∙ is) in rw e (omega arith)
     ]
 
 pub any_default : {X : Type 0} (xs : List X) (k : ℕ) (d e : X) → k < length xs → get_or xs k d ≡ get_or xs k e
@@ -123,17 +146,22 @@ any_default (x ∷ xs) (suc k) d e below = any_default xs k d e (omega arith)
 
 -- put in where no greater number follows and none that is not less comes before
 pub placed : (a : ActionId) (xs : List ActionId) (i : ℕ) (d : ActionId) → is_ascending xs ≡ true → i ≤ length xs
-    → with_reader a (take i xs) ++ drop i xs ≡ with_reader a xs → (0 < i → (get_or xs (i - 1) d).0 < a.0) → take i xs ++ a ∷ drop i xs ≡ with_reader a xs
+    → with_reader a (take i xs) ++ drop i xs ≡ with_reader a xs → (0 < i → (get_or xs (i - 1) d).0 < a.0)
+    → take i xs ++ a ∷ drop i xs ≡ with_reader a xs
 placed a xs zero d asc le place lower = place
 placed a xs (suc k) d asc le place lower =
     let k_is : suc k - 1 ≡ k = omega arith in
     let less : (get_or xs (suc k - 1) d).0 < a.0 = lower (omega arith) in
-    let free : with_reader a (take (k + 1) xs) ≡ take (k + 1) xs ++ a ∷ [] = place_free a xs k d asc (omega arith) (subst (λ (n : ℕ). (get_or xs n d).0 < a.0) k_is less) in
+    let free : with_reader a (take (k + 1) xs) ≡ take (k + 1) xs ++ a ∷ [] =
+    place_free a xs k d asc (omega arith) (subst (λ (n : ℕ). (get_or xs n d).0 < a.0) k_is less) in
     let one_more : k + 1 ≡ suc k = omega arith in
-    let free' : with_reader a (take (suc k) xs) ≡ take (suc k) xs ++ a ∷ [] = subst (λ (n : ℕ). with_reader a (take n xs) ≡ take n xs ++ a ∷ []) one_more free in
-    sym (append_assoc (take (suc k) xs) (a ∷ []) (drop (suc k) xs)) ∙ (ap (λ zs. zs ++ drop (suc k) xs) (sym free') ∙ place)
+    let free' : with_reader a (take (suc k) xs) ≡ take (suc k) xs ++ a ∷ [] =
+    subst (λ (n : ℕ). with_reader a (take n xs) ≡ take n xs ++ a ∷ []) one_more free in
+    sym (append_assoc (take (suc k) xs) (a ∷ []) (drop (suc k) xs))
+    ∙ (ap (λ zs. zs ++ drop (suc k) xs) (sym free') ∙ place)
 
-pub ascending_inherited : (s p : ActionId) (xs : List ActionId) → is_ascending xs ≡ true → is_ascending (readers_inherited s p xs) ≡ true
+pub ascending_inherited : (s p : ActionId) (xs : List ActionId) → is_ascending xs ≡ true
+    → is_ascending (readers_inherited s p xs) ≡ true
 ascending_inherited s p xs asc = cases (is_reader s xs)
   where
     cases : (b : Bool) → is_ascending (cond b (with_reader p (without_reader s xs)) xs) ≡ true

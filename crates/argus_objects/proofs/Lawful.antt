@@ -1,8 +1,10 @@
 -- Each change of a cell keeps it lawful.
-use Rattle.std.proofs.Common.{◌≡◌, ◌≢◌, Bool, true, false, not, cond, eqb, ◌&&◌, ◌||◌, List, [], ◌∷◌, map, filter, reverse, Option, subst, refl, sym, ◌∙◌, ap, inl, inr}
+use Rattle.std.proofs.Common.{◌≡◌, ◌≢◌, Bool, true, false, not, cond, eqb, ◌&&◌, ◌||◌, List, [], ◌∷◌, map, filter}
+use Rattle.std.proofs.Common.{reverse, Option, subst, refl, sym, ◌∙◌, ap, inl, inr}
 use Rattle.std.specs.Prelude.{OnOk, OnErr, Result, Ok, Err}
 use Rattle.std.specs.List.{list_all}
-use Rattle.std.proofs.lemmas.Bool.{eqb-true, eqb-false, cases_Bool, and_parts, and_from, or_left, or_right, or_parts, not-true, false≢true}
+use Rattle.std.proofs.lemmas.Bool.{eqb-true, eqb-false, cases_Bool, and_parts, and_from, or_left, or_right, or_parts}
+use Rattle.std.proofs.lemmas.Bool.{not-true, false≢true}
 use Rattle.std.proofs.lemmas.List.{reverse-reverse}
 use Rattle.argus_actions.specs.declared.action_id.ActionId.{ActionId}
 use Rattle.argus_actions.specs.Tree.{Tree, is_ancestor}
@@ -11,9 +13,13 @@ use Rattle.argus_contents.specs.declared.answer.Answer.{Answer}
 use Rattle.argus_contents.specs.Content.{PlainContent}
 use Rattle.argus_objects.specs.declared.version.Version.{Version}
 use Rattle.argus_objects.specs.Object.{PlainVersion, newest_first, holders, writers}
-use Rattle.argus_objects.specs.Rules.{all_above, are_related, is_ascending, is_chain, is_related, is_strictly_above, AreInOrder}
-use Rattle.argus_objects.specs.Moves.{is_reader, has_version, handed, with_reader, without_reader, readers_inherited, with_version, without_version, versions_inherited}
-use Rattle.argus_objects.proofs.Chains.{IsParent, all_imp, all_moved, all_filter, all_filtered, chain_moved, chain_filter, strictly_from, renamed, renamed_same, renamed_other, renamed_strictly, renamed_related}
+use Rattle.argus_objects.specs.Rules.{all_above, are_related, is_ascending, is_chain, is_related, is_strictly_above}
+use Rattle.argus_objects.specs.Rules.{AreInOrder}
+use Rattle.argus_objects.specs.Moves.{is_reader, has_version, handed, with_reader, without_reader, readers_inherited}
+use Rattle.argus_objects.specs.Moves.{with_version, without_version, versions_inherited}
+use Rattle.argus_objects.proofs.Chains.{IsParent, all_imp, all_moved, all_filter, all_filtered, chain_moved}
+use Rattle.argus_objects.proofs.Chains.{chain_filter, strictly_from, renamed, renamed_same, renamed_other}
+use Rattle.argus_objects.proofs.Chains.{renamed_strictly, renamed_related}
 use Rattle.argus_objects.proofs.Ascending.{chain_ascends, ascending_filter}
 use Rattle.argus_objects.proofs.InOrder.{all_with, ascending_with, ascending_inherited}
 use Rattle.argus_objects.proofs.Stacks.{holders_newest, holders_filter, holders_handed}
@@ -23,42 +29,52 @@ pub record Lawful (t : Tree) (readers ids : List ActionId) : Type 0 where
   pub chain : is_chain t ids ≡ true
   pub related : list_all (is_related t ids) readers ≡ true
 
-pub lawful_parts : (t : Tree) (readers ids : List ActionId) → (is_chain t ids && list_all (is_related t ids) readers) ≡ true → Lawful t readers ids
+pub lawful_parts : (t : Tree) (readers ids : List ActionId)
+    → (is_chain t ids && list_all (is_related t ids) readers) ≡ true → Lawful t readers ids
 lawful_parts t readers ids h =
-    let parts : (is_chain t ids ≡ true) × (list_all (is_related t ids) readers ≡ true) = and_parts (is_chain t ids) (list_all (is_related t ids) readers) h in
+    let parts : (is_chain t ids ≡ true) × (list_all (is_related t ids) readers ≡ true) =
+    and_parts (is_chain t ids) (list_all (is_related t ids) readers) h in
     record { chain = parts.0; related = parts.1 }
 
-pub lawful_from : (t : Tree) (readers ids : List ActionId) → Lawful t readers ids → (is_chain t ids && list_all (is_related t ids) readers) ≡ true
+pub lawful_from : (t : Tree) (readers ids : List ActionId) → Lawful t readers ids
+    → (is_chain t ids && list_all (is_related t ids) readers) ≡ true
 lawful_from t readers ids h = and_from (is_chain t ids) (list_all (is_related t ids) readers) h.chain h.related
 
 -- the holders of a lawful cell stand in increasing number
-pub writers_ascend : (t : Tree) (vs : List Version) → is_chain t (holders (newest_first vs)) ≡ true → is_ascending (writers vs) ≡ true
+pub writers_ascend : (t : Tree) (vs : List Version) → is_chain t (holders (newest_first vs)) ≡ true
+    → is_ascending (writers vs) ≡ true
 writers_ascend t vs chain =
     ap is_ascending (sym (reverse-reverse (writers vs)))
     ∙ chain_ascends t (reverse (writers vs)) (ap (is_chain t) (sym (holders_newest vs)) ∙ chain)
 
-pub lawful_read : (t : Tree) (a : ActionId) (readers ids : List ActionId) → Lawful t readers ids → all_above t a ids ≡ true → Lawful t (with_reader a readers) ids
+pub lawful_read : (t : Tree) (a : ActionId) (readers ids : List ActionId) → Lawful t readers ids
+    → all_above t a ids ≡ true → Lawful t (with_reader a readers) ids
 lawful_read t a readers ids h up = record {
   chain = h.chain;
   related = all_with (is_related t ids) a readers
-      (all_imp (λ x. is_ancestor t x.0 a.0) (λ x. are_related t a x) (λ x k. or_right (is_ancestor t a.0 x.0) (is_ancestor t x.0 a.0) k) ids up) h.related;
+      (all_imp (λ x. is_ancestor t x.0 a.0) (λ x. are_related t a x)
+      (λ x k. or_right (is_ancestor t a.0 x.0) (is_ancestor t x.0 a.0) k) ids up) h.related;
 }
 
 -- some of the holders and of the readers go
-pub lawful_less : (t : Tree) (keep keep' : ActionId → Bool) (readers ids : List ActionId) → Lawful t readers ids → Lawful t (filter keep readers) (filter keep' ids)
+pub lawful_less : (t : Tree) (keep keep' : ActionId → Bool) (readers ids : List ActionId) → Lawful t readers ids
+    → Lawful t (filter keep readers) (filter keep' ids)
 lawful_less t keep keep' readers ids h = record {
   chain = chain_filter t keep' ids h.chain;
   related = all_filter (is_related t (filter keep' ids)) keep readers
-      (all_imp (is_related t ids) (is_related t (filter keep' ids)) (λ r k. all_filter (λ y. are_related t r y) keep' ids k) readers h.related);
+      (all_imp (is_related t ids) (is_related t (filter keep' ids))
+      (λ r k. all_filter (λ y. are_related t r y) keep' ids k) readers h.related);
 }
 
 -- a holder below all that are left, and below all readers
-pub lawful_write : (t : Tree) (a : ActionId) (readers ids : List ActionId) → Lawful t readers ids → all_above t a ids ≡ true → all_above t a readers ≡ true
+pub lawful_write : (t : Tree) (a : ActionId) (readers ids : List ActionId) → Lawful t readers ids
+    → all_above t a ids ≡ true → all_above t a readers ≡ true
     → Lawful t readers (a ∷ filter (λ x. not (eqb x.0 a.0)) ids)
 lawful_write t a readers ids h up up' =
     let keep : ActionId → Bool = λ x. not (eqb x.0 a.0) in
     let related : list_all (is_related t (filter keep ids)) readers ≡ true =
-    all_imp (is_related t ids) (is_related t (filter keep ids)) (λ r k. all_filter (λ y. are_related t r y) keep ids k) readers h.related in
+    all_imp (is_related t ids) (is_related t (filter keep ids)) (λ r k. all_filter (λ y. are_related t r y) keep ids k)
+    readers h.related in
     record {
       chain = and_from _ _
           (all_filtered (λ x. is_ancestor t x.0 a.0) (λ x. is_strictly_above t x a) keep
@@ -67,15 +83,19 @@ lawful_write t a readers ids h up up' =
       related = both (is_related t (filter keep ids)) readers up' related;
     }
   where
-    both : (p : ActionId → Bool) (rs : List ActionId) → all_above t a rs ≡ true → list_all p rs ≡ true → list_all (λ r. are_related t r a && p r) rs ≡ true
+    both : (p : ActionId → Bool) (rs : List ActionId) → all_above t a rs ≡ true → list_all p rs ≡ true
+        → list_all (λ r. are_related t r a && p r) rs ≡ true
     both p [] u k = refl
     both p (r ∷ rs) u k =
-        let us : (is_ancestor t r.0 a.0 ≡ true) × (all_above t a rs ≡ true) = and_parts (is_ancestor t r.0 a.0) (all_above t a rs) u in
+        let us : (is_ancestor t r.0 a.0 ≡ true) × (all_above t a rs ≡ true) =
+        and_parts (is_ancestor t r.0 a.0) (all_above t a rs) u in
         let ks : (p r ≡ true) × (list_all p rs ≡ true) = and_parts (p r) (list_all p rs) k in
-        and_from _ _ (and_from _ _ (or_left (is_ancestor t r.0 a.0) (is_ancestor t a.0 r.0) us.0) ks.0) (both p rs us.1 ks.1)
+        and_from _ _ (and_from _ _ (or_left (is_ancestor t r.0 a.0) (is_ancestor t a.0 r.0) us.0) ks.0)
+        (both p rs us.1 ks.1)
 
 -- what holds of all others holds of all where s isn't one
-all_others : (s : ActionId) (p q : ActionId → Bool) → ((x : ActionId) → x.0 ≢ s.0 → p x ≡ true → q x ≡ true) → (xs : List ActionId) → is_reader s xs ≡ false → list_all p xs ≡ true → list_all q xs ≡ true
+all_others : (s : ActionId) (p q : ActionId → Bool) → ((x : ActionId) → x.0 ≢ s.0 → p x ≡ true → q x ≡ true)
+    → (xs : List ActionId) → is_reader s xs ≡ false → list_all p xs ≡ true → list_all q xs ≡ true
 all_others s p q h [] lacks all = refl
 all_others s p q h (x ∷ xs) lacks all =
     let nos : (eqb x.0 s.0 ≡ false) × (is_reader s xs ≡ false) = or_parts (eqb x.0 s.0) (is_reader s xs) lacks in
@@ -83,7 +103,8 @@ all_others s p q h (x ∷ xs) lacks all =
     and_from _ _ (h x (eqb-false x.0 s.0 nos.0) parts.0) (all_others s p q h xs nos.1 parts.1)
 
 -- what holds of all holds of one with the number of s
-found : (s : ActionId) (p : ActionId → Bool) (xs : List ActionId) → is_reader s xs ≡ true → list_all p xs ≡ true → (r : ActionId) × ((r.0 ≡ s.0) × (p r ≡ true))
+found : (s : ActionId) (p : ActionId → Bool) (xs : List ActionId) → is_reader s xs ≡ true → list_all p xs ≡ true
+    → (r : ActionId) × ((r.0 ≡ s.0) × (p r ≡ true))
 found s p [] is all = absurd (false≢true is)
 found s p (x ∷ xs) is all =
     let parts : (p x ≡ true) × (list_all p xs ≡ true) = and_parts (p x) (list_all p xs) all in
@@ -104,93 +125,127 @@ module _ (t : Tree) (s p : ActionId) (is : IsParent t p s) (ids : List ActionId)
       cases true = chain_moved t (λ x. not (eqb x.0 p.0)) (renamed s p) (renamed_strictly t s p is) ids chain
       cases false = chain
 
-  related_inherited : (r : ActionId) → is_related t ids r ≡ true → is_related t (ids_inherited s p ids) (renamed s p r) ≡ true
+  related_inherited : (r : ActionId) → is_related t ids r ≡ true
+      → is_related t (ids_inherited s p ids) (renamed s p r) ≡ true
   related_inherited r rel =
       elim (cases_Bool (is_reader s ids)) [
-        | inl b ↦ ap (λ c. is_related t (cond c (map (renamed s p) (filter (λ x. not (eqb x.0 p.0)) ids)) ids) (renamed s p r)) b
-            ∙ all_moved (λ y. are_related t r y) (λ y. are_related t (renamed s p r) y) (λ x. not (eqb x.0 p.0)) (renamed s p) (λ x k h. renamed_related t s p is r x h) ids rel
-        | inr b ↦ ap (λ c. is_related t (cond c (map (renamed s p) (filter (λ x. not (eqb x.0 p.0)) ids)) ids) (renamed s p r)) b
+        | inl b ↦ ap (λ c. is_related t (cond c (map (renamed s p) (filter (λ x. not (eqb x.0 p.0)) ids)) ids)
+            (renamed s p r)) b
+            ∙ all_moved (λ y. are_related t r y) (λ y. are_related t (renamed s p r) y) (λ x. not (eqb x.0 p.0))
+            (renamed s p) (λ x k h. renamed_related t s p is r x h) ids rel
+        | inr b ↦ ap (λ c. is_related t (cond c (map (renamed s p) (filter (λ x. not (eqb x.0 p.0)) ids)) ids)
+            (renamed s p r)) b
             ∙ all_others s (λ y. are_related t r y) (λ y. are_related t (renamed s p r) y)
-            (λ x ne h. subst (λ (w : ActionId). are_related t (renamed s p r) w ≡ true) (renamed_other s p x ne) (renamed_related t s p is r x h)) ids b rel
+            (λ x ne h. subst (λ (w : ActionId). are_related t (renamed s p r) w ≡ true) (renamed_other s p x ne)
+            (renamed_related t s p is r x h)) ids b rel
       ]
 
-  other_inherited : (r : ActionId) → r.0 ≢ s.0 → is_related t ids r ≡ true → is_related t (ids_inherited s p ids) r ≡ true
-  other_inherited r ne rel = subst (λ (w : ActionId). is_related t (ids_inherited s p ids) w ≡ true) (renamed_other s p r ne) (related_inherited r rel)
+  other_inherited : (r : ActionId) → r.0 ≢ s.0 → is_related t ids r ≡ true
+      → is_related t (ids_inherited s p ids) r ≡ true
+  other_inherited r ne rel = subst (λ (w : ActionId). is_related t (ids_inherited s p ids) w ≡ true)
+      (renamed_other s p r ne) (related_inherited r rel)
 
-  readers_related : (readers : List ActionId) → list_all (is_related t ids) readers ≡ true → list_all (is_related t (ids_inherited s p ids)) (readers_inherited s p readers) ≡ true
+  readers_related : (readers : List ActionId) → list_all (is_related t ids) readers ≡ true
+      → list_all (is_related t (ids_inherited s p ids)) (readers_inherited s p readers) ≡ true
   readers_related readers rel =
       elim (cases_Bool (is_reader s readers)) [
         | inl b ↦
-            let r : (r : ActionId) × ((r.0 ≡ s.0) × (is_related t ids r ≡ true)) = found s (is_related t ids) readers b rel in
+            let r : (r : ActionId) × ((r.0 ≡ s.0) × (is_related t ids r ≡ true)) =
+            found s (is_related t ids) readers b rel in
             let parent_related : is_related t (ids_inherited s p ids) p ≡ true =
-            subst (λ (w : ActionId). is_related t (ids_inherited s p ids) w ≡ true) (renamed_same s p r.0 r.1.0) (related_inherited r.0 r.1.1) in
-            ap (λ c. list_all (is_related t (ids_inherited s p ids)) (cond c (with_reader p (without_reader s readers)) readers)) b
+            subst (λ (w : ActionId). is_related t (ids_inherited s p ids) w ≡ true) (renamed_same s p r.0 r.1.0)
+            (related_inherited r.0 r.1.1) in
+            ap (λ c. list_all (is_related t (ids_inherited s p ids))
+            (cond c (with_reader p (without_reader s readers)) readers)) b
             ∙ all_with (is_related t (ids_inherited s p ids)) p (without_reader s readers) parent_related
             (all_filtered (is_related t ids) (is_related t (ids_inherited s p ids)) (λ x. not (eqb x.0 s.0))
             (λ x k h. other_inherited x (eqb-false x.0 s.0 (not-true (eqb x.0 s.0) k)) h) readers rel)
         | inr b ↦
-            ap (λ c. list_all (is_related t (ids_inherited s p ids)) (cond c (with_reader p (without_reader s readers)) readers)) b
+            ap (λ c. list_all (is_related t (ids_inherited s p ids))
+            (cond c (with_reader p (without_reader s readers)) readers)) b
             ∙ all_others s (is_related t ids) (is_related t (ids_inherited s p ids)) other_inherited readers b rel
       ]
 
-  pub lawful_inherited : (readers : List ActionId) → Lawful t readers ids → Lawful t (readers_inherited s p readers) (ids_inherited s p ids)
+  pub lawful_inherited : (readers : List ActionId) → Lawful t readers ids
+      → Lawful t (readers_inherited s p readers) (ids_inherited s p ids)
   lawful_inherited readers h = record { chain = chain_inherited h.chain; related = readers_related readers h.related }
 
 has_holder : (s : ActionId) (vs : List PlainVersion) → has_version s vs ≡ is_reader s (holders vs)
 has_holder s [] = refl
 has_holder s (v ∷ vs) = ap (λ b. eqb v.holder.0 s.0 || b) (has_holder s vs)
 
-pub holders_inherited : (s p : ActionId) (vs : List PlainVersion) → holders (versions_inherited s p vs) ≡ ids_inherited s p (holders vs)
-holders_inherited s p vs = cases (has_version s vs) ∙ ap (λ b. cond b (map (renamed s p) (filter (λ x. not (eqb x.0 p.0)) (holders vs))) (holders vs)) (has_holder s vs)
+pub holders_inherited : (s p : ActionId) (vs : List PlainVersion)
+    → holders (versions_inherited s p vs) ≡ ids_inherited s p (holders vs)
+holders_inherited s p vs = cases (has_version s vs) ∙ ap
+    (λ b. cond b (map (renamed s p) (filter (λ x. not (eqb x.0 p.0)) (holders vs))) (holders vs)) (has_holder s vs)
   where
-    cases : (b : Bool) → holders (cond b (map (handed s p) (without_version p vs)) vs) ≡ cond b (map (renamed s p) (filter (λ x. not (eqb x.0 p.0)) (holders vs))) (holders vs)
-    cases true = holders_handed s p (without_version p vs) ∙ ap (map (renamed s p)) (holders_filter (λ x. not (eqb x.0 p.0)) vs)
+    cases : (b : Bool) → holders (cond b (map (handed s p) (without_version p vs)) vs)
+        ≡ cond b (map (renamed s p) (filter (λ x. not (eqb x.0 p.0)) (holders vs))) (holders vs)
+    cases true =
+        holders_handed s p (without_version p vs) ∙ ap (map (renamed s p)) (holders_filter (λ x. not (eqb x.0 p.0)) vs)
     cases false = refl
 
 -- what a lawful cell's lists say of their order
-pub in_order : (t : Tree) (readers : List ActionId) (vs : List Version) → is_ascending readers ≡ true → is_chain t (holders (newest_first vs)) ≡ true → AreInOrder readers vs
+pub in_order : (t : Tree) (readers : List ActionId) (vs : List Version) → is_ascending readers ≡ true
+    → is_chain t (holders (newest_first vs)) ≡ true → AreInOrder readers vs
 in_order t readers vs asc chain = record { readers_ascend = asc; writers_ascend = writers_ascend t vs chain }
 
 -- the lists are in order and lawful
 pub record Kept (t : Tree) (readers : List ActionId) (vs : List Version) : Type 0 where
   pub order : AreInOrder readers vs
-  pub lawful : (is_chain t (holders (newest_first vs)) && list_all (is_related t (holders (newest_first vs))) readers) ≡ true
+  pub lawful : (is_chain t (holders (newest_first vs)) && list_all (is_related t (holders (newest_first vs))) readers)
+      ≡ true
 
-kept_from : (t : Tree) (rs : List ActionId) (vs : List Version) → is_ascending rs ≡ true → Lawful t rs (holders (newest_first vs)) → Kept t rs vs
-kept_from t rs vs asc law = record { order = in_order t rs vs asc law.chain; lawful = lawful_from t rs (holders (newest_first vs)) law }
+kept_from : (t : Tree) (rs : List ActionId) (vs : List Version) → is_ascending rs ≡ true
+    → Lawful t rs (holders (newest_first vs)) → Kept t rs vs
+kept_from t rs vs asc law =
+    record { order = in_order t rs vs asc law.chain; lawful = lawful_from t rs (holders (newest_first vs)) law }
 
 module _ (t : Tree) (rs rs' : List ActionId) (vs vs' : List Version) (asc : is_ascending rs ≡ true)
-    (law : (is_chain t (holders (newest_first vs)) && list_all (is_related t (holders (newest_first vs))) rs) ≡ true) where
-  before : Lawful t rs (holders (newest_first vs))
-  before = lawful_parts t rs (holders (newest_first vs)) law
+    (law : (is_chain t (holders (newest_first vs)) && list_all (is_related t (holders (newest_first vs))) rs) ≡ true)
+  where
+    before : Lawful t rs (holders (newest_first vs))
+    before = lawful_parts t rs (holders (newest_first vs)) law
 
-  kept_by : (new : List ActionId) (ids : List ActionId) → rs' ≡ new → holders (newest_first vs') ≡ ids → is_ascending new ≡ true → Lawful t new ids → Kept t rs' vs'
-  kept_by new ids e f asc' law' =
-      kept_from t rs' vs' (ap is_ascending e ∙ asc')
-      (subst (λ (xs : List ActionId). Lawful t xs (holders (newest_first vs'))) (sym e) (subst (λ (xs : List ActionId). Lawful t new xs) (sym f) law'))
+    kept_by : (new : List ActionId) (ids : List ActionId) → rs' ≡ new → holders (newest_first vs') ≡ ids
+        → is_ascending new ≡ true → Lawful t new ids → Kept t rs' vs'
+    kept_by new ids e f asc' law' =
+        kept_from t rs' vs' (ap is_ascending e ∙ asc')
+        (subst (λ (xs : List ActionId). Lawful t xs (holders (newest_first vs'))) (sym e)
+        (subst (λ (xs : List ActionId). Lawful t new xs) (sym f) law'))
 
-  pub kept_read : (a : ActionId) → all_above t a (holders (newest_first vs)) ≡ true → rs' ≡ with_reader a rs → vs' ≡ vs → Kept t rs' vs'
-  kept_read a up e f = kept_by (with_reader a rs) (holders (newest_first vs)) e (ap (λ ws. holders (newest_first ws)) f) (ascending_with a rs asc) (lawful_read t a rs (holders (newest_first vs)) before up)
+    pub kept_read : (a : ActionId) → all_above t a (holders (newest_first vs)) ≡ true → rs' ≡ with_reader a rs → vs' ≡ vs
+        → Kept t rs' vs'
+    kept_read a up e f = kept_by (with_reader a rs) (holders (newest_first vs)) e (ap (λ ws. holders (newest_first ws)) f)
+        (ascending_with a rs asc) (lawful_read t a rs (holders (newest_first vs)) before up)
 
-  pub kept_write : (a : ActionId) (content : Option PlainContent) → (all_above t a (holders (newest_first vs)) && all_above t a rs) ≡ true → rs' ≡ rs → newest_first vs' ≡ with_version a content (newest_first vs) → Kept t rs' vs'
-  kept_write a content up e f =
-      let ups : (all_above t a (holders (newest_first vs)) ≡ true) × (all_above t a rs ≡ true) = and_parts (all_above t a (holders (newest_first vs))) (all_above t a rs) up in
-      kept_by rs (a ∷ filter (λ x. not (eqb x.0 a.0)) (holders (newest_first vs))) e
-      (ap holders f ∙ ap (λ ids. a ∷ ids) (holders_filter (λ x. not (eqb x.0 a.0)) (newest_first vs))) asc
-      (lawful_write t a rs (holders (newest_first vs)) before ups.0 ups.1)
+    pub kept_write : (a : ActionId) (content : Option PlainContent)
+        → (all_above t a (holders (newest_first vs)) && all_above t a rs) ≡ true → rs' ≡ rs
+        → newest_first vs' ≡ with_version a content (newest_first vs) → Kept t rs' vs'
+    kept_write a content up e f =
+        let ups : (all_above t a (holders (newest_first vs)) ≡ true) × (all_above t a rs ≡ true) =
+        and_parts (all_above t a (holders (newest_first vs))) (all_above t a rs) up in
+        kept_by rs (a ∷ filter (λ x. not (eqb x.0 a.0)) (holders (newest_first vs))) e
+        (ap holders f ∙ ap (λ ids. a ∷ ids) (holders_filter (λ x. not (eqb x.0 a.0)) (newest_first vs))) asc
+        (lawful_write t a rs (holders (newest_first vs)) before ups.0 ups.1)
 
-  pub kept_inherit : (s p : ActionId) → IsParent t p s → rs' ≡ readers_inherited s p rs → newest_first vs' ≡ versions_inherited s p (newest_first vs) → Kept t rs' vs'
-  kept_inherit s p is e f =
-      kept_by (readers_inherited s p rs) (ids_inherited s p (holders (newest_first vs))) e (ap holders f ∙ holders_inherited s p (newest_first vs))
-      (ascending_inherited s p rs asc) (lawful_inherited t s p is (holders (newest_first vs)) rs before)
+    pub kept_inherit : (s p : ActionId) → IsParent t p s → rs' ≡ readers_inherited s p rs
+        → newest_first vs' ≡ versions_inherited s p (newest_first vs) → Kept t rs' vs'
+    kept_inherit s p is e f =
+        kept_by (readers_inherited s p rs) (ids_inherited s p (holders (newest_first vs))) e
+        (ap holders f ∙ holders_inherited s p (newest_first vs))
+        (ascending_inherited s p rs asc) (lawful_inherited t s p is (holders (newest_first vs)) rs before)
 
-  pub kept_less : (keep keep' : ActionId → Bool) → rs' ≡ filter keep rs → newest_first vs' ≡ filter (λ v. keep' v.holder) (newest_first vs) → Kept t rs' vs'
-  kept_less keep keep' e f =
-      kept_by (filter keep rs) (filter keep' (holders (newest_first vs))) e (ap holders f ∙ holders_filter keep' (newest_first vs))
-      (ascending_filter keep rs asc) (lawful_less t keep keep' rs (holders (newest_first vs)) before)
+    pub kept_less : (keep keep' : ActionId → Bool) → rs' ≡ filter keep rs
+        → newest_first vs' ≡ filter (λ v. keep' v.holder) (newest_first vs) → Kept t rs' vs'
+    kept_less keep keep' e f =
+        kept_by (filter keep rs) (filter keep' (holders (newest_first vs))) e
+        (ap holders f ∙ holders_filter keep' (newest_first vs))
+        (ascending_filter keep rs asc) (lawful_less t keep keep' rs (holders (newest_first vs)) before)
 
-  pub kept_change : (r : Result Answer OutOfMemory) (a : ActionId) (content : Option PlainContent)
-      → (all_above t a (holders (newest_first vs)) && all_above t a rs) ≡ true → rs' ≡ rs
-      → OnOk r (newest_first vs' ≡ with_version a content (newest_first vs)) → OnErr r (newest_first vs' ≡ newest_first vs) → Kept t rs' vs'
-  kept_change (Ok answer) a content up e ok err = kept_write a content up e ok
-  kept_change (Err refused) a content up e ok err = kept_by rs (holders (newest_first vs)) e (ap holders err) asc before
+    pub kept_change : (r : Result Answer OutOfMemory) (a : ActionId) (content : Option PlainContent)
+        → (all_above t a (holders (newest_first vs)) && all_above t a rs) ≡ true → rs' ≡ rs
+        → OnOk r (newest_first vs' ≡ with_version a content (newest_first vs))
+        → OnErr r (newest_first vs' ≡ newest_first vs) → Kept t rs' vs'
+    kept_change (Ok answer) a content up e ok err = kept_write a content up e ok
+    kept_change (Err refused) a content up e ok err = kept_by rs (holders (newest_first vs)) e (ap holders err) asc before

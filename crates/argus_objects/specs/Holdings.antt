@@ -1,5 +1,6 @@
 -- The list of each action's objects.
-use Rattle.std.specs.Prelude.{◌≡◌, ℕ, ◌+◌, ◌≤◌, ◌==◌, nat_eq, if◌then◌else◌, List, [], ◌∷◌, ◌++◌, Option, Some, None}
+use Rattle.std.specs.Prelude.{◌≡◌, ℕ, ◌+◌, ◌≤◌, ◌==◌, nat_eq, if◌then◌else◌, List, [], ◌∷◌, ◌++◌}
+use Rattle.std.specs.Prelude.{Option, Some, None}
 use Rattle.std.specs.List.{list_any}
 use Rattle.std.specs.HashMap.{get}
 use Rattle.indexmap.specs.IndexSet.{IndexSet, spare}
@@ -42,7 +43,8 @@ Lists old a list new = (x : ActionId) → listed new x ≡ (if x.0 == a.0 then l
 abbrev pub PassedOn : Holdings → ActionId → ActionId → Holdings → Type 0
 PassedOn old s parent new =
     (x : ActionId) → listed new x
-    ≡ (if x.0 == s.0 then [] else (if x.0 == parent.0 then passed (listed old s) (listed old parent) else listed old x))
+    ≡ (if x.0 == s.0 then [] else (if x.0 == parent.0 then passed (listed old s)
+    (listed old parent) else listed old x))
 
 -- all lists stay
 abbrev pub SameLists : Holdings → Holdings → Type 0
@@ -54,4 +56,5 @@ KeepsRooms old new = (x : ActionId) → room_of old x ≤ room_of new x
 
 -- each list keeps its room but the one of this action, which may lose one place
 abbrev pub TakesOnePlace : Holdings → ActionId → Holdings → Type 0
-TakesOnePlace old a new = (x : ActionId) → room_of old x ≤ room_of new x + (if x.0 == a.0 then 1 else 0)
+TakesOnePlace old a new =
+    (x : ActionId) → room_of old x ≤ room_of new x + (if x.0 == a.0 then 1 else 0)

@@ -1,10 +1,11 @@
 -- What each call leaves of the readers and of the versions.
-use Rattle.std.specs.Prelude.{Bool, not, ◌&&◌, ◌||◌, ◌==◌, nat_lt, if◌then◌else◌, List, [], ◌∷◌, map, Option, Some, None}
+use Rattle.std.specs.Prelude.{Bool, not, ◌&&◌, ◌||◌, ◌==◌, nat_lt, if◌then◌else◌, List, [], ◌∷◌}
+use Rattle.std.specs.Prelude.{map, Option, Some, None}
 use Rattle.std.specs.List.{list_any, filter}
 use Rattle.argus_actions.specs.declared.action_id.ActionId.{ActionId}
 use Rattle.argus_actions.specs.Tree.{Tree, is_ancestor}
 use Rattle.argus_contents.specs.Content.{PlainContent}
-use Rattle.argus_contents.specs.Change.{PlainChange, Outcome, result}
+use Rattle.argus_contents.specs.Change.{PlainChange, Outcome, outcome}
 use Rattle.argus_objects.specs.Object.{Object, PlainVersion}
 use Rattle.argus_objects.specs.Rules.{seen_by}
 
@@ -17,14 +18,16 @@ has_version a versions = list_any (λ v. v.holder.0 == a.0) versions
 -- the action among the readers, in its place by number
 abbrev pub with_reader : ActionId → List ActionId → List ActionId
 with_reader a [] = a ∷ []
-with_reader a (x ∷ xs) = if nat_lt a.0 x.0 then a ∷ x ∷ xs else (if x.0 == a.0 then x ∷ xs else x ∷ with_reader a xs)
+with_reader a (x ∷ xs) =
+    if nat_lt a.0 x.0 then a ∷ x ∷ xs else (if x.0 == a.0 then x ∷ xs else x ∷ with_reader a xs)
 
 abbrev pub without_reader : ActionId → List ActionId → List ActionId
 without_reader a readers = filter (λ x. not (x.0 == a.0)) readers
 
 -- the parent in the place of s, if s is a reader
 abbrev pub readers_inherited : ActionId → ActionId → List ActionId → List ActionId
-readers_inherited s parent readers = if is_reader s readers then with_reader parent (without_reader s readers) else readers
+readers_inherited s parent readers =
+    if is_reader s readers then with_reader parent (without_reader s readers) else readers
 
 -- the content of the action's version, if it has one
 abbrev pub version_of : ActionId → List PlainVersion → Option (Option PlainContent)
@@ -36,7 +39,8 @@ without_version a versions = filter (λ v. not (v.holder.0 == a.0)) versions
 
 -- the action's one version, on top, with this content
 abbrev pub with_version : ActionId → Option PlainContent → List PlainVersion → List PlainVersion
-with_version a content versions = record { holder = a; content = content } ∷ without_version a versions
+with_version a content versions =
+    record { holder = a; content = content } ∷ without_version a versions
 
 -- a version of s is the parent's now
 abbrev pub handed : ActionId → ActionId → PlainVersion → PlainVersion
@@ -45,7 +49,8 @@ handed s parent v = if v.holder.0 == s.0 then record { holder = parent; content 
 -- the version of s as the parent's, in place of the one that the parent had, if s has one
 abbrev pub versions_inherited : ActionId → ActionId → List PlainVersion → List PlainVersion
 versions_inherited s parent versions =
-    if has_version s versions then map (handed s parent) (without_version parent versions) else versions
+    if has_version s versions then map (handed s parent) (without_version parent versions) else
+    versions
 
 -- the readers that don't have the action as an ancestor
 abbrev pub readers_discarded : Tree → ActionId → List ActionId → List ActionId
@@ -64,7 +69,8 @@ abbrev pub readers_left : Tree → List ActionId → List ActionId → List Acti
 readers_left tree actions readers = filter (λ x. not (is_under_any tree actions x)) readers
 
 abbrev pub versions_left : Tree → List ActionId → List PlainVersion → List PlainVersion
-versions_left tree actions versions = filter (λ v. not (is_under_any tree actions v.holder)) versions
+versions_left tree actions versions =
+    filter (λ v. not (is_under_any tree actions v.holder)) versions
 
 -- x is among the holders once s has handed what it has to its parent
 abbrev pub is_handed : ActionId → ActionId → ActionId → Bool → Bool → Bool
@@ -77,8 +83,8 @@ newest_content base (v ∷ older) = v.content
 
 -- what a change does to the content of the newest version, or to the base
 abbrev pub changed_top : PlainChange → Option PlainContent → List PlainVersion → Outcome
-changed_top change base versions = result change (newest_content base versions)
+changed_top change base versions = outcome change (newest_content base versions)
 
 -- what a change does to the content that the action sees
 abbrev pub changed : Tree → ActionId → PlainChange → Object → Outcome
-changed tree a change object = result change (seen_by tree a object.base object.versions)
+changed tree a change object = outcome change (seen_by tree a object.base object.versions)

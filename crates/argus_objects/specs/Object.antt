@@ -23,7 +23,8 @@ newest_first versions = reverse (map plain_version versions)
 abbrev pub writers : List Version → List ActionId
 writers versions = map (λ v. v.holder) versions
 
--- the base, the readers in increasing number, the versions from descendant to ancestor, and for how many more grants there is room
+-- the base, the readers in increasing number, the versions from descendant to ancestor, and for how
+-- many more grants there is room
 pub record Object : Type 0 where
   pub base : Option PlainContent
   pub readers : List ActionId
@@ -51,6 +52,7 @@ version_coded =
 abbrev pub object_coded : Coded Object
 object_coded =
     code_by (Option PlainContent × (List ActionId × (List PlainVersion × ℕ)))
-    (coded× (coded_option content_coded) (coded× (coded_list action_coded) (coded× (coded_list version_coded) coded_ℕ)))
+    (coded× (coded_option content_coded) (coded× (coded_list action_coded)
+    (coded× (coded_list version_coded) coded_ℕ)))
     (λ o. (o.base, (o.readers, (o.versions, o.room))))
     (λ p. record { base = p.0; readers = p.1.0; versions = p.1.1.0; room = p.1.1.1 }) (λ _. refl)

@@ -1,5 +1,7 @@
--- The lock rules (Moss, Nested Transactions, 1981; Argus Reference Manual, MIT/LCS/TR-400, 1987), and what is so of each object.
-use Rattle.std.specs.Prelude.{◌≡◌, ℕ, Bool, true, not, ◌&&◌, ◌||◌, ◌==◌, nat_lt, nat_le, if◌then◌else◌, List, [], ◌∷◌, Option}
+-- The lock rules (Moss, Nested Transactions, 1981; Argus Reference Manual, MIT/LCS/TR-400, 1987),
+-- and what is so of each object.
+use Rattle.std.specs.Prelude.{◌≡◌, ℕ, Bool, true, not, ◌&&◌, ◌||◌, ◌==◌, nat_lt, nat_le}
+use Rattle.std.specs.Prelude.{if◌then◌else◌, List, [], ◌∷◌, Option}
 use Rattle.std.specs.List.{list_all}
 use Rattle.argus_actions.specs.declared.action_id.ActionId.{ActionId}
 use Rattle.argus_actions.specs.Tree.{Tree, is_ancestor}
@@ -17,7 +19,8 @@ may_read tree object a = all_above tree a (holders object.versions)
 
 -- a write lock is granted when all holders of read and of write locks are ancestors
 abbrev pub may_write : Tree → Object → ActionId → Bool
-may_write tree object a = all_above tree a (holders object.versions) && all_above tree a object.readers
+may_write tree object a =
+    all_above tree a (holders object.versions) && all_above tree a object.readers
 
 -- x is another action than y, and an ancestor of it
 abbrev pub is_strictly_above : Tree → ActionId → ActionId → Bool
@@ -36,14 +39,17 @@ are_related tree x y = is_ancestor tree x.0 y.0 || is_ancestor tree y.0 x.0
 abbrev pub is_related : Tree → List ActionId → ActionId → Bool
 is_related tree ids x = list_all (λ y. are_related tree x y) ids
 
--- holders of versions are distinct and each is an ancestor of those after it; of a reader and a version's holder one is an ancestor of the other
+-- holders of versions are distinct and each is an ancestor of those after it; of a reader and a
+-- version's holder one is an ancestor of the other
 abbrev pub is_lawful : Tree → Object → Bool
-is_lawful tree object = is_chain tree (holders object.versions) && list_all (is_related tree (holders object.versions)) object.readers
+is_lawful tree object = is_chain tree (holders object.versions)
+    && list_all (is_related tree (holders object.versions)) object.readers
 
 -- the content for an action: the version of its nearest ancestor that has one, else the base
 abbrev pub seen_by : Tree → ActionId → Option PlainContent → List PlainVersion → Option PlainContent
 seen_by tree a base [] = base
-seen_by tree a base (v ∷ older) = if is_ancestor tree v.holder.0 a.0 then v.content else seen_by tree a base older
+seen_by tree a base (v ∷ older) =
+    if is_ancestor tree v.holder.0 a.0 then v.content else seen_by tree a base older
 
 -- each number is below all that follow
 abbrev pub is_ascending : List ActionId → Bool

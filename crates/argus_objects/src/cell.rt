@@ -10,8 +10,10 @@ ghost use Rattle.argus_contents.specs.Content.{KeepsLimits, plain_option};
 ghost use Rattle.argus_objects.specs.Object.{newest_first, SameLocks};
 ghost use Rattle.argus_objects.specs.Rules.{is_lawful, may_read, may_write, seen_by};
 ghost use Rattle.argus_objects.specs.Moves.{changed, newest_content, version_of};
-ghost use Rattle.argus_objects.specs.Moves.{readers_discarded, readers_inherited, with_reader, without_reader};
-ghost use Rattle.argus_objects.specs.Moves.{versions_discarded, versions_inherited, with_version, without_version};
+ghost use Rattle.argus_objects.specs.Moves.{readers_discarded, readers_inherited, with_reader};
+ghost use Rattle.argus_objects.specs.Moves.{without_reader};
+ghost use Rattle.argus_objects.specs.Moves.{versions_discarded, versions_inherited, with_version};
+ghost use Rattle.argus_objects.specs.Moves.{without_version};
 
 use crate::changing::{change_version, content_on_top};
 use crate::readers::{add_reader, all_readers_above, discard_readers, drop_reader, inherit_reader};
@@ -58,7 +60,14 @@ impl Model for Cell {
 
     ghost use Rattle.argus_objects.specs.Rules.{AreInOrder};
 
-    ghost view = { λ c. record { base = plain_option c.base; readers = c.readers.items; versions = newest_first c.versions.items; room = min (vec_capacity c.readers - vec_len c.readers) (vec_capacity c.versions - vec_len c.versions) } };
+    ghost view = { λ c. record {
+      base = plain_option c.base;
+      readers = c.readers.items;
+      versions =
+          newest_first c.versions.items;
+      room = min (vec_capacity c.readers - vec_len c.readers)
+          (vec_capacity c.versions - vec_len c.versions);
+    } };
 
     ghost invariant = { λ c. AreInOrder c.readers.items c.versions.items };
 }
@@ -91,7 +100,8 @@ impl Cell {
         self.readers.as_slice()
     }
 
-    /// The versions, from ancestor to descendant. Their holders are the actions that hold a write lock.
+    /// The versions, from ancestor to descendant. Their holders are the actions that hold a write
+    /// lock.
     pub fn versions(&self) -> &[Version]
         ensures { newest_first result.now ≡ self.now.versions }
     {
@@ -114,14 +124,16 @@ impl Cell {
         all_writers_above(self.versions.as_slice(), tree, a)
     }
 
-    /// Whether `a` may have a write lock: all readers and all holders of versions are ancestors of `a`.
+    /// Whether `a` may have a write lock: all readers and all holders of versions are ancestors of
+    /// `a`.
     pub fn may_write(&self, tree: &ActionTree, a: ActionId) -> bool
         ensures { result ≡ may_write tree.now self.now a }
     {
         self.may_read(tree, a) && all_readers_above(self.readers.as_slice(), tree, a)
     }
 
-    /// Makes room for one more reader and one more version. After `OutOfMemory` the lists stay, and in any case the room that was there.
+    /// Makes room for one more reader and one more version. After `OutOfMemory` the lists stay, and
+    /// in any case the room that was there.
     pub fn reserve_grant(&mut self) -> Result<(), OutOfMemory>
         ensures same { SameLocks self.old self.new }
         ensures ok { OnOk result (0 < self.new.room) }
@@ -134,8 +146,8 @@ impl Cell {
 
     /// Makes `a` a reader, if it isn't one.
     ///
-    /// Condition: the cell is lawful, `a` is live and has no live child, the read lock is granted, and
-    /// there is room.
+    /// Condition: the cell is lawful, `a` is live and has no live child, the read lock is granted,
+    /// and there is room.
     pub fn grant_read(&mut self, tree: &ActionTree, a: ActionId)
         requires lawful { is_lawful tree.now self.old ≡ true }
         requires free { commit_refusal tree.now a.0 ≡ None }
@@ -151,8 +163,8 @@ impl Cell {
 
     /// Makes this the content of `a`'s version, which is pushed if `a` had none.
     ///
-    /// Condition: the cell is lawful, `a` is live and has no live child, the write lock is granted, and
-    /// there is room.
+    /// Condition: the cell is lawful, `a` is live and has no live child, the write lock is granted,
+    /// and there is room.
     pub fn grant_write(&mut self, tree: &ActionTree, a: ActionId, new_content: Option<Content>)
         requires lawful { is_lawful tree.now self.old ≡ true }
         requires free { commit_refusal tree.now a.0 ≡ None }
@@ -160,21 +172,23 @@ impl Cell {
         requires room { 0 < self.old.room }
         ensures base { self.new.base ≡ self.old.base }
         ensures readers { self.new.readers ≡ self.old.readers }
-        ensures versions { self.new.versions ≡ with_version a (plain_option new_content) self.old.versions }
+        ensures versions { self.new.versions ≡ with_version a (plain_option new_content)
+            self.old.versions }
         ensures lawful { is_lawful tree.now self.new ≡ true }
     {
         put_version(&mut self.versions, a, new_content);
     }
 
-    /// Makes a change in `a`'s version, which is pushed if `a` had none, and gives the change's answer.
+    /// Makes a change in `a`'s version, which is pushed if `a` had none, and gives the change's
+    /// answer.
     ///
     /// It means what `grant_write` does with the content that the change leaves of what `a` sees. A
-    /// version that is there is changed in place, so only the first write of an action copies. After
-    /// `OutOfMemory` the cell is as before. What is left keeps the limits of arrays where a content that
-    /// the change creates does.
+    /// version that is there is changed in place, so only the first write of an action copies.
+    /// After `OutOfMemory` the cell is as before. What is left keeps the limits of arrays where a
+    /// content that the change creates does.
     ///
-    /// Condition: the cell is lawful, `a` is live and has no live child, the write lock is granted, and
-    /// what `a` sees keeps the limits of arrays.
+    /// Condition: the cell is lawful, `a` is live and has no live child, the write lock is granted,
+    /// and what `a` sees keeps the limits of arrays.
     pub fn grant_change(
         &mut self,
         tree: &ActionTree,
@@ -187,22 +201,27 @@ impl Cell {
         requires limits { KeepsLimits (seen_by tree.now a self.old.base self.old.versions) }
         ensures base { self.new.base ≡ self.old.base }
         ensures readers { self.new.readers ≡ self.old.readers }
-        ensures versions { OnOk result (self.new.versions ≡ with_version a (changed tree.now a (plain_change change) self.old).0 self.old.versions) }
-        ensures answer { IfOk result (λ answer. plain_answer answer ≡ (changed tree.now a (plain_change change) self.old).1) }
-        ensures kept { CreatesWithin (plain_change change) → OnOk result (KeepsLimits (changed tree.now a (plain_change change) self.old).0) }
+        ensures versions { OnOk result (self.new.versions
+            ≡ with_version a (changed tree.now a (plain_change change) self.old).0
+            self.old.versions) }
+        ensures answer { IfOk result (λ answer. plain_answer answer
+            ≡ (changed tree.now a (plain_change change) self.old).1) }
+        ensures kept { CreatesWithin (plain_change change)
+            → OnOk result (KeepsLimits (changed tree.now a (plain_change change) self.old).0) }
         ensures err { OnErr result (self.new.versions ≡ self.old.versions) }
         ensures lawful { is_lawful tree.now self.new ≡ true }
     {
         change_version(&self.base, &mut self.versions, a, change)
     }
 
-    /// The content that `a` sees: the version of its nearest ancestor that has one, else the base. As
-    /// all holders of versions are its ancestors, that is the newest version.
+    /// The content that `a` sees: the version of its nearest ancestor that has one, else the base.
+    /// As all holders of versions are its ancestors, that is the newest version.
     ///
     /// Condition: the read lock is free for `a`.
     pub fn visible(&self, tree: &ActionTree, a: ActionId) -> &Option<Content>
         requires { may_read tree.now self.now a ≡ true }
-        ensures nearest { plain_option result.now ≡ seen_by tree.now a self.now.base self.now.versions }
+        ensures nearest { plain_option result.now ≡ seen_by tree.now a self.now.base
+            self.now.versions }
         ensures newest { plain_option result.now ≡ newest_content self.now.base self.now.versions }
     {
         content_on_top(&self.base, self.versions.as_slice())
@@ -210,8 +229,8 @@ impl Cell {
 
     /// Hands what the subaction `s` holds to its parent, which then has it in place of its own.
     ///
-    /// Call it before the tree commits `s`. Condition: the cell is lawful, `s` is live and has no live
-    /// child, and `parent` is its parent.
+    /// Call it before the tree commits `s`. Condition: the cell is lawful, `s` is live and has no
+    /// live child, and `parent` is its parent.
     pub fn inherit(&mut self, tree: &ActionTree, s: ActionId, parent: ActionId)
         requires lawful { is_lawful tree.now self.old ≡ true }
         requires parent { parent_of tree.now s.0 ≡ Some parent }
@@ -228,8 +247,8 @@ impl Cell {
 
     /// Makes the topaction's version, if it has one, the base, and releases its locks.
     ///
-    /// Call it before the tree commits `t`. Condition: the cell is lawful, and `t` is live and has no
-    /// live child.
+    /// Call it before the tree commits `t`. Condition: the cell is lawful, and `t` is live and has
+    /// no live child.
     pub fn settle_top(&mut self, tree: &ActionTree, t: ActionId)
         requires lawful { is_lawful tree.now self.old ≡ true }
         requires free { commit_refusal tree.now t.0 ≡ None }

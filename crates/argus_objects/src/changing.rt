@@ -18,7 +18,8 @@ pub(crate) fn content_on_top<'a>(
     base: &'a Option<Content>,
     versions: &'a [Version],
 ) -> &'a Option<Content>
-    ensures { plain_option result.now ≡ newest_content (plain_option base.now) (newest_first versions.now) }
+    ensures { plain_option result.now ≡ newest_content (plain_option base.now)
+        (newest_first versions.now) }
 {
     match versions.last() {
         Some(newest) => &newest.content,
@@ -37,9 +38,14 @@ pub(crate) fn change_version(
 ) -> Result<Answer, OutOfMemory>
     requires ascending { is_ascending (writers versions.old.items) ≡ true }
     requires newest { are_up_to a (writers versions.old.items) ≡ true }
-    requires limits { KeepsLimits (newest_content (plain_option base.now) (newest_first versions.old.items)) }
-    ensures versions { OnOk result (newest_first versions.new.items ≡ with_version a (changed_top (plain_change change) (plain_option base.now) (newest_first versions.old.items)).0 (newest_first versions.old.items)) }
-    ensures answer { IfOk result (λ answer. plain_answer answer ≡ (changed_top (plain_change change) (plain_option base.now) (newest_first versions.old.items)).1) }
+    requires limits { KeepsLimits (newest_content (plain_option base.now)
+        (newest_first versions.old.items)) }
+    ensures versions { OnOk result (newest_first versions.new.items
+        ≡ with_version a (changed_top (plain_change change) (plain_option base.now)
+        (newest_first versions.old.items)).0 (newest_first versions.old.items)) }
+    ensures answer { IfOk result (λ answer. plain_answer answer
+        ≡ (changed_top (plain_change change) (plain_option base.now)
+        (newest_first versions.old.items)).1) }
     ensures err { OnErr result (newest_first versions.new.items ≡ newest_first versions.old.items) }
 {
     let held = versions.len();

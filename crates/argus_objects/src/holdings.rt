@@ -3,7 +3,8 @@
 ghost use Rattle.std.specs.Prelude.{◌≡◌, ◌≢◌, ◌<◌, ◌≤◌, ◌==◌, [], length, OnOk};
 ghost use Rattle.std.specs.List.{IsDistinct};
 ghost use Rattle.indexmap.specs.IndexSet.{spare};
-ghost use Rattle.argus_objects.specs.Holdings.{KeepsRooms, listed, Lists, noted, passed, PassedOn, room_of, SameLists, TakesOnePlace};
+ghost use Rattle.argus_objects.specs.Holdings.{KeepsRooms, listed, Lists, noted, passed, PassedOn};
+ghost use Rattle.argus_objects.specs.Holdings.{room_of, SameLists, TakesOnePlace};
 
 use argus_actions::ActionId;
 use argus_contents::ObjId;
@@ -29,8 +30,8 @@ fn note_all(into: &mut Objects, objects: &[ObjId])
 /// For each action a list of objects, in the order in which they were noted, each once. So a commit
 /// or an abort visits the objects of the actions that it ends, and no others.
 ///
-/// A list is a set in the order of insertion, so `note` costs one look-up however long it is. A list
-/// that was passed on or cleared keeps no memory.
+/// A list is a set in the order of insertion, so `note` costs one look-up however long it is. A
+/// list that was passed on or cleared keeps no memory.
 ///
 /// ```text
 /// holdings.reserve(a)?;
@@ -65,8 +66,8 @@ impl Holdings {
         }
     }
 
-    /// Makes room for one more object in the action's list. After `OutOfMemory` the lists are as before,
-    /// and all room that was there stays.
+    /// Makes room for one more object in the action's list. After `OutOfMemory` the lists are as
+    /// before, and all room that was there stays.
     pub fn reserve(&mut self, a: ActionId) -> Result<(), OutOfMemory>
         ensures same { SameLists self.old self.new }
         ensures ok { OnOk result (0 < room_of self.new a) }
@@ -75,8 +76,8 @@ impl Holdings {
         self.reserve_for(a, 1)
     }
 
-    /// Puts the object at the end of the action's list, unless it is there. It takes no memory, and one
-    /// place of the list's room at most.
+    /// Puts the object at the end of the action's list, unless it is there. It takes no memory, and
+    /// one place of the list's room at most.
     ///
     /// Condition: the list has room, as `reserve` makes it.
     pub fn note(&mut self, a: ActionId, o: ObjId)
@@ -89,8 +90,8 @@ impl Holdings {
         }
     }
 
-    /// Makes room in the parent's list for all objects of `s`. After `OutOfMemory` the lists are as before,
-    /// and all room that was there stays.
+    /// Makes room in the parent's list for all objects of `s`. After `OutOfMemory` the lists are as
+    /// before, and all room that was there stays.
     pub fn reserve_pass(&mut self, s: ActionId, parent: ActionId) -> Result<(), OutOfMemory>
         ensures same { SameLists self.old self.new }
         ensures ok { OnOk result (length (listed self.new s) ≤ room_of self.new parent) }
@@ -103,8 +104,8 @@ impl Holdings {
         self.reserve_for(parent, count)
     }
 
-    /// Puts the objects of `s` that the parent's list lacks at its end, in their order, and empties the
-    /// list of `s`. It takes no memory, and gives that of the list of `s` back.
+    /// Puts the objects of `s` that the parent's list lacks at its end, in their order, and empties
+    /// the list of `s`. It takes no memory, and gives that of the list of `s` back.
     ///
     /// Condition: the two are different actions, and the parent's list has room for all of them, as
     /// `reserve_pass` makes it.

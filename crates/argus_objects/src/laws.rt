@@ -1,20 +1,26 @@
-//! What follows of cells as actions begin and end. These functions do nothing: each contract is a law for proofs.
+//! What follows of cells as actions begin and end. These functions do nothing: each contract is a
+//! law for proofs.
 
 ghost use Rattle.std.specs.Prelude.{◌≡◌, ◌≢◌, true, ◌==◌, if◌then◌else◌, List, [], ◌∷◌};
 ghost use Rattle.argus_actions.specs.declared.action_id.ActionId.{ActionId};
 ghost use Rattle.argus_actions.specs.declared.origin.Origin.{Origin};
-ghost use Rattle.argus_actions.specs.Tree.{Tree, after_begin, after_commit, after_abort, after_abort_others};
+ghost use Rattle.argus_actions.specs.Tree.{Tree, after_begin, after_commit, after_abort};
+ghost use Rattle.argus_actions.specs.Tree.{after_abort_others};
 ghost use Rattle.argus_objects.specs.Object.{Object, PlainVersion};
 ghost use Rattle.argus_objects.specs.Rules.{is_lawful, may_read, may_write, KeepsAncestors};
-ghost use Rattle.argus_objects.specs.Moves.{is_reader, has_version, version_of, is_handed, readers_inherited, versions_inherited};
-ghost use Rattle.argus_objects.specs.Moves.{readers_discarded, versions_discarded, readers_left, versions_left};
+ghost use Rattle.argus_objects.specs.Moves.{is_reader, has_version, version_of, is_handed};
+ghost use Rattle.argus_objects.specs.Moves.{readers_inherited, versions_inherited};
+ghost use Rattle.argus_objects.specs.Moves.{readers_discarded, versions_discarded, readers_left};
+ghost use Rattle.argus_objects.specs.Moves.{versions_left};
 
 /// Who is an ancestor of whom stays so, whatever begins or ends.
 pub fn ancestors_stay()
-    ensures begin { (tree : Tree) (origin : Origin) → KeepsAncestors tree (after_begin tree origin) }
+    ensures begin { (tree : Tree) (origin : Origin)
+        → KeepsAncestors tree (after_begin tree origin) }
     ensures commit { (tree : Tree) (a : ActionId) → KeepsAncestors tree (after_commit tree a.0) }
     ensures abort { (tree : Tree) (a : ActionId) → KeepsAncestors tree (after_abort tree a.0) }
-    ensures abort_others { (tree : Tree) (a : ActionId) → KeepsAncestors tree (after_abort_others tree a.0) }
+    ensures abort_others { (tree : Tree) (a : ActionId)
+        → KeepsAncestors tree (after_abort_others tree a.0) }
 {}
 
 /// Where ancestors stay, a lawful cell stays lawful, and who may have a lock still may.
@@ -45,7 +51,8 @@ pub fn members_after_inherit()
 
 /// What discards of several actions, one after another, leave: what none of them takes along.
 pub fn discards_in_turn()
-    ensures none { (tree : Tree) (readers : List ActionId) → readers_left tree [] readers ≡ readers }
+    ensures none { (tree : Tree) (readers : List ActionId)
+        → readers_left tree [] readers ≡ readers }
     ensures no_more { (tree : Tree) (versions : List PlainVersion)
         → versions_left tree [] versions ≡ versions }
     ensures readers { (tree : Tree) (a : ActionId) (actions readers : List ActionId)

@@ -3,7 +3,8 @@
 ghost use Rattle.std.specs.Prelude.{◌≡◌, ◌<◌, ◌≤◌, true, vec_len};
 ghost use Rattle.std.specs.Vec.{vec_capacity};
 ghost use Rattle.argus_objects.specs.Rules.{all_above, is_ascending};
-ghost use Rattle.argus_objects.specs.Moves.{is_reader, with_reader, without_reader, readers_inherited, readers_discarded};
+ghost use Rattle.argus_objects.specs.Moves.{is_reader, with_reader, without_reader};
+ghost use Rattle.argus_objects.specs.Moves.{readers_inherited, readers_discarded};
 
 use argus_actions::{ActionId, ActionTree};
 use argus_memory::Heap;
@@ -11,11 +12,11 @@ use argus_memory::Heap;
 pub(crate) fn has_reader(readers: &[ActionId], a: ActionId) -> bool
     ensures { result ≡ is_reader a readers.now }
 {
-    readers.iter().any(|x| x.0 == a.0)
+    readers.iter().any(|x| *x == a)
 }
 
-/// Whether all readers are ancestors of `a`. The climb goes on where the last one ended, so it costs the readers and the
-/// depth of `a`.
+/// Whether all readers are ancestors of `a`. The climb goes on where the last one ended, so it
+/// costs the readers and the depth of `a`.
 pub(crate) fn all_readers_above(readers: &[ActionId], tree: &ActionTree, a: ActionId) -> bool
     requires { is_ascending readers.now ≡ true }
     ensures { result ≡ all_above tree.now a readers.now }
@@ -52,7 +53,7 @@ pub(crate) fn drop_reader(readers: &mut Vec<ActionId, Heap>, a: ActionId)
     ensures readers { readers.new.items ≡ without_reader a readers.old.items }
     ensures capacity { vec_capacity readers.new ≡ vec_capacity readers.old }
 {
-    readers.retain(|x| x.0 != a.0);
+    readers.retain(|x| *x != a);
 }
 
 /// Puts the parent in the place of `s`.

@@ -6,7 +6,8 @@ use Rattle.argus_texts.specs.Language.{Language, Reads, Stops, IsNot}
 use Rattle.argus_texts.specs.Languages.{Numbers, Word, Pairs, Values, Choices}
 use Rattle.argus_texts.proofs.Digits.{numbers_clear}
 use Rattle.argus_texts.proofs.Forms.{value_precedes, values_clear}
-use Rattle.argus_texts.proofs.Stops.{Precedes, Clear, stops_in, stops_behind, pair_first, pair_second, pair_between, pair_whole}
+use Rattle.argus_texts.proofs.Stops.{Precedes, Clear, stops_in, stops_behind, pair_first, pair_second, pair_between}
+use Rattle.argus_texts.proofs.Stops.{pair_whole}
 
 abbrev Tags : Language
 Tags = Numbers 0 255

@@ -1,5 +1,6 @@
 -- The form of a content: that a text begins with one at most, and where reading it stops.
-use Rattle.std.proofs.Common.{◌≡◌, ◌≢◌, ℕ, inl, inr, List, [], ◌∷◌, ◌++◌, length, refl, sym, ap, ◌∙◌, subst, append_assoc, append-nil, arith}
+use Rattle.std.proofs.Common.{◌≡◌, ◌≢◌, ℕ, inl, inr, List, [], ◌∷◌, ◌++◌, length, refl, sym, ap, ◌∙◌, subst}
+use Rattle.std.proofs.Common.{append_assoc, append-nil, arith}
 use Rattle.std.specs.Prelude.{ℤ}
 use Rattle.std.specs.Fmt.{decimal, signed_decimal}
 use Rattle.argus_contents.specs.Value.{PlainValue, PlainValues, none, more, listed}
@@ -13,7 +14,8 @@ use Rattle.argus_texts.proofs.Digits.{one_decimal, ints_clear}
 use Rattle.argus_texts.proofs.Faults.{Accepts}
 use Rattle.argus_texts.proofs.Forms.{int_lead, int_front, one_form, one_inside, value_ends, choice_form}
 use Rattle.argus_texts.proofs.Lists.{tail_of, head_of}
-use Rattle.argus_texts.proofs.Stops.{Clear, Behind, Among, Precedes, stops_in, stops_behind, stops_among, pair_first, pair_second, pair_between, pair_reads, pair_whole}
+use Rattle.argus_texts.proofs.Stops.{Clear, Behind, Among, Precedes, stops_in, stops_behind, stops_among, pair_first}
+use Rattle.argus_texts.proofs.Stops.{pair_second, pair_between, pair_reads, pair_whole}
 
 -- the list of values
 unlisted : PlainValues → List PlainValue
@@ -126,8 +128,7 @@ angle_starts k (var t v) u y w i =
     record {
       thing = (t, (v, tt));
       rest = y;
-      reads =
-          record { good = ((omega arith, omega (arith, w.0)), (w.1, tt)); ends = tt; is = tail_of i };
+      reads = record { good = ((omega arith, omega (arith, w.0)), (w.1, tt)); ends = tt; is = tail_of i };
     }
 angle_starts k e u y w i = let l = kind_of k e 60 u y w i in absurd (omega arith)
 
@@ -138,8 +139,7 @@ variant_angle k = record {
     record {
       thing = var f.thing.0 f.thing.1.0;
       good = (omega (arith, f.good.0.1), f.good.1.0);
-      is =
-          ap (λ x. 60 ∷ x) f.is;
+      is = ap (λ x. 60 ∷ x) f.is;
     },
   );
   starts = λ u s. angle_starts k s.thing u s.rest s.reads.good s.reads.is;

@@ -1,5 +1,6 @@
 -- The digits of numbers, and where they stop.
-use Rattle.std.proofs.Common.{◌≡◌, ◌≢◌, ℕ, zero, suc, ◌<◌, ◌≤◌, ◌+◌, ◌-◌, ◌*◌, ◌^◌, ◌⊎◌, inl, inr, List, [], ◌∷◌, ◌++◌, length, get_or, refl, sym, ap, ◌∙◌, subst, append-nil, append_assoc, arith}
+use Rattle.std.proofs.Common.{◌≡◌, ◌≢◌, ℕ, zero, suc, ◌<◌, ◌≤◌, ◌+◌, ◌-◌, ◌*◌, ◌^◌, ◌⊎◌, inl, inr, List, [], ◌∷◌, ◌++◌}
+use Rattle.std.proofs.Common.{length, get_or, refl, sym, ap, ◌∙◌, subst, append-nil, append_assoc, arith}
 use Rattle.std.specs.Prelude.{◌%◌, ◌/◌, ℤ, pos, negsuc}
 use Rattle.std.specs.Fmt.{decimal, signed_decimal}
 use Rattle.std.proofs.lemmas.Fmt.{decimal_by_steps, decimal_step, decimal_digit, first_decimal, decimal_injective}
@@ -236,8 +237,7 @@ minus = record {
     record {
       thing = negsuc (f.thing - 1);
       good = omega (arith, f.good.0, f.good.1);
-      is =
-          ap (λ x. 45 ∷ x) (f.is ∙ ap decimal (sym (below f.thing f.good.0)));
+      is = ap (λ x. 45 ∷ x) (f.is ∙ ap decimal (sym (below f.thing f.good.0)));
     },
   );
   starts = λ u s. minus_starts s.thing u s.rest s.reads.good s.reads.ends s.reads.is;
@@ -282,6 +282,5 @@ reads_minus n z text others rest e r f =
     (record {
       good = omega (arith, r.good.0, r.good.1);
       ends = r.ends;
-      is =
-          e ∙ ap (λ x. 45 ∷ x) (r.is ∙ ap (λ m. decimal m ++ rest) (sym (below n r.good.0)));
+      is = e ∙ ap (λ x. 45 ∷ x) (r.is ∙ ap (λ m. decimal m ++ rest) (sym (below n r.good.0)));
     })

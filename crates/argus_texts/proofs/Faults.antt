@@ -1,5 +1,6 @@
 -- From where reading stops to the fault of the whole text.
-use Rattle.std.proofs.Common.{◌≡◌, ℕ, zero, suc, ◌<◌, ◌≤◌, ◌-◌, List, [], ◌∷◌, ◌++◌, length, take, refl, sym, ap, ◌∙◌, subst, append-nil, append_assoc, length-append, arith}
+use Rattle.std.proofs.Common.{◌≡◌, ℕ, zero, suc, ◌<◌, ◌≤◌, ◌-◌, List, [], ◌∷◌, ◌++◌, length, take, refl, sym, ap, ◌∙◌}
+use Rattle.std.proofs.Common.{subst, append-nil, append_assoc, length-append, arith}
 use Rattle.argus_texts.specs.Fault.{Begins, IsFault}
 use Rattle.argus_texts.specs.Language.{Language, FormOf, Reads, Starts, NoWay, Stops}
 use Rattle.argus_texts.proofs.Stops.{Clear}
@@ -61,8 +62,7 @@ starts_form L k u f =
     record {
       thing = f.thing;
       rest = [];
-      reads =
-          record { good = f.good; ends = k.nil f.thing; is = f.is ∙ sym (append-nil (L.form f.thing)) };
+      reads = record { good = f.good; ends = k.nil f.thing; is = f.is ∙ sym (append-nil (L.form f.thing)) };
     }
 
 no_form_from : (L : Language) (A : List ℕ → Type 0) → Clear L → Accepts L A → (front back : List ℕ) → NoWay L front back

@@ -1,8 +1,10 @@
 -- The form of a value: what it begins with, and that a text begins with one at most.
-use Rattle.std.proofs.Common.{◌≡◌, ◌≢◌, ℕ, suc, ◌≤◌, ◌-◌, inl, inr, true, false, List, [], ◌∷◌, ◌++◌, refl, sym, ap, ◌∙◌, append_assoc, append-nil, arith}
+use Rattle.std.proofs.Common.{◌≡◌, ◌≢◌, ℕ, suc, ◌≤◌, ◌-◌, inl, inr, true, false, List, [], ◌∷◌, ◌++◌, refl, sym, ap}
+use Rattle.std.proofs.Common.{◌∙◌, append_assoc, append-nil, arith}
 use Rattle.std.specs.Prelude.{ℤ, pos, negsuc, codes}
 use Rattle.std.specs.Fmt.{decimal, signed_decimal}
-use Rattle.argus_contents.specs.Value.{PlainValue, PlainValues, null, bool, int, text, atomic, sequence, fields, choice, none, more}
+use Rattle.argus_contents.specs.Value.{PlainValue, PlainValues, null, bool, int, text, atomic, sequence, fields, choice}
+use Rattle.argus_contents.specs.Value.{none, more}
 use Rattle.argus_texts.specs.Languages.{IsNoDigit, NotDigit, ValueEnds, BeginsInt, IsClose, Values}
 use Rattle.argus_texts.specs.Spelling.{spelling, escaped, inside, behind, IsI64, Within, AllWithin}
 use Rattle.argus_texts.proofs.Lists.{tail_of, head_of}
@@ -109,8 +111,7 @@ close_no_lead c (inl h) = (
   omega arith,
   omega arith,
   omega arith,
-  λ b.
-      omega arith,
+  λ b. omega arith,
   omega arith,
   omega arith,
   omega arith,
@@ -121,8 +122,7 @@ close_no_lead c (inr h) = (
   omega arith,
   omega arith,
   omega arith,
-  λ b.
-      omega arith,
+  λ b. omega arith,
   omega arith,
   omega arith,
   omega arith,

@@ -1,5 +1,6 @@
 -- Where reading a list of values stops, and what is read of it.
-use Rattle.std.proofs.Common.{◌≡◌, ◌≢◌, ℕ, ◌≤◌, inl, inr, List, [], ◌∷◌, ◌++◌, length, refl, sym, ap, ◌∙◌, subst, append_assoc, append-nil, arith}
+use Rattle.std.proofs.Common.{◌≡◌, ◌≢◌, ℕ, ◌≤◌, inl, inr, List, [], ◌∷◌, ◌++◌, length, refl, sym, ap, ◌∙◌, subst}
+use Rattle.std.proofs.Common.{append_assoc, append-nil, arith}
 use Rattle.std.proofs.lemmas.List.{map-append}
 use Rattle.argus_contents.specs.Value.{PlainValue, PlainValues, none, more, listed, plain_value, plain_list}
 use Rattle.argus_contents.specs.declared.value.Value.{Value}
@@ -19,8 +20,7 @@ value_first close i k = record {
     record {
       thing = (f.thing, none);
       good = (f.good, tt);
-      is =
-          sym (append_assoc u t (close ∷ [])) ∙ ap (λ x. x ++ close ∷ []) f.is;
+      is = sym (append_assoc u t (close ∷ [])) ∙ ap (λ x. x ++ close ∷ []) f.is;
     },
   );
   starts = λ u s. record {
@@ -29,8 +29,7 @@ value_first close i k = record {
     reads = record {
       good = s.reads.good.0;
       ends = ends_behind close i s.thing.0 s.thing.1 s.rest;
-      is =
-          s.reads.is ∙ append_assoc (spelling s.thing.0) (behind close s.thing.1) s.rest;
+      is = s.reads.is ∙ append_assoc (spelling s.thing.0) (behind close s.thing.1) s.rest;
     };
   };
 }
@@ -65,8 +64,7 @@ value_and_comma close i k d w = record {
     record {
       thing = (d, more f.thing.0 f.thing.1);
       good = (w, (f.good.0, f.good.1));
-      is =
-          append_assoc (spelling d) (44 ∷ []) (u ++ t) ∙ ap (λ x. spelling d ++ 44 ∷ x) f.is;
+      is = append_assoc (spelling d) (44 ∷ []) (u ++ t) ∙ ap (λ x. spelling d ++ 44 ∷ x) f.is;
     },
   );
   starts = λ u s. comma_start close i k d w u s;

@@ -1,5 +1,6 @@
 -- Lists of bytes: first bytes, common fronts.
-use Rattle.std.proofs.Common.{◌≡◌, ℕ, zero, suc, ◌<◌, ◌≤◌, true, List, [], ◌∷◌, ◌++◌, length, take, drop, get_or, refl, sym, ap, ◌∙◌, arith, drop-cons}
+use Rattle.std.proofs.Common.{◌≡◌, ℕ, zero, suc, ◌<◌, ◌≤◌, true, List, [], ◌∷◌, ◌++◌, length, take, drop, get_or, refl}
+use Rattle.std.proofs.Common.{sym, ap, ◌∙◌, arith, drop-cons}
 use Rattle.std.specs.Prelude.{nat_lt, ◌&&◌, Bool, false}
 use borrow.Author.Tests.{ltb-true}
 use Rattle.std.specs.List.{list_all}

@@ -1,5 +1,6 @@
 -- Texts between quotes, and where they stop.
-use Rattle.std.proofs.Common.{◌≡◌, ◌≢◌, ℕ, Bool, true, false, ◌<◌, ◌≤◌, ◌+◌, ◌⊎◌, inl, inr, List, [], ◌∷◌, ◌++◌, length, take, get_or, refl, sym, ap, ◌∙◌, subst, append-nil, append_assoc, arith}
+use Rattle.std.proofs.Common.{◌≡◌, ◌≢◌, ℕ, Bool, true, false, ◌<◌, ◌≤◌, ◌+◌, ◌⊎◌, inl, inr, List, [], ◌∷◌, ◌++◌, length}
+use Rattle.std.proofs.Common.{take, get_or, refl, sym, ap, ◌∙◌, subst, append-nil, append_assoc, arith}
 use Rattle.std.specs.Prelude.{if◌then◌else◌}
 use Rattle.std.specs.Str.{IsUtf8}
 use Rattle.std.proofs.lemmas.Bool.Decides.{eqb_tells}
@@ -239,8 +240,7 @@ quoted_reads read text others rest u e o =
     record {
       good = u;
       ends = tt;
-      is =
-          e ∙ ap (λ x. escaped read ++ x) o ∙ sym (append_assoc (escaped read) (34 ∷ []) rest);
+      is = e ∙ ap (λ x. escaped read ++ x) o ∙ sym (append_assoc (escaped read) (34 ∷ []) rest);
     }
 
 -- what isn't ASCII isn't special

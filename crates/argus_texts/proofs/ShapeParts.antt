@@ -1,12 +1,15 @@
 -- Where a part of a shape comes, and where none does.
-use Rattle.std.proofs.Common.{◌≡◌, ◌≢◌, ℕ, suc, ◌<◌, ◌-◌, true, false, List, [], ◌∷◌, ◌++◌, length, get_or, codes, None, refl, sym, ap, ◌∙◌, subst, append_assoc, append-nil, arith}
+use Rattle.std.proofs.Common.{◌≡◌, ◌≢◌, ℕ, suc, ◌<◌, ◌-◌, true, false, List, [], ◌∷◌, ◌++◌, length, get_or, codes, None}
+use Rattle.std.proofs.Common.{refl, sym, ap, ◌∙◌, subst, append_assoc, append-nil, arith}
 use Rattle.argus_contents.specs.Name.{is_name}
 use Rattle.argus_contents.specs.Shape.{PlainShape, rec, arr, var, fault_of}
 use Rattle.argus_contents.specs.Ty.{PlainTy, PlainFields, none, more, named}
 use Rattle.argus_texts.specs.Language.{First, IsNot, Reads, Starts}
 use Rattle.argus_texts.specs.Languages.{Word}
-use Rattle.argus_texts.specs.ShapeLanguages.{BeginsNo, Closed, Fields, IsList, IsShallow, AreShallow, Lists, Names, Shapes, Types}
-use Rattle.argus_texts.specs.ShapeSpelling.{ty_spelling, names_inside, names_behind, shape_spelling, IsNamed, AreNamed, HasNames, IsMakeable, IsShapeText}
+use Rattle.argus_texts.specs.ShapeLanguages.{BeginsNo, Closed, Fields, IsList, IsShallow, AreShallow, Lists, Names}
+use Rattle.argus_texts.specs.ShapeLanguages.{Shapes, Types}
+use Rattle.argus_texts.specs.ShapeSpelling.{ty_spelling, names_inside, names_behind, shape_spelling, IsNamed, AreNamed}
+use Rattle.argus_texts.specs.ShapeSpelling.{HasNames, IsMakeable, IsShapeText}
 use Rattle.argus_texts.proofs.Items.{NoEnd}
 use Rattle.argus_texts.proofs.Lists.{tail_of, head_of}
 use Rattle.argus_texts.proofs.Makeable.{fields_makeable, tags_makeable, item_makeable, shallow_named}
@@ -97,8 +100,7 @@ front_of n k text end (more name t fs) l e = record {
   field = record {
     thing = (name, t);
     rest = names_behind fs ++ end;
-    reads =
-        record { good = (l.1.1, l.1.2); ends = tt; is = e ∙ regroup name (ty_spelling t) (names_behind fs) end };
+    reads = record { good = (l.1.1, l.1.2); ends = tt; is = e ∙ regroup name (ty_spelling t) (names_behind fs) end };
   };
   some = l.1.0;
   others = fs;
@@ -274,8 +276,7 @@ no_word_at text rest (arr t) r a v e =
     a (record {
       thing = tt;
       rest = (ty_spelling t ++ 93 ∷ []) ++ rest;
-      reads =
-          record { good = tt; ends = tt; is = e };
+      reads = record { good = tt; ends = tt; is = e };
     })
 no_word_at text rest (var fs) r a v e =
     v (record { thing = tt; rest = names_inside fs ++ rest; reads = record { good = tt; ends = tt; is = e } })
@@ -300,8 +301,7 @@ no_shape_text text h t =
     h (record {
       thing = t.shape;
       rest = [];
-      reads =
-          record { good = t.makeable; ends = tt; is = t.is ∙ sym (append-nil (shape_spelling t.shape)) };
+      reads = record { good = t.makeable; ends = tt; is = t.is ∙ sym (append-nil (shape_spelling t.shape)) };
     })
 
 -- something comes behind a shape

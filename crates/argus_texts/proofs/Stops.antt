@@ -1,5 +1,6 @@
 -- Where reading stops: what was read so far can be gone on with, but not as the text goes on.
-use Rattle.std.proofs.Common.{◌≡◌, ℕ, suc, ◌<◌, List, [], ◌∷◌, ◌++◌, length, take, drop, get_or, refl, sym, ap, ◌∙◌, subst, append_assoc, append-nil}
+use Rattle.std.proofs.Common.{◌≡◌, ℕ, suc, ◌<◌, List, [], ◌∷◌, ◌++◌, length, take, drop, get_or, refl, sym, ap, ◌∙◌}
+use Rattle.std.proofs.Common.{subst, append_assoc, append-nil}
 use Rattle.std.proofs.lemmas.List.{take-append-drop}
 use Rattle.argus_texts.specs.Language.{Language, FormOf, Reads, Starts, NoWay, Stops, First, IsNot}
 use Rattle.argus_texts.specs.Languages.{Pairs, Word}
@@ -84,8 +85,7 @@ pair_first L M c p m g = record {
     record {
       thing = (f.thing, m);
       good = (f.good, g);
-      is =
-          sym (append_assoc u t (c ∷ M.form m)) ∙ ap (λ x. x ++ c ∷ M.form m) f.is;
+      is = sym (append_assoc u t (c ∷ M.form m)) ∙ ap (λ x. x ++ c ∷ M.form m) f.is;
     },
   );
   starts = λ u s. record {
@@ -94,8 +94,7 @@ pair_first L M c p m g = record {
     reads = record {
       good = s.reads.good.0;
       ends = p s.thing.0 (M.form s.thing.1 ++ s.rest);
-      is =
-          s.reads.is ∙ append_assoc (L.form s.thing.0) (c ∷ M.form s.thing.1) s.rest;
+      is = s.reads.is ∙ append_assoc (L.form s.thing.0) (c ∷ M.form s.thing.1) s.rest;
     };
   };
 }
@@ -111,8 +110,7 @@ second_starts L M c k p a g u s =
     record {
       thing = s.thing.1;
       rest = s.rest;
-      reads =
-          record { good = s.reads.good.1; ends = s.reads.ends; is = tail_of r.1 };
+      reads = record { good = s.reads.good.1; ends = s.reads.ends; is = tail_of r.1 };
     }
 
 pub pair_second : (L M : Language) (c : ℕ) → Clear L → Precedes L c → (a : L.Thing) → L.Good a
@@ -123,8 +121,7 @@ pair_second L M c k p a g = record {
     record {
       thing = (a, f.thing);
       good = (g, f.good);
-      is =
-          append_assoc (L.form a) (c ∷ []) (u ++ t) ∙ ap (λ x. L.form a ++ c ∷ x) f.is;
+      is = append_assoc (L.form a) (c ∷ []) (u ++ t) ∙ ap (λ x. L.form a ++ c ∷ x) f.is;
     },
   );
   starts = λ u s. second_starts L M c k p a g u s;

@@ -1,9 +1,11 @@
 -- Where reading a value stops, from where a part of it does.
-use Rattle.std.proofs.Common.{◌≡◌, ◌≢◌, ℕ, ◌<◌, ◌≤◌, ◌-◌, ◌⊎◌, inl, inr, true, false, List, [], ◌∷◌, ◌++◌, length, refl, ap, subst, arith}
+use Rattle.std.proofs.Common.{◌≡◌, ◌≢◌, ℕ, ◌<◌, ◌≤◌, ◌-◌, ◌⊎◌, inl, inr, true, false, List, [], ◌∷◌, ◌++◌, length, refl}
+use Rattle.std.proofs.Common.{ap, subst, arith}
 use Rattle.std.specs.Prelude.{codes}
 use Rattle.argus_contents.specs.Value.{PlainValue, null, bool, int, text, atomic, sequence, fields, choice}
 use Rattle.argus_texts.specs.Language.{Starts, NoWay, Stops, First}
-use Rattle.argus_texts.specs.Languages.{ValueEnds, BeginsInt, BeginsNoScalar, Numbers, Ints, Word, Quoted, Values, Insides, Choices}
+use Rattle.argus_texts.specs.Languages.{ValueEnds, BeginsInt, BeginsNoScalar, Numbers, Ints, Word, Quoted, Values}
+use Rattle.argus_texts.specs.Languages.{Insides, Choices}
 use Rattle.argus_texts.specs.Spelling.{spelling, Within}
 use Rattle.argus_texts.proofs.Lists.{tail_of, head_of}
 use Rattle.argus_texts.proofs.Forms.{Lead, lead_of, kind_of, no_lead, some_form}
@@ -65,8 +67,7 @@ at_starts k (atomic o) u y w v i =
     record {
       thing = o;
       rest = y;
-      reads =
-          record { good = (omega arith, omega (arith, w.1)); ends = v; is = tail_of i };
+      reads = record { good = (omega arith, omega (arith, w.1)); ends = v; is = tail_of i };
     }
 at_starts k e u y w v i = let l = kind_of k e 64 u y w i in absurd (omega arith)
 
@@ -124,8 +125,7 @@ angle_starts k (choice t v) u y w i =
     record {
       thing = (t, (v, tt));
       rest = y;
-      reads =
-          record { good = ((omega arith, omega (arith, w.1)), (w.2, tt)); ends = tt; is = tail_of i };
+      reads = record { good = ((omega arith, omega (arith, w.1)), (w.2, tt)); ends = tt; is = tail_of i };
     }
 angle_starts k e u y w i = let l = kind_of k e 60 u y w i in absurd (omega arith)
 
@@ -136,8 +136,7 @@ angle k p = record {
     record {
       thing = choice f.thing.0 f.thing.1.0;
       good = (p, omega (arith, f.good.0.1), f.good.1.0);
-      is =
-          ap (λ x. 60 ∷ x) f.is;
+      is = ap (λ x. 60 ∷ x) f.is;
     },
   );
   starts = λ u s. angle_starts k s.thing u s.rest s.reads.good s.reads.is;

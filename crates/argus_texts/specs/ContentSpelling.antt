@@ -4,12 +4,14 @@ use Rattle.std.specs.Fmt.{decimal, signed_decimal}
 use Rattle.argus_contents.specs.Content.{PlainContent, rec, arr, var}
 use Rattle.argus_contents.specs.Value.{listed}
 use Rattle.argus_texts.specs.Spelling.{spelling, inside, IsI64, Within, AllWithin}
-use Rattle.argus_texts.specs.Bytes.{close_brace, close_bracket, colon, greater_than, less_than, open_brace, open_bracket}
+use Rattle.argus_texts.specs.Bytes.{close_brace, close_bracket, colon, greater_than, less_than}
+use Rattle.argus_texts.specs.Bytes.{open_brace, open_bracket}
 
 -- the written form of a content
 abbrev pub content_spelling : PlainContent → List ℕ
 content_spelling (rec vs) = open_brace ∷ inside close_brace (listed vs)
-content_spelling (arr low vs) = signed_decimal low ++ open_bracket ∷ inside close_bracket (listed vs)
+content_spelling (arr low vs) =
+    signed_decimal low ++ open_bracket ∷ inside close_bracket (listed vs)
 content_spelling (var t v) = less_than ∷ (decimal t ++ colon ∷ (spelling v ++ greater_than ∷ []))
 
 -- a content whose values have depth at most k each, such as a program can hold

@@ -24,7 +24,8 @@ pub record IsContentText (text : List ℕ) : Type 0 where
 abbrev pub Begins : (List ℕ → Type 0) → List ℕ → Type 0
 Begins Accepted front = (more : List ℕ) × Accepted (front ++ more)
 
--- text isn't accepted, and at is the length in bytes of the longest of its prefixes that begin an accepted text
+-- text isn't accepted, and at is the length in bytes of the longest of its prefixes that begin an
+-- accepted text
 pub record IsFault (Accepted : List ℕ → Type 0) (text : List ℕ) (at : ℕ) : Type 0 where
   pub refused : Accepted text → ⊥
   pub within : at ≤ length text

@@ -28,8 +28,8 @@ pub record Starts (L : Language) (text : List ℕ) : Type 0 where
   pub rest : List ℕ
   pub reads : Reads L text thing rest
 
--- front begins no form that goes on as back does: back's first byte already can't come, or, if back is empty, no form
--- has come
+-- front begins no form that goes on as back does: back's first byte already can't come, or, if back
+-- is empty, no form has come
 abbrev pub NoWay : Language → List ℕ → List ℕ → Type 0
 NoWay L front [] = Starts L front → ⊥
 NoWay L front (c ∷ back) = (more : List ℕ) → Starts L (front ++ c ∷ more) → ⊥

@@ -8,7 +8,8 @@ use Rattle.argus_contents.specs.Content.{PlainContent}
 use Rattle.argus_texts.specs.Spelling.{spelling, escaped, inside, behind, IsI64, Within, AllWithin}
 use Rattle.argus_texts.specs.ContentSpelling.{content_spelling, PartsWithin}
 use Rattle.argus_texts.specs.Language.{Language, First}
-use Rattle.argus_texts.specs.Bytes.{at_sign, close_brace, close_bracket, colon, greater_than, hyphen, letter_f, letter_n, letter_t, open_bracket, quote}
+use Rattle.argus_texts.specs.Bytes.{at_sign, close_brace, close_bracket, colon, greater_than}
+use Rattle.argus_texts.specs.Bytes.{hyphen, letter_f, letter_n, letter_t, open_bracket, quote}
 
 abbrev pub IsNoDigit : ℕ → Type 0
 IsNoDigit c = (c < 48) ⊎ (57 < c)
@@ -20,7 +21,13 @@ NotDigit text = First IsNoDigit text
 -- natural numbers from least to most
 abbrev pub Numbers : ℕ → ℕ → Language
 Numbers least most =
-    record { Thing = ℕ; Good = λ n. (least ≤ n) × (n ≤ most); form = decimal; Ends = λ n rest. NotDigit rest }
+    record {
+      Thing = ℕ;
+      Good = λ n. (least ≤ n) × (n ≤ most);
+      form = decimal;
+      Ends =
+          λ n rest. NotDigit rest;
+    }
 
 -- integers of 64 bits
 abbrev pub Ints : Language
@@ -28,11 +35,18 @@ Ints = record { Thing = ℤ; Good = IsI64; form = signed_decimal; Ends = λ n re
 
 -- one word
 abbrev pub Word : List ℕ → Language
-Word word = record { Thing = Unit {0}; Good = λ u. Unit {0}; form = λ u. word; Ends = λ u rest. Unit {0} }
+Word word =
+    record { Thing = Unit {0}; Good = λ u. Unit {0}; form = λ u. word; Ends = λ u rest. Unit {0} }
 
 -- texts behind their opening quote
 abbrev pub Quoted : Language
-Quoted = record { Thing = List ℕ; Good = IsUtf8; form = λ t. escaped t ++ quote ∷ []; Ends = λ t rest. Unit {0} }
+Quoted = record {
+  Thing = List ℕ;
+  Good = IsUtf8;
+  form = λ t. escaped t ++ quote ∷ [];
+  Ends =
+      λ t rest. Unit {0};
+}
 
 -- a thing of the one language, a byte, and a thing of the other
 abbrev pub Pairs : Language → ℕ → Language → Language
@@ -48,7 +62,12 @@ Pairs L c M =
 abbrev pub ValueEnds : PlainValue → List ℕ → Type 0
 ValueEnds (value.int n) rest = NotDigit rest
 ValueEnds (value.atomic o) rest = NotDigit rest
-ValueEnds _ rest = Unit {0}
+ValueEnds value.null rest = Unit {0}
+ValueEnds (value.bool b) rest = Unit {0}
+ValueEnds (value.text t) rest = Unit {0}
+ValueEnds (value.sequence vs) rest = Unit {0}
+ValueEnds (value.fields vs) rest = Unit {0}
+ValueEnds (value.choice t v) rest = Unit {0}
 
 -- values of depth at most k
 abbrev pub Values : ℕ → Language
@@ -56,7 +75,13 @@ Values k = record { Thing = PlainValue; Good = Within k; form = spelling; Ends =
 
 -- values with commas between them, and the closing byte
 abbrev pub Insides : ℕ → ℕ → Language
-Insides close k = record { Thing = PlainValues; Good = AllWithin k; form = inside close; Ends = λ vs rest. Unit {0} }
+Insides close k = record {
+  Thing = PlainValues;
+  Good = AllWithin k;
+  form = inside close;
+  Ends =
+      λ vs rest. Unit {0};
+}
 
 -- the same, of one value and more
 abbrev pub Items : ℕ → ℕ → Language
@@ -73,7 +98,13 @@ Choices k = Pairs (Numbers 0 255) colon (Pairs (Values k) greater_than (Word [])
 
 -- contents whose values have depth at most k each
 abbrev pub Contents : ℕ → Language
-Contents k = record { Thing = PlainContent; Good = PartsWithin k; form = content_spelling; Ends = λ c rest. Unit {0} }
+Contents k = record {
+  Thing = PlainContent;
+  Good = PartsWithin k;
+  form = content_spelling;
+  Ends =
+      λ c rest. Unit {0};
+}
 
 -- the bytes that close a list of values
 abbrev pub IsClose : ℕ → Type 0
@@ -85,7 +116,8 @@ BeginsInt c = (hyphen ≤ c) × (c ≤ 57) × (c ≢ 46) × (c ≢ 47)
 
 -- no scalar's form begins with the byte
 abbrev pub BeginsNoScalar : ℕ → Type 0
-BeginsNoScalar c = (c ≢ letter_n) × (c ≢ letter_t) × (c ≢ letter_f) × (c ≢ quote) × (c ≢ at_sign) × (BeginsInt c → ⊥)
+BeginsNoScalar c = (c ≢ letter_n) × (c ≢ letter_t) × (c ≢ letter_f) × (c ≢ quote) × (c ≢ at_sign)
+    × (BeginsInt c → ⊥)
 
 -- arrays whose items have depth at most k each
 abbrev pub Arrays : ℕ → Language

@@ -17,26 +17,31 @@ ValuesAreReadBack = (v : PlainValue) → Within MAX_VALUE_DEPTH v
 
 -- values of whatever depth with one written form are the same
 abbrev pub EachValueIsTold : Type 0
-EachValueIsTold = (k : ℕ) (v w : PlainValue) → Within k v → Within k w → spelling v ≡ spelling w → v ≡ w
+EachValueIsTold =
+    (k : ℕ) (v w : PlainValue) → Within k v → Within k w → spelling v ≡ spelling w → v ≡ w
 
 -- the written form of a content has no fault, and is that of no other content
 abbrev pub ContentsAreReadBack : Type 0
 ContentsAreReadBack =
     (c : PlainContent) → PartsWithin MAX_VALUE_DEPTH c
     → ((at : ℕ) → IsFault IsContentText (content_spelling c) at → ⊥)
-    × ((d : PlainContent) → PartsWithin MAX_VALUE_DEPTH d → content_spelling c ≡ content_spelling d → d ≡ c)
+    × ((d : PlainContent) → PartsWithin MAX_VALUE_DEPTH d → content_spelling c ≡ content_spelling d
+    → d ≡ c)
 
 -- contents of whatever depth with one written form are the same
 abbrev pub EachContentIsTold : Type 0
 EachContentIsTold =
-    (k : ℕ) (c d : PlainContent) → PartsWithin k c → PartsWithin k d → content_spelling c ≡ content_spelling d → c ≡ d
+    (k : ℕ) (c d : PlainContent) → PartsWithin k c → PartsWithin k d
+    → content_spelling c ≡ content_spelling d → c ≡ d
 
 -- the written form of a shape that can be made is accepted, and is that of no other such shape
 abbrev pub ShapesAreReadBack : Type 0
 ShapesAreReadBack =
     (s : PlainShape) → IsMakeable s
-    → IsShapeText (shape_spelling s) × ((t : PlainShape) → IsMakeable t → shape_spelling s ≡ shape_spelling t → t ≡ s)
+    → IsShapeText (shape_spelling s) × ((t : PlainShape) → IsMakeable t
+    → shape_spelling s ≡ shape_spelling t → t ≡ s)
 
 -- shapes of whatever depth and length with one written form are the same
 abbrev pub EachShapeIsTold : Type 0
-EachShapeIsTold = (s t : PlainShape) → HasNames s → HasNames t → shape_spelling s ≡ shape_spelling t → s ≡ t
+EachShapeIsTold =
+    (s t : PlainShape) → HasNames s → HasNames t → shape_spelling s ≡ shape_spelling t → s ≡ t

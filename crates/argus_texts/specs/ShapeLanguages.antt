@@ -22,7 +22,13 @@ OnNoForm unread.Memory P = Unit {0}
 
 -- names with their colon
 abbrev pub Names : Language
-Names = record { Thing = List ℕ; Good = λ n. is_name n ≡ true; form = λ n. n ++ colon ∷ []; Ends = λ n rest. Unit {0} }
+Names = record {
+  Thing = List ℕ;
+  Good = λ n. is_name n ≡ true;
+  form = λ n. n ++ colon ∷ [];
+  Ends =
+      λ n rest. Unit {0};
+}
 
 -- such types
 abbrev pub Types : (PlainTy → Type 0) → Language
@@ -30,7 +36,12 @@ Types Good = record { Thing = PlainTy; Good = Good; form = ty_spelling; Ends = �
 
 -- such types with the closing bracket
 abbrev pub Closed : (PlainTy → Type 0) → Language
-Closed Good = record { Thing = PlainTy; Good = Good; form = λ t. ty_spelling t ++ close_bracket ∷ []; Ends = λ t rest. Unit {0} }
+Closed Good = record {
+  Thing = PlainTy;
+  Good = Good;
+  form = λ t. ty_spelling t ++ close_bracket ∷ [];
+  Ends = λ t rest. Unit {0};
+}
 
 -- names with such types
 abbrev pub Fields : (PlainTy → Type 0) → Language
@@ -44,18 +55,29 @@ Fields Good =
 
 -- such lists of names with their types, up to the closing bracket
 abbrev pub Lists : (PlainFields → Type 0) → Language
-Lists Good = record { Thing = PlainFields; Good = Good; form = names_inside; Ends = λ fs rest. Unit {0} }
+Lists Good =
+    record { Thing = PlainFields; Good = Good; form = names_inside; Ends = λ fs rest. Unit {0} }
 
 -- shapes that can be made
 abbrev pub Shapes : Language
-Shapes = record { Thing = PlainShape; Good = IsMakeable; form = shape_spelling; Ends = λ s rest. Unit {0} }
+Shapes = record {
+  Thing = PlainShape;
+  Good = IsMakeable;
+  form = shape_spelling;
+  Ends =
+      λ s rest. Unit {0};
+}
 
 -- a type without parts
 abbrev pub IsScalar : PlainTy → Type 0
 IsScalar (ty.sequence x) = ⊥
 IsScalar (ty.fields fs) = ⊥
 IsScalar (ty.choice fs) = ⊥
-IsScalar _ = Unit {0}
+IsScalar ty.null = Unit {0}
+IsScalar ty.bool = Unit {0}
+IsScalar ty.int = Unit {0}
+IsScalar ty.text = Unit {0}
+IsScalar ty.atomic = Unit {0}
 
 -- there is a name in the list
 abbrev pub IsFilled : PlainFields → Type 0
@@ -73,7 +95,8 @@ abbrev mutual
   -- at most n names in form with such types
   pub AreShallow : ℕ → ℕ → PlainFields → Type 0
   AreShallow n k ty.none = Unit {0}
-  AreShallow n k (ty.more name x fs) = (0 < n) × (is_name name ≡ true) × IsShallow k x × AreShallow (n - 1) k fs
+  AreShallow n k (ty.more name x fs) =
+      (0 < n) × (is_name name ≡ true) × IsShallow k x × AreShallow (n - 1) k fs
 
 -- 1 to n names in form with types of depth at most k
 abbrev pub IsList : ℕ → ℕ → PlainFields → Type 0

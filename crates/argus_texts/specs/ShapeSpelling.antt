@@ -40,7 +40,11 @@ abbrev mutual
   IsNamed (ty.sequence x) = IsNamed x
   IsNamed (ty.fields fs) = AreNamed fs
   IsNamed (ty.choice fs) = AreNamed fs
-  IsNamed _ = Unit {0}
+  IsNamed ty.null = Unit {0}
+  IsNamed ty.bool = Unit {0}
+  IsNamed ty.int = Unit {0}
+  IsNamed ty.text = Unit {0}
+  IsNamed ty.atomic = Unit {0}
 
   -- each name of the list, and in its types, has a name's form
   pub AreNamed : PlainFields → Type 0

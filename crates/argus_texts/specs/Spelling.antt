@@ -1,12 +1,16 @@
 -- The one written form of a value, and the values that a text can stand for.
-use Rattle.std.specs.Prelude.{ℕ, ℤ, pos, negsuc, ◌<◌, ◌^◌, ◌-◌, ◌==◌, if◌then◌else◌, true, false, List, [], ◌∷◌, ◌++◌, codes}
+use Rattle.std.specs.Prelude.{ℕ, ℤ, pos, negsuc, ◌<◌, ◌^◌, ◌-◌, ◌==◌, if◌then◌else◌, true, false}
+use Rattle.std.specs.Prelude.{List, [], ◌∷◌, ◌++◌, codes}
 use Rattle.std.specs.Fmt.{decimal, signed_decimal}
 use Rattle.std.specs.Str.{IsUtf8}
 use Rattle.argus_contents.specs.Value.{PlainValue, PlainValues}
 use Rattle.argus_contents.specs.Value as value
-use Rattle.argus_texts.specs.Bytes.{at_sign, backslash, close_brace, close_bracket, colon, comma, greater_than, less_than, letter_n, line_feed, open_brace, open_bracket, quote}
+use Rattle.argus_texts.specs.Bytes.{at_sign, backslash, close_brace, close_bracket, colon, comma}
+use Rattle.argus_texts.specs.Bytes.{greater_than, less_than, letter_n, line_feed, open_brace}
+use Rattle.argus_texts.specs.Bytes.{open_bracket, quote}
 
--- a byte of a text: the quote, the backslash and the line feed stand behind a backslash, the line feed as `n`
+-- a byte of a text: the quote, the backslash and the line feed stand behind a backslash, the line
+-- feed as `n`
 abbrev pub escape : ℕ → List ℕ
 escape b =
     if b == quote then backslash ∷ quote ∷ [] else
@@ -47,7 +51,8 @@ IsI64 (pos n) = n < 2 ^ 63
 IsI64 (negsuc n) = n < 2 ^ 63
 
 abbrev mutual
-  -- a value of depth at most k, such as a program can hold: its numbers in range, its texts in UTF-8
+  -- a value of depth at most k, such as a program can hold: its numbers in range, its texts in
+  -- UTF-8
   pub Within : ℕ → PlainValue → Type 0
   Within k value.null = 0 < k
   Within k (value.bool b) = 0 < k

@@ -1,6 +1,7 @@
 //! The laws of the written forms. Each function does nothing: its contract is the law.
 
-ghost use Rattle.argus_texts.specs.Laws.{ContentsAreReadBack, EachContentIsTold, EachShapeIsTold, EachValueIsTold, ShapesAreReadBack, ValuesAreReadBack};
+ghost use Rattle.argus_texts.specs.Laws.{ContentsAreReadBack, EachContentIsTold, EachShapeIsTold};
+ghost use Rattle.argus_texts.specs.Laws.{EachValueIsTold, ShapesAreReadBack, ValuesAreReadBack};
 
 /// The written form of a value of depth at most 16 has no fault, and is the form of no other value:
 /// so what [`write_value`](crate::write_value) wrote, [`read_value`](crate::read_value) reads back,

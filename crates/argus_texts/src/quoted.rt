@@ -1,6 +1,7 @@
 //! The text of a text value: up to its closing quote, and behind an opening one.
 
-ghost use Rattle.std.specs.Prelude.{◌≡◌, ◌<◌, true, false, ◌∷◌, [], ◌++◌, length, IfOk, IfErr, string_bytes};
+ghost use Rattle.std.specs.Prelude.{◌≡◌, ◌<◌, true, false, ◌∷◌, [], ◌++◌, length, IfOk, IfErr};
+ghost use Rattle.std.specs.Prelude.{string_bytes};
 ghost use Rattle.std.specs.Str.{IsUtf8};
 ghost use Rattle.argus_texts.specs.Language.{First, OnLeft, Reads, Stops};
 ghost use Rattle.argus_texts.specs.Languages.{Quoted};

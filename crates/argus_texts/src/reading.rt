@@ -5,7 +5,8 @@ ghost use Rattle.argus_contents.specs.Value.{listed, plain_list, plain_value};
 ghost use Rattle.argus_contents.specs.declared.limits.TheConstants.{MAX_VALUE_DEPTH};
 ghost use Rattle.argus_texts.specs.Fault.{IsFault, IsValueText, OnFault};
 ghost use Rattle.argus_texts.specs.Language.{First, OnLeft, Reads, Stops};
-ghost use Rattle.argus_texts.specs.Languages.{BeginsInt, BeginsNoScalar, Choices, Insides, IsClose, Items, Values};
+ghost use Rattle.argus_texts.specs.Languages.{BeginsInt, BeginsNoScalar, Choices, Insides, IsClose};
+ghost use Rattle.argus_texts.specs.Languages.{Items, Values};
 ghost use Rattle.argus_texts.specs.Spelling.{Within, spelling};
 
 use crate::number::{int, number};

@@ -1,6 +1,7 @@
 //! The front of a text: its first byte, one byte that must come, a word that must come.
 
-ghost use Rattle.std.specs.Prelude.{◌≡◌, true, nat_lt, ◌<◌, ◌≤◌, ◌∷◌, ◌++◌, length, IfOk, IfErr, IfSome, IfNone};
+ghost use Rattle.std.specs.Prelude.{◌≡◌, true, nat_lt, ◌<◌, ◌≤◌, ◌∷◌, ◌++◌, length, IfOk, IfErr};
+ghost use Rattle.std.specs.Prelude.{IfSome, IfNone};
 ghost use Rattle.std.specs.List.{list_all};
 ghost use Rattle.std.specs.Str.{IsUtf8};
 ghost use Rattle.argus_texts.specs.Language.{First, IsNot, OnLeft, Starts, Stops};

@@ -4,8 +4,11 @@ ghost use Rattle.std.specs.Prelude.{◌≡◌, ◌<◌, IfOk, IfErr, IfSome, IfN
 ghost use Rattle.argus_contents.specs.Ty.{plain_fields, plain_ty};
 ghost use Rattle.argus_contents.specs.declared.limits.TheConstants.{MAX_NAMES};
 ghost use Rattle.argus_texts.specs.Language.{Reads};
-ghost use Rattle.argus_texts.specs.ShapeLanguages.{BeginsNo, Closed, Fields, IsList, IsScalar, IsShallow, Lists, Names, OnNoForm, Shapes, Types};
-ghost use Rattle.argus_texts.specs.ShapeSpelling.{AreNamed, IsMakeable, IsNamed, IsShapeText, shape_spelling};
+ghost use Rattle.argus_texts.specs.ShapeLanguages.{BeginsNo, Closed, Fields, IsList, IsScalar};
+ghost use Rattle.argus_texts.specs.ShapeLanguages.{IsShallow, Lists, Names, OnNoForm, Shapes};
+ghost use Rattle.argus_texts.specs.ShapeLanguages.{Types};
+ghost use Rattle.argus_texts.specs.ShapeSpelling.{AreNamed, IsMakeable, IsNamed, IsShapeText};
+ghost use Rattle.argus_texts.specs.ShapeSpelling.{shape_spelling};
 
 use crate::scan::{split_ascii, strip, strip_word};
 use crate::unread::Unread;

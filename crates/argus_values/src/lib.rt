@@ -1,7 +1,7 @@
 //! Values of atomic objects: the crate that users name.
 //!
-//! It passes two crates on, so that users see one: `argus_contents` (types, values, contents, and what
-//! operations do) and `argus_texts` (their written forms).
+//! It passes two crates on, so that users see one: `argus_contents` (types, values, contents, and
+//! what operations do) and `argus_texts` (their written forms).
 //!
 //! ```text
 //! use argus_values::{Change, Content, Heap, Name, Shape, Ty, Value, alter, fits, read_value};

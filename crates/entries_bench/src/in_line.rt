@@ -1,7 +1,7 @@
 //! Entries in which all lies in line, so that a call is made without memory of its own.
 
 use crate::mix::{Mix, Part};
-use argus_contents::{Answer, Change, Heap, OutOfMemory, Query, Shape, Value};
+use argus_contents::{Answer, Change, Heap, OutOfMemory, Query, Shape};
 
 /// A call, with its action and its object.
 ///
@@ -59,22 +59,15 @@ fn made(heap: Heap, mix: Mix, number: u32, text: &str) -> Result<Entry, OutOfMem
         Part::Begin => (Call::Begin, Reply::Begun(number)),
         Part::Commit => (Call::Commit(number), Reply::Answered(Answer::Done)),
         Part::Ask => {
-            let reply = Reply::Answered(Answer::Val(value(heap, mix, number, text)?));
+            let reply = Reply::Answered(Answer::Val(mix.value(heap, number, text)?));
             (Call::Ask(1, 0, Query::Field(0)), reply)
         }
         Part::Change => {
-            let change = Change::SetField(0, value(heap, mix, number, text)?);
+            let change = Change::SetField(0, mix.value(heap, number, text)?);
             (Call::Alter(1, 0, change), Reply::Answered(Answer::Done))
         }
     };
     Ok(Entry { call, reply })
-}
-
-fn value(heap: Heap, mix: Mix, number: u32, text: &str) -> Result<Value, OutOfMemory> {
-    match mix {
-        Mix::Flat | Mix::Asks => Ok(Value::Int(number as i64)),
-        Mix::Receipts => Ok(Value::Text(String::from_str(heap, text)?)),
-    }
 }
 
 fn duplicate(heap: Heap, entry: &Entry) -> Result<Entry, OutOfMemory> {

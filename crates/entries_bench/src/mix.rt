@@ -1,6 +1,7 @@
 //! `Mix`: which calls follow one another.
 
 use crate::bench_error::BenchError;
+use argus_contents::{Heap, OutOfMemory, Value};
 use std::fmt;
 use std::str::FromStr;
 
@@ -35,6 +36,14 @@ impl Mix {
             Mix::Asks => Part::Ask,
             Mix::Flat | Mix::Receipts if number % 2 == 1 => Part::Ask,
             Mix::Flat | Mix::Receipts => Part::Change,
+        }
+    }
+
+    /// The value that the entry of this number asks for or writes: its number, or the text.
+    pub(crate) fn value(&self, heap: Heap, number: u32, text: &str) -> Result<Value, OutOfMemory> {
+        match self {
+            Mix::Flat | Mix::Asks => Ok(Value::Int(number as i64)),
+            Mix::Receipts => Ok(Value::Text(String::from_str(heap, text)?)),
         }
     }
 }

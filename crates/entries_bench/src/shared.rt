@@ -65,22 +65,15 @@ fn made(heap: Heap, mix: Mix, number: u32, text: &str) -> Result<Entry, OutOfMem
         Part::Begin => (Call::Begin, Reply::Begun(number)),
         Part::Commit => (Call::Commit(number), Reply::Done),
         Part::Ask => {
-            let reply = Reply::Val(Arc::new(heap, value(heap, mix, number, text)?)?);
+            let reply = Reply::Val(Arc::new(heap, mix.value(heap, number, text)?)?);
             (Call::Ask(1, 0, Query::Field(0)), reply)
         }
         Part::Change => {
-            let change = Change::SetField(0, value(heap, mix, number, text)?);
+            let change = Change::SetField(0, mix.value(heap, number, text)?);
             (Call::Alter(1, 0, Arc::new(heap, change)?), Reply::Done)
         }
     };
     Ok(Entry { call, reply })
-}
-
-fn value(heap: Heap, mix: Mix, number: u32, text: &str) -> Result<Value, OutOfMemory> {
-    match mix {
-        Mix::Flat | Mix::Asks => Ok(Value::Int(number as i64)),
-        Mix::Receipts => Ok(Value::Text(String::from_str(heap, text)?)),
-    }
 }
 
 fn duplicate(entry: &Entry) -> Result<Entry, OutOfMemory> {

@@ -9,30 +9,41 @@ use Rattle.argus_actions.proofs.walk.climbs.Goals as goal
 
 pub loop-at-smaller : goal.loop-at-smaller
 loop-at-smaller c =
-    (parent_before c.args.first c.args.nodes.now c.args.x c.loop-at.at (c.loop-at.at - c.args.first) _ c.requires.linked (omega (arith, c.loop-at.invariant.held)) (omega (arith, c.loop-at.invariant.held, c.loop-at.invariant.begun)) c.in-Sub.parent c.in-Sub.is).1
+    (parent_before c.args.first c.args.nodes.now c.args.x c.loop-at.at (c.loop-at.at - c.args.first) _ c.requires.linked
+    (omega (arith, c.loop-at.invariant.held)) (omega (arith, c.loop-at.invariant.held, c.loop-at.invariant.begun))
+    c.in-Sub.parent c.in-Sub.is).1
 
 pub loop-at-preserved : goal.loop-at-preserved
 loop-at-preserved c =
     let at : c.loop-at.at ≡ c.args.first + (c.loop-at.at - c.args.first) = omega (arith, c.loop-at.invariant.held) in
-    let there : c.loop-at.at - c.args.first < length c.args.nodes.now = omega (arith, c.loop-at.invariant.held, c.loop-at.invariant.begun) in
-    let before = parent_before c.args.first c.args.nodes.now c.args.x c.loop-at.at (c.loop-at.at - c.args.first) _ c.requires.linked at there c.in-Sub.parent c.in-Sub.is in
+    let there : c.loop-at.at - c.args.first < length c.args.nodes.now =
+    omega (arith, c.loop-at.invariant.held, c.loop-at.invariant.begun) in
+    let before = parent_before c.args.first c.args.nodes.now c.args.x c.loop-at.at (c.loop-at.at - c.args.first)
+    _ c.requires.linked at there c.in-Sub.parent c.in-Sub.is in
     record {
       held = before.0;
       begun = omega (arith, before.1, c.loop-at.invariant.begun);
-      same = sym (climbed_up c.args.first c.args.nodes.now c.args.x c.loop-at.at (c.loop-at.at - c.args.first) _ c.requires.linked at there c.loop-at-test.true c.in-Sub.parent c.in-Sub.is) ∙ c.loop-at.invariant.same;
+      same = sym (climbed_up c.args.first c.args.nodes.now c.args.x c.loop-at.at (c.loop-at.at - c.args.first)
+          _ c.requires.linked at there c.loop-at-test.true c.in-Sub.parent c.in-Sub.is) ∙ c.loop-at.invariant.same;
     }
 
 pub returns-in-Top : goal.returns-in-Top
 returns-in-Top c =
-    sym (climbed_out c.args.first c.args.nodes.now c.args.x c.loop-at.at (c.loop-at.at - c.args.first) _ c.requires.linked (omega (arith, c.loop-at.invariant.held)) (omega (arith, c.loop-at.invariant.held, c.loop-at.invariant.begun)) c.loop-at-test.true c.in-Top.is) ∙ c.loop-at.invariant.same
+    sym (climbed_out c.args.first c.args.nodes.now c.args.x c.loop-at.at (c.loop-at.at - c.args.first)
+    _ c.requires.linked (omega (arith, c.loop-at.invariant.held))
+    (omega (arith, c.loop-at.invariant.held, c.loop-at.invariant.begun)) c.loop-at-test.true c.in-Top.is)
+    ∙ c.loop-at.invariant.same
 
 pub returns : goal.returns
 returns c =
     elim (cases_eq c.args.x c.loop-at.at) [
       | inl e ↦ eq-eqb c.args.x c.loop-at.at e
-          ∙ sym (climbed_here c.args.first c.args.nodes.now c.args.x c.loop-at.at (c.loop-at.at - c.args.first) some_node c.requires.linked (omega (arith, c.loop-at.invariant.held)) (omega (arith, c.loop-at.invariant.held, c.loop-at.invariant.begun)) e)
+          ∙ sym (climbed_here c.args.first c.args.nodes.now c.args.x c.loop-at.at (c.loop-at.at - c.args.first)
+          some_node c.requires.linked (omega (arith, c.loop-at.invariant.held))
+          (omega (arith, c.loop-at.invariant.held, c.loop-at.invariant.begun)) e)
           ∙ c.loop-at.invariant.same
       | inr ne ↦ ne_eqb c.args.x c.loop-at.at ne
-          ∙ sym (is_above_newer c.args.first (rows_of c.args.nodes.now) c.args.x c.loop-at.at c.requires.linked (omega arith))
+          ∙ sym (is_above_newer c.args.first (rows_of c.args.nodes.now) c.args.x c.loop-at.at c.requires.linked
+          (omega arith))
           ∙ c.loop-at.invariant.same
     ]

@@ -9,6 +9,8 @@ pub loop-preserved : goal.loop-preserved
 loop-preserved c =
     let pushed = c.in_ok-push.ensures.items in
     record {
-      bases = absent_more c.args.objects.now c.loop.counter c.loop.bases.items c.push.new.self.items (omega arith) pushed c.loop.invariant.bases;
-      limits = subst AllKeep (sym pushed) (All-push (λ b. KeepsLimits (plain_option b)) c.loop.bases.items None c.loop.invariant.limits tt);
+      bases = absent_more c.args.objects.now c.loop.counter c.loop.bases.items c.push.new.self.items (omega arith)
+          pushed c.loop.invariant.bases;
+      limits = subst AllKeep (sym pushed) (All-push (λ b. KeepsLimits (plain_option b))
+          c.loop.bases.items None c.loop.invariant.limits tt);
     }

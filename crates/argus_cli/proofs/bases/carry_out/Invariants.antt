@@ -7,7 +7,8 @@ use Rattle.argus_cli.proofs.bases.carry_out.Given as goal
 
 abbrev pub invariant-loop-one : goal.invariant-loop-one
 invariant-loop-one l = record {
-  done : fold changed (plain_bases l.bases.items) (plain_works l.work.items) ≡ fold changed (plain_bases l.initial.bases.items) (plain_works l.initial.work.items);
+  done : fold changed (plain_bases l.bases.items) (plain_works l.work.items)
+      ≡ fold changed (plain_bases l.initial.bases.items) (plain_works l.initial.work.items);
   limits : AllKeep l.bases.items;
   kept : All IsKept l.work.items;
 }

@@ -7,7 +7,8 @@ use Rattle.argus_cli.proofs.bases.run.Given as goal
 
 abbrev pub invariant-loop-part : goal.invariant-loop-part
 invariant-loop-part l = record {
-  done : run_parts l.objects l.declared (plain_parts l.parts.items) (plain_bases l.bases.items) ≡ run_parts l.objects 0 (plain_parts l.initial.parts.items) (plain_bases l.initial.bases.items);
+  done : run_parts l.objects l.declared (plain_parts l.parts.items) (plain_bases l.bases.items)
+      ≡ run_parts l.objects 0 (plain_parts l.initial.parts.items) (plain_bases l.initial.bases.items);
   limits : AllKeep l.bases.items;
   few : l.declared + length l.parts.items ≤ length l.initial.parts.items;
 }

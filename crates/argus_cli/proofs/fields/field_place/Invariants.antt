@@ -6,4 +6,5 @@ use Rattle.argus_cli.specs.Fields.{place_from}
 use Rattle.argus_cli.proofs.fields.field_place.Given as goal
 
 abbrev pub invariant-loop-i : goal.invariant-loop-i
-invariant-loop-i l = place_from 0 l.name (names_of (plain_fields l.fields)) ≡ place_from l.i l.name (names_of (plain_fields (drop l.i l.fields)))
+invariant-loop-i l = place_from 0 l.name (names_of (plain_fields l.fields))
+    ≡ place_from l.i l.name (names_of (plain_fields (drop l.i l.fields)))

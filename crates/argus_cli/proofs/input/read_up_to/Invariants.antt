@@ -8,7 +8,8 @@ abbrev pub invariant-loop-chunk : goal.invariant-loop-chunk
 invariant-loop-chunk g l = record {
   most : length l.all.items ≤ l.limit;
   fine : has_failed l.reader ≡ false;
-  consumed : Consumes (g.R.Read.remaining (inner_of l.initial.reader)) (g.R.Read.remaining (inner_of l.reader)) l.all.items;
+  consumed : Consumes (g.R.Read.remaining (inner_of l.initial.reader)) (g.R.Read.remaining (inner_of l.reader))
+      l.all.items;
 }
 
 abbrev pub decreases-loop-chunk : goal.decreases-loop-chunk

@@ -9,10 +9,12 @@ pub returns-in-Ok : goal.returns-in-Ok
 returns-in-Ok c =
     let bytes = c.args.bytes.now in
     let h = c.in-Ok.ensures.cases in
-    c.read_text.ensures ∙ ap text_says h.0 ∙ sym (ap (λ t. cond t (text_says bytes) bad) (is_utf8-from_IsUtf8 bytes h.1))
+    c.read_text.ensures ∙ ap text_says h.0 ∙ sym (ap (λ t. cond t (text_says bytes) bad)
+    (is_utf8-from_IsUtf8 bytes h.1))
 
 pub returns-in-Err : goal.returns-in-Err
 returns-in-Err c =
     let bytes = c.args.bytes.now in
     let refused = c.in-Err.ensures.cases.0 in
-    sym (ap (λ t. cond t (text_says bytes) bad) (false_from_ne_true (is_utf8 bytes) (λ e. refused (IsUtf8-from_is_utf8 bytes e))))
+    sym (ap (λ t. cond t (text_says bytes) bad) (false_from_ne_true (is_utf8 bytes)
+    (λ e. refused (IsUtf8-from_is_utf8 bytes e))))

@@ -10,7 +10,8 @@ loop-at-preserved g c =
     record {
       within = omega (arith, some.1, length-drop c.loop-at.at c.args.bytes.now);
       fine = c.in-Some.ensures.fine;
-      written = appends_more (g.W.Write.contents (inner_of c.args.writer.now)) (g.W.Write.contents (inner_of c.loop-at.writer))
+      written = appends_more (g.W.Write.contents (inner_of c.args.writer.now))
+          (g.W.Write.contents (inner_of c.loop-at.writer))
           (g.W.Write.contents (inner_of c.write_once.new.self))
           c.args.bytes.now c.loop-at.at c.in-Some.n c.loop-at.invariant.written some.2;
     }

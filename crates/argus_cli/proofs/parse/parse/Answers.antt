@@ -18,10 +18,12 @@ returns-in-Err-Fault-clause-fault c =
     let i = c.loop-rest.lines in
     let line = c.split_at.result.0.now in
     let others = c.split_at.result.1.now in
-    let first : lines_of c.loop-rest.rest.now ≡ line ∷ lines_of others = rw (c.split_at.ensures.front, c.split_at.ensures.back) c.first_line_len.ensures.line in
+    let first : lines_of c.loop-rest.rest.now ≡ line ∷ lines_of others =
+    rw (c.split_at.ensures.front, c.split_at.ensures.back) c.first_line_len.ensures.line in
     let h = here_at lines i line (lines_of others) (I.left ∙ first) in
     let f = rw c.in-Err-Fault.field-0-is at c.in-Err-Fault.ensures.fault in
-    rw (c.fault_at.ensures, c.in-Err-Fault.field-0-is) (first-fault lines i line c.loop-rest.reading.objects _ c.in-Err-Fault.kind h.here I.objects I.place f I.fine)
+    rw (c.fault_at.ensures, c.in-Err-Fault.field-0-is) (first-fault lines i line c.loop-rest.reading.objects _
+    c.in-Err-Fault.kind h.here I.objects I.place f I.fine)
 
 pub loop-rest-preserved : goal.loop-rest-preserved
 loop-rest-preserved c =
@@ -31,13 +33,17 @@ loop-rest-preserved c =
     let i = c.loop-rest.lines in
     let line = c.split_at.result.0.now in
     let others = c.split_at.result.1.now in
-    let first : lines_of c.loop-rest.rest.now ≡ line ∷ lines_of others = rw (c.split_at.ensures.front, c.split_at.ensures.back) c.first_line_len.ensures.line in
+    let first : lines_of c.loop-rest.rest.now ≡ line ∷ lines_of others =
+    rw (c.split_at.ensures.front, c.split_at.ensures.back) c.first_line_len.ensures.line in
     let h = here_at lines i line (lines_of others) (I.left ∙ first) in
-    let count : (length c.args.bytes.now - length c.loop-rest.rest.now) + length line ≡ length c.args.bytes.now - length others = omega arith in
+    let count : (length c.args.bytes.now - length c.loop-rest.rest.now) + length line
+    ≡ length c.args.bytes.now - length others = omega arith in
     record {
       left = h.left;
-      place = place-more lines i _ _ line (opened c.loop-rest.reading.block) (opened c.take.new.self.block) h.front I.place count new.open_blocks;
-      objects = declares-more lines i line c.loop-rest.reading.objects c.take.new.self.objects h.front I.objects new.objects new.makeable;
+      place = place-more lines i _ _ line (opened c.loop-rest.reading.block) (opened c.take.new.self.block)
+          h.front I.place count new.open_blocks;
+      objects = declares-more lines i line c.loop-rest.reading.objects c.take.new.self.objects h.front I.objects
+          new.objects new.makeable;
       text = commands-more lines i line h.front ∙ ap (λ t. t ++ told (says (said_in line))) I.text ∙ sym new.text;
       fine = fine-more lines i line c.loop-rest.reading.objects _ h.here I.objects I.place new.fine I.fine;
       few = omega (arith, new.few);
@@ -51,7 +57,8 @@ returns-clause-spells c =
     let left = I.left ∙ no_lines c.loop-rest.rest.now (omega arith) in
     let reading = c.loop-rest.reading in
     ok_more c.whole.result _ (λ script. Spells (lines_of c.args.bytes.now) (plain_script script))
-    (λ script h. end_spells (lines_of c.args.bytes.now) c.loop-rest.lines left reading.objects reading.parts.items reading.block script I.text I.objects h.0 h.1 (ap (λ v. v.items) h.2))
+    (λ script h. end_spells (lines_of c.args.bytes.now) c.loop-rest.lines left reading.objects reading.parts.items
+    reading.block script I.text I.objects h.0 h.1 (ap (λ v. v.items) h.2))
     c.whole.ensures.ok
 
 pub returns-clause-fine : goal.returns-clause-fine
@@ -59,15 +66,18 @@ returns-clause-fine c =
     let I = c.loop-rest.invariant in
     let left = I.left ∙ no_lines c.loop-rest.rest.now (omega arith) in
     ok_more c.whole.result _ (λ script. NoFault (lines_of c.args.bytes.now))
-    (λ script h. end_fine (lines_of c.args.bytes.now) c.loop-rest.lines left _ c.loop-rest.reading.block I.place refl h.0 I.fine)
+    (λ script h. end_fine (lines_of c.args.bytes.now) c.loop-rest.lines left _ c.loop-rest.reading.block I.place refl
+    h.0 I.fine)
     c.whole.ensures.ok
 
 pub returns-clause-fault : goal.returns-clause-fault
 returns-clause-fault c =
     let I = c.loop-rest.invariant in
     let left = I.left ∙ no_lines c.loop-rest.rest.now (omega arith) in
-    err_more c.whole.result (IsUnclosedAt (opened c.loop-rest.reading.block)) (λ e. OnScriptFault e (IsFaultOf (lines_of c.args.bytes.now)))
-    (λ e h. end_unclosed (lines_of c.args.bytes.now) c.loop-rest.lines left _ (opened c.loop-rest.reading.block) e I.place refl I.fine h)
+    err_more c.whole.result (IsUnclosedAt (opened c.loop-rest.reading.block))
+    (λ e. OnScriptFault e (IsFaultOf (lines_of c.args.bytes.now)))
+    (λ e h. end_unclosed (lines_of c.args.bytes.now) c.loop-rest.lines left _ (opened c.loop-rest.reading.block)
+    e I.place refl I.fine h)
     c.whole.ensures.unclosed
 
 pub returns-clause-few : goal.returns-clause-few

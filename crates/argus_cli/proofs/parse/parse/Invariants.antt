@@ -10,7 +10,8 @@ use Rattle.argus_cli.proofs.parse.parse.Given as goal
 abbrev pub invariant-loop-rest : goal.invariant-loop-rest
 invariant-loop-rest l = record {
   left : drop l.lines (lines_of l.bytes) ≡ lines_of l.rest;
-  place : ◌≡◌ {A = Place} (place_behind (take l.lines (lines_of l.bytes))) (record { lines = l.lines; bytes = length l.bytes - length l.rest; open_blocks = opened l.reading.block });
+  place : ◌≡◌ {A = Place} (place_behind (take l.lines (lines_of l.bytes)))
+      (record { lines = l.lines; bytes = length l.bytes - length l.rest; open_blocks = opened l.reading.block });
   objects : Declares (take l.lines (lines_of l.bytes)) l.reading.objects;
   text : commands (take l.lines (lines_of l.bytes)) ≡ so_far l.reading.parts.items l.reading.block;
   fine : FineBefore (lines_of l.bytes) l.lines;

@@ -12,4 +12,5 @@ range_from-rest-requires c = λ h.
     let same = c.as_bytes.ensures.value in
     IsCharBoundary-after_ascii c.loop-first.rest.now 0 (subst IsUtf8 same c.as_bytes.ensures.utf8)
     (omega (arith, ap length same, here.3.0))
-    (blank_ascii _ (subst (λ b. is_blank b ≡ true) (here.4 zero-le 0 ∙ ap (λ x. get_or x 0 0) same) (sym c.may_part_words.ensures ∙ c.if-not-may_part_words.false)))
+    (blank_ascii _ (subst (λ b. is_blank b ≡ true) (here.4 zero-le 0 ∙ ap (λ x. get_or x 0 0) same)
+    (sym c.may_part_words.ensures ∙ c.if-not-may_part_words.false)))

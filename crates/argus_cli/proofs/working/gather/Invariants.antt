@@ -9,7 +9,9 @@ use Rattle.argus_cli.proofs.working.gather.Given as goal
 
 abbrev pub invariant-loop-step : goal.invariant-loop-step
 invariant-loop-step l = record {
-  work : option_map (λ more. plain_works l.work.items ++ more) (work_of l.objects l.declared (plain_steps l.steps.items)) ≡ work_of l.objects l.declared (plain_steps l.initial.steps.items);
+  work : option_map (λ more. plain_works l.work.items ++ more)
+      (work_of l.objects l.declared (plain_steps l.steps.items))
+      ≡ work_of l.objects l.declared (plain_steps l.initial.steps.items);
   kept : All IsKept l.work.items;
 }
 

@@ -8,7 +8,8 @@ use Rattle.argus_contents.specs.Answer.{done}
 use Rattle.argus_contents.specs.Content.{arr}
 use Rattle.argus_contents.proofs.Arrays.{trim_below, trim_above, trim_past, trim_made, kept_items}
 use Rattle.argus_contents.proofs.array.trim_items.Goals as goal
-use Rattle.argus_contents.proofs.array.trim_items.Goals.{then-from-low-via-then-from-low, then-from-low-via-else-from-low+then-from-low-2}
+use Rattle.argus_contents.proofs.array.trim_items.Goals.{then-from-low-via-then-from-low}
+use Rattle.argus_contents.proofs.array.trim_items.Goals.{then-from-low-via-else-from-low+then-from-low-2}
 
 pub returns-then-from-low : goal.returns-then-from-low
 returns-then-from-low c =
@@ -19,7 +20,8 @@ returns-then-from-low c =
     let same : length vs ≡ length c.args.items.now.items = length-map c.args.items.now.items plain_value in
     elim c.then-from-low.branch [
       | then-from-low-via-then-from-low w ↦ trim_below vs low from count (omega (arith, ints)) (omega (arith, ints))
-      | then-from-low-via-else-from-low+then-from-low-2 w ↦ trim_above vs low from count (omega (arith, ints)) (omega (arith, ints)) (omega (arith, ints))
+      | then-from-low-via-else-from-low+then-from-low-2 w ↦
+          trim_above vs low from count (omega (arith, ints)) (omega (arith, ints)) (omega (arith, ints))
     ]
 
 pub returns-then-from-gt-MAX_BOUND : goal.returns-then-from-gt-MAX_BOUND
@@ -43,5 +45,10 @@ returns c =
     let low_fits : SFits w64 low = search rules in
     let count_is = simp to_z-of_z at c.unsigned_abs.ensures.value in
     let place_is = simp to_z-of_z at c.abs_diff.ensures in
-    rw (← trim_made vs low from count (omega (arith, ints)) (omega (arith, ints)) (omega (arith, ints)) (omega (arith, ints)), to_z-of_z w64 from from_fits)
-    (ap (λ xs. (Some (arr from xs), done)) (kept_items c.args.items.now.items _ _ _ _ _ _ place_is c.drop_first.ensures count_is c.truncate.ensures.items))
+    rw (
+      ← trim_made vs low from count (omega (arith, ints)) (omega (arith, ints)) (omega (arith, ints))
+          (omega (arith, ints)),
+      to_z-of_z w64 from from_fits,
+    )
+    (ap (λ xs. (Some (arr from xs), done)) (kept_items c.args.items.now.items _ _ _ _ _ _ place_is c.drop_first.ensures
+    count_is c.truncate.ensures.items))

@@ -8,4 +8,5 @@ holds_in_ty-returns-in-Fields t c =
 
 pub holds_in_ty-returns-in-Choice : goal.holds_in_ty-returns-in-Choice
 holds_in_ty-returns-in-Choice t c =
-    rw (c.in-Choice.is, plain_ty-Choice c.in-Choice.tags, ← c.deref-in-Choice.ensures.value) c.holds_in_list-in-Choice.ensures
+    rw (c.in-Choice.is, plain_ty-Choice c.in-Choice.tags, ← c.deref-in-Choice.ensures.value)
+    c.holds_in_list-in-Choice.ensures

@@ -6,4 +6,5 @@ use Rattle.argus_contents.proofs.shaping.+within.Given as goal
 
 abbrev pub invariant-are_within-loop-ty : goal.invariant-are_within-loop-ty
 invariant-are_within-loop-ty l =
-    nat_le (deepest_of (plain_fields l.fields)) l.levels ≡ nat_le (deepest_of (plain_fields (drop l.ty-index l.fields))) l.levels
+    nat_le (deepest_of (plain_fields l.fields)) l.levels ≡ nat_le (deepest_of (plain_fields (drop l.ty-index l.fields)))
+    l.levels

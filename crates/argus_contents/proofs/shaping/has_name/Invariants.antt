@@ -8,4 +8,5 @@ use Rattle.argus_contents.proofs.shaping.has_name.Given as goal
 
 abbrev pub invariant-loop-other : goal.invariant-loop-other
 invariant-loop-other l =
-    list_any (λ other. pointwise nat_eq other l.name) (names_of (plain_fields l.fields)) ≡ list_any (λ other. pointwise nat_eq other l.name) (names_of (plain_fields (drop l.other-index l.fields)))
+    list_any (λ other. pointwise nat_eq other l.name) (names_of (plain_fields l.fields))
+    ≡ list_any (λ other. pointwise nat_eq other l.name) (names_of (plain_fields (drop l.other-index l.fields)))

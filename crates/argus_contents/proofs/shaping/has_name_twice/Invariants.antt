@@ -5,4 +5,5 @@ use Rattle.argus_contents.specs.Ty.{plain_fields}
 use Rattle.argus_contents.proofs.shaping.has_name_twice.Given as goal
 
 abbrev pub invariant-loop-i : goal.invariant-loop-i
-invariant-loop-i l = has_twice (names_of (plain_fields l.fields)) ≡ has_twice (names_of (plain_fields (drop l.i l.fields)))
+invariant-loop-i l =
+    has_twice (names_of (plain_fields l.fields)) ≡ has_twice (names_of (plain_fields (drop l.i l.fields)))

@@ -10,9 +10,23 @@ are_same-returns-then-a-b t c = sym (other_names c.args.a.now c.args.b.now c.if-
 pub is_same-returns-in-Fields-Fields : goal.is_same-returns-in-Fields-Fields
 is_same-returns-in-Fields-Fields t c =
     let i = c.in-Fields-Fields in
-    rw (i.is-0, i.is-1, plain_ty-Fields i.a, plain_ty-Fields i.b, ← c.deref-in-Fields-Fields.ensures.value, ← c.deref-in-Fields-Fields-2.ensures.value) c.are_same.ensures
+    rw (
+      i.is-0,
+      i.is-1,
+      plain_ty-Fields i.a,
+      plain_ty-Fields i.b,
+      ← c.deref-in-Fields-Fields.ensures.value,
+      ← c.deref-in-Fields-Fields-2.ensures.value,
+    ) c.are_same.ensures
 
 pub is_same-returns-in-Choice-Choice : goal.is_same-returns-in-Choice-Choice
 is_same-returns-in-Choice-Choice t c =
     let i = c.in-Choice-Choice in
-    rw (i.is-0, i.is-1, plain_ty-Choice i.a, plain_ty-Choice i.b, ← c.deref-in-Choice-Choice.ensures.value, ← c.deref-in-Choice-Choice-2.ensures.value) c.are_same-in-Choice-Choice.ensures
+    rw (
+      i.is-0,
+      i.is-1,
+      plain_ty-Choice i.a,
+      plain_ty-Choice i.b,
+      ← c.deref-in-Choice-Choice.ensures.value,
+      ← c.deref-in-Choice-Choice-2.ensures.value,
+    ) c.are_same-in-Choice-Choice.ensures

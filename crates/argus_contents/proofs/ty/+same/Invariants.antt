@@ -6,4 +6,5 @@ use Rattle.argus_contents.proofs.ty.+same.Given as goal
 
 abbrev pub invariant-are_same-loop-i : goal.invariant-are_same-loop-i
 invariant-are_same-loop-i l =
-    same_fields (plain_fields l.a) (plain_fields l.b) ≡ same_fields (plain_fields (drop l.i l.a)) (plain_fields (drop l.i l.b))
+    same_fields (plain_fields l.a) (plain_fields l.b) ≡ same_fields (plain_fields (drop l.i l.a))
+    (plain_fields (drop l.i l.b))

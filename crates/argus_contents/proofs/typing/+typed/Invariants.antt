@@ -7,8 +7,10 @@ use Rattle.argus_contents.proofs.typing.+typed.Given as goal
 
 abbrev pub invariant-all_have_type-loop-value : goal.invariant-all_have_type-loop-value
 invariant-all_have_type-loop-value l =
-    all_typed (plain_ty l.ty) l.declared (listed (plain_list l.values)) ≡ all_typed (plain_ty l.ty) l.declared (listed (plain_list (drop l.value-index l.values)))
+    all_typed (plain_ty l.ty) l.declared (listed (plain_list l.values))
+    ≡ all_typed (plain_ty l.ty) l.declared (listed (plain_list (drop l.value-index l.values)))
 
 abbrev pub invariant-each_has_type-loop-i : goal.invariant-each_has_type-loop-i
 invariant-each_has_type-loop-i l =
-    each_typed (plain_fields l.names) l.declared (listed (plain_list l.values)) ≡ each_typed (plain_fields (drop l.i l.names)) l.declared (listed (plain_list (drop l.i l.values)))
+    each_typed (plain_fields l.names) l.declared (listed (plain_list l.values))
+    ≡ each_typed (plain_fields (drop l.i l.names)) l.declared (listed (plain_list (drop l.i l.values)))

@@ -13,6 +13,9 @@ pub returns-clause-written : goal.returns-clause-written
 returns-clause-written c =
     let e = c.args.entry.now in
     IfOk-equal c.append_reply.result _ _ _ c.append_reply.ensures.written
-    (line (string_bytes c.args.out.now) (string_bytes c.append_number.new.out) (string_bytes c.append.new.out) (string_bytes c.append_call.new.out) (string_bytes c.append-2.new.out)
-    (decimal c.args.at) (codes " ") (call_spelling (plain_call e.call)) (codes " -> ") (reply_spelling (plain_reply e.reply))
-    c.in_ok-append_number.ensures.written c.in_ok-append.ensures.written c.in_ok-append_call.ensures.written c.in_ok-append-2.ensures.written)
+    (line (string_bytes c.args.out.now) (string_bytes c.append_number.new.out) (string_bytes c.append.new.out)
+    (string_bytes c.append_call.new.out) (string_bytes c.append-2.new.out)
+    (decimal c.args.at) (codes " ") (call_spelling (plain_call e.call)) (codes " -> ")
+    (reply_spelling (plain_reply e.reply))
+    c.in_ok-append_number.ensures.written c.in_ok-append.ensures.written c.in_ok-append_call.ensures.written
+    c.in_ok-append-2.ensures.written)

@@ -1,5 +1,6 @@
 -- The proof of the laws that stand on `a_begin`.
-use Rattle.argus_journal.proofs.NextEntry.{begin_base, begin_live, begin_others_see, begin_readers, begin_writers, nested_sees, sub_sees, top_sees}
+use Rattle.argus_journal.proofs.NextEntry.{begin_base, begin_live, begin_others_see, begin_readers, begin_writers}
+use Rattle.argus_journal.proofs.NextEntry.{nested_sees, sub_sees, top_sees}
 use Rattle.argus_journal.proofs.next_entry.a_begin.Goals as goal
 
 pub returns : goal.returns

@@ -1,5 +1,6 @@
 -- The proof of the laws that stand on `an_abort`.
-use Rattle.argus_journal.proofs.NextEntry.{abort_base, abort_live, abort_readers, abort_sees, abort_writers, siblings_abort}
+use Rattle.argus_journal.proofs.NextEntry.{abort_base, abort_live, abort_readers, abort_sees, abort_writers}
+use Rattle.argus_journal.proofs.NextEntry.{siblings_abort}
 use Rattle.argus_journal.proofs.next_entry.an_abort.Goals as goal
 
 pub returns : goal.returns

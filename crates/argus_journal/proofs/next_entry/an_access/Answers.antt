@@ -1,5 +1,6 @@
 -- The proof of the laws that stand on `an_access`.
-use Rattle.argus_journal.proofs.NextEntry.{access_base, access_live, access_others_see, access_readers, access_sees, access_writers}
+use Rattle.argus_journal.proofs.NextEntry.{access_base, access_live, access_others_see, access_readers, access_sees}
+use Rattle.argus_journal.proofs.NextEntry.{access_writers}
 use Rattle.argus_journal.proofs.next_entry.an_access.Goals as goal
 
 pub returns : goal.returns

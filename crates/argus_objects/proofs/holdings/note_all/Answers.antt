@@ -16,5 +16,6 @@ loop-o-preserved c =
     record {
       room = omega (arith, c.insert.ensures.spare, c.loop-o.invariant.room);
       same = ap (passed (drop (i + 1) objects)) put
-          ∙ (sym (ap (λ os. passed os c.loop-o.into.keys) (drop_more objects i none c.loop-o-test.true)) ∙ c.loop-o.invariant.same);
+          ∙ (sym (ap (λ os. passed os c.loop-o.into.keys) (drop_more objects i none c.loop-o-test.true))
+          ∙ c.loop-o.invariant.same);
     }

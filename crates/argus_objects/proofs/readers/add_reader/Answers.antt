@@ -5,7 +5,9 @@ use Rattle.argus_actions.specs.declared.action_id.ActionId.{ActionId}
 use Rattle.argus_objects.specs.Moves.{with_reader}
 use Rattle.argus_objects.proofs.InOrder.{any_default, place_more, place_taken, placed}
 use Rattle.argus_objects.proofs.readers.add_reader.Goals as goal
-use Rattle.argus_objects.proofs.readers.add_reader.Goals.{then-loop-at-test+else-a-index, else-loop-at-test, then-at-eq0-via-then-at-eq0, then-at-eq0-via-else-at-eq0+then-index-a}
+use Rattle.argus_objects.proofs.readers.add_reader.Goals.{then-loop-at-test+else-a-index, else-loop-at-test}
+use Rattle.argus_objects.proofs.readers.add_reader.Goals.{then-at-eq0-via-then-at-eq0}
+use Rattle.argus_objects.proofs.readers.add_reader.Goals.{then-at-eq0-via-else-at-eq0+then-index-a}
 
 pub loop-at-preserved : goal.loop-at-preserved
 loop-at-preserved c =
@@ -14,7 +16,8 @@ loop-at-preserved c =
     let more : k + 1 ≡ c.loop-at.at = omega arith in
     record {
       bound = omega arith;
-      place = sym (place_more c.args.a xs k c.index.result.now (omega arith) (omega (arith, ap (λ (x : ActionId). x.0) c.index.ensures)))
+      place = sym (place_more c.args.a xs k c.index.result.now (omega arith)
+          (omega (arith, ap (λ (x : ActionId). x.0) c.index.ensures)))
           ∙ (ap (λ n. with_reader c.args.a (take n xs) ++ drop n xs) more ∙ c.loop-at.invariant.place);
     }
 
@@ -33,7 +36,8 @@ returns-then-at-eq0 c =
                   arith,
                   ap (λ (x : ActionId). x.0) w.index-else-at-eq0.ensures,
                   ap (λ (x : ActionId). x.0) v.index.ensures,
-                  ap (λ (x : ActionId). x.0) (any_default xs (at - 1) none w.index-else-at-eq0.result.now (omega arith)),
+                  ap (λ (x : ActionId). x.0) (any_default xs (at - 1) none w.index-else-at-eq0.result.now
+                      (omega arith)),
                   ap (λ (x : ActionId). x.0) (any_default xs (at - 1) none v.index.result.now (omega arith)),
                   w.if-index-a.true,
                 )
@@ -50,5 +54,7 @@ returns-else-index-a c =
     let some : 0 < c.loop-at.at = omega (arith, c.if-at-eq0.false) in
     let more : k + 1 ≡ c.loop-at.at = omega arith in
     let taken : with_reader c.args.a (take (k + 1) xs) ≡ take (k + 1) xs =
-    place_taken c.args.a xs k c.index-else-at-eq0.result.now c.requires.ascending (omega arith) (sym (ap (λ (x : ActionId). x.0) c.index-else-at-eq0.ensures) ∙ c.if-index-a.false) in
-    sym (take-append-drop (k + 1) xs) ∙ (ap (λ zs. zs ++ drop (k + 1) xs) (sym taken) ∙ (ap (λ n. with_reader c.args.a (take n xs) ++ drop n xs) more ∙ c.loop-at.invariant.place))
+    place_taken c.args.a xs k c.index-else-at-eq0.result.now c.requires.ascending (omega arith)
+    (sym (ap (λ (x : ActionId). x.0) c.index-else-at-eq0.ensures) ∙ c.if-index-a.false) in
+    sym (take-append-drop (k + 1) xs) ∙ (ap (λ zs. zs ++ drop (k + 1) xs) (sym taken)
+    ∙ (ap (λ n. with_reader c.args.a (take n xs) ++ drop n xs) more ∙ c.loop-at.invariant.place))

@@ -12,8 +12,10 @@ loop-left-preserved c =
     let more : k + 1 ≡ c.loop-left.left = omega arith in
     record {
       bound = omega arith;
-      same = sym (climb_on c.args.tree.now c.args.readers.now k c.loop-left.at none c.requires (omega arith) (sym c.is_ancestor.ensures ∙ c.if-not-is_ancestor.false))
-          ∙ (ap (λ n. all_above c.args.tree.now c.loop-left.at (take n c.args.readers.now)) more ∙ c.loop-left.invariant.same);
+      same = sym (climb_on c.args.tree.now c.args.readers.now k c.loop-left.at none c.requires (omega arith)
+          (sym c.is_ancestor.ensures ∙ c.if-not-is_ancestor.false))
+          ∙ (ap (λ n. all_above c.args.tree.now c.loop-left.at (take n c.args.readers.now)) more
+          ∙ c.loop-left.invariant.same);
     }
 
 pub returns-then-not-is_ancestor : goal.returns-then-not-is_ancestor
@@ -21,5 +23,6 @@ returns-then-not-is_ancestor c =
     let none : ActionId = record { 0 = 0 } in
     let k : ℕ = c.loop-left.left - 1 in
     let more : k + 1 ≡ c.loop-left.left = omega arith in
-    sym (climb_off c.args.tree.now c.args.readers.now k c.loop-left.at none (omega arith) (sym c.is_ancestor.ensures ∙ c.if-not-is_ancestor.true))
+    sym (climb_off c.args.tree.now c.args.readers.now k c.loop-left.at none (omega arith)
+    (sym c.is_ancestor.ensures ∙ c.if-not-is_ancestor.true))
     ∙ (ap (λ n. all_above c.args.tree.now c.loop-left.at (take n c.args.readers.now)) more ∙ c.loop-left.invariant.same)

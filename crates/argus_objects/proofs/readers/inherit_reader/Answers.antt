@@ -10,9 +10,19 @@ pub add_reader-requires : goal.add_reader-requires
 add_reader-requires c =
     let xs = c.args.readers.now.items in
     let fewer : length (without_reader c.args.s xs) < length xs =
-    fewer_readers c.args.s xs (sym (c.has_reader.ensures ∙ ap (is_reader c.args.s) c.as_slice.ensures.value) ∙ c.if-has_reader.true) in
+    fewer_readers c.args.s xs (sym (c.has_reader.ensures ∙ ap (is_reader c.args.s) c.as_slice.ensures.value)
+    ∙ c.if-has_reader.true) in
     let same = ap length c.drop_reader.ensures.readers in
     record {
-      room = omega (arith, fewer, same, c.drop_reader.ensures.capacity, c.args.readers.now.ok, c.args.readers.now.small, c.drop_reader.new.readers.ok);
-      ascending = rw c.drop_reader.ensures.readers (ascending_filter (λ (x : ActionId). not (eqb x.0 c.args.s.0)) xs c.requires);
+      room = omega (
+        arith,
+        fewer,
+        same,
+        c.drop_reader.ensures.capacity,
+        c.args.readers.now.ok,
+        c.args.readers.now.small,
+        c.drop_reader.new.readers.ok,
+      );
+      ascending = rw c.drop_reader.ensures.readers (ascending_filter (λ (x : ActionId). not (eqb x.0 c.args.s.0))
+          xs c.requires);
     }

@@ -9,10 +9,12 @@ pub returns-then-is_below_all : goal.returns-then-is_below_all
 returns-then-is_below_all t c =
     c.are_chained.ensures
     ∙ sym (chain_push c.args.tree.now c.args.versions.now c.in-Some.older.now c.in-Some.newest.now (search rules)
-    ∙ ap (λ b. b && is_chain c.args.tree.now (holders (newest_first c.in-Some.older.now))) (sym c.is_below_all.ensures ∙ c.if-is_below_all.true))
+    ∙ ap (λ b. b && is_chain c.args.tree.now (holders (newest_first c.in-Some.older.now)))
+    (sym c.is_below_all.ensures ∙ c.if-is_below_all.true))
 
 pub returns-else-is_below_all : goal.returns-else-is_below_all
 returns-else-is_below_all t c =
     c.if-is_below_all.false
     ∙ sym (chain_push c.args.tree.now c.args.versions.now c.in-Some.older.now c.in-Some.newest.now (search rules)
-    ∙ ap (λ b. b && is_chain c.args.tree.now (holders (newest_first c.in-Some.older.now))) (sym c.is_below_all.ensures ∙ c.if-is_below_all.false))
+    ∙ ap (λ b. b && is_chain c.args.tree.now (holders (newest_first c.in-Some.older.now)))
+    (sym c.is_below_all.ensures ∙ c.if-is_below_all.false))

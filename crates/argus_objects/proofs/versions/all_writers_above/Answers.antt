@@ -16,7 +16,8 @@ loop-left-init c =
     let as_many : length (writers vs) ≡ length vs = length-map vs (λ (v : Version). v.holder) in
     record {
       bound = omega arith;
-      same = ap (all_above c.args.tree.now c.args.a) (take_all (length vs) (writers vs) (omega arith)) ∙ sym (all_holders (λ (x : ActionId). is_ancestor c.args.tree.now x.0 c.args.a.0) vs);
+      same = ap (all_above c.args.tree.now c.args.a) (take_all (length vs) (writers vs) (omega arith))
+          ∙ sym (all_holders (λ (x : ActionId). is_ancestor c.args.tree.now x.0 c.args.a.0) vs);
     }
 
 pub loop-left-preserved : goal.loop-left-preserved
@@ -27,9 +28,11 @@ loop-left-preserved c =
     let k : ℕ = c.loop-left.left - 1 in
     let more : k + 1 ≡ c.loop-left.left = omega arith in
     let as_many : length (writers vs) ≡ length vs = length-map vs (λ (v : Version). v.holder) in
-    let here : get_or (writers vs) k d.holder ≡ (get_or vs k d).holder = get_or-map (λ (v : Version). v.holder) vs k d d.holder (omega arith) in
+    let here : get_or (writers vs) k d.holder ≡ (get_or vs k d).holder =
+    get_or-map (λ (v : Version). v.holder) vs k d d.holder (omega arith) in
     let up : is_ancestor t (get_or (writers vs) k d.holder).0 c.loop-left.at.0 ≡ true =
-    subst (λ (x : ActionId). is_ancestor t x.0 c.loop-left.at.0 ≡ true) (sym here) (sym c.is_ancestor.ensures ∙ c.if-not-is_ancestor.false) in
+    subst (λ (x : ActionId). is_ancestor t x.0 c.loop-left.at.0 ≡ true) (sym here)
+    (sym c.is_ancestor.ensures ∙ c.if-not-is_ancestor.false) in
     record {
       bound = omega arith;
       same = ap (λ (x : ActionId). all_above t x (take k (writers vs))) (sym here)
@@ -45,8 +48,10 @@ returns-then-not-is_ancestor c =
     let k : ℕ = c.loop-left.left - 1 in
     let more : k + 1 ≡ c.loop-left.left = omega arith in
     let as_many : length (writers vs) ≡ length vs = length-map vs (λ (v : Version). v.holder) in
-    let here : get_or (writers vs) k d.holder ≡ (get_or vs k d).holder = get_or-map (λ (v : Version). v.holder) vs k d d.holder (omega arith) in
+    let here : get_or (writers vs) k d.holder ≡ (get_or vs k d).holder =
+    get_or-map (λ (v : Version). v.holder) vs k d d.holder (omega arith) in
     let off : is_ancestor t (get_or (writers vs) k d.holder).0 c.loop-left.at.0 ≡ false =
-    subst (λ (x : ActionId). is_ancestor t x.0 c.loop-left.at.0 ≡ false) (sym here) (sym c.is_ancestor.ensures ∙ c.if-not-is_ancestor.true) in
+    subst (λ (x : ActionId). is_ancestor t x.0 c.loop-left.at.0 ≡ false) (sym here)
+    (sym c.is_ancestor.ensures ∙ c.if-not-is_ancestor.true) in
     sym (climb_off t (writers vs) k c.loop-left.at d.holder (omega arith) off)
     ∙ (ap (λ n. all_above t c.loop-left.at (take n (writers vs))) more ∙ c.loop-left.invariant.same)

@@ -7,7 +7,8 @@ use Rattle.argus_objects.proofs.versions.all_writers_above.Given as goal
 abbrev pub invariant-loop-left : goal.invariant-loop-left
 invariant-loop-left l = record {
   bound : l.left ≤ length l.versions;
-  same : all_above l.tree l.at (take l.left (writers l.versions)) ≡ all_above l.tree l.fn.a (holders (newest_first l.versions));
+  same : all_above l.tree l.at (take l.left (writers l.versions))
+      ≡ all_above l.tree l.fn.a (holders (newest_first l.versions));
 }
 
 abbrev pub decreases-loop-left : goal.decreases-loop-left

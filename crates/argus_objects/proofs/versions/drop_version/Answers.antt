@@ -9,5 +9,6 @@ use Rattle.argus_objects.proofs.versions.drop_version.Goals as goal
 
 pub returns : goal.returns
 returns c =
-    ap newest_first (filter_same _ (λ (v : Version). not (eqb v.holder.0 c.args.a.0)) _ (λ x b q k. search (rules, tests)) _ _ c.retain.ensures.filtered)
+    ap newest_first (filter_same _ (λ (v : Version). not (eqb v.holder.0 c.args.a.0)) _
+    (λ x b q k. search (rules, tests)) _ _ c.retain.ensures.filtered)
     ∙ sym (newest_filter (λ (x : ActionId). not (eqb x.0 c.args.a.0)) c.args.versions.now.items)

@@ -18,10 +18,12 @@ loop-version-preserved c =
     elim c.if-version-s.branch [
       | then-version-s w ↦
           ap (map plain_version) w.versions-is
-          ∙ handed_more c.args.s c.args.parent (map plain_version old) now i d _ (omega arith) (omega arith) c.loop-version.invariant
+          ∙ handed_more c.args.s c.args.parent (map plain_version old) now i d _ (omega arith) (omega arith)
+          c.loop-version.invariant
           (sym (cond-true _ _ _ (eq-eqb (get_or now i d).holder.0 c.args.s.0 w.if-version-s.true)))
       | else-version-s w ↦
           ap (map plain_version) w.versions-is
-          ∙ handed_more c.args.s c.args.parent (map plain_version old) now i d _ (omega arith) (omega arith) c.loop-version.invariant
+          ∙ handed_more c.args.s c.args.parent (map plain_version old) now i d _ (omega arith) (omega arith)
+          c.loop-version.invariant
           (sym (cond-false _ _ _ (ne_eqb (get_or now i d).holder.0 c.args.s.0 w.if-version-s.false)))
     ]

@@ -18,11 +18,14 @@ returns-then-has_version c =
     let as_long : length new ≡ length kept = omega (arith, c.hand_over.auto, ap length c.as_mut_slice.ensures.value) in
     let whole : take c.drop_version.new.versions.len (new ++ drop (length new) kept) ≡ new =
     ap (λ ws. take c.drop_version.new.versions.len (new ++ ws)) (drop_all (length new) kept (omega arith))
-    ∙ (ap (take c.drop_version.new.versions.len) (append-nil new) ∙ take_all c.drop_version.new.versions.len new (omega (arith, c.drop_version.new.versions.ok, as_long))) in
+    ∙ (ap (take c.drop_version.new.versions.len) (append-nil new)
+    ∙ take_all c.drop_version.new.versions.len new (omega (arith, c.drop_version.new.versions.ok, as_long))) in
     let there : has_version c.args.s (newest_first vs) ≡ true =
-    has_newest c.args.s vs ∙ (ap (list_any (λ (v : Version). eqb v.holder.0 c.args.s.0)) (sym c.as_slice.ensures.value) ∙ (sym c.has_version.ensures ∙ c.if-has_version.true)) in
+    has_newest c.args.s vs ∙ (ap (list_any (λ (v : Version). eqb v.holder.0 c.args.s.0)) (sym c.as_slice.ensures.value)
+    ∙ (sym c.has_version.ensures ∙ c.if-has_version.true)) in
     ap newest_first whole
-    ∙ (ap reverse (c.hand_over.ensures ∙ ap (λ (ws : List Version). map (handed c.args.s c.args.parent) (map plain_version ws)) c.as_mut_slice.ensures.value)
+    ∙ (ap reverse (c.hand_over.ensures ∙ ap (λ (ws : List Version). map (handed c.args.s c.args.parent)
+    (map plain_version ws)) c.as_mut_slice.ensures.value)
     ∙ (sym (map-reverse (handed c.args.s c.args.parent) (map plain_version kept))
     ∙ (ap (map (handed c.args.s c.args.parent)) c.drop_version.ensures
     ∙ sym (cond-true _ _ _ there))))
@@ -31,5 +34,6 @@ pub returns-else-has_version : goal.returns-else-has_version
 returns-else-has_version c =
     let vs = c.args.versions.now.items in
     let lacks : has_version c.args.s (newest_first vs) ≡ false =
-    has_newest c.args.s vs ∙ (ap (list_any (λ (v : Version). eqb v.holder.0 c.args.s.0)) (sym c.as_slice.ensures.value) ∙ (sym c.has_version.ensures ∙ c.if-has_version.false)) in
+    has_newest c.args.s vs ∙ (ap (list_any (λ (v : Version). eqb v.holder.0 c.args.s.0)) (sym c.as_slice.ensures.value)
+    ∙ (sym c.has_version.ensures ∙ c.if-has_version.false)) in
     sym (cond-false _ _ _ lacks)

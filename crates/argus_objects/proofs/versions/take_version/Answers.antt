@@ -28,7 +28,8 @@ loop-at-preserved c =
     record {
       same = c.loop-at.invariant.same;
       bound = omega arith;
-      none = none_more c.args.t vs k d (omega arith) (ap (λ n. has_version c.args.t (newest_first (drop n vs))) (sym more) ∙ c.loop-at.invariant.none)
+      none = none_more c.args.t vs k d (omega arith) (ap (λ n. has_version c.args.t (newest_first (drop n vs)))
+          (sym more) ∙ c.loop-at.invariant.none)
           (λ e. c.if-index-t.false (ap (λ (v : Version). v.holder.0) item ∙ e));
     }
 
@@ -39,9 +40,12 @@ returns-then-index-t-clause-content c =
     let k : ℕ = c.loop-at.at - 1 in
     let more : c.loop-at.at ≡ k + 1 = omega arith in
     let item : d ≡ get_or vs k d = c.index.ensures ∙ ap (λ ws. get_or ws k d) c.loop-at.invariant.same in
-    let taken : c.remove.result ≡ get_or vs k d = c.remove.ensures.value ∙ (ap (λ ws. get_or ws k c.remove.result) c.loop-at.invariant.same ∙ any_default vs k c.remove.result d (omega arith)) in
+    let taken : c.remove.result ≡ get_or vs k d = c.remove.ensures.value
+    ∙ (ap (λ ws. get_or ws k c.remove.result) c.loop-at.invariant.same
+    ∙ any_default vs k c.remove.result d (omega arith)) in
     ap (λ (v : Version). Some (plain_option v.content)) taken
-    ∙ version_here c.args.t vs k d (omega arith) c.requires (ap (λ n. has_version c.args.t (newest_first (drop n vs))) (sym more) ∙ c.loop-at.invariant.none)
+    ∙ version_here c.args.t vs k d (omega arith) c.requires
+    (ap (λ n. has_version c.args.t (newest_first (drop n vs))) (sym more) ∙ c.loop-at.invariant.none)
     (sym (ap (λ (v : Version). v.holder.0) item) ∙ c.if-index-t.true)
 
 pub returns-then-index-t-clause-versions : goal.returns-then-index-t-clause-versions
@@ -52,19 +56,23 @@ returns-then-index-t-clause-versions c =
     let more : c.loop-at.at ≡ k + 1 = omega arith in
     let item : d ≡ get_or vs k d = c.index.ensures ∙ ap (λ ws. get_or ws k d) c.loop-at.invariant.same in
     let next : suc k ≡ k + 1 = omega arith in
-    ap newest_first (c.remove.ensures.items ∙ (ap (λ ws. take k ws ++ drop (suc k) ws) c.loop-at.invariant.same ∙ ap (λ n. take k vs ++ drop n vs) next))
-    ∙ removed_here c.args.t vs k d (omega arith) c.requires (ap (λ n. has_version c.args.t (newest_first (drop n vs))) (sym more) ∙ c.loop-at.invariant.none)
+    ap newest_first (c.remove.ensures.items ∙ (ap (λ ws. take k ws ++ drop (suc k) ws) c.loop-at.invariant.same
+    ∙ ap (λ n. take k vs ++ drop n vs) next))
+    ∙ removed_here c.args.t vs k d (omega arith) c.requires
+    (ap (λ n. has_version c.args.t (newest_first (drop n vs))) (sym more) ∙ c.loop-at.invariant.none)
     (sym (ap (λ (v : Version). v.holder.0) item) ∙ c.if-index-t.true)
 
 pub returns-clause-content : goal.returns-clause-content
 returns-clause-content c =
     let vs = c.args.versions.now.items in
     let first : c.loop-at.at ≡ 0 = omega arith in
-    sym (version_of_none c.args.t (newest_first vs) (ap (λ n. has_version c.args.t (newest_first (drop n vs))) (sym first) ∙ c.loop-at.invariant.none))
+    sym (version_of_none c.args.t (newest_first vs) (ap (λ n. has_version c.args.t (newest_first (drop n vs)))
+    (sym first) ∙ c.loop-at.invariant.none))
 
 pub returns-clause-versions : goal.returns-clause-versions
 returns-clause-versions c =
     let vs = c.args.versions.now.items in
     let first : c.loop-at.at ≡ 0 = omega arith in
     ap newest_first c.loop-at.invariant.same
-    ∙ sym (without_none c.args.t (newest_first vs) (ap (λ n. has_version c.args.t (newest_first (drop n vs))) (sym first) ∙ c.loop-at.invariant.none))
+    ∙ sym (without_none c.args.t (newest_first vs) (ap (λ n. has_version c.args.t (newest_first (drop n vs)))
+    (sym first) ∙ c.loop-at.invariant.none))

@@ -6,7 +6,8 @@ use Rattle.argus_texts.specs.Language.{Stops}
 use Rattle.argus_texts.specs.Languages.{Quoted}
 use Rattle.argus_texts.specs.Spelling.{escaped}
 use Rattle.argus_texts.proofs.Exits.{passed}
-use Rattle.argus_texts.proofs.Quotes.{feed_stops, escape_stops, quoted_reads, read_plain, read_escape, ends_here, feed_here}
+use Rattle.argus_texts.proofs.Quotes.{feed_stops, escape_stops, quoted_reads, read_plain, read_escape, ends_here}
+use Rattle.argus_texts.proofs.Quotes.{feed_here}
 use Rattle.argus_texts.proofs.quoted.quoted.Goals as goal
 
 pub returns-in_default-clause-stops : goal.returns-in_default-clause-stops

@@ -6,7 +6,8 @@ use Rattle.argus_contents.specs.Ty.{plain_field, plain_ty}
 use Rattle.argus_texts.specs.Language.{First}
 use Rattle.argus_texts.proofs.Exits.{refused}
 use Rattle.argus_texts.proofs.Items.{NoEnd, no_ascii_end}
-use Rattle.argus_texts.proofs.ShapeParts.{not_closed, no_name_no_field, no_ty_no_field, no_field_no_list, no_end_no_list, no_more, comma_goes_on, goes_on, closes}
+use Rattle.argus_texts.proofs.ShapeParts.{not_closed, no_name_no_field, no_ty_no_field, no_field_no_list}
+use Rattle.argus_texts.proofs.ShapeParts.{no_end_no_list, no_more, comma_goes_on, goes_on, closes}
 use Rattle.argus_texts.proofs.shape_reading.+shape_reading.Goals as goal
 
 pub closed_ty-returns-in_default-clause-refused : goal.closed_ty-returns-in_default-clause-refused

@@ -7,7 +7,8 @@ use Rattle.argus_texts.specs.Spelling.{spelling}
 use Rattle.argus_texts.proofs.Grown.{choice_step}
 use Rattle.argus_texts.proofs.writing.+writing.Goals as goal
 
-pub append_value-returns-in_ok-append_value-in-Choice-clause-written : goal.append_value-returns-in_ok-append_value-in-Choice-clause-written
+pub append_value-returns-in_ok-append_value-in-Choice-clause-written :
+    goal.append_value-returns-in_ok-append_value-in-Choice-clause-written
 append_value-returns-in_ok-append_value-in-Choice-clause-written t c =
     let old = string_bytes c.args.out.now in
     let v = c.deref-in-Choice.result.now in

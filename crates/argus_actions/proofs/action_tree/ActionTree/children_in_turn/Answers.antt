@@ -10,12 +10,17 @@ use Rattle.argus_actions.proofs.Siblings.{comes_under}
 use Rattle.argus_actions.proofs.action_tree.ActionTree.children_in_turn.Goals as goal
 
 pub returns-clause-newest : goal.returns-clause-newest
-returns-clause-newest c = newest_where_greatest (comes_from c.args.a.0) c.args.self.now.folded c.args.self.now.rows (next c.args.self.now)
+returns-clause-newest c =
+    newest_where_greatest (comes_from c.args.a.0) c.args.self.now.folded c.args.self.now.rows (next c.args.self.now)
 
 pub returns-clause-older : goal.returns-clause-older
 returns-clause-older c = λ x came.
     let row = came_row (comes_from c.args.a.0) c.args.self.now.folded c.args.self.now.rows x came in
-    let link = λ (row : Row). named (option_and_then (λ under. newest_child_below c.args.self.now.folded c.args.self.now.rows under x) (under_of row.origin)) in
-    subst (λ (o : Option ActionId). IsGreatestBelow x (is_child_of c.args.self.now.folded c.args.self.now.rows c.args.a.0) o)
-    (sym (ap (option_and_then link) row.1.0 ∙ ap (λ o. named (option_and_then (λ under. newest_child_below c.args.self.now.folded c.args.self.now.rows under x) o)) (comes_under row.0.origin c.args.a.0 row.1.1)))
+    let link = λ (row : Row). named (option_and_then (λ under. newest_child_below c.args.self.now.folded
+    c.args.self.now.rows under x) (under_of row.origin)) in
+    subst (λ (o : Option ActionId). IsGreatestBelow x (is_child_of c.args.self.now.folded c.args.self.now.rows
+    c.args.a.0) o)
+    (sym (ap (option_and_then link) row.1.0 ∙ ap (λ o. named
+    (option_and_then (λ under. newest_child_below c.args.self.now.folded c.args.self.now.rows under x) o))
+    (comes_under row.0.origin c.args.a.0 row.1.1)))
     (newest_where_greatest (comes_from c.args.a.0) c.args.self.now.folded c.args.self.now.rows x)

@@ -19,12 +19,19 @@ pub finish-requires-clause-begun : goal.finish-requires-clause-begun
 finish-requires-clause-begun c =
     let begun = live_is_begun c.args.self.now c.args.a.0 (none_first _ _ c.requires) in
     let here = rw (← c.self.view_is) at begun in
-    omega (arith, here.1, length-rows_of c.self.inside.nodes.items, ap (λ (xs : List Node). length xs) c.as_mut_slice.ensures.value)
+    omega (
+      arith,
+      here.1,
+      length-rows_of c.self.inside.nodes.items,
+      ap (λ (xs : List Node). length xs) c.as_mut_slice.ensures.value,
+    )
 
 pub invariant_of-self : goal.invariant_of-self
 invariant_of-self c =
-    let fits : length c.finish.new.nodes ≡ c.self.inside.nodes.len = omega (arith, ap (λ (xs : List Node). length xs) c.as_mut_slice.ensures.value) in
-    let P : List Node → Type 0 = λ xs. rows_of c.finish.new.nodes ≡ mark c.self.inside.first (λ k. eqb k c.args.a.0) Committed (rows_of xs) in
+    let fits : length c.finish.new.nodes ≡ c.self.inside.nodes.len =
+    omega (arith, ap (λ (xs : List Node). length xs) c.as_mut_slice.ensures.value) in
+    let P : List Node → Type 0 =
+    λ xs. rows_of c.finish.new.nodes ≡ mark c.self.inside.first (λ k. eqb k c.args.a.0) Committed (rows_of xs) in
     let rows_is : P c.self.inside.nodes.items = subst P c.as_mut_slice.ensures.value c.finish.ensures.rows in
     let accepted = commit_accepted c.args.self.now c.args.a.0 c.requires in
     let here = rw (← c.self.view_is) at accepted in

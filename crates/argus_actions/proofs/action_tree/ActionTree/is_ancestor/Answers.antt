@@ -12,4 +12,5 @@ returns-then-y-self c =
 
 pub returns-else-y-len : goal.returns-else-y-len
 returns-else-y-len c =
-    le-ltb c.args.y.0 c.len.result c.if-y-len.false ∙ sym (is_above_past c.args.self.now.folded c.args.self.now.rows c.args.x.0 c.args.y.0 (omega arith))
+    le-ltb c.args.y.0 c.len.result c.if-y-len.false ∙ sym
+    (is_above_past c.args.self.now.folded c.args.self.now.rows c.args.x.0 c.args.y.0 (omega arith))

@@ -8,5 +8,6 @@ use Rattle.argus_actions.proofs.action_tree.ActionTree.parent_is_ancestor.Goals 
 pub returns : goal.returns
 returns c =
     rw (← c.self.view_is)
-    (parent_above c.self.inside.first (rows_of c.self.inside.nodes.items) c.args.a.0 c.args.parent c.self.invariant.nodes.linked
+    (parent_above c.self.inside.first (rows_of c.self.inside.nodes.items)
+    c.args.a.0 c.args.parent c.self.invariant.nodes.linked
     (subst (λ (t : Tree). parent_of t c.args.a.0 ≡ Some c.args.parent) (sym c.self.view_is) c.requires))

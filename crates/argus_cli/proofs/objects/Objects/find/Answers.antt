@@ -13,7 +13,8 @@ returns-in-Some-clause-number c =
 pub returns-in-Some-clause-shape : goal.returns-in-Some-clause-shape
 returns-in-Some-clause-shape c =
     ap (λ os. shape_at os c.in-Some.number) (sym c.self.view_is)
-    ∙ ap (option_map (λ o. o.1)) (slice_get-map object c.self.inside.shapes.entries c.in-Some.number ∙ ap (option_map object) c.in-Some.ensures.entry)
+    ∙ ap (option_map (λ o. o.1)) (slice_get-map object c.self.inside.shapes.entries c.in-Some.number
+    ∙ ap (option_map object) c.in-Some.ensures.entry)
 
 pub returns-in-None-clause-number : goal.returns-in-None-clause-number
 returns-in-None-clause-number c =

@@ -4,5 +4,6 @@ use denote.Param.Send.{Frees}
 use Rattle.std.specs.declared.alloc.Allocator.{Ghosts}
 use Rattle.argus_memory.specs.contracts.limited.LimitedAllocator.TheImpl.{ghosts}
 
-pub frees : (A : RattleType) (g : Ghosts A.Denot) (d e : Dict) → Frees g g.dealloc_token → Frees (ghosts A g d e) (ghosts A g d e).dealloc_token
+pub frees : (A : RattleType) (g : Ghosts A.Denot) (d e : Dict) → Frees g g.dealloc_token
+    → Frees (ghosts A g d e) (ghosts A g d e).dealloc_token
 frees A g d e f = record { frees = λ r. f.frees r.inner }

@@ -5,12 +5,12 @@ use Rattle.std.proofs.lemmas.Bool.{and_parts}
 use Rattle.argus_actions.specs.declared.action_id.ActionId.{ActionId}
 use Rattle.argus_actions.specs.Tree.{is_ancestor}
 use Rattle.argus_contents.specs.Answer.{plain_answer}
-use Rattle.argus_contents.specs.Change.{plain_change, result as outcome_of}
+use Rattle.argus_contents.specs.Change.{plain_change, outcome}
 use Rattle.argus_contents.specs.Content.{KeepsLimits, plain_option}
 use Rattle.argus_objects.specs.Object.{Object, holders, newest_first, writers}
 use Rattle.argus_objects.specs.Rules.{is_lawful, may_write, all_above, seen_by}
 use Rattle.argus_objects.specs.Moves.{changed, changed_top, newest_content, with_version}
-use Rattle.argus_contents.proofs.Kept.{result_keeps}
+use Rattle.argus_contents.proofs.Kept.{outcome_keeps}
 use Rattle.argus_objects.proofs.Ascending.{above_up_to}
 use Rattle.argus_objects.proofs.Stacks.{all_holders}
 use Rattle.argus_objects.proofs.Changes.{on_ok, seen_on_top}
@@ -23,7 +23,8 @@ change_version-requires-clause-newest c =
     let vs = c.self.inside.versions.items in
     let up = subst (λ (o : Object). may_write t o c.args.a ≡ true) (sym c.self.view_is) c.requires.granted in
     above_up_to t c.args.a (writers vs)
-    (sym (all_holders (λ (x : ActionId). is_ancestor t x.0 c.args.a.0) vs) ∙ (and_parts (all_above t c.args.a (holders (newest_first vs))) _ up).0)
+    (sym (all_holders (λ (x : ActionId). is_ancestor t x.0 c.args.a.0) vs)
+    ∙ (and_parts (all_above t c.args.a (holders (newest_first vs))) _ up).0)
 
 pub change_version-requires-clause-limits : goal.change_version-requires-clause-limits
 change_version-requires-clause-limits c =
@@ -31,10 +32,13 @@ change_version-requires-clause-limits c =
     let vs = newest_first c.self.inside.versions.items in
     let base = plain_option c.self.inside.base in
     let up = subst (λ (o : Object). may_write t o c.args.a ≡ true) (sym c.self.view_is) c.requires.granted in
-    let same : newest_content base vs ≡ seen_by t c.args.a base vs = seen_on_top t c.args.a base vs (and_parts (all_above t c.args.a (holders vs)) _ up).0 in
-    subst KeepsLimits (sym same) (subst (λ (o : Object). KeepsLimits (seen_by t c.args.a o.base o.versions)) (sym c.self.view_is) c.requires.limits)
+    let same : newest_content base vs ≡ seen_by t c.args.a base vs =
+    seen_on_top t c.args.a base vs (and_parts (all_above t c.args.a (holders vs)) _ up).0 in
+    subst KeepsLimits (sym same) (subst (λ (o : Object). KeepsLimits (seen_by t c.args.a o.base o.versions))
+    (sym c.self.view_is) c.requires.limits)
 
-kept : (c : goal.After-change_version) → Kept c.args.tree.now c.self.inside.readers.items c.change_version.new.versions.items
+kept : (c : goal.After-change_version) → Kept c.args.tree.now c.self.inside.readers.items
+    c.change_version.new.versions.items
 kept c =
     let vs = newest_first c.self.inside.versions.items in
     let base = plain_option c.self.inside.base in
@@ -66,17 +70,21 @@ returns-clause-versions c =
     let change = plain_change c.args.change in
     let vs = newest_first c.self.inside.versions.items in
     let new = newest_first c.change_version.new.versions.items in
-    subst (λ (o : Object). OnOk c.change_version.result (new ≡ with_version c.args.a (changed c.args.tree.now c.args.a change o).0 o.versions))
+    subst (λ (o : Object). OnOk c.change_version.result (new
+    ≡ with_version c.args.a (changed c.args.tree.now c.args.a change o).0 o.versions))
     c.self.view_is
-    (subst (λ x. OnOk c.change_version.result (new ≡ with_version c.args.a (outcome_of change x).0 vs)) (seen c) c.change_version.ensures.versions)
+    (subst (λ x. OnOk c.change_version.result (new ≡ with_version c.args.a (outcome change x).0 vs)) (seen c)
+    c.change_version.ensures.versions)
 
 pub returns-clause-answer : goal.returns-clause-answer
 returns-clause-answer c =
     let change = plain_change c.args.change in
-    subst (λ (o : Object). IfOk c.change_version.result (λ answer. plain_answer answer ≡ (changed c.args.tree.now c.args.a change o).1))
+    subst (λ (o : Object). IfOk c.change_version.result (λ answer. plain_answer answer
+    ≡ (changed c.args.tree.now c.args.a change o).1))
     c.self.view_is
-    (subst (λ x. IfOk c.change_version.result (λ answer. plain_answer answer ≡ (outcome_of change x).1)) (seen c) c.change_version.ensures.answer)
+    (subst (λ x. IfOk c.change_version.result (λ answer. plain_answer answer ≡ (outcome change x).1)) (seen c)
+    c.change_version.ensures.answer)
 
 pub returns-clause-kept : goal.returns-clause-kept
 returns-clause-kept c = λ within.
-    on_ok c.change_version.result _ (result_keeps (plain_change c.args.change) _ within c.requires.limits)
+    on_ok c.change_version.result _ (outcome_keeps (plain_change c.args.change) _ within c.requires.limits)

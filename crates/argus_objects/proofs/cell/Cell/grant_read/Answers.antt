@@ -10,7 +10,8 @@ kept c =
     kept_read c.args.tree.now c.self.inside.readers.items c.add_reader.new.readers.items c.self.inside.versions.items
     c.self.inside.versions.items c.self.invariant.readers_ascend
     (subst (λ (o : Object). is_lawful c.args.tree.now o ≡ true) (sym c.self.view_is) c.requires.lawful)
-    c.args.a (subst (λ (o : Object). may_read c.args.tree.now o c.args.a ≡ true) (sym c.self.view_is) c.requires.granted)
+    c.args.a (subst (λ (o : Object). may_read c.args.tree.now o c.args.a ≡ true) (sym c.self.view_is)
+    c.requires.granted)
     c.add_reader.ensures refl
 
 pub invariant_of-self : goal.invariant_of-self

@@ -17,7 +17,8 @@ put_version-requires-clause-newest c =
     let vs = c.self.inside.versions.items in
     let up = subst (λ (o : Object). may_write t o c.args.a ≡ true) (sym c.self.view_is) c.requires.granted in
     above_up_to t c.args.a (writers vs)
-    (sym (all_holders (λ (x : ActionId). is_ancestor t x.0 c.args.a.0) vs) ∙ (and_parts (all_above t c.args.a (holders (newest_first vs))) _ up).0)
+    (sym (all_holders (λ (x : ActionId). is_ancestor t x.0 c.args.a.0) vs)
+    ∙ (and_parts (all_above t c.args.a (holders (newest_first vs))) _ up).0)
 
 kept : (c : goal.After-put_version) → Kept c.args.tree.now c.self.inside.readers.items c.put_version.new.versions.items
 kept c =

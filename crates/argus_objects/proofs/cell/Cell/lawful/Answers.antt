@@ -14,10 +14,14 @@ returns-then-are_chained c =
     let rs = c.self.inside.readers.items in
     let vs = c.self.inside.versions.items in
     let same : c.as_slice-versions.result.now ≡ vs = c.as_slice-versions.ensures.value in
-    let chained : is_chain t (holders (newest_first vs)) ≡ true = ap (λ ws. is_chain t (holders (newest_first ws))) (sym same) ∙ (sym c.are_chained.ensures ∙ c.if-are_chained.true) in
+    let chained : is_chain t (holders (newest_first vs)) ≡ true =
+    ap (λ ws. is_chain t (holders (newest_first ws))) (sym same)
+    ∙ (sym c.are_chained.ensures ∙ c.if-are_chained.true) in
     rw (← c.self.view_is)
     (c.are_all_related.ensures
-    ∙ (ap (λ (ws : List Version). list_all (λ (x : ActionId). list_all (λ (v : Version). are_related t x v.holder) ws) c.as_slice.result.now) same
-    ∙ (ap (λ (xs : List ActionId). list_all (λ (x : ActionId). list_all (λ (v : Version). are_related t x v.holder) vs) xs) c.as_slice.ensures.value
+    ∙ (ap (λ (ws : List Version). list_all (λ (x : ActionId). list_all (λ (v : Version). are_related t x v.holder) ws)
+    c.as_slice.result.now) same
+    ∙ (ap (λ (xs : List ActionId). list_all (λ (x : ActionId). list_all (λ (v : Version). are_related t x v.holder) vs)
+    xs) c.as_slice.ensures.value
     ∙ (sym (related_versions t vs rs)
     ∙ sym (ap (λ b. b && list_all (is_related t (holders (newest_first vs))) rs) chained)))))

@@ -6,7 +6,8 @@ use Rattle.argus_objects.specs.Rules.{is_lawful}
 use Rattle.argus_objects.proofs.Lawful.{Kept, kept_less}
 use Rattle.argus_objects.proofs.cell.Cell.settle_top.Goals as goal
 
-kept : (c : goal.After-settle_version) → Kept c.args.tree.now c.drop_reader.new.readers.items c.settle_version.new.versions.items
+kept : (c : goal.After-settle_version) → Kept c.args.tree.now c.drop_reader.new.readers.items
+    c.settle_version.new.versions.items
 kept c =
     let stays : ActionId → Bool = λ x. not (eqb x.0 c.args.t.0) in
     kept_less c.args.tree.now c.self.inside.readers.items c.drop_reader.new.readers.items c.self.inside.versions.items
