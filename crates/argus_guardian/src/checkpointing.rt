@@ -5,7 +5,6 @@ ghost use Rattle.std.specs.Prelude.{IfOk, IsFalse, IsTrue, OnErr, OnOk};
 ghost use Rattle.std.specs.Result.{result_err};
 ghost use Rattle.argus_actions.specs.Rows.{is_live_at};
 ghost use Rattle.argus_actions.specs.Tree.{next};
-ghost use Rattle.argus_contents.specs.Content.{plain_option};
 ghost use Rattle.argus_guardian.specs.Checkpoint.{after_checkpoint, is_quiet, opened_objects};
 ghost use Rattle.argus_guardian.specs.Parts.{Keeps, said_of};
 ghost use Rattle.argus_guardian.specs.declared.checkpoint_error.CheckpointError.TheVariants.{Busy};
