@@ -102,7 +102,12 @@ fn two_subactions_read_and_one_writes(rt: HostRuntime) -> Result<(), Fail> {
     ];
     say(&rt, heap, &mut guardian, &rows)?;
     assert_eq!(rt; readers_of(heap, &guardian, 0)?.as_str(), "a1 a2");
-    say(&rt, heap, &mut guardian, &["alter a2 o0 set_field 0 1 -> done"])?;
+    say(
+        &rt,
+        heap,
+        &mut guardian,
+        &["alter a2 o0 set_field 0 1 -> done"],
+    )?;
     assert_eq!(rt; versions_of(heap, &guardian, 0)?.as_str(), "a2 {1}");
     Ok(())
 }

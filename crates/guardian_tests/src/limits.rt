@@ -57,7 +57,12 @@ fn a_chain_commits_from_the_deepest_on(rt: HostRuntime) -> Result<(), Fail> {
         let row = format!(in heap; "begin_sub a{} -> a{a}", a - 1)?;
         say(&rt, heap, &mut guardian, &[row.as_str()])?;
     }
-    say(&rt, heap, &mut guardian, &["begin_sub a63 -> refused TooDeep"])?;
+    say(
+        &rt,
+        heap,
+        &mut guardian,
+        &["begin_sub a63 -> refused TooDeep"],
+    )?;
     for a in (0..64u32).rev() {
         let row = format!(in heap; "commit a{a} -> done")?;
         say(&rt, heap, &mut guardian, &[row.as_str()])?;

@@ -34,7 +34,11 @@ fn a_test_takes_the_lock_where_it_may(rt: HostRuntime) -> Result<(), Fail> {
 fn what_could_be_had_is_neither_taken_nor_journalled(rt: HostRuntime) -> Result<(), Fail> {
     let heap = Heap::new(rt.alloc())?;
     let mut guardian = prepared(&rt, heap)?;
-    let rows = ["begin_top -> a1", "begin_top -> a2", "ask a1 o0 field 0 -> val 0"];
+    let rows = [
+        "begin_top -> a1",
+        "begin_top -> a2",
+        "ask a1 o0 field 0 -> val 0",
+    ];
     say(&rt, heap, &mut guardian, &rows)?;
     assert!(rt; guardian.can_read(ActionId(2), ObjId(0)));
     assert!(rt; !guardian.can_write(ActionId(2), ObjId(0)));

@@ -19,7 +19,12 @@ fn all_created(rt: &impl Abort, heap: Heap) -> Result<Guardian, Fail> {
         let row = format!(in heap; "declare atomic_record[n:int] -> o{o}")?;
         say(rt, heap, &mut guardian, &[row.as_str()])?;
     }
-    say(rt, heap, &mut guardian, &["begin_top -> a0", "begin_sub a0 -> a1"])?;
+    say(
+        rt,
+        heap,
+        &mut guardian,
+        &["begin_top -> a0", "begin_sub a0 -> a1"],
+    )?;
     for o in 0..MANY {
         let row = format!(in heap; "alter a1 o{o} create {{0}} -> done")?;
         say(rt, heap, &mut guardian, &[row.as_str()])?;
@@ -71,10 +76,24 @@ fn a_hundred_objects_are_handed_up_or_stay(rt: HostRuntime) -> Result<(), Fail> 
     budget.lift();
     let mut guardian = all_created(&rt, tight)?;
     assert_eq!(rt; guardian.journal().journal().len(), 202);
-    commit_tightly(&rt, budget, tight, &mut guardian, 1, "absent readers  versions a1 {0}")?;
+    commit_tightly(
+        &rt,
+        budget,
+        tight,
+        &mut guardian,
+        1,
+        "absent readers  versions a1 {0}",
+    )?;
     all_stand(&rt, tight, &guardian, "absent readers  versions a0 {0}")?;
     assert_eq!(rt; guardian.journal().journal().len(), 203);
-    commit_tightly(&rt, budget, tight, &mut guardian, 0, "absent readers  versions a0 {0}")?;
+    commit_tightly(
+        &rt,
+        budget,
+        tight,
+        &mut guardian,
+        0,
+        "absent readers  versions a0 {0}",
+    )?;
     all_stand(&rt, tight, &guardian, "{0} readers  versions ")?;
     assert_eq!(rt; guardian.journal().journal().len(), 204);
     Ok(())

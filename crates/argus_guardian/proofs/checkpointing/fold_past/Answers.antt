@@ -26,7 +26,7 @@ returns-then-is_busy-clause-full c =
     let live = c.if-is_busy.ensures.live refl in
     let busy : is_quiet (record { opening = s; entries = j }) ≡ false =
     busy_at g.tree g.objects.items g.holdings s j c.requires live.0 live.1 in
-        (λ e. cc, λ q. absurd (both_ways (is_quiet (record { opening = s; entries = j })) busy q.0))
+    (λ e. cc, λ q. absurd (both_ways (is_quiet (record { opening = s; entries = j })) busy q.0))
 
 pub returns-then-len-gt-MAX_FIRST_ENTRY-clause-busy :
     goal.returns-then-len-gt-MAX_FIRST_ENTRY-clause-busy
@@ -38,7 +38,7 @@ returns-then-len-gt-MAX_FIRST_ENTRY-clause-busy c =
     c.first_action.result
     (c.first_action.ensures.first ∙ ap (λ (o : Opening). o.first_action) c.journal.ensures.opening)
     (c.if-is_busy.ensures.quiet refl) in
-        (λ e. cc, λ e. absurd (both_ways (is_quiet (record { opening = s; entries = j })) e quiet))
+    (λ e. cc, λ e. absurd (both_ways (is_quiet (record { opening = s; entries = j })) e quiet))
 
 pub returns-then-len-gt-MAX_FIRST_ENTRY-clause-full :
     goal.returns-then-len-gt-MAX_FIRST_ENTRY-clause-full
@@ -96,7 +96,7 @@ returns-in-Err-clause-busy c =
     c.first_action.result
     (c.first_action.ensures.first ∙ ap (λ (o : Opening). o.first_action) c.journal.ensures.opening)
     (c.if-is_busy.ensures.quiet refl) in
-        (λ e. cc, λ e. absurd (both_ways (is_quiet (record { opening = s; entries = j })) e quiet))
+    (λ e. cc, λ e. absurd (both_ways (is_quiet (record { opening = s; entries = j })) e quiet))
 
 pub returns-in-Ok-clause-busy : goal.returns-in-Ok-clause-busy
 returns-in-Ok-clause-busy c =
@@ -107,7 +107,7 @@ returns-in-Ok-clause-busy c =
     c.first_action.result
     (c.first_action.ensures.first ∙ ap (λ (o : Opening). o.first_action) c.journal.ensures.opening)
     (c.if-is_busy.ensures.quiet refl) in
-        (λ e. cc, λ e. absurd (both_ways (is_quiet (record { opening = s; entries = j })) e quiet))
+    (λ e. cc, λ e. absurd (both_ways (is_quiet (record { opening = s; entries = j })) e quiet))
 
 pub returns-in-Ok-clause-shapes : goal.returns-in-Ok-clause-shapes
 returns-in-Ok-clause-shapes c =
@@ -122,5 +122,5 @@ returns-in-Ok-clause-bases c =
     let g = c.args.parts.now in
     let s = opening_in g.journal in
     let j = entries_in g.journal in
-        (base_stays s (opening_in c.fold.new.self) j (entries_in c.fold.new.self) c.requires.sound
+    (base_stays s (opening_in c.fold.new.self) j (entries_in c.fold.new.self) c.requires.sound
     c.requires.legal c.fold.ensures.opening c.fold.ensures.entries)
