@@ -7,6 +7,8 @@ mod actions;
 #[cfg(test)]
 mod checkpoints;
 #[cfg(test)]
+mod effects;
+#[cfg(test)]
 mod ends;
 #[cfg(test)]
 mod laws;
