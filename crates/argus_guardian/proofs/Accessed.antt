@@ -1,5 +1,6 @@
 -- The parts after a granted access.
-use Rattle.std.proofs.Common.{Bool, List, [], ap, arith, cond, eqb, false, inl, inr, length, refl, subst, sym, true, ℕ, ◌+◌, ◌<◌, ◌≤◌, ◌∙◌, ◌∷◌, ◌≡◌, ◌≢◌, ◌||◌, ⊎_elim}
+use Rattle.std.proofs.Common.{Bool, List, [], ap, arith, cond, eqb, false, inl, inr, length, refl, subst, sym, true, ℕ}
+use Rattle.std.proofs.Common.{◌+◌, ◌<◌, ◌≤◌, ◌∙◌, ◌∷◌, ◌≡◌, ◌≢◌, ◌||◌, ⊎_elim}
 use Rattle.std.specs.Prelude.{not, slice_index_or, ◌&&◌, ◌==◌}
 use Rattle.std.proofs.lemmas.Bool.{both_ways, cases_eq, eq-eqb, eqb-true, ne_eqb, or_cases, or_left}
 use Rattle.argus_actions.specs.Tree.{Tree}
@@ -34,9 +35,12 @@ use Rattle.argus_objects.specs.Object.{Object, SameLocks}
 use Rattle.argus_objects.specs.declared.holdings.Holdings.{Holdings}
 
 -- one more holder, for reading or for writing
-one_more : (here write : Bool) (a n : ℕ) (rs ws : List ℕ) → (contains (cond (here && not write) (insert a rs) rs) n || contains (cond (here && write) (insert a ws) ws) n) ≡ ((contains rs n || contains ws n) || (here && n == a))
+one_more : (here write : Bool) (a n : ℕ) (rs ws : List ℕ)
+    → (contains (cond (here && not write) (insert a rs) rs) n || contains (cond (here && write) (insert a ws) ws) n)
+    ≡ ((contains rs n || contains ws n) || (here && n == a))
 one_more false write a n rs ws = or_none (contains rs n || contains ws n)
-one_more true true a n rs ws = ap (λ b. contains rs n || b) (contains_insert a ws n) ∙ last (contains rs n) (n == a) (contains ws n)
+one_more true true a n rs ws =
+    ap (λ b. contains rs n || b) (contains_insert a ws n) ∙ last (contains rs n) (n == a) (contains ws n)
   where
     last : (r e w : Bool) → (r || (e || w)) ≡ ((r || w) || e)
     last true e w = refl
@@ -44,7 +48,8 @@ one_more true true a n rs ws = ap (λ b. contains rs n || b) (contains_insert a 
     last false true false = refl
     last false false true = refl
     last false false false = refl
-one_more true false a n rs ws = ap (λ b. b || contains ws n) (contains_insert a rs n) ∙ last (n == a) (contains rs n) (contains ws n)
+one_more true false a n rs ws =
+    ap (λ b. b || contains ws n) (contains_insert a rs n) ∙ last (n == a) (contains rs n) (contains ws n)
   where
     last : (e r w : Bool) → ((e || r) || w) ≡ ((r || w) || e)
     last true true w = refl
@@ -54,20 +59,29 @@ one_more true false a n rs ws = ap (λ b. b || contains ws n) (contains_insert a
     last false false true = refl
     last false false false = refl
 
-module _ (R : Object → Object → Type 0) (s : Opening) (h : History PlainEntry) (t : Tree) (objects objects' : List AtomicObject) (holdings holdings' : Holdings) (k : AreParts t objects holdings s h) (a : ActionId) (o : ObjId) (e : PlainEntry) (l : Lawful entries (opened s) (Accessed (a.0 + 1) o.0 e ▹ h)) (low : o.0 < length objects) (step : (c c' : Object) → IsCell s h t o.0 c → R c c' → IsCell s (Accessed (a.0 + 1) o.0 e ▹ h) t o.0 c') (moved : IsAccessed R a o objects objects' holdings holdings') where
+module _ (R : Object → Object → Type 0) (s : Opening) (h : History PlainEntry) (t : Tree)
+    (objects objects' : List AtomicObject) (holdings holdings' : Holdings) (k : AreParts t objects holdings s h)
+    (a : ActionId) (o : ObjId) (e : PlainEntry) (l : Lawful entries (opened s) (Accessed (a.0 + 1) o.0 e ▹ h))
+    (low : o.0 < length objects) (step : (c c' : Object) → IsCell s h t o.0 c → R c c'
+    → IsCell s (Accessed (a.0 + 1) o.0 e ▹ h) t o.0 c') (moved : IsAccessed R a o objects objects' holdings holdings')
+    where
   now : Orderly (Accessed (a.0 + 1) o.0 e ▹ h)
   now = orderly s (Accessed (a.0 + 1) o.0 e ▹ h) l
 
   holds_now : (n i : ℕ) → holds (Accessed (a.0 + 1) o.0 e ▹ h) n i ≡ (holds h n i || (o.0 == i && n == a.0 + 1))
   holds_now n i =
-      ap (λ rs. contains rs n || contains (writers entries (Accessed (a.0 + 1) o.0 e ▹ h) i) n) (holders_after_access (reads entries) h (a.0 + 1) o.0 e now i)
-      ∙ ap (λ ws. contains (cond (o.0 == i && not (is_write e.call)) (insert (a.0 + 1) (readers entries h i)) (readers entries h i)) n || contains ws n) (holders_after_access entries.writes h (a.0 + 1) o.0 e now i)
+      ap (λ rs. contains rs n || contains (writers entries (Accessed (a.0 + 1) o.0 e ▹ h) i) n)
+          (holders_after_access (reads entries) h (a.0 + 1) o.0 e now i)
+      ∙ ap (λ ws. contains (cond (o.0 == i && not (is_write e.call)) (insert (a.0 + 1) (readers entries h i))
+          (readers entries h i)) n || contains ws n) (holders_after_access entries.writes h (a.0 + 1) o.0 e now i)
       ∙ one_more (o.0 == i) (is_write e.call) (a.0 + 1) n (readers entries h i) (writers entries h i)
 
-  cell_at : (i : ℕ) (c c' : Object) (b : Bool) → is_listed (o ∷ []) i ≡ b → IsCell s h t i c → ChangedIf b R c c' → IsCell s (Accessed (a.0 + 1) o.0 e ▹ h) t i c'
+  cell_at : (i : ℕ) (c c' : Object) (b : Bool) → is_listed (o ∷ []) i ≡ b → IsCell s h t i c → ChangedIf b R c c'
+      → IsCell s (Accessed (a.0 + 1) o.0 e ▹ h) t i c'
   cell_at i c c' true q k r =
       let same : o.0 ≡ i = eqb-true o.0 i (or_none (eqb o.0 i) ∙ q) in
-      subst (λ n. IsCell s (Accessed (a.0 + 1) o.0 e ▹ h) t n c') same (step c c' (subst (λ n. IsCell s h t n c) (sym same) k) r)
+      subst (λ n. IsCell s (Accessed (a.0 + 1) o.0 e ▹ h) t n c') same
+          (step c c' (subst (λ n. IsCell s h t n c) (sym same) k) r)
   cell_at i c c' false q k' r =
       let other : o.0 ≢ i = λ z. both_ways (is_listed (o ∷ []) i) q (or_left (eqb o.0 i) false (eq-eqb o.0 i z)) in
       subst (IsCell s (Accessed (a.0 + 1) o.0 e ▹ h) t i) (sym r) (aside_cell s h t k.actions a o.0 e l i c other k')
@@ -78,7 +92,8 @@ module _ (R : Object → Object → Type 0) (s : Opening) (h : History PlainEntr
   other_list : (x : ActionId) → x.0 ≢ a.0 → listed holdings' x ≡ listed holdings x
   other_list x n = moved.lists x ∙ ap (λ b. cond b (noted o (listed holdings a)) (listed holdings x)) (ne_eqb x.0 a.0 n)
 
-  held_now : (x : ActionId) (i : ℕ) → is_listed (listed holdings' x) i ≡ holds (Accessed (a.0 + 1) o.0 e ▹ h) (x.0 + 1) i
+  held_now : (x : ActionId) (i : ℕ) → is_listed (listed holdings' x) i
+      ≡ holds (Accessed (a.0 + 1) o.0 e ▹ h) (x.0 + 1) i
   held_now x i =
       elim (cases_eq x.0 a.0) [
         | inl q ↦
@@ -111,7 +126,8 @@ module _ (R : Object → Object → Type 0) (s : Opening) (h : History PlainEntr
     actions = access_tree s h t k.actions a o.0 e l;
     each = λ i d lt.
         let less : i < length objects = subst (λ n. i < n) moved.objects.count lt in
-        cell_at i (slice_index_or objects i d).cell (slice_index_or objects' i d).cell (is_listed (o ∷ []) i) refl (k.each i d less) (moved.objects.each i d less).cell;
+        cell_at i (slice_index_or objects i d).cell (slice_index_or objects' i d).cell (is_listed (o ∷ []) i) refl
+            (k.each i d less) (moved.objects.each i d less).cell;
     held = held_now;
     there = λ x i q.
         subst (λ n. i < n) (sym moved.objects.count)
@@ -119,16 +135,20 @@ module _ (R : Object → Object → Type 0) (s : Opening) (h : History PlainEntr
           | inl same ↦
               ⊎_elim (λ j. k.there a i j) (λ j. subst (λ n. n < length objects) (eqb-true o.0 i j) low)
               (or_cases (is_listed (listed holdings a) i) (eqb o.0 i)
-              (sym (is_listed_noted o (listed holdings a) i) ∙ sym (ap (λ list. is_listed list i) (own_list x same)) ∙ q))
+              (sym (is_listed_noted o (listed holdings a) i) ∙ sym (ap (λ list. is_listed list i) (own_list x same))
+                  ∙ q))
           | inr n ↦ k.there x i (sym (ap (λ list. is_listed list i) (other_list x n)) ∙ q)
         ]);
   }
 
 -- but for room, all is as before
-pub kept_locks : (t : Tree) (objects objects' : List AtomicObject) (holdings holdings' : Holdings) (s : Opening) (j : List PlainEntry) (o : ObjId) → IsKept t objects holdings s j → IsAsBefore o objects objects' holdings holdings' → IsKept t objects' holdings' s j
+pub kept_locks : (t : Tree) (objects objects' : List AtomicObject) (holdings holdings' : Holdings) (s : Opening)
+    (j : List PlainEntry) (o : ObjId) → IsKept t objects holdings s j → IsAsBefore o objects objects' holdings holdings'
+    → IsKept t objects' holdings' s j
 kept_locks t objects objects' holdings holdings' s j o k same =
     let moved = same.objects in
-    let p : AreParts t objects holdings' s (history s j) = parts_lists t objects holdings holdings' s (history s j) same.lists k.parts in
+    let p : AreParts t objects holdings' s (history s j) =
+        parts_lists t objects holdings holdings' s (history s j) same.lists k.parts in
     record {
       legal = k.legal;
       sound = k.sound;
@@ -137,12 +157,15 @@ kept_locks t objects objects' holdings holdings' s j o k same =
       shapes = shapes_kept SameLocks (o ∷ []) objects objects' moved ∙ k.shapes;
       parts = record {
         actions = p.actions;
-        each = λ i d lt. let low : i < length objects = subst (λ n. i < n) moved.count lt in at i (slice_index_or objects i d).cell (slice_index_or objects' i d).cell (is_listed (o ∷ []) i) (p.each i d low) (moved.each i d low).cell;
+        each = λ i d lt. let low : i < length objects = subst (λ n. i < n) moved.count lt in at i
+            (slice_index_or objects i d).cell (slice_index_or objects' i d).cell (is_listed (o ∷ []) i) (p.each i d low)
+            (moved.each i d low).cell;
         held = p.held;
         there = λ x i q. subst (λ n. i < n) (sym moved.count) (p.there x i q);
       };
     }
   where
-    at : (i : ℕ) (c c' : Object) (b : Bool) → IsCell s (history s j) t i c → ChangedIf b SameLocks c c' → IsCell s (history s j) t i c'
+    at : (i : ℕ) (c c' : Object) (b : Bool) → IsCell s (history s j) t i c → ChangedIf b SameLocks c c'
+        → IsCell s (history s j) t i c'
     at i c c' true q r = cell_same s (history s j) t t i c c' (record { folded = refl; rows = refl }) r q
     at i c c' false q r = subst (IsCell s (history s j) t i) (sym r) q

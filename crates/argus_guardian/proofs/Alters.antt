@@ -19,9 +19,9 @@ use Rattle.argus_guardian.specs.Accessing.{IsAccessed, IsAltered, access_refusal
 use Rattle.argus_guardian.specs.Keeping.{IsKept}
 use Rattle.argus_guardian.specs.Step.{entry_with}
 use Rattle.argus_guardian.specs.declared.atomic_object.AtomicObject.{AtomicObject}
-use Rattle.argus_guardian.proofs.Accesses.{IsGranted, access_is, acts, granted_parts, count, reads_agree, seen_is, seen_limits, writes_agree}
+use Rattle.argus_guardian.proofs.Accesses.{IsGranted, access_is, acts, granted_parts, count, reads_agree, seen_is}
+use Rattle.argus_guardian.proofs.Accesses.{seen_limits, writes_agree}
 use Rattle.argus_guardian.proofs.Ends.{some_object}
-use Rattle.argus_guardian.proofs.Stepped.{kept_access}
 use Rattle.argus_journal.specs.Answers.{answer, granted, if_declared, if_free, or_refused, refusal, suits, unless}
 use Rattle.argus_journal.specs.Entries.{entries}
 use Rattle.argus_journal.specs.Events.{history}
@@ -38,19 +38,30 @@ use Rattle.argus_objects.specs.Object.{holders}
 use Rattle.argus_objects.specs.Rules.{all_above, may_read, may_write}
 use Rattle.argus_objects.specs.declared.holdings.Holdings.{Holdings}
 
-module _ (t : Tree) (objects : List AtomicObject) (holdings : Holdings) (s : Opening) (j : List PlainEntry) (k : IsKept t objects holdings s j) (a : ActionId) (o : ObjId) (change : PlainChange) where
-  pub alter_is : access_refusal t objects a.0 o.0 (λ shape. change_suits shape (length objects) change) (λ c. may_write t c a) ≡ refusal (history s j) (shapes s j) (alter a.0 o.0 change)
+module _ (t : Tree) (objects : List AtomicObject) (holdings : Holdings) (s : Opening) (j : List PlainEntry)
+    (k : IsKept t objects holdings s j) (a : ActionId) (o : ObjId) (change : PlainChange) where
+  pub alter_is : access_refusal t objects a.0 o.0 (λ shape. change_suits shape (length objects) change)
+      (λ c. may_write t c a) ≡ refusal (history s j) (shapes s j) (alter a.0 o.0 change)
   alter_is =
-      access_is t objects holdings s j k a o.0 (λ shape. change_suits shape (length objects) change) (λ c. may_write t c a) (model.may_write entries (history s j) (a.0 + 1) o.0) (writes_agree t objects holdings s j k a o.0)
-      ∙ ap (λ n. if_free (history s j) a.0 (if_declared (shapes s j) o.0 (unless (suits (λ shape. change_suits shape n change) (slice_get (shapes s j) o.0)) IllTyped (unless (model.may_write entries (history s j) (a.0 + 1) o.0) Conflict None))))
+      access_is t objects holdings s j k a o.0 (λ shape. change_suits shape (length objects) change)
+          (λ c. may_write t c a) (model.may_write entries (history s j) (a.0 + 1) o.0)
+          (writes_agree t objects holdings s j k a o.0)
+      ∙ ap (λ n. if_free (history s j) a.0 (if_declared (shapes s j) o.0
+          (unless (suits (λ shape. change_suits shape n change) (slice_get (shapes s j) o.0)) IllTyped
+          (unless (model.may_write entries (history s j) (a.0 + 1) o.0) Conflict None))))
       (sym (count t objects holdings s j k a o.0))
 
-  pub alter_refused : (why : Refusal) → access_refusal t objects a.0 o.0 (λ shape. change_suits shape (length objects) change) (λ c. may_write t c a) ≡ Some why → answer s j (alter a.0 o.0 change) ≡ refused why
-  alter_refused why e = ap (λ r. or_refused r (granted s (history s j) (shapes s j) (alter a.0 o.0 change))) (sym alter_is ∙ e)
+  pub alter_refused : (why : Refusal) → access_refusal t objects a.0 o.0
+      (λ shape. change_suits shape (length objects) change) (λ c. may_write t c a) ≡ Some why
+      → answer s j (alter a.0 o.0 change) ≡ refused why
+  alter_refused why e =
+      ap (λ r. or_refused r (granted s (history s j) (shapes s j) (alter a.0 o.0 change))) (sym alter_is ∙ e)
 
-  module _ (e : access_refusal t objects a.0 o.0 (λ shape. change_suits shape (length objects) change) (λ c. may_write t c a) ≡ None) where
+  module _ (e : access_refusal t objects a.0 o.0 (λ shape. change_suits shape (length objects) change)
+      (λ c. may_write t c a) ≡ None) where
     parts : IsGranted t objects a.0 o.0 (λ shape. change_suits shape (length objects) change) (λ c. may_write t c a)
-    parts = granted_parts t objects a.0 o.0 (λ shape. change_suits shape (length objects) change) (λ c. may_write t c a) e
+    parts = granted_parts t objects a.0 o.0 (λ shape. change_suits shape (length objects) change) (λ c. may_write t c a)
+        e
 
     pub alter_accepted : commit_refusal t a.0 ≡ None
     alter_accepted = parts.accepted
@@ -62,31 +73,21 @@ module _ (t : Tree) (objects : List AtomicObject) (holdings : Holdings) (s : Ope
     alter_free d = parts.free d
 
     pub alter_reads : (d : AtomicObject) → may_read t (slice_index_or objects o.0 d).cell a ≡ true
-    alter_reads d = let c = (slice_index_or objects o.0 d).cell in (and_parts (all_above t a (holders c.versions)) (all_above t a c.readers) (parts.free d)).0
+    alter_reads d = let c = (slice_index_or objects o.0 d).cell in
+        (and_parts (all_above t a (holders c.versions)) (all_above t a c.readers) (parts.free d)).0
 
     pub alter_limits : (d : AtomicObject) → KeepsLimits (seen_at t a objects o.0 d)
-    alter_limits d = seen_limits t objects holdings s j k a o.0 (acts t objects holdings s j k a o.0 parts.accepted) d parts.low (alter_reads d)
+    alter_limits d = seen_limits t objects holdings s j k a o.0 (acts t objects holdings s j k a o.0 parts.accepted)
+        d parts.low (alter_reads d)
 
-    pub alter_right : (d : AtomicObject) → answered (outcome change (seen_at t a objects o.0 d)).1 ≡ answer s j (alter a.0 o.0 change)
+    pub alter_right : (d : AtomicObject) → answered (outcome change (seen_at t a objects o.0 d)).1
+        ≡ answer s j (alter a.0 o.0 change)
     alter_right d =
-        ap (λ x. answered (outcome change x).1) (seen_is t objects holdings s j k a o.0 (acts t objects holdings s j k a o.0 parts.accepted) d parts.low (alter_reads d))
+        ap (λ x. answered (outcome change x).1) (seen_is t objects holdings s j k a o.0
+            (acts t objects holdings s j k a o.0 parts.accepted) d parts.low (alter_reads d))
         ∙ sym (ap (λ r. or_refused r (granted s (history s j) (shapes s j) (alter a.0 o.0 change))) (sym alter_is ∙ e))
 
     -- what was read at any object is the answer
-    pub alter_told : (x : PlainAnswer) → ((d : AtomicObject) → x ≡ (outcome change (seen_at t a objects o.0 d)).1) → answered x ≡ answer s j (alter a.0 o.0 change)
+    pub alter_told : (x : PlainAnswer) → ((d : AtomicObject) → x ≡ (outcome change (seen_at t a objects o.0 d)).1)
+        → answered x ≡ answer s j (alter a.0 o.0 change)
     alter_told x f = let d : AtomicObject = some_object objects o.0 parts.low in ap answered (f d) ∙ alter_right d
-
-    pub kept_alter : (objects' : List AtomicObject) (holdings' : Holdings) (x : PlainAnswer) (reply : PlainReply) → reply ≡ answered x → answered x ≡ answer s j (alter a.0 o.0 change) → IsAccessed (IsAltered t a change) a o objects objects' holdings holdings' → IsKept t objects' holdings' s (entry_with (alter a.0 o.0 change) reply ∷ j)
-    kept_alter objects' holdings' x reply is right moved =
-        kept_access (IsAltered t a change) t objects objects' holdings holdings' s j a o (alter a.0 o.0 change) x reply k is right refl refl parts.low
-        (λ l c c' i r.
-        let la = acts t objects holdings s j k a o.0 parts.accepted in
-        let w = lawful s j k.legal in
-        let d : AtomicObject = some_object objects o.0 parts.low in
-        let may : may_read t c a ≡ true =
-        may_read_is s (history s j) w t k.parts.actions o.0 c i a la
-        ∙ sym (reads_agree t objects holdings s j k a o.0 la d parts.low)
-        ∙ alter_reads d in
-        let left : (changed t a change c).0 ≡ (outcome change (sees entries (opened s) (history s j) (a.0 + 1) o.0)).0 =
-        ap (λ x. (outcome change x).0) (visible_is s (history s j) w t k.parts.actions o.0 c i a la may) in
-        written_cell s (history s j) t k.parts.actions a o.0 (entry_with (alter a.0 o.0 change) (answered x)) l refl c c' (changed t a change c).0 i left r.base r.readers r.versions r.lawful) moved

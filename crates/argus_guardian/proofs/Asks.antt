@@ -21,7 +21,6 @@ use Rattle.argus_guardian.specs.Step.{entry_with}
 use Rattle.argus_guardian.specs.declared.atomic_object.AtomicObject.{AtomicObject}
 use Rattle.argus_guardian.proofs.Accesses.{IsGranted, access_is, acts, granted_parts, reads_agree, seen_is, seen_limits}
 use Rattle.argus_guardian.proofs.Ends.{some_object}
-use Rattle.argus_guardian.proofs.Stepped.{kept_access}
 use Rattle.argus_journal.specs.Answers.{answer, granted, or_refused, refusal}
 use Rattle.argus_journal.specs.Entries.{entries}
 use Rattle.argus_journal.specs.Events.{history}
@@ -32,11 +31,15 @@ use Rattle.argus_model.specs.Holders as model
 use Rattle.argus_objects.specs.Rules.{may_read}
 use Rattle.argus_objects.specs.declared.holdings.Holdings.{Holdings}
 
-module _ (t : Tree) (objects : List AtomicObject) (holdings : Holdings) (s : Opening) (j : List PlainEntry) (k : IsKept t objects holdings s j) (a : ActionId) (o : ObjId) (query : Query) where
-  pub ask_is : access_refusal t objects a.0 o.0 (λ shape. query_suits shape query) (λ c. may_read t c a) ≡ refusal (history s j) (shapes s j) (ask a.0 o.0 query)
-  ask_is = access_is t objects holdings s j k a o.0 (λ shape. query_suits shape query) (λ c. may_read t c a) (model.may_read entries (history s j) (a.0 + 1) o.0) (reads_agree t objects holdings s j k a o.0)
+module _ (t : Tree) (objects : List AtomicObject) (holdings : Holdings) (s : Opening) (j : List PlainEntry)
+    (k : IsKept t objects holdings s j) (a : ActionId) (o : ObjId) (query : Query) where
+  pub ask_is : access_refusal t objects a.0 o.0 (λ shape. query_suits shape query) (λ c. may_read t c a)
+      ≡ refusal (history s j) (shapes s j) (ask a.0 o.0 query)
+  ask_is = access_is t objects holdings s j k a o.0 (λ shape. query_suits shape query) (λ c. may_read t c a)
+      (model.may_read entries (history s j) (a.0 + 1) o.0) (reads_agree t objects holdings s j k a o.0)
 
-  pub ask_refused : (why : Refusal) → access_refusal t objects a.0 o.0 (λ shape. query_suits shape query) (λ c. may_read t c a) ≡ Some why → answer s j (ask a.0 o.0 query) ≡ refused why
+  pub ask_refused : (why : Refusal) → access_refusal t objects a.0 o.0 (λ shape. query_suits shape query)
+      (λ c. may_read t c a) ≡ Some why → answer s j (ask a.0 o.0 query) ≡ refused why
   ask_refused why e = ap (λ r. or_refused r (granted s (history s j) (shapes s j) (ask a.0 o.0 query))) (sym ask_is ∙ e)
 
   module _ (e : access_refusal t objects a.0 o.0 (λ shape. query_suits shape query) (λ c. may_read t c a) ≡ None) where
@@ -53,18 +56,17 @@ module _ (t : Tree) (objects : List AtomicObject) (holdings : Holdings) (s : Ope
     ask_free d = parts.free d
 
     pub ask_limits : (d : AtomicObject) → KeepsLimits (seen_at t a objects o.0 d)
-    ask_limits d = seen_limits t objects holdings s j k a o.0 (acts t objects holdings s j k a o.0 parts.accepted) d parts.low (parts.free d)
+    ask_limits d = seen_limits t objects holdings s j k a o.0 (acts t objects holdings s j k a o.0 parts.accepted)
+        d parts.low (parts.free d)
 
-    pub ask_right : (d : AtomicObject) → answered (reply query (seen_at t a objects o.0 d)) ≡ answer s j (ask a.0 o.0 query)
+    pub ask_right : (d : AtomicObject) → answered (reply query (seen_at t a objects o.0 d))
+        ≡ answer s j (ask a.0 o.0 query)
     ask_right d =
-        ap (λ x. answered (reply query x)) (seen_is t objects holdings s j k a o.0 (acts t objects holdings s j k a o.0 parts.accepted) d parts.low (parts.free d))
+        ap (λ x. answered (reply query x)) (seen_is t objects holdings s j k a o.0
+            (acts t objects holdings s j k a o.0 parts.accepted) d parts.low (parts.free d))
         ∙ sym (ap (λ r. or_refused r (granted s (history s j) (shapes s j) (ask a.0 o.0 query))) (sym ask_is ∙ e))
 
     -- what was read at any object is the answer
-    pub ask_told : (x : PlainAnswer) → ((d : AtomicObject) → x ≡ reply query (seen_at t a objects o.0 d)) → answered x ≡ answer s j (ask a.0 o.0 query)
+    pub ask_told : (x : PlainAnswer) → ((d : AtomicObject) → x ≡ reply query (seen_at t a objects o.0 d))
+        → answered x ≡ answer s j (ask a.0 o.0 query)
     ask_told x f = let d : AtomicObject = some_object objects o.0 parts.low in ap answered (f d) ∙ ask_right d
-
-    pub kept_ask : (objects' : List AtomicObject) (holdings' : Holdings) (x : PlainAnswer) (reply : PlainReply) → reply ≡ answered x → answered x ≡ answer s j (ask a.0 o.0 query) → IsAccessed (IsRead t a) a o objects objects' holdings holdings' → IsKept t objects' holdings' s (entry_with (ask a.0 o.0 query) reply ∷ j)
-    kept_ask objects' holdings' x reply is right moved =
-        kept_access (IsRead t a) t objects objects' holdings holdings' s j a o (ask a.0 o.0 query) x reply k is right refl refl parts.low
-        (λ l c c' i r. read_cell s (history s j) t k.parts.actions a o.0 (entry_with (ask a.0 o.0 query) (answered x)) l refl c c' i r.base r.readers r.versions r.lawful) moved

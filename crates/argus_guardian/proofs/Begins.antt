@@ -13,7 +13,8 @@ use Rattle.argus_journal.specs.Opening.{Opening}
 use Rattle.argus_laws.proofs.TreeRefusals.{nested_is, sub_is, top_is}
 use Rattle.argus_objects.specs.declared.holdings.Holdings.{Holdings}
 
-module _ (t : Tree) (objects : List AtomicObject) (holdings : Holdings) (s : Opening) (j : List PlainEntry) (k : IsKept t objects holdings s j) where
+module _ (t : Tree) (objects : List AtomicObject) (holdings : Holdings) (s : Opening) (j : List PlainEntry)
+    (k : IsKept t objects holdings s j) where
   pub top_begin : IsBegin begin_top origin.Top (begin_top_refusal t) s j
   top_begin = record {
     refused = top_is t (history s j) k.parts.actions (kept_orderly t objects holdings s j k);
@@ -30,7 +31,8 @@ module _ (t : Tree) (objects : List AtomicObject) (holdings : Holdings) (s : Ope
     declares = λ n. refl;
   }
 
-  pub nested_begin : (creator : ℕ) → IsBegin (begin_nested creator) (origin.Nested creator) (begin_nested_refusal t creator) s j
+  pub nested_begin : (creator : ℕ) → IsBegin (begin_nested creator) (origin.Nested creator)
+      (begin_nested_refusal t creator) s j
   nested_begin creator = record {
     refused = nested_is t (history s j) k.parts.actions (kept_orderly t objects holdings s j k) creator;
     begins = refl;

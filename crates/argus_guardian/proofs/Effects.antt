@@ -1,5 +1,6 @@
 -- The objects that an action has written, sorted, are what its commit would leave.
-use Rattle.std.proofs.Common.{Bool, Less, List, None, Option, Some, [], ap, arith, cond, eqb, false, get_or, inl, inr, length, map, refl, subst, suc, sym, true, zero, ℕ, ◌+◌, ◌<◌, ◌&&◌, ◌∙◌, ◌∷◌, ◌≡◌, ◌||◌}
+use Rattle.std.proofs.Common.{Bool, Less, List, None, Option, Some, [], ap, arith, cond, eqb, false, get_or, inl, inr}
+use Rattle.std.proofs.Common.{length, map, refl, subst, suc, sym, true, zero, ℕ, ◌+◌, ◌<◌, ◌&&◌, ◌∙◌, ◌∷◌, ◌≡◌, ◌||◌}
 use Rattle.std.specs.Bool.{if◌then◌else◌}
 use Rattle.std.specs.List.{AllByRecursion, IsDistinct, list_any}
 use Rattle.std.specs.List.Sorted.{IsPermutation, IsSorted, IsStrictlyIncreasing}
@@ -9,7 +10,9 @@ use Rattle.std.specs.Ordering.{nat_cmp}
 use Rattle.std.specs.Prelude.{slice_index_or}
 use Rattle.std.proofs.lemmas.Bool.{and_parts, cases_Bool, cases_eq, cases_lt, eq-eqb, ne_eqb, or_parts, or_right}
 use Rattle.std.proofs.lemmas.List.Sorted.{IsNonDecreasingBy-from_sort, list_any-IsPermutation}
-use Rattle.std.proofs.lemmas.Map.Keys.{IsDistinct-IsPermutation, IsDistinct-cons, IsDistinct-head, IsDistinct-tail, IsStrictlyIncreasing-from_distinct, IsStrictlyIncreasing-from_sorted, sorted_from_strictly_increasing}
+use Rattle.std.proofs.lemmas.Map.Keys.{IsDistinct-IsPermutation, IsDistinct-cons, IsDistinct-head, IsDistinct-tail}
+use Rattle.std.proofs.lemmas.Map.Keys.{IsStrictlyIncreasing-from_distinct, IsStrictlyIncreasing-from_sorted}
+use Rattle.std.proofs.lemmas.Map.Keys.{sorted_from_strictly_increasing}
 use Rattle.argus_actions.specs.Tree.{Tree}
 use Rattle.argus_actions.specs.declared.action_id.ActionId.{ActionId}
 use Rattle.argus_contents.specs.Content.{PlainContent}
@@ -45,7 +48,8 @@ contains_any [] x = refl
 contains_any (y ∷ ys) x = ap (λ b. eqb x y || b) (contains_any ys x)
 
 -- functions that agree on the members of a list
-map_where : {X : Type 0} (f g : ℕ → X) (xs : List ℕ) → ((x : ℕ) → contains xs x ≡ true → f x ≡ g x) → map f xs ≡ map g xs
+map_where : {X : Type 0} (f g : ℕ → X) (xs : List ℕ) → ((x : ℕ) → contains xs x ≡ true → f x ≡ g x)
+    → map f xs ≡ map g xs
 map_where f g [] same = refl
 map_where f g (x ∷ xs) same =
     ap (λ y. y ∷ map f xs) (same x (contains_first x xs))
@@ -68,7 +72,8 @@ any_object = record {
 contains_at : (xs : List ℕ) (i d : ℕ) → i < length xs → contains xs (get_or xs i d) ≡ true
 contains_at [] i d lt = absurd (omega arith)
 contains_at (x ∷ xs) zero d lt = contains_first x xs
-contains_at (x ∷ xs) (suc i) d lt = or_right (eqb (get_or xs i d) x) (contains xs (get_or xs i d)) (contains_at xs i d (omega arith))
+contains_at (x ∷ xs) (suc i) d lt =
+    or_right (eqb (get_or xs i d) x) (contains xs (get_or xs i d)) (contains_at xs i d (omega arith))
 
 -- one number compares as less than another
 less : (x y : ℕ) → nat_cmp x y ≡ Less → x < y
@@ -102,23 +107,29 @@ module _ (a : ActionId) (objects : List AtomicObject) (d : AtomicObject) where
             ∙ ap (λ b. eqb o x.0 || b) (contains_written_in list o)
             ∙ elim (cases_eq x.0 o) [
               | inl q ↦
-                  ap (λ b. b || (is_listed list o && has_version a (slice_index_or objects o d).cell.versions)) (eq-eqb o x.0 (sym q))
-                  ∙ sym (ap (λ b. (b || is_listed list o) && has_version a (slice_index_or objects o d).cell.versions) (eq-eqb x.0 o q)
+                  ap (λ b. b || (is_listed list o && has_version a (slice_index_or objects o d).cell.versions))
+                      (eq-eqb o x.0 (sym q))
+                  ∙ sym (ap (λ b. (b || is_listed list o) && has_version a (slice_index_or objects o d).cell.versions)
+                      (eq-eqb x.0 o q)
                   ∙ subst (λ n. has_version a (slice_index_or objects n d).cell.versions ≡ true) q e)
               | inr n ↦
-                  ap (λ b. b || (is_listed list o && has_version a (slice_index_or objects o d).cell.versions)) (ne_eqb o x.0 (λ q. n (sym q)))
-                  ∙ sym (ap (λ b. (b || is_listed list o) && has_version a (slice_index_or objects o d).cell.versions) (ne_eqb x.0 o n))
+                  ap (λ b. b || (is_listed list o && has_version a (slice_index_or objects o d).cell.versions))
+                      (ne_eqb o x.0 (λ q. n (sym q)))
+                  ∙ sym (ap (λ b. (b || is_listed list o) && has_version a (slice_index_or objects o d).cell.versions)
+                      (ne_eqb x.0 o n))
             ]
         | inr e ↦
             ap (λ b. contains (cond b (x.0 ∷ rest) rest) o) e
             ∙ contains_written_in list o
             ∙ elim (cases_eq x.0 o) [
               | inl q ↦
-                  let f : has_version a (slice_index_or objects o d).cell.versions ≡ false = subst (λ n. has_version a (slice_index_or objects n d).cell.versions ≡ false) q e in
+                  let f : has_version a (slice_index_or objects o d).cell.versions ≡ false =
+                      subst (λ n. has_version a (slice_index_or objects n d).cell.versions ≡ false) q e in
                   ap (λ b. is_listed list o && b) f ∙ and_false (is_listed list o)
                   ∙ sym (ap (λ b. (eqb x.0 o || is_listed list o) && b) f ∙ and_false (eqb x.0 o || is_listed list o))
               | inr n ↦
-                  sym (ap (λ b. (b || is_listed list o) && has_version a (slice_index_or objects o d).cell.versions) (ne_eqb x.0 o n))
+                  sym (ap (λ b. (b || is_listed list o) && has_version a (slice_index_or objects o d).cell.versions)
+                      (ne_eqb x.0 o n))
             ]
       ]
     where
@@ -133,10 +144,12 @@ module _ (a : ActionId) (objects : List AtomicObject) (d : AtomicObject) where
   written_apart n (x ∷ list) all =
       elim (cases_Bool (has_version a (slice_index_or objects x.0 d).cell.versions)) [
         | inl e ↦
-            subst (λ b. AllByRecursion (λ m. eqb n m ≡ false) (cond b (x.0 ∷ written_in a objects d list) (written_in a objects d list)))
+            subst (λ b. AllByRecursion (λ m. eqb n m ≡ false)
+                (cond b (x.0 ∷ written_in a objects d list) (written_in a objects d list)))
             (sym e) (all.0, written_apart n list all.1)
         | inr e ↦
-            subst (λ b. AllByRecursion (λ m. eqb n m ≡ false) (cond b (x.0 ∷ written_in a objects d list) (written_in a objects d list)))
+            subst (λ b. AllByRecursion (λ m. eqb n m ≡ false)
+                (cond b (x.0 ∷ written_in a objects d list) (written_in a objects d list)))
             (sym e) (written_apart n list all.1)
       ]
 
@@ -149,10 +162,13 @@ module _ (a : ActionId) (objects : List AtomicObject) (d : AtomicObject) where
       let ih = written_distinct list (IsDistinct-tail e x list once) in
       elim (cases_Bool (has_version a (slice_index_or objects x.0 d).cell.versions)) [
         | inl q ↦
-            subst (λ b. IsDistinct eqb (cond b (x.0 ∷ written_in a objects d list) (written_in a objects d list))) (sym q)
-            (IsDistinct-cons eqb x.0 (written_in a objects d list) (written_apart x.0 list (IsDistinct-head e x list once)) ih)
+            subst (λ b. IsDistinct eqb (cond b (x.0 ∷ written_in a objects d list) (written_in a objects d list)))
+                (sym q)
+            (IsDistinct-cons eqb x.0 (written_in a objects d list)
+                (written_apart x.0 list (IsDistinct-head e x list once)) ih)
         | inr q ↦
-            subst (λ b. IsDistinct eqb (cond b (x.0 ∷ written_in a objects d list) (written_in a objects d list))) (sym q) ih
+            subst (λ b. IsDistinct eqb (cond b (x.0 ∷ written_in a objects d list) (written_in a objects d list)))
+                (sym q) ih
       ]
 
 module _ (t : Tree) (objects : List AtomicObject) (holdings : Holdings) (s : Opening) (j : List PlainEntry)
@@ -180,8 +196,10 @@ module _ (t : Tree) (objects : List AtomicObject) (holdings : Holdings) (s : Ope
       both false true = refl
       both false false = refl
 
-  module _ (live : is_live (history s j) (a.0 + 1) ≡ true) (once : IsDistinct (λ (x y : ObjId). eqb x.0 y.0) (listed holdings a))
-      (xs : List ℕ) (moved : IsPermutation (written_in a objects d (listed holdings a)) xs) (sorted : IsSorted nat_cmp xs) where
+  module _ (live : is_live (history s j) (a.0 + 1) ≡ true)
+      (once : IsDistinct (λ (x y : ObjId). eqb x.0 y.0) (listed holdings a))
+      (xs : List ℕ) (moved : IsPermutation (written_in a objects d (listed holdings a)) xs)
+          (sorted : IsSorted nat_cmp xs) where
     member_is : (o : ℕ) → contains xs o ≡ contains (written_by s j a.0) o
     member_is o =
         contains_any xs o
@@ -194,8 +212,10 @@ module _ (t : Tree) (objects : List AtomicObject) (holdings : Holdings) (s : Ope
     pub sorted_is : xs ≡ written_by s j a.0
     sorted_is =
         rising_same xs (written_by s j a.0)
-        (rising_from xs (sorted_from_strictly_increasing xs (IsStrictlyIncreasing-from_distinct xs (IsNonDecreasingBy-from_sort (λ n. n) xs sorted)
-        (IsDistinct-IsPermutation eqb flips (written_in a objects d (listed holdings a)) xs moved (written_distinct a objects d (listed holdings a) once)))))
+        (rising_from xs (sorted_from_strictly_increasing xs
+            (IsStrictlyIncreasing-from_distinct xs (IsNonDecreasingBy-from_sort (λ n. n) xs sorted)
+        (IsDistinct-IsPermutation eqb flips (written_in a objects d (listed holdings a)) xs moved
+            (written_distinct a objects d (listed holdings a) once)))))
         (written-IsRising entries (work (history s j) (a.0 + 1)))
         member_is
       where
@@ -226,7 +246,8 @@ module _ (t : Tree) (objects : List AtomicObject) (holdings : Holdings) (s : Ope
             → (let p : ℕ × Option PlainContent = (o, version_in a objects d o) in p) ≡ (o, seen_by s j a.0 o)
         each o m =
             let lt = sorted_there o m in
-            let w = sym (written_are_held entries (opened s) (history s j) (a.0 + 1) o (lawful s j k.legal) live) ∙ sym (member_is o) ∙ m in
+            let w = sym (written_are_held entries (opened s) (history s j) (a.0 + 1) o (lawful s j k.legal) live)
+                ∙ sym (member_is o) ∙ m in
             let v = (k.parts.each o d lt).writers a ∙ w in
             ap (λ c. let p : ℕ × Option PlainContent = (o, unwrap_or c None) in p)
             (seen_at s (history s j) o a (slice_index_or objects o d).cell.versions (k.parts.each o d lt).seen v)

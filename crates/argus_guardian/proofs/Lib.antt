@@ -11,10 +11,8 @@ pub mod PartsCommits
 pub mod PartsEnds
 pub mod Under
 pub mod Ends
-pub mod Granted
 pub mod Accessed
 pub mod Accesses
-pub mod Stepped
 pub mod MadeAccesses
 pub mod Asks
 pub mod Alters

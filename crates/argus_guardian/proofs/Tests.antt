@@ -1,5 +1,6 @@
 -- Tests of read locks, as the guardian refuses and grants them.
-use Rattle.std.proofs.Common.{Bool, List, None, Some, [], ap, arith, false, inl, inr, length, refl, sym, true, ℕ, ◌+◌, ◌<◌, ◌≤◌, ◌∙◌, ◌∷◌, ◌≡◌}
+use Rattle.std.proofs.Common.{Bool, List, None, Some, [], ap, arith, false, inl, inr, length, refl, sym, true, ℕ, ◌+◌}
+use Rattle.std.proofs.Common.{◌<◌, ◌≤◌, ◌∙◌, ◌∷◌, ◌≡◌}
 use Rattle.std.specs.Prelude.{slice_get, slice_index_or}
 use Rattle.std.proofs.lemmas.Bool.{cases_lt, le-ltb}
 use Rattle.std.proofs.lemmas.Option.{slice_get-get_or}
@@ -21,7 +22,6 @@ use Rattle.argus_guardian.specs.declared.atomic_object.AtomicObject.{AtomicObjec
 use Rattle.argus_guardian.proofs.Accesses.{IsGranted, access_is, acts, granted_parts, reads_agree}
 use Rattle.argus_guardian.proofs.Begun.{kept_nothing}
 use Rattle.argus_guardian.proofs.Ends.{some_object}
-use Rattle.argus_guardian.proofs.Stepped.{kept_access}
 use Rattle.argus_journal.specs.Answers.{answer, granted, if_declared, if_free, or_refused, refusal, suits, unless}
 use Rattle.argus_journal.specs.Entries.{entries}
 use Rattle.argus_journal.specs.Events.{history}
@@ -34,12 +34,15 @@ use Rattle.argus_objects.specs.declared.holdings.Holdings.{Holdings}
 use Rattle.argus_contents.specs.Shape.{PlainShape}
 
 -- a shape that is there suits where all shapes do
-pub all_suit : (xs : List PlainShape) (o : ℕ) → if_declared xs o (unless (suits (λ shape. true) (slice_get xs o)) IllTyped (unless true Conflict None)) ≡ if_declared xs o None
+pub all_suit : (xs : List PlainShape) (o : ℕ) → if_declared xs o
+    (unless (suits (λ shape. true) (slice_get xs o)) IllTyped (unless true Conflict None)) ≡ if_declared xs o None
 all_suit xs o =
     elim (cases_lt o (length xs)) [
-      | inl lt ↦ ap (λ q. if_declared xs o (unless (suits (λ shape. true) q) IllTyped None)) (slice_get-get_or xs o (some_shape xs o lt) lt)
+      | inl lt ↦ ap (λ q. if_declared xs o (unless (suits (λ shape. true) q) IllTyped None))
+          (slice_get-get_or xs o (some_shape xs o lt) lt)
       | inr ge ↦
-          ap (λ b. unless b NoObject (unless (suits (λ shape. true) (slice_get xs o)) IllTyped None)) (le-ltb o (length xs) ge)
+          ap (λ b. unless b NoObject (unless (suits (λ shape. true) (slice_get xs o)) IllTyped None))
+              (le-ltb o (length xs) ge)
           ∙ sym (ap (λ b. unless b NoObject None) (le-ltb o (length xs) ge))
     ]
   where
@@ -47,14 +50,18 @@ all_suit xs o =
     some_shape [] o lt = absurd (omega arith)
     some_shape (x ∷ xs) o lt = x
 
-module _ (t : Tree) (objects : List AtomicObject) (holdings : Holdings) (s : Opening) (j : List PlainEntry) (k : IsKept t objects holdings s j) (a : ActionId) (o : ObjId) where
-  pub test_is : access_refusal t objects a.0 o.0 (λ shape. true) (λ c. true) ≡ refusal (history s j) (shapes s j) (test_read a.0 o.0)
+module _ (t : Tree) (objects : List AtomicObject) (holdings : Holdings) (s : Opening) (j : List PlainEntry)
+    (k : IsKept t objects holdings s j) (a : ActionId) (o : ObjId) where
+  pub test_is : access_refusal t objects a.0 o.0 (λ shape. true) (λ c. true)
+      ≡ refusal (history s j) (shapes s j) (test_read a.0 o.0)
   test_is =
       access_is t objects holdings s j k a o.0 (λ shape. true) (λ c. true) true (λ la d lt. refl)
       ∙ ap (if_free (history s j) a.0) (all_suit (shapes s j) o.0)
 
-  pub test_read_refused : (why : Refusal) → access_refusal t objects a.0 o.0 (λ shape. true) (λ c. true) ≡ Some why → answer s j (test_read a.0 o.0) ≡ refused why
-  test_read_refused why e = ap (λ r. or_refused r (granted s (history s j) (shapes s j) (test_read a.0 o.0))) (sym test_is ∙ e)
+  pub test_read_refused : (why : Refusal) → access_refusal t objects a.0 o.0 (λ shape. true) (λ c. true) ≡ Some why
+      → answer s j (test_read a.0 o.0) ≡ refused why
+  test_read_refused why e =
+      ap (λ r. or_refused r (granted s (history s j) (shapes s j) (test_read a.0 o.0))) (sym test_is ∙ e)
 
   module _ (e : access_refusal t objects a.0 o.0 (λ shape. true) (λ c. true) ≡ None) where
     parts : IsGranted t objects a.0 o.0 (λ shape. true) (λ c. true)
@@ -67,16 +74,10 @@ module _ (t : Tree) (objects : List AtomicObject) (holdings : Holdings) (s : Ope
     test_low = parts.low
 
     -- what the cell says of the lock is the answer
-    pub test_read_right : (b : Bool) → ((d : AtomicObject) → b ≡ may_read t (slice_index_or objects o.0 d).cell a) → answered (flag b) ≡ answer s j (test_read a.0 o.0)
+    pub test_read_right : (b : Bool) → ((d : AtomicObject) → b ≡ may_read t (slice_index_or objects o.0 d).cell a)
+        → answered (flag b) ≡ answer s j (test_read a.0 o.0)
     test_read_right b f =
         let d : AtomicObject = some_object objects o.0 parts.low in
-        ap (λ b. answered (flag b)) (f d ∙ reads_agree t objects holdings s j k a o.0 (acts t objects holdings s j k a o.0 parts.accepted) d parts.low)
+        ap (λ b. answered (flag b)) (f d ∙ reads_agree t objects holdings s j k a o.0
+            (acts t objects holdings s j k a o.0 parts.accepted) d parts.low)
         ∙ sym (ap (λ r. or_refused r (granted s (history s j) (shapes s j) (test_read a.0 o.0))) (sym test_is ∙ e))
-
-    pub kept_test_read : (objects' : List AtomicObject) (holdings' : Holdings) → answered (flag true) ≡ answer s j (test_read a.0 o.0) → IsAccessed (IsRead t a) a o objects objects' holdings holdings' → IsKept t objects' holdings' s (entry_with (test_read a.0 o.0) (answered (flag true)) ∷ j)
-    kept_test_read objects' holdings' right moved =
-        kept_access (IsRead t a) t objects objects' holdings holdings' s j a o (test_read a.0 o.0) (flag true) (answered (flag true)) k refl right refl refl parts.low
-        (λ l c c' i r. read_cell s (history s j) t k.parts.actions a o.0 (entry_with (test_read a.0 o.0) (answered (flag true))) l refl c c' i r.base r.readers r.versions r.lawful) moved
-
-    pub kept_test_no : answered (flag false) ≡ answer s j (test_read a.0 o.0) → IsKept t objects holdings s (entry_with (test_read a.0 o.0) (answered (flag false)) ∷ j)
-    kept_test_no right = kept_nothing s (entry_with (test_read a.0 o.0) (answered (flag false))) j t t objects objects holdings holdings k right refl refl refl refl k.parts

@@ -1,5 +1,6 @@
 -- What a guardian tells of its objects is what its journal says.
-use Rattle.std.proofs.Common.{Bool, IsTrue, List, cond, None, Some, [], ap, false, length, map, refl, reverse, subst, sym, true, ℕ, ◌++◌, ◌∙◌, ◌∷◌, ◌≡◌, ◌↔◌}
+use Rattle.std.proofs.Common.{Bool, IsTrue, List, cond, None, Some, [], ap, false, length, map, refl, reverse, subst}
+use Rattle.std.proofs.Common.{sym, true, ℕ, ◌++◌, ◌∙◌, ◌∷◌, ◌≡◌, ◌↔◌}
 use Rattle.std.specs.Prelude.{nat_lt, slice_index_or}
 use Rattle.std.proofs.lemmas.Bool.{ltb-true}
 use Rattle.std.proofs.lemmas.List.{append-nil, append_assoc, reverse-append}

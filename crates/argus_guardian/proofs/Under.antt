@@ -21,26 +21,34 @@ at_creator Top e = refl
 at_creator (Sub q) e = cc
 at_creator (Nested c) e = refl
 
-pub under_parent : (q : Option Row) (p : ActionId) → option_and_then (λ row. parent_in row.origin) q ≡ Some p → Some p.0 ≡ option_and_then (λ row. under_of row.origin) q
+pub under_parent : (q : Option Row) (p : ActionId) → option_and_then (λ row. parent_in row.origin) q ≡ Some p
+    → Some p.0 ≡ option_and_then (λ row. under_of row.origin) q
 under_parent None p e = cc
 under_parent (Some row) p e = at_parent row.origin p e
 
-pub under_creator : (q : Option Row) → option_and_then (λ row. parent_in row.origin) q ≡ None → option_map (λ (x : ActionId). x.0) (option_and_then (λ row. creator_in row.origin) q) ≡ option_and_then (λ row. under_of row.origin) q
+pub under_creator : (q : Option Row) → option_and_then (λ row. parent_in row.origin) q ≡ None
+    → option_map (λ (x : ActionId). x.0) (option_and_then (λ row. creator_in row.origin) q)
+    ≡ option_and_then (λ row. under_of row.origin) q
 under_creator None e = refl
 under_creator (Some row) e = at_creator row.origin e
 
 -- where siblings may be ended, an action began this one
-pub others_under : (t : Tree) (a : ℕ) → abort_others_refusal t a ≡ None → (u : ℕ) × (under_at t.folded t.rows a ≡ Some u)
+pub others_under : (t : Tree) (a : ℕ) → abort_others_refusal t a ≡ None
+    → (u : ℕ) × (under_at t.folded t.rows a ≡ Some u)
 others_under t a free = at (commit_refusal t a) (under_at t.folded t.rows a) refl free
   where
-    at : (q : Option ActionRefusal) (v : Option ℕ) → under_at t.folded t.rows a ≡ v → option_or q (refused_if (is_none v) NoSiblings) ≡ None → (u : ℕ) × (under_at t.folded t.rows a ≡ Some u)
+    at : (q : Option ActionRefusal) (v : Option ℕ) → under_at t.folded t.rows a ≡ v
+        → option_or q (refused_if (is_none v) NoSiblings) ≡ None → (u : ℕ) × (under_at t.folded t.rows a ≡ Some u)
     at None None e f = cc
     at None (Some u) e f = (u, e)
     at (Some why) v e f = cc
 
 -- the action that was found is the one
-pub named_under : (q : Option ActionId) (u : Option ℕ) (x : ActionId) → option_map (λ (x : ActionId). x.0) q ≡ u → q ≡ Some x → u ≡ Some x.0
+pub named_under : (q : Option ActionId) (u : Option ℕ) (x : ActionId) → option_map (λ (x : ActionId). x.0) q ≡ u
+    → q ≡ Some x → u ≡ Some x.0
 named_under q u x e is = sym e ∙ ap (option_map (λ (x : ActionId). x.0)) is
 
-pub none_under : (q : Option ActionId) (u : Option ℕ) (v : ℕ) → option_map (λ (x : ActionId). x.0) q ≡ u → q ≡ None → u ≡ Some v → ⊥
-none_under q u v e is some = let n : Option ℕ = None in let k : n ≡ Some v = sym (ap (option_map (λ (x : ActionId). x.0)) is) ∙ e ∙ some in cc
+pub none_under : (q : Option ActionId) (u : Option ℕ) (v : ℕ) → option_map (λ (x : ActionId). x.0) q ≡ u → q ≡ None
+    → u ≡ Some v → ⊥
+none_under q u v e is some =
+    let n : Option ℕ = None in let k : n ≡ Some v = sym (ap (option_map (λ (x : ActionId). x.0)) is) ∙ e ∙ some in cc

@@ -1,5 +1,6 @@
 -- Tests of write locks, as the guardian refuses and grants them.
-use Rattle.std.proofs.Common.{Bool, List, None, Some, [], ap, arith, false, inl, inr, length, refl, sym, true, ℕ, ◌+◌, ◌<◌, ◌≤◌, ◌∙◌, ◌∷◌, ◌≡◌}
+use Rattle.std.proofs.Common.{Bool, List, None, Some, [], ap, arith, false, inl, inr, length, refl, sym, true, ℕ, ◌+◌}
+use Rattle.std.proofs.Common.{◌<◌, ◌≤◌, ◌∙◌, ◌∷◌, ◌≡◌}
 use Rattle.std.specs.Prelude.{slice_index_or, ◌&&◌}
 use Rattle.std.proofs.lemmas.Bool.{and_parts}
 use Rattle.argus_actions.specs.Refusals.{commit_refusal}
@@ -16,11 +17,11 @@ use Rattle.argus_guardian.specs.Accessing.{IsAccessed, IsAltered, access_refusal
 use Rattle.argus_guardian.specs.Keeping.{IsKept}
 use Rattle.argus_guardian.specs.Step.{entry_with}
 use Rattle.argus_guardian.specs.declared.atomic_object.AtomicObject.{AtomicObject}
-use Rattle.argus_guardian.proofs.Accesses.{IsGranted, access_is, acts, granted_parts, reads_agree, seen_limits, writes_agree}
+use Rattle.argus_guardian.proofs.Accesses.{IsGranted, access_is, acts, granted_parts, reads_agree, seen_limits}
+use Rattle.argus_guardian.proofs.Accesses.{writes_agree}
 use Rattle.argus_guardian.proofs.Tests.{all_suit}
 use Rattle.argus_guardian.proofs.Begun.{kept_nothing}
 use Rattle.argus_guardian.proofs.Ends.{some_object}
-use Rattle.argus_guardian.proofs.Stepped.{kept_access}
 use Rattle.argus_journal.specs.Answers.{answer, granted, if_declared, if_free, or_refused, refusal, suits, unless}
 use Rattle.argus_journal.specs.Entries.{entries}
 use Rattle.argus_journal.specs.Events.{history}
@@ -40,14 +41,18 @@ use Rattle.argus_model.specs.Contents.{sees}
 use Rattle.argus_objects.specs.declared.holdings.Holdings.{Holdings}
 use Rattle.argus_contents.specs.Shape.{PlainShape}
 
-module _ (t : Tree) (objects : List AtomicObject) (holdings : Holdings) (s : Opening) (j : List PlainEntry) (k : IsKept t objects holdings s j) (a : ActionId) (o : ObjId) where
-  pub write_test_is : access_refusal t objects a.0 o.0 (λ shape. true) (λ c. true) ≡ refusal (history s j) (shapes s j) (test_write a.0 o.0)
+module _ (t : Tree) (objects : List AtomicObject) (holdings : Holdings) (s : Opening) (j : List PlainEntry)
+    (k : IsKept t objects holdings s j) (a : ActionId) (o : ObjId) where
+  pub write_test_is : access_refusal t objects a.0 o.0 (λ shape. true) (λ c. true)
+      ≡ refusal (history s j) (shapes s j) (test_write a.0 o.0)
   write_test_is =
       access_is t objects holdings s j k a o.0 (λ shape. true) (λ c. true) true (λ la d lt. refl)
       ∙ ap (if_free (history s j) a.0) (all_suit (shapes s j) o.0)
 
-  pub test_write_refused : (why : Refusal) → access_refusal t objects a.0 o.0 (λ shape. true) (λ c. true) ≡ Some why → answer s j (test_write a.0 o.0) ≡ refused why
-  test_write_refused why e = ap (λ r. or_refused r (granted s (history s j) (shapes s j) (test_write a.0 o.0))) (sym write_test_is ∙ e)
+  pub test_write_refused : (why : Refusal) → access_refusal t objects a.0 o.0 (λ shape. true) (λ c. true) ≡ Some why
+      → answer s j (test_write a.0 o.0) ≡ refused why
+  test_write_refused why e =
+      ap (λ r. or_refused r (granted s (history s j) (shapes s j) (test_write a.0 o.0))) (sym write_test_is ∙ e)
 
   module _ (e : access_refusal t objects a.0 o.0 (λ shape. true) (λ c. true) ≡ None) where
     parts : IsGranted t objects a.0 o.0 (λ shape. true) (λ c. true)
@@ -60,34 +65,17 @@ module _ (t : Tree) (objects : List AtomicObject) (holdings : Holdings) (s : Ope
     write_low = parts.low
 
     -- who may write may read
-    pub write_reads : ((d : AtomicObject) → may_write t (slice_index_or objects o.0 d).cell a ≡ true) → (d : AtomicObject) → may_read t (slice_index_or objects o.0 d).cell a ≡ true
-    write_reads free d = let c = (slice_index_or objects o.0 d).cell in (and_parts (all_above t a (holders c.versions)) (all_above t a c.readers) (free d)).0
-
-    pub write_limits : ((d : AtomicObject) → may_write t (slice_index_or objects o.0 d).cell a ≡ true) → (d : AtomicObject) → KeepsLimits (seen_at t a objects o.0 d)
-    write_limits free d = seen_limits t objects holdings s j k a o.0 (acts t objects holdings s j k a o.0 parts.accepted) d parts.low (write_reads free d)
+    pub write_reads : ((d : AtomicObject) → may_write t (slice_index_or objects o.0 d).cell a ≡ true)
+        → (d : AtomicObject) → may_read t (slice_index_or objects o.0 d).cell a ≡ true
+    write_reads free d = let c = (slice_index_or objects o.0 d).cell in
+        (and_parts (all_above t a (holders c.versions)) (all_above t a c.readers) (free d)).0
 
     -- what the cell says of the lock is the answer
-    pub test_write_right : (b : Bool) → ((d : AtomicObject) → b ≡ may_write t (slice_index_or objects o.0 d).cell a) → answered (flag b) ≡ answer s j (test_write a.0 o.0)
+    pub test_write_right : (b : Bool) → ((d : AtomicObject) → b ≡ may_write t (slice_index_or objects o.0 d).cell a)
+        → answered (flag b) ≡ answer s j (test_write a.0 o.0)
     test_write_right b f =
         let d : AtomicObject = some_object objects o.0 parts.low in
-        ap (λ b. answered (flag b)) (f d ∙ writes_agree t objects holdings s j k a o.0 (acts t objects holdings s j k a o.0 parts.accepted) d parts.low)
-        ∙ sym (ap (λ r. or_refused r (granted s (history s j) (shapes s j) (test_write a.0 o.0))) (sym write_test_is ∙ e))
-
-    pub kept_test_write : ((d : AtomicObject) → may_write t (slice_index_or objects o.0 d).cell a ≡ true) → (objects' : List AtomicObject) (holdings' : Holdings) → answered (flag true) ≡ answer s j (test_write a.0 o.0) → IsAccessed (IsAltered t a touch) a o objects objects' holdings holdings' → IsKept t objects' holdings' s (entry_with (test_write a.0 o.0) (answered (flag true)) ∷ j)
-    kept_test_write free objects' holdings' right moved =
-        kept_access (IsAltered t a touch) t objects objects' holdings holdings' s j a o (test_write a.0 o.0) (flag true) (answered (flag true)) k refl right refl refl parts.low
-        (λ l c c' i r.
-        let reads : (d : AtomicObject) → may_read t (slice_index_or objects o.0 d).cell a ≡ true = write_reads free in
-        let la = acts t objects holdings s j k a o.0 parts.accepted in
-        let w = lawful s j k.legal in
-        let d : AtomicObject = some_object objects o.0 parts.low in
-        let may : may_read t c a ≡ true =
-        may_read_is s (history s j) w t k.parts.actions o.0 c i a la
-        ∙ sym (reads_agree t objects holdings s j k a o.0 la d parts.low)
-        ∙ reads d in
-        let left : (changed t a touch c).0 ≡ (outcome touch (sees entries (opened s) (history s j) (a.0 + 1) o.0)).0 =
-        ap (λ x. (outcome touch x).0) (visible_is s (history s j) w t k.parts.actions o.0 c i a la may) in
-        written_cell s (history s j) t k.parts.actions a o.0 (entry_with (test_write a.0 o.0) (answered (flag true))) l refl c c' (changed t a touch c).0 i left r.base r.readers r.versions r.lawful) moved
-
-    pub kept_write_no : answered (flag false) ≡ answer s j (test_write a.0 o.0) → IsKept t objects holdings s (entry_with (test_write a.0 o.0) (answered (flag false)) ∷ j)
-    kept_write_no right = kept_nothing s (entry_with (test_write a.0 o.0) (answered (flag false))) j t t objects objects holdings holdings k right refl refl refl refl k.parts
+        ap (λ b. answered (flag b)) (f d ∙ writes_agree t objects holdings s j k a o.0
+            (acts t objects holdings s j k a o.0 parts.accepted) d parts.low)
+        ∙ sym (ap (λ r. or_refused r (granted s (history s j) (shapes s j) (test_write a.0 o.0)))
+            (sym write_test_is ∙ e))

@@ -20,29 +20,36 @@ use Rattle.argus_objects.specs.Object.{Object, SameLocks}
 use Rattle.argus_objects.specs.Rules.{seen_by}
 use Rattle.argus_objects.specs.declared.holdings.Holdings.{Holdings}
 
--- why an access is refused at the object that was found: its shape doesn't suit, or the lock isn't free
+-- why an access is refused at the object that was found: its shape doesn't suit, or the lock isn't
+-- free
 abbrev pub refused_at : Option AtomicObject → (PlainShape → Bool) → (Object → Bool) → Option Refusal
 refused_at None suits free = Some NoObject
-refused_at (Some object) suits free = unless (suits object.shape) IllTyped (unless (free object.cell) Conflict None)
+refused_at (Some object) suits free =
+    unless (suits object.shape) IllTyped (unless (free object.cell) Conflict None)
 
 -- why an access is refused: the action may not act, or the object refuses it
-abbrev pub access_refusal : Tree → List AtomicObject → ℕ → ℕ → (PlainShape → Bool) → (Object → Bool) → Option Refusal
-access_refusal t objects a o suits free = option_or (refusals_said (commit_refusal t a)) (refused_at (slice_get objects o) suits free)
+abbrev pub access_refusal : Tree → List AtomicObject → ℕ → ℕ → (PlainShape → Bool) → (Object → Bool)
+    → Option Refusal
+access_refusal t objects a o suits free =
+    option_or (refusals_said (commit_refusal t a)) (refused_at (slice_get objects o) suits free)
 
 -- what the action sees in the object of this number
 abbrev pub seen_at : Tree → ActionId → List AtomicObject → ℕ → AtomicObject → Option PlainContent
-seen_at t a objects o d = seen_by t a (slice_index_or objects o d).cell.base (slice_index_or objects o d).cell.versions
+seen_at t a objects o d =
+    seen_by t a (slice_index_or objects o d).cell.base (slice_index_or objects o d).cell.versions
 
 -- a's version has what the change leaves of what a sees
 abbrev pub IsAltered : Tree → ActionId → PlainChange → Object → Object → Type 0
 IsAltered t a change old new = IsWritten t a (changed t a change old).0 old new
 
 -- R came to the object, which is on a's list now
-pub record IsAccessed (R : Object → Object → Type 0) (a : ActionId) (o : ObjId) (old new : List AtomicObject) (held held' : Holdings) : Type 0 where
+pub record IsAccessed (R : Object → Object → Type 0) (a : ActionId) (o : ObjId)
+    (old new : List AtomicObject) (held held' : Holdings) : Type 0 where
   pub objects : AreChanged R (o ∷ []) old new
   pub lists : Lists held a (noted o (listed held a)) held'
 
 -- but for room, all is as before
-pub record IsAsBefore (o : ObjId) (old new : List AtomicObject) (held held' : Holdings) : Type 0 where
+pub record IsAsBefore (o : ObjId) (old new : List AtomicObject)
+    (held held' : Holdings) : Type 0 where
   pub objects : AreChanged SameLocks (o ∷ []) old new
   pub lists : SameLists held held'

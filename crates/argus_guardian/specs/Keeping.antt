@@ -1,5 +1,6 @@
 -- How the guardian's parts stand to its journal.
-use Rattle.std.specs.Prelude.{Bool, List, length, map, slice_index_or, true, ℕ, ◌+◌, ◌<◌, ◌≡◌, ◌||◌, ◌≤◌}
+use Rattle.std.specs.Prelude.{Bool, List, length, map, slice_index_or, true, ℕ, ◌+◌, ◌<◌, ◌≡◌, ◌||◌}
+use Rattle.std.specs.Prelude.{◌≤◌}
 use Rattle.argus_actions.specs.Tree.{Tree}
 use Rattle.argus_actions.specs.declared.action_id.ActionId.{ActionId}
 use Rattle.argus_contents.specs.declared.limits.TheConstants.{MAX_OBJECTS}
@@ -23,16 +24,20 @@ use Rattle.argus_objects.specs.declared.holdings.Holdings.{Holdings}
 abbrev pub holds : History PlainEntry → ℕ → ℕ → Bool
 holds h a o = contains (readers entries h o) a || contains (writers entries h o) a
 
--- The parts stand to a history: the tree has its rows, each cell its base, readers and versions, and the list of each action has just the objects
--- that it holds.
-pub record AreParts (tree : Tree) (objects : List AtomicObject) (holdings : Holdings) (s : Opening) (h : History PlainEntry) : Type 0 where
+-- The parts stand to a history: the tree has its rows, each cell its base, readers and versions,
+-- and the list of each action has just the objects that it holds.
+pub record AreParts (tree : Tree) (objects : List AtomicObject) (holdings : Holdings) (s : Opening)
+    (h : History PlainEntry) : Type 0 where
   pub actions : IsTree tree h
-  pub each : (o : ℕ) (d : AtomicObject) → o < length objects → IsCell s h tree o (slice_index_or objects o d).cell
+  pub each : (o : ℕ) (d : AtomicObject) → o < length objects
+      → IsCell s h tree o (slice_index_or objects o d).cell
   pub held : (a : ActionId) (o : ℕ) → is_listed (listed holdings a) o ≡ holds h (a.0 + 1) o
   pub there : (a : ActionId) (o : ℕ) → is_listed (listed holdings a) o ≡ true → o < length objects
 
--- The guardian is what its journal says: that is legal, its opening is sound and within the limits, and the objects are those declared.
-pub record IsKept (tree : Tree) (objects : List AtomicObject) (holdings : Holdings) (s : Opening) (j : List PlainEntry) : Type 0 where
+-- The guardian is what its journal says: that is legal, its opening is sound and within the limits,
+-- and the objects are those declared.
+pub record IsKept (tree : Tree) (objects : List AtomicObject) (holdings : Holdings) (s : Opening)
+    (j : List PlainEntry) : Type 0 where
   pub legal : Legal s j
   pub sound : is_sound s ≡ true
   pub limits : KeepsNumbers s

@@ -1,6 +1,7 @@
 -- What an action would leave for good.
 use Rattle.std.specs.Option.{option_map, unwrap_or}
-use Rattle.std.specs.Prelude.{List, None, Option, Some, if◌then◌else◌, map, slice_index_or, ℕ, ◌∷◌, []}
+use Rattle.std.specs.Prelude.{List, None, Option, Some, if◌then◌else◌, map, slice_index_or, ℕ, ◌∷◌}
+use Rattle.std.specs.Prelude.{[]}
 use Rattle.argus_actions.specs.declared.action_id.ActionId.{ActionId}
 use Rattle.argus_contents.specs.Content.{PlainContent, plain_option}
 use Rattle.argus_contents.specs.declared.content.Content.{Content}
@@ -14,9 +15,11 @@ use Rattle.argus_objects.specs.Moves.{has_version, version_of}
 abbrev pub effect_told : List (ObjId × Option Content) → List (ℕ × Option PlainContent)
 effect_told effect = map (λ pair. (pair.0.0, plain_option pair.1)) effect
 
--- what the action sees in each object that it or a committed subaction has written, in increasing number of the objects
+-- what the action sees in each object that it or a committed subaction has written, in increasing
+-- number of the objects
 abbrev pub effect_of : Said → ℕ → List (ℕ × Option PlainContent)
-effect_of said a = map (λ o. (o, seen_by said.opening said.entries a o)) (written_by said.opening said.entries a)
+effect_of said a =
+    map (λ o. (o, seen_by said.opening said.entries a o)) (written_by said.opening said.entries a)
 
 -- the same of a live action, and none of others
 abbrev pub effect_if_live : Said → ℕ → Option (List (ℕ × Option PlainContent))
@@ -27,7 +30,8 @@ effect_if_live said a =
 abbrev pub written_in : ActionId → List AtomicObject → AtomicObject → List ObjId → List ℕ
 written_in a objects d [] = []
 written_in a objects d (o ∷ list) =
-    if has_version a (slice_index_or objects o.0 d).cell.versions then o.0 ∷ written_in a objects d list
+    if has_version a (slice_index_or objects o.0 d).cell.versions then o.0
+        ∷ written_in a objects d list
     else written_in a objects d list
 
 -- the content of the action's version of an object, absent where it has none

@@ -24,7 +24,8 @@ abbrev pub opening_coded : Coded Opening
 opening_coded =
     code_by (List (PlainShape × Option PlainContent) × (ℕ × ℕ))
     (coded× (coded_list (coded× shape_coded (coded_option content_coded))) (coded× coded_ℕ coded_ℕ))
-    (λ s. (s.objects, (s.first_action, s.first_entry))) (λ p. record { objects = p.0; first_action = p.1.0; first_entry = p.1.1 }) (λ _. refl)
+    (λ s. (s.objects, (s.first_action, s.first_entry)))
+        (λ p. record { objects = p.0; first_action = p.1.0; first_entry = p.1.1 }) (λ _. refl)
 
 abbrev pub said_coded : Coded Said
 said_coded =
@@ -49,4 +50,5 @@ after said call = record { opening = said.opening; entries = entry_of said call 
 
 -- the first refusal of the call that applies, if any
 abbrev pub refusal_to : Said → PlainCall → Option Refusal
-refusal_to said call = refusal (history said.opening said.entries) (shapes said.opening said.entries) call
+refusal_to said call =
+    refusal (history said.opening said.entries) (shapes said.opening said.entries) call

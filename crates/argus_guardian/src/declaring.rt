@@ -44,8 +44,8 @@ pub(crate) fn prepare_declare(parts: &mut Parts, shape: Shape) -> Result<Prepare
 }
 
 impl Guardian {
-    /// Declares an object of this shape, and answers its number. The object belongs to no action and
-    /// stays; it has no content until an action creates one.
+    /// Declares an object of this shape, and answers its number. The object belongs to no action
+    /// and stays; it has no content until an action creates one.
     ///
     /// Refusal: `TooMany` where 65,535 objects are declared. After `OutOfMemory` all is as before.
     pub fn declare(&mut self, shape: Shape) -> Result<Reply, OutOfMemory>

@@ -1,5 +1,5 @@
-//! What becomes of the objects that actions hold which an abort ends: the walk visits the objects on
-//! their lists and no other.
+//! What becomes of the objects that actions hold which an abort ends: the walk visits the objects
+//! on their lists and no other.
 
 ghost use Rattle.std.specs.Prelude.{◌≡◌, ◌<◌, ◌≤◌, length, None, Some};
 ghost use Rattle.std.specs.Option.{option_map};
@@ -88,8 +88,8 @@ fn discard_siblings(
     }
 }
 
-/// Discards what the live siblings of an action hold, where it may end them, and all that stand under
-/// them, and clears their lists.
+/// Discards what the live siblings of an action hold, where it may end them, and all that stand
+/// under them, and clears their lists.
 pub(crate) fn discard_others(
     objects: &mut [AtomicObject],
     holdings: &mut Holdings,

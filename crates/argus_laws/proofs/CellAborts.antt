@@ -32,7 +32,10 @@ use Rattle.argus_objects.specs.Object.{Object}
 use Rattle.argus_objects.specs.Rules.{is_lawful}
 
 -- ended says of each live action whether it stands under one of those that the event names; t' is the tree after it
-module _ (s : Opening) (h : History PlainEntry) (t t' : Tree) (is : IsTree t h) (actions : List ℕ) (ended : ℕ → Bool) (l : Lawful entries (opened s) (Aborted actions ▹ h)) (under : (x : ActionId) → is_live h (x.0 + 1) ≡ true → ended x.0 ≡ model.is_under h actions (x.0 + 1)) (more : (x y : ℕ) → is_ancestor t x y ≡ true → is_ancestor t' x y ≡ true) where
+module _ (s : Opening) (h : History PlainEntry) (t t' : Tree) (is : IsTree t h) (actions : List ℕ) (ended : ℕ → Bool)
+    (l : Lawful entries (opened s) (Aborted actions ▹ h))
+    (under : (x : ActionId) → is_live h (x.0 + 1) ≡ true → ended x.0 ≡ model.is_under h actions (x.0 + 1))
+    (more : (x y : ℕ) → is_ancestor t x y ≡ true → is_ancestor t' x y ≡ true) where
   gone : Orderly (Aborted actions ▹ h)
   gone = orderly s (Aborted actions ▹ h) l
 
@@ -40,27 +43,34 @@ module _ (s : Opening) (h : History PlainEntry) (t t' : Tree) (is : IsTree t h) 
   kept n = not (model.is_under h actions n)
 
   -- the writers that go on
-  writers_now : (o : ℕ) (c c' : Object) → IsCell s h t o c → c'.versions ≡ filter (λ v. not (ended v.holder.0)) c.versions → (x : ActionId) → has_version x c'.versions ≡ contains (writers entries (Aborted actions ▹ h) o) (x.0 + 1)
+  writers_now : (o : ℕ) (c c' : Object) → IsCell s h t o c
+      → c'.versions ≡ filter (λ v. not (ended v.holder.0)) c.versions → (x : ActionId)
+      → has_version x c'.versions ≡ contains (writers entries (Aborted actions ▹ h) o) (x.0 + 1)
   writers_now o c c' k v x =
       ap (has_version x) v
       ∙ has_filtered (λ n. not (ended n)) c.versions x
       ∙ elim (cases_Bool (has_version x c.versions)) [
         | inl e ↦ ap (λ b. has_version x c.versions && not b) (under x (version_live s h l.1 t is o c k x e))
-        | inr e ↦ and_left (has_version x c.versions) (not (ended x.0)) e ∙ sym (and_left (has_version x c.versions) (kept (x.0 + 1)) e)
+        | inr e ↦ and_left (has_version x c.versions) (not (ended x.0)) e
+            ∙ sym (and_left (has_version x c.versions) (kept (x.0 + 1)) e)
       ]
       ∙ ap (λ b. b && kept (x.0 + 1)) (k.writers x)
       ∙ sym (contains_filtered kept (writers entries h o) (x.0 + 1))
       ∙ ap (λ ws. contains ws (x.0 + 1)) (sym (holders_after_abort entries.writes h actions gone o))
 
   -- the cell without the holders that were ended
-  pub ended_cell : (o : ℕ) (c c' : Object) → IsCell s h t o c → c'.base ≡ c.base → c'.readers ≡ filter (λ x. not (ended x.0)) c.readers → c'.versions ≡ filter (λ v. not (ended v.holder.0)) c.versions → is_lawful t c' ≡ true → IsCell s (Aborted actions ▹ h) t' o c'
+  pub ended_cell : (o : ℕ) (c c' : Object) → IsCell s h t o c → c'.base ≡ c.base
+      → c'.readers ≡ filter (λ x. not (ended x.0)) c.readers
+      → c'.versions ≡ filter (λ v. not (ended v.holder.0)) c.versions → is_lawful t c' ≡ true
+      → IsCell s (Aborted actions ▹ h) t' o c'
   ended_cell o c c' k b r v lw = record {
     lawful = lawful_more t t' more c' lw;
     base = b ∙ k.base ∙ sym (base_after_abort entries (opened s) h actions gone o);
     readers =
         ap numbered r
         ∙ filter_said (λ x. not (ended x.0)) kept c.readers
-        (λ x i. ap not (under x (reader_live s h l.1 o (x.0 + 1) (ap (λ rs. contains rs (x.0 + 1)) (sym k.readers) ∙ i))))
+        (λ x i. ap not (under x (reader_live s h l.1 o (x.0 + 1)
+            (ap (λ rs. contains rs (x.0 + 1)) (sym k.readers) ∙ i))))
         ∙ ap (filter kept) k.readers
         ∙ sym (holders_after_abort (reads entries) h actions gone o);
     writers = writers_now o c c' k v;
@@ -68,8 +78,10 @@ module _ (s : Opening) (h : History PlainEntry) (t t' : Tree) (is : IsTree t h) 
         subst (AreSeen s (Aborted actions ▹ h) o) (sym v)
         (seen_step s h (Aborted actions ▹ h) o (filter (λ v. not (ended v.holder.0)) c.versions)
         (λ x i.
-        let lx = writer_live s (Aborted actions ▹ h) l o (x.0 + 1) (sym (writers_now o c c' k v x) ∙ ap (has_version x) v ∙ i) in
-        sees_after_abort entries (opened s) h actions gone (x.0 + 1) o (live_stands (Aborted actions ▹ h) gone (x.0 + 1) lx).1)
+        let lx = writer_live s (Aborted actions ▹ h) l o (x.0 + 1)
+            (sym (writers_now o c c' k v x) ∙ ap (has_version x) v ∙ i) in
+        sees_after_abort entries (opened s) h actions gone (x.0 + 1) o
+            (live_stands (Aborted actions ▹ h) gone (x.0 + 1) lx).1)
         (seen_filter s h o (λ v. not (ended v.holder.0)) c.versions k.seen));
   }
 
@@ -77,6 +89,7 @@ module _ (s : Opening) (h : History PlainEntry) (t t' : Tree) (is : IsTree t h) 
 pub abort_more : (t : Tree) (a : ℕ) (x y : ℕ) → is_ancestor t x y ≡ true → is_ancestor (after_abort t a) x y ≡ true
 abort_more t a x y up = is_above-mark t.folded (is_ancestor t a) became_aborted t.rows x y ∙ up
 
-pub others_more : (t : Tree) (a : ℕ) (x y : ℕ) → is_ancestor t x y ≡ true → is_ancestor (after_abort_others t a) x y ≡ true
+pub others_more : (t : Tree) (a : ℕ) (x y : ℕ) → is_ancestor t x y ≡ true
+    → is_ancestor (after_abort_others t a) x y ≡ true
 others_more t a x y up =
     is_above-mark t.folded (tree_rows.has_ancestor (is_live_sibling t a) t.folded t.rows) became_aborted t.rows x y ∙ up

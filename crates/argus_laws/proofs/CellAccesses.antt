@@ -1,5 +1,6 @@
 -- A cell when an access was granted: a read makes a reader, a write a version; other cells stay.
-use Rattle.std.proofs.Common.{Bool, List, ap, arith, cond, false, inl, inr, refl, subst, sym, true, ℕ, ◌+◌, ◌<◌, ◌≤◌, ◌∙◌, ◌≡◌, ◌≢◌, eqb, ◌||◌}
+use Rattle.std.proofs.Common.{Bool, List, ap, arith, cond, false, inl, inr, refl, subst, sym, true, ℕ, ◌+◌, ◌<◌, ◌≤◌}
+use Rattle.std.proofs.Common.{◌∙◌, ◌≡◌, ◌≢◌, eqb, ◌||◌}
 use Rattle.std.specs.Prelude.{Option, not, ◌&&◌, ◌==◌}
 use Rattle.std.proofs.lemmas.Bool.{and_left, and_parts, and_right, both_ways, cases_eq, eq-eqb, ne_eqb}
 use Rattle.argus_actions.specs.Tree.{Tree}
@@ -30,7 +31,8 @@ use Rattle.argus_objects.specs.Moves.{has_version, with_reader, with_version, wi
 use Rattle.argus_objects.specs.Object.{Object}
 use Rattle.argus_objects.specs.Rules.{is_lawful}
 
-module _ (s : Opening) (h : History PlainEntry) (t : Tree) (is : IsTree t h) (a : ActionId) (o : ℕ) (e : PlainEntry) (l : Lawful entries (opened s) (Accessed (a.0 + 1) o e ▹ h)) where
+module _ (s : Opening) (h : History PlainEntry) (t : Tree) (is : IsTree t h) (a : ActionId) (o : ℕ) (e : PlainEntry)
+    (l : Lawful entries (opened s) (Accessed (a.0 + 1) o e ▹ h)) where
   now : Orderly (Accessed (a.0 + 1) o e ▹ h)
   now = orderly s (Accessed (a.0 + 1) o e ▹ h) l
 
@@ -38,18 +40,22 @@ module _ (s : Opening) (h : History PlainEntry) (t : Tree) (is : IsTree t h) (a 
   pub access_tree : IsTree t (Accessed (a.0 + 1) o e ▹ h)
   access_tree = record { folded = is.folded; rows = is.rows }
 
-  others_see : (x : ActionId) (i : ℕ) → is_live h (x.0 + 1) ≡ true → x.0 ≢ a.0 → sees entries (opened s) (Accessed (a.0 + 1) o e ▹ h) (x.0 + 1) i ≡ sees entries (opened s) h (x.0 + 1) i
+  others_see : (x : ActionId) (i : ℕ) → is_live h (x.0 + 1) ≡ true → x.0 ≢ a.0
+      → sees entries (opened s) (Accessed (a.0 + 1) o e ▹ h) (x.0 + 1) i ≡ sees entries (opened s) h (x.0 + 1) i
   others_see x i lx n =
       sees_after_access_other entries (opened s) h (a.0 + 1) o e now (x.0 + 1) i
       (live_stands h (orderly s h l.1) (x.0 + 1) lx).1 (λ q. n (omega arith))
 
-  own_sees : (i : ℕ) → sees entries (opened s) (Accessed (a.0 + 1) o e ▹ h) (a.0 + 1) i ≡ cond (o == i) (left_by e.call (sees entries (opened s) h (a.0 + 1) i)) (sees entries (opened s) h (a.0 + 1) i)
+  own_sees : (i : ℕ) → sees entries (opened s) (Accessed (a.0 + 1) o e ▹ h) (a.0 + 1) i
+      ≡ cond (o == i) (left_by e.call (sees entries (opened s) h (a.0 + 1) i)) (sees entries (opened s) h (a.0 + 1) i)
   own_sees i = sees_after_access_own entries (opened s) h (a.0 + 1) o e now i
 
-  readers_now : (i : ℕ) → readers entries (Accessed (a.0 + 1) o e ▹ h) i ≡ cond (o == i && not (is_write e.call)) (insert (a.0 + 1) (readers entries h i)) (readers entries h i)
+  readers_now : (i : ℕ) → readers entries (Accessed (a.0 + 1) o e ▹ h) i
+      ≡ cond (o == i && not (is_write e.call)) (insert (a.0 + 1) (readers entries h i)) (readers entries h i)
   readers_now i = holders_after_access (reads entries) h (a.0 + 1) o e now i
 
-  writers_now : (i : ℕ) → writers entries (Accessed (a.0 + 1) o e ▹ h) i ≡ cond (o == i && is_write e.call) (insert (a.0 + 1) (writers entries h i)) (writers entries h i)
+  writers_now : (i : ℕ) → writers entries (Accessed (a.0 + 1) o e ▹ h) i
+      ≡ cond (o == i && is_write e.call) (insert (a.0 + 1) (writers entries h i)) (writers entries h i)
   writers_now i = holders_after_access entries.writes h (a.0 + 1) o e now i
 
   base_now : (i : ℕ) → base entries (opened s) (Accessed (a.0 + 1) o e ▹ h) i ≡ base entries (opened s) h i
@@ -62,11 +68,13 @@ module _ (s : Opening) (h : History PlainEntry) (t : Tree) (is : IsTree t h) (a 
     base = k.base ∙ sym (base_now i);
     readers =
         k.readers
-        ∙ sym (readers_now i ∙ ap (λ b. cond b (insert (a.0 + 1) (readers entries h i)) (readers entries h i)) (and_left (o == i) (not (is_write e.call)) (ne_eqb o i other)));
+        ∙ sym (readers_now i ∙ ap (λ b. cond b (insert (a.0 + 1) (readers entries h i)) (readers entries h i))
+            (and_left (o == i) (not (is_write e.call)) (ne_eqb o i other)));
     writers = λ x.
         k.writers x
         ∙ ap (λ ws. contains ws (x.0 + 1))
-        (sym (writers_now i ∙ ap (λ b. cond b (insert (a.0 + 1) (writers entries h i)) (writers entries h i)) (and_left (o == i) (is_write e.call) (ne_eqb o i other))));
+        (sym (writers_now i ∙ ap (λ b. cond b (insert (a.0 + 1) (writers entries h i)) (writers entries h i))
+            (and_left (o == i) (is_write e.call) (ne_eqb o i other))));
     seen =
         seen_step s h (Accessed (a.0 + 1) o e ▹ h) i c.versions
         (λ x q.
@@ -74,7 +82,8 @@ module _ (s : Opening) (h : History PlainEntry) (t : Tree) (is : IsTree t h) (a 
           | inl same ↦
               ap (λ n. sees entries (opened s) (Accessed (a.0 + 1) o e ▹ h) (n + 1) i) same
               ∙ own_sees i
-              ∙ ap (λ b. cond b (left_by e.call (sees entries (opened s) h (a.0 + 1) i)) (sees entries (opened s) h (a.0 + 1) i)) (ne_eqb o i other)
+              ∙ ap (λ b. cond b (left_by e.call (sees entries (opened s) h (a.0 + 1) i))
+                  (sees entries (opened s) h (a.0 + 1) i)) (ne_eqb o i other)
               ∙ ap (λ n. sees entries (opened s) h (n + 1) i) (sym same)
           | inr n ↦ others_see x i (version_live s h l.1 t is i c k x q) n
         ])
@@ -82,19 +91,23 @@ module _ (s : Opening) (h : History PlainEntry) (t : Tree) (is : IsTree t h) (a 
   }
 
   -- the object that is read
-  pub read_cell : is_write e.call ≡ false → (c c' : Object) → IsCell s h t o c → c'.base ≡ c.base → c'.readers ≡ with_reader a c.readers → c'.versions ≡ c.versions → is_lawful t c' ≡ true → IsCell s (Accessed (a.0 + 1) o e ▹ h) t o c'
+  pub read_cell : is_write e.call ≡ false → (c c' : Object) → IsCell s h t o c → c'.base ≡ c.base
+      → c'.readers ≡ with_reader a c.readers → c'.versions ≡ c.versions → is_lawful t c' ≡ true
+      → IsCell s (Accessed (a.0 + 1) o e ▹ h) t o c'
   read_cell read c c' k b r v lw = record {
     lawful = lw;
     base = b ∙ k.base ∙ sym (base_now o);
     readers =
         ap numbered r ∙ with_said a c.readers ∙ ap (insert (a.0 + 1)) k.readers
         ∙ sym (readers_now o
-        ∙ ap (λ b. cond (b && not (is_write e.call)) (insert (a.0 + 1) (readers entries h o)) (readers entries h o)) (eq-eqb o o refl)
+        ∙ ap (λ b. cond (b && not (is_write e.call)) (insert (a.0 + 1) (readers entries h o)) (readers entries h o))
+            (eq-eqb o o refl)
         ∙ ap (λ b. cond (not b) (insert (a.0 + 1) (readers entries h o)) (readers entries h o)) read);
     writers = λ x.
         ap (has_version x) v ∙ k.writers x
         ∙ ap (λ ws. contains ws (x.0 + 1))
-        (sym (writers_now o ∙ ap (λ b. cond b (insert (a.0 + 1) (writers entries h o)) (writers entries h o)) (and_right (o == o) (is_write e.call) read)));
+        (sym (writers_now o ∙ ap (λ b. cond b (insert (a.0 + 1) (writers entries h o)) (writers entries h o))
+            (and_right (o == o) (is_write e.call) read)));
     seen =
         subst (AreSeen s (Accessed (a.0 + 1) o e ▹ h) o) (sym v)
         (seen_step s h (Accessed (a.0 + 1) o e ▹ h) o c.versions
@@ -103,7 +116,8 @@ module _ (s : Opening) (h : History PlainEntry) (t : Tree) (is : IsTree t h) (a 
           | inl same ↦
               ap (λ n. sees entries (opened s) (Accessed (a.0 + 1) o e ▹ h) (n + 1) o) same
               ∙ own_sees o
-              ∙ ap (λ c. cond (o == o) c (sees entries (opened s) h (a.0 + 1) o)) (entry_keeps e read (sees entries (opened s) h (a.0 + 1) o))
+              ∙ ap (λ c. cond (o == o) c (sees entries (opened s) h (a.0 + 1) o))
+                  (entry_keeps e read (sees entries (opened s) h (a.0 + 1) o))
               ∙ same_either (o == o) (sees entries (opened s) h (a.0 + 1) o)
               ∙ ap (λ n. sees entries (opened s) h (n + 1) o) (sym same)
           | inr n ↦ others_see x o (version_live s h l.1 t is o c k x q) n
@@ -116,13 +130,17 @@ module _ (s : Opening) (h : History PlainEntry) (t : Tree) (is : IsTree t h) (a 
       same_either false c = refl
 
   -- the object that is written
-  pub written_cell : is_write e.call ≡ true → (c c' : Object) (content : Option PlainContent) → IsCell s h t o c → content ≡ left_by e.call (sees entries (opened s) h (a.0 + 1) o) → c'.base ≡ c.base → c'.readers ≡ c.readers → c'.versions ≡ with_version a content c.versions → is_lawful t c' ≡ true → IsCell s (Accessed (a.0 + 1) o e ▹ h) t o c'
+  pub written_cell : is_write e.call ≡ true → (c c' : Object) (content : Option PlainContent) → IsCell s h t o c
+      → content ≡ left_by e.call (sees entries (opened s) h (a.0 + 1) o) → c'.base ≡ c.base → c'.readers ≡ c.readers
+      → c'.versions ≡ with_version a content c.versions → is_lawful t c' ≡ true
+      → IsCell s (Accessed (a.0 + 1) o e ▹ h) t o c'
   written_cell write c c' content k left b r v lw = record {
     lawful = lw;
     base = b ∙ k.base ∙ sym (base_now o);
     readers =
         ap numbered r ∙ k.readers
-        ∙ sym (readers_now o ∙ ap (λ b. cond b (insert (a.0 + 1) (readers entries h o)) (readers entries h o)) (and_right (o == o) (not (is_write e.call)) (ap not write)));
+        ∙ sym (readers_now o ∙ ap (λ b. cond b (insert (a.0 + 1) (readers entries h o)) (readers entries h o))
+            (and_right (o == o) (not (is_write e.call)) (ap not write)));
     writers = λ x.
         ap (has_version x) v
         ∙ ap (λ b. eqb a.0 x.0 || b) (has_filtered (λ n. not (n == a.0)) c.versions x)
@@ -130,27 +148,35 @@ module _ (s : Opening) (h : History PlainEntry) (t : Tree) (is : IsTree t h) (a 
         ∙ sym (contains_insert (a.0 + 1) (writers entries h o) (x.0 + 1))
         ∙ ap (λ ws. contains ws (x.0 + 1))
         (sym (writers_now o
-        ∙ ap (λ b. cond (b && is_write e.call) (insert (a.0 + 1) (writers entries h o)) (writers entries h o)) (eq-eqb o o refl)
+        ∙ ap (λ b. cond (b && is_write e.call) (insert (a.0 + 1) (writers entries h o)) (writers entries h o))
+            (eq-eqb o o refl)
         ∙ ap (λ b. cond b (insert (a.0 + 1) (writers entries h o)) (writers entries h o)) write));
     seen =
         subst (AreSeen s (Accessed (a.0 + 1) o e ▹ h) o) (sym v) (
-          left ∙ sym (own_sees o ∙ ap (λ b. cond b (left_by e.call (sees entries (opened s) h (a.0 + 1) o)) (sees entries (opened s) h (a.0 + 1) o)) (eq-eqb o o refl)),
+          left ∙ sym (own_sees o ∙ ap (λ b. cond b (left_by e.call (sees entries (opened s) h (a.0 + 1) o))
+              (sees entries (opened s) h (a.0 + 1) o)) (eq-eqb o o refl)),
           seen_step s h (Accessed (a.0 + 1) o e ▹ h) o (without_version a c.versions)
               (λ x i.
-              let q = and_parts (has_version x c.versions) (not (x.0 == a.0)) (sym (has_filtered (λ n. not (n == a.0)) c.versions x) ∙ i) in
-              others_see x o (version_live s h l.1 t is o c k x q.0) (λ i. both_ways (not (x.0 == a.0)) (ap not (eq-eqb x.0 a.0 i)) q.1))
+              let q = and_parts (has_version x c.versions) (not (x.0 == a.0))
+                  (sym (has_filtered (λ n. not (n == a.0)) c.versions x) ∙ i) in
+              others_see x o (version_live s h l.1 t is o c k x q.0)
+                  (λ i. both_ways (not (x.0 == a.0)) (ap not (eq-eqb x.0 a.0 i)) q.1))
               (seen_filter s h o (λ v. not (v.holder.0 == a.0)) c.versions k.seen),
         );
   }
     where
-      own_or_other : (x : ActionId) → (eqb a.0 x.0 || (has_version x c.versions && not (x.0 == a.0))) ≡ (eqb (x.0 + 1) (a.0 + 1) || contains (writers entries h o) (x.0 + 1))
+      own_or_other : (x : ActionId) → (eqb a.0 x.0 || (has_version x c.versions && not (x.0 == a.0)))
+          ≡ (eqb (x.0 + 1) (a.0 + 1) || contains (writers entries h o) (x.0 + 1))
       own_or_other x =
           elim (cases_eq x.0 a.0) [
             | inl q ↦
                 ap (λ b. b || (has_version x c.versions && not (x.0 == a.0))) (eq-eqb a.0 x.0 (sym q))
-                ∙ sym (ap (λ b. b || contains (writers entries h o) (x.0 + 1)) (eq-eqb (x.0 + 1) (a.0 + 1) (ap (λ n. n + 1) q)))
+                ∙ sym (ap (λ b. b || contains (writers entries h o) (x.0 + 1))
+                    (eq-eqb (x.0 + 1) (a.0 + 1) (ap (λ n. n + 1) q)))
             | inr n ↦
                 ap (λ b. b || (has_version x c.versions && not (x.0 == a.0))) (ne_eqb a.0 x.0 (λ q. n (sym q)))
-                ∙ ap (λ b. has_version x c.versions && not b) (ne_eqb x.0 a.0 n) ∙ and_all (has_version x c.versions) ∙ k.writers x
-                ∙ sym (ap (λ b. b || contains (writers entries h o) (x.0 + 1)) (ne_eqb (x.0 + 1) (a.0 + 1) (λ q. n (omega arith))))
+                ∙ ap (λ b. has_version x c.versions && not b) (ne_eqb x.0 a.0 n) ∙ and_all (has_version x c.versions)
+                    ∙ k.writers x
+                ∙ sym (ap (λ b. b || contains (writers entries h o) (x.0 + 1))
+                    (ne_eqb (x.0 + 1) (a.0 + 1) (λ q. n (omega arith))))
           ]

@@ -26,7 +26,8 @@ use Rattle.argus_model.specs.Meaning.{reads}
 use Rattle.argus_model.specs.Numbers.{contains}
 use Rattle.argus_objects.specs.Object.{Object}
 
-module _ (s : Opening) (h : History PlainEntry) (t : Tree) (is : IsTree t h) (from : act_origin.Origin) (l : Lawful entries (opened s) (Began (origin_said from) ▹ h)) where
+module _ (s : Opening) (h : History PlainEntry) (t : Tree) (is : IsTree t h) (from : act_origin.Origin)
+    (l : Lawful entries (opened s) (Began (origin_said from) ▹ h)) where
   -- who was an ancestor still is
   lift : (x y : ℕ) → is_ancestor t x y ≡ true → is_ancestor (after_begin t from) x y ≡ true
   lift x y up =
@@ -38,12 +39,14 @@ module _ (s : Opening) (h : History PlainEntry) (t : Tree) (is : IsTree t h) (fr
   now = orderly s (Began (origin_said from) ▹ h) l
 
   -- a cell goes on as it was
-  pub begin_cell : (o : ℕ) (c : Object) → IsCell s h t o c → IsCell s (Began (origin_said from) ▹ h) (after_begin t from) o c
+  pub begin_cell : (o : ℕ) (c : Object) → IsCell s h t o c
+      → IsCell s (Began (origin_said from) ▹ h) (after_begin t from) o c
   begin_cell o c k = record {
     lawful = lawful_more t (after_begin t from) lift c k.lawful;
     base = k.base ∙ sym (base_after_begin entries (opened s) h (origin_said from) now o);
     readers = k.readers ∙ sym (holders_after_begin (reads entries) h (origin_said from) now o);
-    writers = λ x. k.writers x ∙ ap (λ ws. contains ws (x.0 + 1)) (sym (holders_after_begin entries.writes h (origin_said from) now o));
+    writers = λ x. k.writers x ∙ ap (λ ws. contains ws (x.0 + 1))
+        (sym (holders_after_begin entries.writes h (origin_said from) now o));
     seen =
         seen_step s h (Began (origin_said from) ▹ h) o c.versions
         (λ x i.

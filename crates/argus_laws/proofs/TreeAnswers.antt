@@ -1,5 +1,6 @@
 -- What a tree with the rows of a history answers is what the history says.
-use Rattle.std.proofs.Common.{Bool, List, None, Option, Some, [], ap, arith, cond, false, inl, inr, length, refl, subst, sym, true, ℕ, ◌+◌, ◌<◌, ◌≤◌, ◌∙◌, ◌∷◌, ◌≡◌, ◌≢◌, eqb}
+use Rattle.std.proofs.Common.{Bool, List, None, Option, Some, [], ap, arith, cond, false, inl, inr, length, refl, subst}
+use Rattle.std.proofs.Common.{sym, true, ℕ, ◌+◌, ◌<◌, ◌≤◌, ◌∙◌, ◌∷◌, ◌≡◌, ◌≢◌, eqb}
 use Rattle.std.specs.Option.{option_and_then, option_map, option_map_or}
 use Rattle.std.specs.Prelude.{map, not, ◌&&◌, ◌==◌, ◌-◌}
 use Rattle.std.proofs.lemmas.Bool.{and_from, both_ways, cases_Bool, cases_lt, le-ltb}
@@ -7,7 +8,8 @@ use Rattle.std.proofs.lemmas.List.{length-map}
 use Rattle.argus_actions.proofs.RowsLemmas.{numbered_low, numbered_past}
 use Rattle.argus_actions.specs.Row as tree_row
 use Rattle.argus_actions.specs.Rows as tree_rows
-use Rattle.argus_actions.specs.Tree.{Tree, creator_in, creator_of, depth_of, has_live_child, is_ancestor, next, parent_in, parent_of, row_of, status_of}
+use Rattle.argus_actions.specs.Tree.{Tree, creator_in, creator_of, depth_of, has_live_child, is_ancestor, next}
+use Rattle.argus_actions.specs.Tree.{parent_in, parent_of, row_of, status_of}
 use Rattle.argus_actions.specs.declared.action_id.ActionId.{ActionId}
 use Rattle.argus_actions.specs.declared.origin.Origin as tree_origin
 use Rattle.argus_actions.specs.declared.origin.Origin.TheVariants as begun
@@ -17,7 +19,8 @@ use Rattle.argus_laws.proofs.TreeRows.{above_said, depth_said, live_row_said, li
 use Rattle.argus_laws.specs.TreeWords.{IsTree, origin_said, row_said, status_said}
 use Rattle.argus_model.proofs.Depth.{depth_is}
 use Rattle.argus_model.proofs.Live.{is_begun_from, is_begun_parts}
-use Rattle.argus_model.proofs.Rows.{creator_of_origin, has_live_row_is, is_above_exactly, live_status_is, parent_of_origin, row_is, rows_length}
+use Rattle.argus_model.proofs.Rows.{creator_of_origin, has_live_row_is, is_above_exactly, live_status_is}
+use Rattle.argus_model.proofs.Rows.{parent_of_origin, row_is, rows_length}
 use Rattle.argus_model.proofs.Standing.{Orderly}
 use Rattle.argus_model.specs.Ancestors as model
 use Rattle.argus_model.specs.Event as event
@@ -27,7 +30,8 @@ use Rattle.argus_model.specs.Status as model_status
 use Rattle.argus_model.specs.Status.{is_begun, is_live, status}
 
 -- the row that says this
-said_row : (q : Option tree_row.Row) (r : model_rows.Row) → option_map row_said q ≡ Some r → (row : tree_row.Row) × ((q ≡ Some row) × (row_said row ≡ r))
+said_row : (q : Option tree_row.Row) (r : model_rows.Row) → option_map row_said q ≡ Some r
+    → (row : tree_row.Row) × ((q ≡ Some row) × (row_said row ≡ r))
 said_row None r e = cc
 said_row (Some row) r e = (row, (refl, cc))
 
@@ -35,19 +39,22 @@ module _ {V : Type 0} (t : Tree) (h : History V) (is : IsTree t h) (w : Orderly 
   -- the number of the next action
   pub next_is : next t + 1 ≡ next_action h
   next_is =
-      let len : length t.rows ≡ length (model_rows.rows h) = sym (length-map t.rows row_said) ∙ ap (λ rs. length rs) is.rows in
+      let len : length t.rows ≡ length (model_rows.rows h) =
+          sym (length-map t.rows row_said) ∙ ap (λ rs. length rs) is.rows in
       let e = is.folded in
       let top = rows_length h in omega arith
 
   -- ancestors, of actions that have begun
-  pub ancestor_is : (x y : ℕ) → is_ancestor t x y ≡ ((is_begun h (x + 1) && is_begun h (y + 1)) && model.is_ancestor h (x + 1) (y + 1))
+  pub ancestor_is : (x y : ℕ) → is_ancestor t x y ≡ ((is_begun h (x + 1) && is_begun h (y + 1))
+      && model.is_ancestor h (x + 1) (y + 1))
   ancestor_is x y =
       sym (above_said t.folded t.rows x y)
       ∙ ap (λ rs. model_rows.is_above t.folded rs (x + 1) (y + 1)) is.rows
       ∙ ap (λ n. model_rows.is_above n (model_rows.rows h) (x + 1) (y + 1)) is.folded
       ∙ is_above_exactly h w (x + 1) (y + 1)
 
-  pub ancestor_begun_is : (x y : ℕ) → is_begun h (x + 1) ≡ true → is_begun h (y + 1) ≡ true → is_ancestor t x y ≡ model.is_ancestor h (x + 1) (y + 1)
+  pub ancestor_begun_is : (x y : ℕ) → is_begun h (x + 1) ≡ true → is_begun h (y + 1) ≡ true
+      → is_ancestor t x y ≡ model.is_ancestor h (x + 1) (y + 1)
   ancestor_begun_is x y bx by' =
       ancestor_is x y
       ∙ ap (λ b. b && model.is_ancestor h (x + 1) (y + 1)) (and_from (is_begun h (x + 1)) (is_begun h (y + 1)) bx by')
@@ -59,7 +66,8 @@ module _ {V : Type 0} (t : Tree) (h : History V) (is : IsTree t h) (w : Orderly 
       ∙ ap (λ rs. model_rows.row_at t.folded rs (a + 1)) is.rows
       ∙ ap (λ n. model_rows.row_at n (model_rows.rows h) (a + 1)) is.folded
 
-  pub begun_row : (a : ℕ) → is_begun h (a + 1) ≡ true → (row : tree_row.Row) × ((row_of t a ≡ Some row) × (row_said row ≡ model_rows.row_of h (a + 1)))
+  pub begun_row : (a : ℕ) → is_begun h (a + 1) ≡ true → (row : tree_row.Row)
+      × ((row_of t a ≡ Some row) × (row_said row ≡ model_rows.row_of h (a + 1)))
   begun_row a b = said_row (row_of t a) (model_rows.row_of h (a + 1)) (row_said_is a ∙ row_is h w (a + 1) b)
 
   -- whether the number has a row: it is folded, it has begun since, or it hasn't begun
@@ -85,7 +93,8 @@ module _ {V : Type 0} (t : Tree) (h : History V) (is : IsTree t h) (w : Orderly 
       let q = is_begun_parts h (a + 1) b in
       let f = is.folded in
       let low : t.folded ≤ a = omega (arith, q.0) in
-      ap (λ b. option_map status_said (cond b (Some became.Folded) (option_map (λ row. row.status) (row_of t a)))) (le-ltb a t.folded low)
+      ap (λ b. option_map status_said (cond b (Some became.Folded) (option_map (λ row. row.status) (row_of t a))))
+          (le-ltb a t.folded low)
       ∙ ap (λ o. option_map status_said (option_map (λ row. row.status) o)) r.1.0
       ∙ ap (λ (row : model_rows.Row). Some row.status) r.1.1
 
@@ -112,7 +121,8 @@ module _ {V : Type 0} (t : Tree) (h : History V) (is : IsTree t h) (w : Orderly 
       ∙ has_live_row_is h w (a + 1)
 
   -- how deep it stands
-  pub depth_in_rows : (a : ℕ) → is_begun h (a + 1) ≡ true → tree_rows.depth_at t.folded t.rows a ≡ length (model.lineage h (a + 1)) - 1
+  pub depth_in_rows : (a : ℕ) → is_begun h (a + 1) ≡ true
+      → tree_rows.depth_at t.folded t.rows a ≡ length (model.lineage h (a + 1)) - 1
   depth_in_rows a b =
       sym (depth_said t.folded t.rows a)
       ∙ ap (λ rs. model_rows.depth_at t.folded rs (a + 1)) is.rows
@@ -122,9 +132,11 @@ module _ {V : Type 0} (t : Tree) (h : History V) (is : IsTree t h) (w : Orderly 
   pub depth_of_is : (a : ℕ) → is_begun h (a + 1) ≡ true → depth_of t a ≡ Some (length (model.lineage h (a + 1)) - 1)
   depth_of_is a b =
       let r = begun_row a b in
-      ap (λ o. option_map (λ (row : tree_row.Row). tree_rows.depth_at t.folded t.rows a) o) r.1.0 ∙ ap Some (depth_in_rows a b)
+      ap (λ o. option_map (λ (row : tree_row.Row). tree_rows.depth_at t.folded t.rows a) o) r.1.0
+          ∙ ap Some (depth_in_rows a b)
 
-  parent_said : (o : tree_origin.Origin) (p : ActionId) → parent_in o ≡ Some p → event.parent_of (origin_said o) ≡ p.0 + 1
+  parent_said : (o : tree_origin.Origin) (p : ActionId) → parent_in o ≡ Some p
+      → event.parent_of (origin_said o) ≡ p.0 + 1
   parent_said begun.Top p e = cc
   parent_said (begun.Sub q) p e = let k : q ≡ p.0 = cc in ap (λ n. n + 1) k
   parent_said (begun.Nested c) p e = cc
@@ -134,13 +146,15 @@ module _ {V : Type 0} (t : Tree) (h : History V) (is : IsTree t h) (w : Orderly 
   no_parent_said (begun.Sub q) e = cc
   no_parent_said (begun.Nested c) e = refl
 
-  creator_said : (o : tree_origin.Origin) (p : ActionId) → creator_in o ≡ Some p → event.creator_of (origin_said o) ≡ p.0 + 1
+  creator_said : (o : tree_origin.Origin) (p : ActionId) → creator_in o ≡ Some p
+      → event.creator_of (origin_said o) ≡ p.0 + 1
   creator_said begun.Top p e = cc
   creator_said (begun.Sub q) p e = cc
   creator_said (begun.Nested c) p e = let k : c ≡ p.0 = cc in ap (λ n. n + 1) k
 
   -- its parent
-  pub parent_is : (a : ℕ) (p : ActionId) → is_begun h (a + 1) ≡ true → parent_of t a ≡ Some p → model.parent h (a + 1) ≡ p.0 + 1
+  pub parent_is : (a : ℕ) (p : ActionId) → is_begun h (a + 1) ≡ true → parent_of t a ≡ Some p
+      → model.parent h (a + 1) ≡ p.0 + 1
   parent_is a p b e =
       let r = begun_row a b in
       sym (parent_of_origin h (a + 1)) ∙ sym (ap (λ (q : model_rows.Row). event.parent_of q.origin) r.1.1)
@@ -153,14 +167,16 @@ module _ {V : Type 0} (t : Tree) (h : History V) (is : IsTree t h) (w : Orderly 
       ∙ no_parent_said r.0.origin (sym (ap (option_and_then (λ (row : tree_row.Row). parent_in row.origin)) r.1.0) ∙ e)
 
   -- its creator
-  pub creator_is : (a : ℕ) (c : ActionId) → is_begun h (a + 1) ≡ true → creator_of t a ≡ Some c → model.creator h (a + 1) ≡ c.0 + 1
+  pub creator_is : (a : ℕ) (c : ActionId) → is_begun h (a + 1) ≡ true → creator_of t a ≡ Some c
+      → model.creator h (a + 1) ≡ c.0 + 1
   creator_is a c b e =
       let r = begun_row a b in
       sym (creator_of_origin h (a + 1)) ∙ sym (ap (λ (q : model_rows.Row). event.creator_of q.origin) r.1.1)
       ∙ creator_said r.0.origin c (sym (ap (option_and_then (λ (row : tree_row.Row). creator_in row.origin)) r.1.0) ∙ e)
 
   -- the action that it was begun under, if any
-  under_said : (o : tree_origin.Origin) (u : ℕ) → tree_row.under_of o ≡ Some u → event.creator_of (origin_said o) ≡ u + 1
+  under_said : (o : tree_origin.Origin) (u : ℕ) → tree_row.under_of o ≡ Some u
+      → event.creator_of (origin_said o) ≡ u + 1
   under_said begun.Top u e = cc
   under_said (begun.Sub q) u e = let k : q ≡ u = cc in ap (λ n. n + 1) k
   under_said (begun.Nested c) u e = let k : c ≡ u = cc in ap (λ n. n + 1) k
@@ -170,14 +186,18 @@ module _ {V : Type 0} (t : Tree) (h : History V) (is : IsTree t h) (w : Orderly 
   under_none_said (begun.Sub q) e = cc
   under_none_said (begun.Nested c) e = cc
 
-  pub under_is : (a u : ℕ) → is_begun h (a + 1) ≡ true → tree_rows.under_at t.folded t.rows a ≡ Some u → model.creator h (a + 1) ≡ u + 1
+  pub under_is : (a u : ℕ) → is_begun h (a + 1) ≡ true → tree_rows.under_at t.folded t.rows a ≡ Some u
+      → model.creator h (a + 1) ≡ u + 1
   under_is a u b e =
       let r = begun_row a b in
       sym (creator_of_origin h (a + 1)) ∙ sym (ap (λ (q : model_rows.Row). event.creator_of q.origin) r.1.1)
-      ∙ under_said r.0.origin u (sym (ap (option_and_then (λ (row : tree_row.Row). tree_row.under_of row.origin)) r.1.0) ∙ e)
+      ∙ under_said r.0.origin u (sym (ap (option_and_then (λ (row : tree_row.Row). tree_row.under_of row.origin)) r.1.0)
+          ∙ e)
 
-  pub under_none_is : (a : ℕ) → is_begun h (a + 1) ≡ true → tree_rows.under_at t.folded t.rows a ≡ None → model.creator h (a + 1) ≡ 0
+  pub under_none_is : (a : ℕ) → is_begun h (a + 1) ≡ true → tree_rows.under_at t.folded t.rows a ≡ None
+      → model.creator h (a + 1) ≡ 0
   under_none_is a b e =
       let r = begun_row a b in
       sym (creator_of_origin h (a + 1)) ∙ sym (ap (λ (q : model_rows.Row). event.creator_of q.origin) r.1.1)
-      ∙ under_none_said r.0.origin (sym (ap (option_and_then (λ (row : tree_row.Row). tree_row.under_of row.origin)) r.1.0) ∙ e)
+      ∙ under_none_said r.0.origin (sym (ap (option_and_then (λ (row : tree_row.Row). tree_row.under_of row.origin))
+          r.1.0) ∙ e)

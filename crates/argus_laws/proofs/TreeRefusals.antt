@@ -1,10 +1,12 @@
 -- The tree refuses a call exactly where the journal does, and for the same reason.
-use Rattle.std.proofs.Common.{Bool, None, Option, Some, ap, arith, cond, false, inl, inr, length, refl, subst, sym, true, ℕ, ◌+◌, ◌<◌, ◌≤◌, ◌∙◌, ◌≡◌, ◌≢◌, eqb}
+use Rattle.std.proofs.Common.{Bool, None, Option, Some, ap, arith, cond, false, inl, inr, length, refl, subst, sym}
+use Rattle.std.proofs.Common.{true, ℕ, ◌+◌, ◌<◌, ◌≤◌, ◌∙◌, ◌≡◌, ◌≢◌, eqb}
 use Rattle.std.specs.Option.{is_none, option_map, option_or}
 use Rattle.std.specs.Prelude.{nat_le, nat_lt, not, ◌&&◌, ◌==◌, ◌-◌}
 use Rattle.std.proofs.lemmas.Bool.{cases_Bool, cases_lt, le-leb, le-ltb, lt-leb, lt-ltb, ne_eqb}
 use Rattle.argus_actions.proofs.RowsLemmas.{numbered_past}
-use Rattle.argus_actions.specs.Refusals.{abort_others_refusal, abort_refusal, begin_nested_refusal, begin_sub_refusal, begin_top_refusal, commit_refusal, refused_if, unless_live}
+use Rattle.argus_actions.specs.Refusals.{abort_others_refusal, abort_refusal, begin_nested_refusal, begin_sub_refusal}
+use Rattle.argus_actions.specs.Refusals.{begin_top_refusal, commit_refusal, refused_if, unless_live}
 use Rattle.argus_actions.specs.Row as tree_row
 use Rattle.argus_actions.specs.Rows as tree_rows
 use Rattle.argus_actions.specs.Tree.{Tree, has_live_child, next, row_of, status_of}
@@ -15,9 +17,11 @@ use Rattle.argus_actions.specs.declared.status.Status.TheVariants as became
 use Rattle.argus_contents.specs.declared.limits.TheConstants.{MAX_ACTIONS, MAX_ACTION_DEPTH}
 use Rattle.argus_entries.specs.Entry.{PlainEntry}
 use Rattle.argus_entries.specs.declared.refusal.Refusal.{Refusal}
-use Rattle.argus_entries.specs.declared.refusal.Refusal.TheVariants.{NoAction, NoSiblings, Over, Suspended, TooDeep, TooMany}
+use Rattle.argus_entries.specs.declared.refusal.Refusal.TheVariants.{NoAction, NoSiblings, Over, Suspended, TooDeep}
+use Rattle.argus_entries.specs.declared.refusal.Refusal.TheVariants.{TooMany}
 use Rattle.argus_journal.specs.Answers.{depth, if_created, if_free, if_live, if_room, if_shallow, unless}
-use Rattle.argus_laws.proofs.TreeAnswers.{begun_from_tree, begun_row, child_is, depth_in_rows, next_is, under_is, under_none_is}
+use Rattle.argus_laws.proofs.TreeAnswers.{begun_from_tree, begun_row, child_is, depth_in_rows, next_is, under_is}
+use Rattle.argus_laws.proofs.TreeAnswers.{under_none_is}
 use Rattle.argus_laws.proofs.TreeRows.{live_said}
 use Rattle.argus_laws.specs.TreeWords.{IsTree, refusals_said, status_said}
 use Rattle.argus_model.proofs.Live.{is_begun_parts}
@@ -30,7 +34,8 @@ use Rattle.argus_model.specs.Status as model_status
 use Rattle.argus_model.specs.Status.{is_begun, is_live}
 
 -- a live row isn't refused, any other is over
-unless_status : (st : tree_status.Status) (b : Bool) → is_live_status (status_said st) ≡ b → refusals_said (unless_live (Some st)) ≡ unless b Over None
+unless_status : (st : tree_status.Status) (b : Bool) → is_live_status (status_said st) ≡ b
+    → refusals_said (unless_live (Some st)) ≡ unless b Over None
 unless_status became.Live b e = ap (λ b. unless b Over None) e
 unless_status became.Committed b e = ap (λ b. unless b Over None) e
 unless_status became.Aborted b e = ap (λ b. unless b Over None) e
@@ -64,7 +69,8 @@ not_le m n =
       | inr ge ↦ ap not (le-leb m n ge) ∙ sym (le-ltb n m ge)
     ]
 
-pub unless_rest : (b : Bool) (why : Refusal) (rest : Option Refusal) → unless b why rest ≡ option_or (unless b why None) rest
+pub unless_rest : (b : Bool) (why : Refusal) (rest : Option Refusal)
+    → unless b why rest ≡ option_or (unless b why None) rest
 unless_rest true why rest = refl
 unless_rest false why rest = refl
 
@@ -73,16 +79,19 @@ or_assoc None q r = refl
 or_assoc (Some e) q r = refl
 
 -- what comes behind the test of a live action
-pub live_rest : (h : History PlainEntry) (a : ℕ) (rest : Option Refusal) → if_live h a rest ≡ option_or (if_live h a None) rest
+pub live_rest : (h : History PlainEntry) (a : ℕ) (rest : Option Refusal)
+    → if_live h a rest ≡ option_or (if_live h a None) rest
 live_rest h a rest = both (nat_lt (a + 1) (next_action h)) (is_live h (a + 1))
   where
-    both : (b c : Bool) → unless b NoAction (unless c Over rest) ≡ option_or (unless b NoAction (unless c Over None)) rest
+    both : (b c : Bool) → unless b NoAction (unless c Over rest)
+        ≡ option_or (unless b NoAction (unless c Over None)) rest
     both true true = refl
     both true false = refl
     both false c = refl
 
 -- what comes behind the test of an action that has no live child
-pub free_rest : (h : History PlainEntry) (a : ℕ) (rest : Option Refusal) → if_free h a rest ≡ option_or (if_free h a None) rest
+pub free_rest : (h : History PlainEntry) (a : ℕ) (rest : Option Refusal)
+    → if_free h a rest ≡ option_or (if_free h a None) rest
 free_rest h a rest =
     let suspended : Bool = not (model_status.has_live_child h (a + 1)) in
     live_rest h a (unless suspended Suspended rest)
@@ -94,13 +103,15 @@ free_rest h a rest =
 not_live : (h : History PlainEntry) (a : ℕ) → is_begun h (a + 1) ≡ false → is_live h (a + 1) ≡ false
 not_live h a b = ap (λ b. b && (not (model_status.has_committed h (a + 1)) && not (model_status.is_doomed h (a + 1)))) b
 
-first_counts : (h : History PlainEntry) (a : ℕ) → is_live h (a + 1) ≡ false → (rest p q : Option Refusal) → option_or (if_live h a rest) p ≡ option_or (if_live h a rest) q
+first_counts : (h : History PlainEntry) (a : ℕ) → is_live h (a + 1) ≡ false → (rest p q : Option Refusal)
+    → option_or (if_live h a rest) p ≡ option_or (if_live h a rest) q
 first_counts h a l rest p q =
     ap (λ c. option_or (unless (nat_lt (a + 1) (next_action h)) NoAction (unless c Over rest)) p) l
     ∙ first (nat_lt (a + 1) (next_action h))
     ∙ sym (ap (λ c. option_or (unless (nat_lt (a + 1) (next_action h)) NoAction (unless c Over rest)) q) l)
   where
-    first : (b : Bool) → option_or (unless b NoAction (unless false Over rest)) p ≡ option_or (unless b NoAction (unless false Over rest)) q
+    first : (b : Bool) → option_or (unless b NoAction (unless false Over rest)) p
+        ≡ option_or (unless b NoAction (unless false Over rest)) q
     first true = refl
     first false = refl
 
@@ -121,20 +132,27 @@ module _ (t : Tree) (h : History PlainEntry) (is : IsTree t h) (w : Orderly h) w
       elim (cases_lt a t.folded) [
         | inl low ↦
             let lt : a + 1 < next_action h = omega arith in
-            ap (λ b. refusals_said (unless_live (cond b (Some became.Folded) (option_map (λ row. row.status) (row_of t a))))) (lt-ltb a t.folded low)
-            ∙ sym (ap (λ b. unless b NoAction (unless (is_live h (a + 1)) Over None)) (lt-ltb (a + 1) (next_action h) lt)
+            ap (λ b. refusals_said (unless_live (cond b (Some became.Folded)
+                (option_map (λ row. row.status) (row_of t a))))) (lt-ltb a t.folded low)
+            ∙ sym (ap (λ b. unless b NoAction (unless (is_live h (a + 1)) Over None))
+                (lt-ltb (a + 1) (next_action h) lt)
             ∙ ap (λ b. unless b Over None) (never_live a (omega (arith, low, f))))
         | inr high ↦
-            ap (λ b. refusals_said (unless_live (cond b (Some became.Folded) (option_map (λ row. row.status) (row_of t a))))) (le-ltb a t.folded high)
+            ap (λ b. refusals_said (unless_live (cond b (Some became.Folded)
+                (option_map (λ row. row.status) (row_of t a))))) (le-ltb a t.folded high)
             ∙ elim (cases_lt a (next t)) [
               | inl lt ↦
                   let r = begun_row t h is w a (begun_from_tree t h is w a high lt) in
                   ap (λ q. refusals_said (unless_live (option_map (λ row. row.status) q))) r.1.0
-                  ∙ unless_status r.0.status (is_live h (a + 1)) (ap (λ (q : Row). is_live_status q.status) r.1.1 ∙ live_status_is h (a + 1))
-                  ∙ sym (ap (λ b. unless b NoAction (unless (is_live h (a + 1)) Over None)) (lt-ltb (a + 1) (next_action h) (omega arith)))
+                  ∙ unless_status r.0.status (is_live h (a + 1))
+                      (ap (λ (q : Row). is_live_status q.status) r.1.1 ∙ live_status_is h (a + 1))
+                  ∙ sym (ap (λ b. unless b NoAction (unless (is_live h (a + 1)) Over None))
+                      (lt-ltb (a + 1) (next_action h) (omega arith)))
               | inr ge ↦
-                  ap (λ q. refusals_said (unless_live (option_map (λ row. row.status) q))) (numbered_past t.folded t.rows a ge)
-                  ∙ sym (ap (λ b. unless b NoAction (unless (is_live h (a + 1)) Over None)) (le-ltb (a + 1) (next_action h) (omega arith)))
+                  ap (λ q. refusals_said (unless_live (option_map (λ row. row.status) q)))
+                      (numbered_past t.folded t.rows a ge)
+                  ∙ sym (ap (λ b. unless b NoAction (unless (is_live h (a + 1)) Over None))
+                      (le-ltb (a + 1) (next_action h) (omega arith)))
             ]
       ]
     where
@@ -177,7 +195,8 @@ module _ (t : Tree) (h : History PlainEntry) (is : IsTree t h) (w : Orderly h) w
             ∙ ap (λ n. unless (nat_lt n MAX_ACTION_DEPTH) TooDeep None) (depth_in_rows t h is w a b))
             ∙ ap (option_or (unless shallow TooDeep None)) top_is
             ∙ sym (unless_rest shallow TooDeep (if_room h)))
-        | inr b ↦ first_counts h a (not_live h a b) None (refusals_said (option_or too_deep (begin_top_refusal t))) (if_shallow h a)
+        | inr b ↦ first_counts h a (not_live h a b) None (refusals_said (option_or too_deep (begin_top_refusal t)))
+            (if_shallow h a)
       ]
       ∙ sym (live_rest h a (if_shallow h a))
     where
@@ -193,14 +212,17 @@ module _ (t : Tree) (h : History PlainEntry) (is : IsTree t h) (w : Orderly h) w
       said_or (commit_refusal t a) (refused_if (is_none under) refusal.NoSiblings)
       ∙ ap (λ q. option_or q (refusals_said (refused_if (is_none under) refusal.NoSiblings))) (commit_is a)
       ∙ elim (cases_Bool (is_begun h (a + 1))) [
-        | inl b ↦ ap (option_or (if_free h a None)) (siblings_said (is_none under) ∙ ap (λ c. unless (not c) NoSiblings None) (none_is b under refl))
-        | inr b ↦ first_counts h a (not_live h a b) (unless (not (model_status.has_live_child h (a + 1))) Suspended None) (refusals_said (refused_if (is_none under) refusal.NoSiblings)) (if_created h a)
+        | inl b ↦ ap (option_or (if_free h a None)) (siblings_said (is_none under)
+            ∙ ap (λ c. unless (not c) NoSiblings None) (none_is b under refl))
+        | inr b ↦ first_counts h a (not_live h a b) (unless (not (model_status.has_live_child h (a + 1)))
+            Suspended None) (refusals_said (refused_if (is_none under) refusal.NoSiblings)) (if_created h a)
       ]
       ∙ sym (free_rest h a (if_created h a))
     where
       under : Option ℕ
       under = tree_rows.under_at t.folded t.rows a
 
-      none_is : is_begun h (a + 1) ≡ true → (o : Option ℕ) → tree_rows.under_at t.folded t.rows a ≡ o → is_none o ≡ (creator h (a + 1) == 0)
+      none_is : is_begun h (a + 1) ≡ true → (o : Option ℕ) → tree_rows.under_at t.folded t.rows a ≡ o
+          → is_none o ≡ (creator h (a + 1) == 0)
       none_is b None e = sym (ap (λ c. c == 0) (under_none_is t h is w a b e))
       none_is b (Some u) e = sym (ap (λ c. c == 0) (under_is t h is w a u b e) ∙ ne_eqb (u + 1) 0 (λ e. omega arith))

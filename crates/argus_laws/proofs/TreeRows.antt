@@ -1,5 +1,6 @@
 -- The rows of a tree, said in the words of the history: each test of them, number by number.
-use Rattle.std.proofs.Common.{Bool, List, None, Option, Some, [], ap, arith, cond, false, inl, inr, length, refl, subst, sym, true, ℕ, ◌+◌, ◌<◌, ◌≤◌, ◌∙◌, ◌∷◌, ◌≡◌, ◌≢◌, eqb, ◌||◌, ⊎_elim}
+use Rattle.std.proofs.Common.{Bool, List, None, Option, Some, [], ap, arith, cond, false, inl, inr, length, refl, subst}
+use Rattle.std.proofs.Common.{sym, true, ℕ, ◌+◌, ◌<◌, ◌≤◌, ◌∙◌, ◌∷◌, ◌≡◌, ◌≢◌, eqb, ◌||◌, ⊎_elim}
 use Rattle.std.specs.Option.{option_map, option_map_or}
 use Rattle.std.specs.Prelude.{map, ◌&&◌, ◌==◌}
 use Rattle.std.proofs.lemmas.Bool.{cases_eq, eq-eqb, eqb-true, false≢true, ne_eqb, or_cases, or_left, or_right}
@@ -24,7 +25,8 @@ eqb_up x y =
     ]
 
 -- the row that counts as the newest, in both words
-newest_up : (n : ℕ) (rs : List tree_row.Row) (y : ℕ) → eqb (y + 1) (n + length (map row_said rs) + 1) ≡ eqb y (n + length rs)
+newest_up : (n : ℕ) (rs : List tree_row.Row) (y : ℕ) → eqb (y + 1) (n + length (map row_said rs) + 1)
+    ≡ eqb y (n + length rs)
 newest_up n rs y = ap (λ k. eqb (y + 1) (n + k + 1)) (length-map rs row_said) ∙ eqb_up y (n + length rs)
 
 -- the base has no row
@@ -32,7 +34,8 @@ no_base : (n : ℕ) (rs : List tree_row.Row) (x : ℕ) → is_above n (map row_s
 no_base n [] x = refl
 no_base n (r ∷ rs) x =
     ap
-    (λ b. cond b (x == 0 || is_above n (map row_said rs) x (parent_of (origin_said r.origin))) (is_above n (map row_said rs) x 0))
+    (λ b. cond b (x == 0 || is_above n (map row_said rs) x (parent_of (origin_said r.origin)))
+        (is_above n (map row_said rs) x 0))
     (ne_eqb 0 (n + length (map row_said rs) + 1) (λ e. omega arith))
     ∙ no_base n rs x
 
@@ -45,13 +48,15 @@ no_base_depth n (r ∷ rs) =
     ∙ no_base_depth n rs
 
 -- what is so of the parent's number is so of the parent
-at_parent_said : {X : Type 0} (none : X) (f : ℕ → X) (g : ℕ → X) (o : tree_origin.Origin) → f 0 ≡ none → ((p : ℕ) → f (p + 1) ≡ g p) → f (parent_of (origin_said o)) ≡ tree_row.at_parent none o g
+at_parent_said : {X : Type 0} (none : X) (f : ℕ → X) (g : ℕ → X) (o : tree_origin.Origin) → f 0 ≡ none
+    → ((p : ℕ) → f (p + 1) ≡ g p) → f (parent_of (origin_said o)) ≡ tree_row.at_parent none o g
 at_parent_said none f g begun.Top z k = z
 at_parent_said none f g (begun.Sub p) z k = k p
 at_parent_said none f g (begun.Nested c) z k = z
 
 -- ancestors
-pub above_said : (n : ℕ) (rs : List tree_row.Row) (x y : ℕ) → is_above n (map row_said rs) (x + 1) (y + 1) ≡ tree_rows.is_above n rs x y
+pub above_said : (n : ℕ) (rs : List tree_row.Row) (x y : ℕ)
+    → is_above n (map row_said rs) (x + 1) (y + 1) ≡ tree_rows.is_above n rs x y
 above_said n [] x y = refl
 above_said n (r ∷ rs) x y =
     let up : Bool = is_above n (map row_said rs) (x + 1) (parent_of (origin_said r.origin)) in
@@ -59,13 +64,16 @@ above_said n (r ∷ rs) x y =
     ap (λ b. cond b (eqb (x + 1) (y + 1) || up) down) (newest_up n rs y)
     ∙ ap (λ b. cond (eqb y (n + length rs)) (b || up) down) (eqb_up x y)
     ∙ ap (λ b. cond (eqb y (n + length rs)) (eqb x y || b) down)
-    (at_parent_said false (is_above n (map row_said rs) (x + 1)) (tree_rows.is_above n rs x) r.origin (no_base n rs (x + 1))
+    (at_parent_said false (is_above n (map row_said rs) (x + 1)) (tree_rows.is_above n rs x) r.origin
+        (no_base n rs (x + 1))
     (λ p. above_said n rs x p))
-    ∙ ap (λ b. cond (eqb y (n + length rs)) (eqb x y || tree_row.at_parent false r.origin (tree_rows.is_above n rs x)) b)
+    ∙ ap (λ b. cond (eqb y (n + length rs)) (eqb x y || tree_row.at_parent false r.origin (tree_rows.is_above n rs x))
+        b)
     (above_said n rs x y)
 
 -- depth
-pub depth_said : (n : ℕ) (rs : List tree_row.Row) (y : ℕ) → depth_at n (map row_said rs) (y + 1) ≡ tree_rows.depth_at n rs y
+pub depth_said : (n : ℕ) (rs : List tree_row.Row) (y : ℕ)
+    → depth_at n (map row_said rs) (y + 1) ≡ tree_rows.depth_at n rs y
 depth_said n [] y = refl
 depth_said n (r ∷ rs) y =
     let up : ℕ = depth_at n (map row_said rs) (parent_of (origin_said r.origin)) in
@@ -77,28 +85,34 @@ depth_said n (r ∷ rs) y =
     ∙ ap (λ k. cond (eqb y (n + length rs)) (tree_row.at_parent 0 r.origin (tree_rows.depth_at n rs) + 1) k)
     (depth_said n rs y)
 
-marked_row : (b : Bool) (st : tree_status.Status) (r : tree_row.Row) → cond b (with_status (status_said st) (row_said r)) (row_said r) ≡ row_said (cond b (tree_row.with_status st r) r)
+marked_row : (b : Bool) (st : tree_status.Status) (r : tree_row.Row)
+    → cond b (with_status (status_said st) (row_said r)) (row_said r) ≡ row_said (cond b (tree_row.with_status st r) r)
 marked_row true st r = refl
 marked_row false st r = refl
 
 -- rows that get another status
-pub mark_said : (n : ℕ) (test test' : ℕ → Bool) (st : tree_status.Status) (rs : List tree_row.Row) → ((k : ℕ) → test (k + 1) ≡ test' k) → map row_said (tree_rows.mark n test' st rs) ≡ mark n test (status_said st) (map row_said rs)
+pub mark_said : (n : ℕ) (test test' : ℕ → Bool) (st : tree_status.Status) (rs : List tree_row.Row)
+    → ((k : ℕ) → test (k + 1) ≡ test' k) → map row_said (tree_rows.mark n test' st rs)
+    ≡ mark n test (status_said st) (map row_said rs)
 mark_said n test test' st [] f = refl
 mark_said n test test' st (r ∷ rs) f =
     let rest : List Row = mark n test (status_said st) (map row_said rs) in
     sym
-    (ap (λ k. cond (test (n + k + 1)) (with_status (status_said st) (row_said r)) (row_said r) ∷ rest) (length-map rs row_said)
+    (ap (λ k. cond (test (n + k + 1)) (with_status (status_said st) (row_said r)) (row_said r) ∷ rest)
+        (length-map rs row_said)
     ∙ ap (λ b. cond b (with_status (status_said st) (row_said r)) (row_said r) ∷ rest) (f (n + length rs))
     ∙ ap (λ q. q ∷ rest) (marked_row (test' (n + length rs)) st r)
     ∙ ap (λ qs. row_said (cond (test' (n + length rs)) (tree_row.with_status st r) r) ∷ qs)
     (sym (mark_said n test test' st rs f)))
 
-some_said : (b : Bool) (r : tree_row.Row) (o : Option tree_row.Row) → cond b (Some (row_said r)) (option_map row_said o) ≡ option_map row_said (cond b (Some r) o)
+some_said : (b : Bool) (r : tree_row.Row) (o : Option tree_row.Row)
+    → cond b (Some (row_said r)) (option_map row_said o) ≡ option_map row_said (cond b (Some r) o)
 some_said true r o = refl
 some_said false r o = refl
 
 -- the row of a number
-pub row_at_said : (n : ℕ) (rs : List tree_row.Row) (a : ℕ) → row_at n (map row_said rs) (a + 1) ≡ option_map row_said (tree_rows.numbered n rs a)
+pub row_at_said : (n : ℕ) (rs : List tree_row.Row) (a : ℕ)
+    → row_at n (map row_said rs) (a + 1) ≡ option_map row_said (tree_rows.numbered n rs a)
 row_at_said n [] a = refl
 row_at_said n (r ∷ rs) a =
     ap (λ b. cond b (Some (row_said r)) (row_at n (map row_said rs) (a + 1))) (newest_up n rs a)
@@ -123,7 +137,8 @@ under_said (begun.Sub p) a = eqb_up p a
 under_said (begun.Nested c) a = eqb_up c a
 
 -- begun under an action, by the parent's number or the creator's
-from_said : (o : tree_origin.Origin) (a : ℕ) → (eqb (parent_of (origin_said o)) (a + 1) || eqb (creator_of (origin_said o)) (a + 1)) ≡ tree_row.comes_from a o
+from_said : (o : tree_origin.Origin) (a : ℕ) → (eqb (parent_of (origin_said o)) (a + 1)
+    || eqb (creator_of (origin_said o)) (a + 1)) ≡ tree_row.comes_from a o
 from_said begun.Top a = ap (λ b. b || b) (ne_eqb 0 (a + 1) (λ e. omega arith))
 from_said (begun.Sub p) a = same_or (eqb (p + 1) (a + 1)) ∙ eqb_up p a
 from_said (begun.Nested c) a = ap (λ b. b || eqb (c + 1) (a + 1)) (ne_eqb 0 (a + 1) (λ e. omega arith)) ∙ eqb_up c a
@@ -134,27 +149,36 @@ and_turn false true = refl
 and_turn false false = refl
 
 -- live children
-pub live_row_said : (rs : List tree_row.Row) (a : ℕ) → has_live_row (map row_said rs) (a + 1) ≡ tree_rows.is_live_under rs a
+pub live_row_said : (rs : List tree_row.Row) (a : ℕ) → has_live_row (map row_said rs) (a + 1)
+    ≡ tree_rows.is_live_under rs a
 live_row_said [] a = refl
 live_row_said (r ∷ rs) a =
     let rest : Bool = has_live_row (map row_said rs) (a + 1) in
-    let from : Bool = eqb (parent_of (origin_said r.origin)) (a + 1) || eqb (creator_of (origin_said r.origin)) (a + 1) in
+    let from : Bool =
+        eqb (parent_of (origin_said r.origin)) (a + 1) || eqb (creator_of (origin_said r.origin)) (a + 1) in
     ap (λ b. (b && from) || rest) (live_said r.status)
     ∙ ap (λ b. (tree_row.is_live r.status && b) || rest) (from_said r.origin a)
     ∙ ap (λ b. b || rest) (and_turn (tree_row.is_live r.status) (tree_row.comes_from a r.origin))
     ∙ ap (λ b. (tree_row.comes_from a r.origin && tree_row.is_live r.status) || b) (live_row_said rs a)
 
 -- an ancestor that passes a test
-pub ancestor_from : (test : ℕ → Bool) (n : ℕ) (rs : List tree_row.Row) (x y : ℕ) → test x ≡ true → tree_rows.is_above n rs x y ≡ true → tree_rows.has_ancestor test n rs y ≡ true
+pub ancestor_from : (test : ℕ → Bool) (n : ℕ) (rs : List tree_row.Row) (x y : ℕ) → test x ≡ true
+    → tree_rows.is_above n rs x y ≡ true → tree_rows.has_ancestor test n rs y ≡ true
 ancestor_from test n [] x y t up = absurd (false≢true up)
 ancestor_from test n (r ∷ rs) x y t up = at (λ p. ancestor_from test n rs x p t) (eqb y (n + length rs)) up
   where
-    above : ((p : ℕ) → tree_rows.is_above n rs x p ≡ true → tree_rows.has_ancestor test n rs p ≡ true) → (o : tree_origin.Origin) → tree_row.at_parent false o (tree_rows.is_above n rs x) ≡ true → tree_row.at_parent false o (tree_rows.has_ancestor test n rs) ≡ true
+    above : ((p : ℕ) → tree_rows.is_above n rs x p ≡ true → tree_rows.has_ancestor test n rs p ≡ true)
+        → (o : tree_origin.Origin) → tree_row.at_parent false o (tree_rows.is_above n rs x) ≡ true
+        → tree_row.at_parent false o (tree_rows.has_ancestor test n rs) ≡ true
     above older begun.Top e = absurd (false≢true e)
     above older (begun.Sub p) e = older p e
     above older (begun.Nested c) e = absurd (false≢true e)
 
-    at : ((p : ℕ) → tree_rows.is_above n rs x p ≡ true → tree_rows.has_ancestor test n rs p ≡ true) → (b : Bool) → cond b (eqb x y || tree_row.at_parent false r.origin (tree_rows.is_above n rs x)) (tree_rows.is_above n rs x y) ≡ true → cond b (test y || tree_row.at_parent false r.origin (tree_rows.has_ancestor test n rs)) (tree_rows.has_ancestor test n rs y) ≡ true
+    at : ((p : ℕ) → tree_rows.is_above n rs x p ≡ true → tree_rows.has_ancestor test n rs p ≡ true) → (b : Bool)
+        → cond b (eqb x y || tree_row.at_parent false r.origin (tree_rows.is_above n rs x))
+        (tree_rows.is_above n rs x y) ≡ true → cond b (test y
+        || tree_row.at_parent false r.origin (tree_rows.has_ancestor test n rs)) (tree_rows.has_ancestor test n rs y)
+        ≡ true
     at older true e =
         let up : Bool = tree_row.at_parent false r.origin (tree_rows.has_ancestor test n rs) in
         ⊎_elim (λ i. or_left (test y) up (subst (λ z. test z ≡ true) (eqb-true x y i) t))
@@ -163,19 +187,29 @@ ancestor_from test n (r ∷ rs) x y t up = at (λ p. ancestor_from test n rs x p
     at older false e = older y e
 
 -- the ancestor that passes the test
-pub ancestor_found : (test : ℕ → Bool) (n : ℕ) (rs : List tree_row.Row) (y : ℕ) → tree_rows.has_ancestor test n rs y ≡ true → (x : ℕ) × (test x ≡ true) × (tree_rows.is_above n rs x y ≡ true)
+pub ancestor_found : (test : ℕ → Bool) (n : ℕ) (rs : List tree_row.Row) (y : ℕ)
+    → tree_rows.has_ancestor test n rs y ≡ true → (x : ℕ) × (test x ≡ true) × (tree_rows.is_above n rs x y ≡ true)
 ancestor_found test n [] y e = absurd (false≢true e)
 ancestor_found test n (r ∷ rs) y e = at (λ p. ancestor_found test n rs p) (eqb y (n + length rs)) e
   where
-    above : ((p : ℕ) → tree_rows.has_ancestor test n rs p ≡ true → (x : ℕ) × (test x ≡ true) × (tree_rows.is_above n rs x p ≡ true)) → (o : tree_origin.Origin) → tree_row.at_parent false o (tree_rows.has_ancestor test n rs) ≡ true → (x : ℕ) × (test x ≡ true) × (tree_row.at_parent false o (tree_rows.is_above n rs x) ≡ true)
+    above : ((p : ℕ) → tree_rows.has_ancestor test n rs p ≡ true
+        → (x : ℕ) × (test x ≡ true) × (tree_rows.is_above n rs x p ≡ true)) → (o : tree_origin.Origin)
+        → tree_row.at_parent false o (tree_rows.has_ancestor test n rs) ≡ true
+        → (x : ℕ) × (test x ≡ true) × (tree_row.at_parent false o (tree_rows.is_above n rs x) ≡ true)
     above older begun.Top e = absurd (false≢true e)
     above older (begun.Sub p) e = older p e
     above older (begun.Nested c) e = absurd (false≢true e)
 
-    at : ((p : ℕ) → tree_rows.has_ancestor test n rs p ≡ true → (x : ℕ) × (test x ≡ true) × (tree_rows.is_above n rs x p ≡ true)) → (b : Bool) → cond b (test y || tree_row.at_parent false r.origin (tree_rows.has_ancestor test n rs)) (tree_rows.has_ancestor test n rs y) ≡ true → (x : ℕ) × (test x ≡ true) × (cond b (eqb x y || tree_row.at_parent false r.origin (tree_rows.is_above n rs x)) (tree_rows.is_above n rs x y) ≡ true)
+    at : ((p : ℕ) → tree_rows.has_ancestor test n rs p ≡ true
+        → (x : ℕ) × (test x ≡ true) × (tree_rows.is_above n rs x p ≡ true)) → (b : Bool)
+        → cond b (test y || tree_row.at_parent false r.origin (tree_rows.has_ancestor test n rs))
+        (tree_rows.has_ancestor test n rs y) ≡ true → (x : ℕ) × (test x ≡ true)
+        × (cond b (eqb x y || tree_row.at_parent false r.origin (tree_rows.is_above n rs x))
+        (tree_rows.is_above n rs x y) ≡ true)
     at older true e =
         ⊎_elim
-        (λ t. (y, t, or_left (eqb y y) (tree_row.at_parent false r.origin (tree_rows.is_above n rs y)) (eq-eqb y y refl)))
+        (λ t. (y, t, or_left (eqb y y) (tree_row.at_parent false r.origin (tree_rows.is_above n rs y))
+            (eq-eqb y y refl)))
         (λ i. let q = above older r.origin i in
         (q.0, q.1, or_right (eqb q.0 y) (tree_row.at_parent false r.origin (tree_rows.is_above n rs q.0)) q.2))
         (or_cases (test y) (tree_row.at_parent false r.origin (tree_rows.has_ancestor test n rs)) e)

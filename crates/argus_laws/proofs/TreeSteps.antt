@@ -1,12 +1,14 @@
 -- Each call of a tree is an event of its history.
-use Rattle.std.proofs.Common.{Bool, List, None, Option, Some, [], ap, arith, cond, false, inl, inr, length, refl, subst, suc, sym, true, zero, ℕ, ◌+◌, ◌<◌, ◌≤◌, ◌∙◌, ◌∷◌, ◌≡◌, ◌≢◌, eqb}
+use Rattle.std.proofs.Common.{Bool, List, None, Option, Some, [], ap, arith, cond, false, inl, inr, length, refl, subst}
+use Rattle.std.proofs.Common.{suc, sym, true, zero, ℕ, ◌+◌, ◌<◌, ◌≤◌, ◌∙◌, ◌∷◌, ◌≡◌, ◌≢◌, eqb}
 use Rattle.std.specs.List.{list_any}
 use Rattle.std.specs.Option.{option_and_then, option_map, option_map_or}
 use Rattle.std.specs.Prelude.{map, not, ◌&&◌, ◌==◌, ◌-◌}
 use Rattle.std.proofs.lemmas.Bool.{and_from, and_parts, both_ways, cases_Bool, eq-eqb, ne_eqb, not-true}
 use Rattle.argus_actions.specs.Row as tree_row
 use Rattle.argus_actions.specs.Rows as tree_rows
-use Rattle.argus_actions.specs.Tree.{SameActions, Tree, after_abort, after_abort_others, after_begin, after_commit, is_ancestor, is_live_sibling}
+use Rattle.argus_actions.specs.Tree.{SameActions, Tree, after_abort, after_abort_others, after_begin, after_commit}
+use Rattle.argus_actions.specs.Tree.{is_ancestor, is_live_sibling}
 use Rattle.argus_actions.specs.declared.origin.Origin as tree_origin
 use Rattle.argus_actions.specs.declared.status.Status.TheVariants as became
 use Rattle.argus_laws.proofs.TreeAnswers.{begun_row, live_is, no_row, under_is}
@@ -22,7 +24,8 @@ use Rattle.argus_model.specs.Event.{Aborted, Began, Committed, Event, creator_of
 use Rattle.argus_model.specs.History.{History, Opened, folded, ◌▹◌}
 use Rattle.argus_model.specs.Numbers.{contains}
 use Rattle.argus_model.specs.Rows.{Row, is_above, mark, rows}
-use Rattle.argus_model.specs.Status.{IsAborted, IsCommitted, IsLive, has_committed, is_begun, is_doomed, is_live, is_sibling, live_siblings}
+use Rattle.argus_model.specs.Status.{IsAborted, IsCommitted, IsLive, has_committed, is_begun, is_doomed, is_live}
+use Rattle.argus_model.specs.Status.{is_sibling, live_siblings}
 
 -- a tree without rows begins where the history opens
 pub start_tree : {V : Type 0} (t : Tree) (n : ℕ) → t.folded ≡ n → t.rows ≡ [] → IsTree {V = V} t (Opened n)
@@ -41,7 +44,8 @@ module _ {V : Type 0} (t : Tree) (h : History V) (is : IsTree t h) where
   }
 
   -- the marks that an event makes are made on the tree's rows
-  marked_tree : (test test' : ℕ → Bool) → ((k : ℕ) → test (k + 1) ≡ test' k) → map row_said (tree_rows.mark t.folded test' became.Aborted t.rows) ≡ mark (folded h) test IsAborted (rows h)
+  marked_tree : (test test' : ℕ → Bool) → ((k : ℕ) → test (k + 1) ≡ test' k)
+      → map row_said (tree_rows.mark t.folded test' became.Aborted t.rows) ≡ mark (folded h) test IsAborted (rows h)
   marked_tree test test' f =
       mark_said t.folded test test' became.Aborted t.rows f
       ∙ ap (λ rs. mark t.folded test IsAborted rs) is.rows
@@ -73,9 +77,11 @@ module _ {V : Type 0} (t : Tree) (h : History V) (is : IsTree t h) where
         (λ k. sym (or_none (is_above (folded h) (rows h) (a + 1) (k + 1))) ∙ above_here a k);
   }
 
-  module _ (w : Orderly h) (a u : ℕ) (b : is_begun h (a + 1) ≡ true) (under : tree_rows.under_at t.folded t.rows a ≡ Some u) where
+  module _ (w : Orderly h) (a u : ℕ) (b : is_begun h (a + 1) ≡ true)
+      (under : tree_rows.under_at t.folded t.rows a ≡ Some u) where
     -- begun under the same action
-    child_is : (x : ℕ) → is_begun h (x + 1) ≡ true → tree_rows.is_child_of t.folded t.rows u x ≡ (creator h (x + 1) == creator h (a + 1))
+    child_is : (x : ℕ) → is_begun h (x + 1) ≡ true → tree_rows.is_child_of t.folded t.rows u x
+        ≡ (creator h (x + 1) == creator h (a + 1))
     child_is x bx =
         let r = begun_row t h is w x bx in
         ap (λ o. option_map_or (λ row. tree_row.comes_from u row.origin) o false) r.1.0
@@ -87,23 +93,28 @@ module _ {V : Type 0} (t : Tree) (h : History V) (is : IsTree t h) where
     -- a live sibling, in both words
     pub sibling_is : (x : ℕ) → is_live_sibling t a x ≡ (is_live h (x + 1) && is_sibling h (a + 1) (x + 1))
     sibling_is x =
-        ap (λ o. tree_rows.is_live_at t.folded t.rows x && (not (x == a) && option_map_or (λ under. tree_rows.is_child_of t.folded t.rows under x) o false)) under
+        ap (λ o. tree_rows.is_live_at t.folded t.rows x && (not (x == a)
+            && option_map_or (λ under. tree_rows.is_child_of t.folded t.rows under x) o false)) under
         ∙ ap (λ b. b && (not (x == a) && tree_rows.is_child_of t.folded t.rows u x)) (sym (live_is t h is w x))
         ∙ elim (cases_Bool (is_begun h (x + 1))) [
           | inl bx ↦
               ap (λ b. is_live h (x + 1) && (not b && tree_rows.is_child_of t.folded t.rows u x)) (sym (eqb_up x a))
               ∙ ap (λ b. is_live h (x + 1) && (not (x + 1 == a + 1) && b)) (child_is x bx)
-              ∙ sym (ap (λ b. is_live h (x + 1) && (not b && (not (x + 1 == a + 1) && creator h (x + 1) == creator h (a + 1)))) (ne_eqb (x + 1) 0 (λ e. omega arith)))
-          | inr bx ↦ never x bx (not (x == a) && tree_rows.is_child_of t.folded t.rows u x) (is_sibling h (a + 1) (x + 1))
+              ∙ sym (ap (λ b. is_live h (x + 1) && (not b && (not (x + 1 == a + 1)
+                  && creator h (x + 1) == creator h (a + 1)))) (ne_eqb (x + 1) 0 (λ e. omega arith)))
+          | inr bx ↦ never x bx (not (x == a) && tree_rows.is_child_of t.folded t.rows u x)
+              (is_sibling h (a + 1) (x + 1))
         ]
       where
-        never : (x : ℕ) → is_begun h (x + 1) ≡ false → (p q : Bool) → (is_live h (x + 1) && p) ≡ (is_live h (x + 1) && q)
+        never : (x : ℕ) → is_begun h (x + 1) ≡ false → (p q : Bool)
+            → (is_live h (x + 1) && p) ≡ (is_live h (x + 1) && q)
         never x bx p q =
             let rest : Bool = not (has_committed h (x + 1)) && not (is_doomed h (x + 1)) in
             ap (λ b. (b && rest) && p) bx ∙ sym (ap (λ b. (b && rest) && q) bx)
 
     -- who stands under a live sibling, in both words
-    ended_is : (k : ℕ) → list_any (λ z. is_above (folded h) (rows h) z (k + 1)) (live_siblings h (a + 1)) ≡ tree_rows.has_ancestor (is_live_sibling t a) t.folded t.rows k
+    ended_is : (k : ℕ) → list_any (λ z. is_above (folded h) (rows h) z (k + 1)) (live_siblings h (a + 1))
+        ≡ tree_rows.has_ancestor (is_live_sibling t a) t.folded t.rows k
     ended_is k =
         same_bool (list_any (λ z. is_above (folded h) (rows h) z (k + 1)) (live_siblings h (a + 1)))
         (tree_rows.has_ancestor (is_live_sibling t a) t.folded t.rows k)

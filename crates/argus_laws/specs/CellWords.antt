@@ -21,14 +21,18 @@ numbered ids = map (λ x. x.0 + 1) ids
 -- each version is what its holder sees
 abbrev pub AreSeen : Opening → History PlainEntry → ℕ → List PlainVersion → Type 0
 AreSeen s h o [] = Unit {0}
-AreSeen s h o (v ∷ older) = (v.content ≡ sees entries (opened s) h (v.holder.0 + 1) o) × AreSeen s h o older
+AreSeen s h o (v ∷ older) =
+    (v.content ≡ sees entries (opened s) h (v.holder.0 + 1) o) × AreSeen s h o older
 
--- the cell has the base, the readers and the versions that the history gives the object, and is lawful
-pub record IsCell (s : Opening) (h : History PlainEntry) (tree : Tree) (o : ℕ) (cell : Object) : Type 0 where
+-- the cell has the base, the readers and the versions that the history gives the object, and is
+-- lawful
+pub record IsCell (s : Opening) (h : History PlainEntry) (tree : Tree) (o : ℕ)
+    (cell : Object) : Type 0 where
   pub lawful : is_lawful tree cell ≡ true
   pub base : cell.base ≡ base entries (opened s) h o
   pub readers : numbered cell.readers ≡ readers entries h o
-  pub writers : (x : ActionId) → has_version x cell.versions ≡ contains (writers entries h o) (x.0 + 1)
+  pub writers : (x : ActionId) → has_version x cell.versions
+      ≡ contains (writers entries h o) (x.0 + 1)
   pub seen : AreSeen s h o cell.versions
 
 -- the versions from ancestor to descendant, each with the number of its holder

@@ -1,4 +1,5 @@
--- A tree of actions in the words of the history. The tree's action a is a + 1 there, where 0 is the base.
+-- A tree of actions in the words of the history. The tree's action a is a + 1 there, where 0 is the
+-- base.
 use Rattle.std.specs.Option.{option_map}
 use Rattle.std.specs.Prelude.{List, Option, map, ℕ, ◌+◌, ◌≡◌}
 use Rattle.argus_actions.specs.Row as tree_row

@@ -1,6 +1,8 @@
-//! Laws of a cell that has the base, the readers and the versions that a journal's history gives its
-//! object (`IsCell`): what it answers is what the journal says, and each of its moves is an event.
-ghost use Rattle.std.specs.Prelude.{◌≡◌, ◌≢◌, ◌∷◌, Bool, List, None, Option, Some, ℕ, filter, map, not, reverse, true, false};
+//! Laws of a cell that has the base, the readers and the versions that a journal's history gives
+//! its object (`IsCell`): what it answers is what the journal says, and each of its moves is an
+//! event.
+ghost use Rattle.std.specs.Prelude.{◌≡◌, ◌≢◌, ◌∷◌, Bool, List, None, Option, Some, ℕ, filter, map};
+ghost use Rattle.std.specs.Prelude.{not, reverse, true, false};
 ghost use Rattle.std.specs.Option.{unwrap_or};
 ghost use Rattle.argus_actions.specs.Tree.{Tree, after_begin, after_commit, is_ancestor, parent_of};
 ghost use Rattle.argus_actions.specs.declared.action_id.ActionId.{ActionId};
@@ -54,8 +56,8 @@ pub fn a_cell_tells_the_history()
         → cell.seen_by t a c.base c.versions ≡ seen_by s j a.0 o }
 {}
 
-/// A cell with the holders that a legal journal gives its object, its versions in increasing number of
-/// their holders, is lawful.
+/// A cell with the holders that a legal journal gives its object, its versions in increasing number
+/// of their holders, is lawful.
 pub fn lawful_follows_from_exclusion()
     ensures { (s : Opening) (j : List PlainEntry) (t : Tree) (o : ℕ) (c : Object) → Legal s j
         → IsTree t (history s j) → is_ascending (reverse (holders c.versions)) ≡ true
@@ -65,10 +67,10 @@ pub fn lawful_follows_from_exclusion()
         → is_lawful t c ≡ true }
 {}
 
-/// Each move of a cell is what one more entry says: a begin leaves it; a granted read makes a reader, a
-/// granted write a version with what the call leaves, and other cells stay; a commit hands what a
-/// subaction held to its parent, and makes what a topaction wrote the base; who stands under an
-/// aborted action holds nothing.
+/// Each move of a cell is what one more entry says: a begin leaves it; a granted read makes a
+/// reader, a granted write a version with what the call leaves, and other cells stay; a commit
+/// hands what a subaction held to its parent, and makes what a topaction wrote the base; who stands
+/// under an aborted action holds nothing.
 pub fn each_move_is_an_event()
     ensures begin { (s : Opening) (e : PlainEntry) (j : List PlainEntry) (t : Tree) (o : ℕ)
         (c : Object) (from : tree_origin.Origin) → Legal s (e ∷ j) → IsTree t (history s j)

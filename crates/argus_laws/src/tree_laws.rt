@@ -1,6 +1,8 @@
-//! Laws of a tree of actions that has the rows of a journal's history (`IsTree`): what it answers is
-//! what the history says, each of its calls is an event, and it refuses what the journal refuses.
-ghost use Rattle.std.specs.Prelude.{◌≡◌, ◌+◌, ◌∷◌, ◌&&◌, [], List, None, Option, Some, ℕ, length, true};
+//! Laws of a tree of actions that has the rows of a journal's history (`IsTree`): what it answers
+//! is what the history says, each of its calls is an event, and it refuses what the journal
+//! refuses.
+ghost use Rattle.std.specs.Prelude.{◌≡◌, ◌+◌, ◌∷◌, ◌&&◌, [], List, None, Option, Some, ℕ, length};
+ghost use Rattle.std.specs.Prelude.{true};
 ghost use Rattle.std.specs.Option.{option_map};
 ghost use Rattle.argus_actions.specs.Refusals.{abort_others_refusal, abort_refusal};
 ghost use Rattle.argus_actions.specs.Refusals.{begin_nested_refusal, begin_sub_refusal};
@@ -18,16 +20,17 @@ ghost use Rattle.argus_journal.specs.Events.{history};
 ghost use Rattle.argus_journal.specs.Legal.{Legal};
 ghost use Rattle.argus_journal.specs.Numbering.{in_history};
 ghost use Rattle.argus_journal.specs.Opening.{Opening};
-ghost use Rattle.argus_journal.specs.Words.{creator_in, is_ancestor_in, is_live_in, next_number, parent_in};
+ghost use Rattle.argus_journal.specs.Words.{creator_in, is_ancestor_in, is_live_in, next_number};
+ghost use Rattle.argus_journal.specs.Words.{parent_in};
 ghost use Rattle.argus_laws.specs.TreeWords.{IsTree, origin_said, refusals_said, status_said};
 ghost use Rattle.argus_model.specs.Event.{Aborted, Began, Committed};
 ghost use Rattle.argus_model.specs.History.{History, Opened, ◌▹◌};
 ghost use Rattle.argus_model.specs.Status as model_status;
 ghost use Rattle.argus_model.specs.Status.{is_begun, live_siblings, status};
 
-/// What a tree answers is what the history says: the next number, who is live, who stands above whom,
-/// whose parent or creator is who, who has a live child, how deep an action stands, and what has
-/// become of it.
+/// What a tree answers is what the history says: the next number, who is live, who stands above
+/// whom, whose parent or creator is who, who has a live child, how deep an action stands, and what
+/// has become of it.
 pub fn a_tree_tells_the_history()
     ensures next { (t : Tree) (s : Opening) (j : List PlainEntry) → Legal s j
         → IsTree t (history s j) → next t ≡ next_number s j }
@@ -55,12 +58,13 @@ pub fn a_tree_tells_the_history()
         → option_map status_said (status_of t a) ≡ Some (status (history s j) (in_history a)) }
 {}
 
-/// A tree without rows has the rows of an opening with as many folded actions; each call of the tree
-/// is an event; and the room of a tree is no matter.
+/// A tree without rows has the rows of an opening with as many folded actions; each call of the
+/// tree is an event; and the room of a tree is no matter.
 pub fn each_call_is_an_event()
     ensures start { (t : Tree) (n : ℕ) → t.folded ≡ n → t.rows ≡ []
         → IsTree {V = PlainEntry} t (Opened n) }
-    ensures room { (t u : Tree) (h : History PlainEntry) → SameActions t u → IsTree t h → IsTree u h }
+    ensures room { (t u : Tree) (h : History PlainEntry) → SameActions t u → IsTree t h
+        → IsTree u h }
     ensures begin { (t : Tree) (h : History PlainEntry) (o : tree_origin.Origin) → IsTree t h
         → IsTree (after_begin t o) (Began (origin_said o) ▹ h) }
     ensures commit { (t : Tree) (h : History PlainEntry) (a : ℕ) → IsTree t h
@@ -84,12 +88,14 @@ pub fn refusals_agree()
         ≡ if_live (history s j) p (if_shallow (history s j) p) }
     ensures begin_nested { (t : Tree) (s : Opening) (j : List PlainEntry) (c : ℕ) → Legal s j
         → IsTree t (history s j)
-        → refusals_said (begin_nested_refusal t c) ≡ if_live (history s j) c (if_room (history s j)) }
+        → refusals_said (begin_nested_refusal t c)
+            ≡ if_live (history s j) c (if_room (history s j)) }
     ensures commit { (t : Tree) (s : Opening) (j : List PlainEntry) (a : ℕ) → Legal s j
         → IsTree t (history s j)
         → refusals_said (commit_refusal t a) ≡ if_free (history s j) a None }
     ensures abort { (t : Tree) (s : Opening) (j : List PlainEntry) (a : ℕ) → Legal s j
-        → IsTree t (history s j) → refusals_said (abort_refusal t a) ≡ if_live (history s j) a None }
+        → IsTree t (history s j) → refusals_said (abort_refusal t a)
+            ≡ if_live (history s j) a None }
     ensures abort_others { (t : Tree) (s : Opening) (j : List PlainEntry) (a : ℕ) → Legal s j
         → IsTree t (history s j)
         → refusals_said (abort_others_refusal t a)

@@ -1,7 +1,8 @@
 use Rattle.std.proofs.Common.{ap, arith, false, refl, ◌∙◌, ◌≡◌}
 use Rattle.std.proofs.lemmas.Bool.{both_ways}
 use Rattle.argus_guardian.specs.Checkpoint.{is_quiet}
-use Rattle.argus_guardian.proofs.Checkpoints.{base_stays, busy_at, count_at, few_actions, fold_is, kept_folded, quiet_at}
+use Rattle.argus_guardian.proofs.Checkpoints.{base_stays, busy_at, count_at, few_actions, fold_is, kept_folded}
+use Rattle.argus_guardian.proofs.Checkpoints.{quiet_at}
 use Rattle.argus_guardian.proofs.checkpointing.fold_past.Goals as goal
 use Rattle.argus_journal.specs.Folding.{next_entry_number}
 use Rattle.argus_journal.specs.LegalJournal.{entries_in, opening_in}

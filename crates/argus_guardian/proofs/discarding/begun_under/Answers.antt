@@ -6,7 +6,8 @@ use Rattle.argus_guardian.proofs.Under.{under_creator, under_parent}
 use Rattle.argus_guardian.proofs.discarding.begun_under.Goals as goal
 
 pub returns-in-Some : goal.returns-in-Some
-returns-in-Some c = under_parent (row_of c.args.tree.now c.args.a.0) c.in-Some.parent (sym c.parent.ensures ∙ c.in-Some.is)
+returns-in-Some c =
+    under_parent (row_of c.args.tree.now c.args.a.0) c.in-Some.parent (sym c.parent.ensures ∙ c.in-Some.is)
 
 pub returns-in-None : goal.returns-in-None
 returns-in-None c =

@@ -14,7 +14,8 @@ use Rattle.argus_journal.specs.Numbering.{unless_base}
 use Rattle.argus_journal.specs.Opening.{Opening}
 use Rattle.argus_journal.specs.Words.{creator_in, parent_in}
 use Rattle.argus_laws.proofs.CellHolders.{orderly}
-use Rattle.argus_laws.proofs.TreeAnswers.{ancestor_is, child_is, depth_of_is, live_is, next_is, no_parent_is, parent_is, status_is, under_is, under_none_is}
+use Rattle.argus_laws.proofs.TreeAnswers.{ancestor_is, child_is, depth_of_is, live_is, next_is, no_parent_is, parent_is}
+use Rattle.argus_laws.proofs.TreeAnswers.{status_is, under_is, under_none_is}
 use Rattle.argus_laws.proofs.tree_laws.a_tree_tells_the_history.Goals as goal
 use Rattle.argus_laws.specs.TreeWords.{IsTree}
 use Rattle.argus_model.proofs.Standing.{Orderly}
@@ -28,13 +29,18 @@ above_base n =
     let same : (n + 1) - 1 ≡ n = omega arith in
     ap (λ b. cond b None (Some ((n + 1) - 1))) (ne_eqb (n + 1) 0 (λ e. omega arith)) ∙ ap Some same
 
-parent_told : (t : Tree) (s : Opening) (j : List PlainEntry) (a : ℕ) → Legal s j → IsTree t (history s j) → is_begun (history s j) (a + 1) ≡ true → (q : Option ActionId) → parent_of t a ≡ q → option_map (λ (p : ActionId). p.0) q ≡ parent_in s j a
+parent_told : (t : Tree) (s : Opening) (j : List PlainEntry) (a : ℕ) → Legal s j → IsTree t (history s j)
+    → is_begun (history s j) (a + 1) ≡ true → (q : Option ActionId) → parent_of t a ≡ q
+    → option_map (λ (p : ActionId). p.0) q ≡ parent_in s j a
 parent_told t s j a l is b None e = sym (ap unless_base (no_parent_is t (history s j) is (now s j l) a b e))
-parent_told t s j a l is b (Some p) e = sym (ap unless_base (parent_is t (history s j) is (now s j l) a p b e) ∙ above_base p.0)
+parent_told t s j a l is b (Some p) e =
+    sym (ap unless_base (parent_is t (history s j) is (now s j l) a p b e) ∙ above_base p.0)
 
-creator_told : (t : Tree) (s : Opening) (j : List PlainEntry) (a : ℕ) → Legal s j → IsTree t (history s j) → is_begun (history s j) (a + 1) ≡ true → (q : Option ℕ) → under_at t.folded t.rows a ≡ q → q ≡ creator_in s j a
+creator_told : (t : Tree) (s : Opening) (j : List PlainEntry) (a : ℕ) → Legal s j → IsTree t (history s j)
+    → is_begun (history s j) (a + 1) ≡ true → (q : Option ℕ) → under_at t.folded t.rows a ≡ q → q ≡ creator_in s j a
 creator_told t s j a l is b None e = sym (ap unless_base (under_none_is t (history s j) is (now s j l) a b e))
-creator_told t s j a l is b (Some u) e = sym (ap unless_base (under_is t (history s j) is (now s j l) a u b e) ∙ above_base u)
+creator_told t s j a l is b (Some u) e =
+    sym (ap unless_base (under_is t (history s j) is (now s j l) a u b e) ∙ above_base u)
 
 pub returns : goal.returns
 returns c = record {
