@@ -64,82 +64,82 @@ module _ (R : Object → Object → Type 0) (s : Opening) (h : History PlainEntr
     (a : ActionId) (o : ObjId) (e : PlainEntry) (l : Lawful entries (opened s) (Accessed (a.0 + 1) o.0 e ▹ h))
     (low : o.0 < length objects) (step : (c c' : Object) → IsCell s h t o.0 c → R c c'
     → IsCell s (Accessed (a.0 + 1) o.0 e ▹ h) t o.0 c') (moved : IsAccessed R a o objects objects' holdings holdings')
-    where
-  now : Orderly (Accessed (a.0 + 1) o.0 e ▹ h)
-  now = orderly s (Accessed (a.0 + 1) o.0 e ▹ h) l
+  where
+    now : Orderly (Accessed (a.0 + 1) o.0 e ▹ h)
+    now = orderly s (Accessed (a.0 + 1) o.0 e ▹ h) l
 
-  holds_now : (n i : ℕ) → holds (Accessed (a.0 + 1) o.0 e ▹ h) n i ≡ (holds h n i || (o.0 == i && n == a.0 + 1))
-  holds_now n i =
-      ap (λ rs. contains rs n || contains (writers entries (Accessed (a.0 + 1) o.0 e ▹ h) i) n)
-          (holders_after_access (reads entries) h (a.0 + 1) o.0 e now i)
-      ∙ ap (λ ws. contains (cond (o.0 == i && not (is_write e.call)) (insert (a.0 + 1) (readers entries h i))
-          (readers entries h i)) n || contains ws n) (holders_after_access entries.writes h (a.0 + 1) o.0 e now i)
-      ∙ one_more (o.0 == i) (is_write e.call) (a.0 + 1) n (readers entries h i) (writers entries h i)
+    holds_now : (n i : ℕ) → holds (Accessed (a.0 + 1) o.0 e ▹ h) n i ≡ (holds h n i || (o.0 == i && n == a.0 + 1))
+    holds_now n i =
+        ap (λ rs. contains rs n || contains (writers entries (Accessed (a.0 + 1) o.0 e ▹ h) i) n)
+        (holders_after_access (reads entries) h (a.0 + 1) o.0 e now i)
+        ∙ ap (λ ws. contains (cond (o.0 == i && not (is_write e.call)) (insert (a.0 + 1) (readers entries h i))
+        (readers entries h i)) n || contains ws n) (holders_after_access entries.writes h (a.0 + 1) o.0 e now i)
+        ∙ one_more (o.0 == i) (is_write e.call) (a.0 + 1) n (readers entries h i) (writers entries h i)
 
-  cell_at : (i : ℕ) (c c' : Object) (b : Bool) → is_listed (o ∷ []) i ≡ b → IsCell s h t i c → ChangedIf b R c c'
-      → IsCell s (Accessed (a.0 + 1) o.0 e ▹ h) t i c'
-  cell_at i c c' true q k r =
-      let same : o.0 ≡ i = eqb-true o.0 i (or_none (eqb o.0 i) ∙ q) in
-      subst (λ n. IsCell s (Accessed (a.0 + 1) o.0 e ▹ h) t n c') same
-          (step c c' (subst (λ n. IsCell s h t n c) (sym same) k) r)
-  cell_at i c c' false q k' r =
-      let other : o.0 ≢ i = λ z. both_ways (is_listed (o ∷ []) i) q (or_left (eqb o.0 i) false (eq-eqb o.0 i z)) in
-      subst (IsCell s (Accessed (a.0 + 1) o.0 e ▹ h) t i) (sym r) (aside_cell s h t k.actions a o.0 e l i c other k')
+    cell_at : (i : ℕ) (c c' : Object) (b : Bool) → is_listed (o ∷ []) i ≡ b → IsCell s h t i c → ChangedIf b R c c'
+        → IsCell s (Accessed (a.0 + 1) o.0 e ▹ h) t i c'
+    cell_at i c c' true q k r =
+        let same : o.0 ≡ i = eqb-true o.0 i (or_none (eqb o.0 i) ∙ q) in
+        subst (λ n. IsCell s (Accessed (a.0 + 1) o.0 e ▹ h) t n c') same
+        (step c c' (subst (λ n. IsCell s h t n c) (sym same) k) r)
+    cell_at i c c' false q k' r =
+        let other : o.0 ≢ i = λ z. both_ways (is_listed (o ∷ []) i) q (or_left (eqb o.0 i) false (eq-eqb o.0 i z)) in
+        subst (IsCell s (Accessed (a.0 + 1) o.0 e ▹ h) t i) (sym r) (aside_cell s h t k.actions a o.0 e l i c other k')
 
-  own_list : (x : ActionId) → x.0 ≡ a.0 → listed holdings' x ≡ noted o (listed holdings a)
-  own_list x q = moved.lists x ∙ ap (λ b. cond b (noted o (listed holdings a)) (listed holdings x)) (eq-eqb x.0 a.0 q)
+    own_list : (x : ActionId) → x.0 ≡ a.0 → listed holdings' x ≡ noted o (listed holdings a)
+    own_list x q = moved.lists x ∙ ap (λ b. cond b (noted o (listed holdings a)) (listed holdings x)) (eq-eqb x.0 a.0 q)
 
-  other_list : (x : ActionId) → x.0 ≢ a.0 → listed holdings' x ≡ listed holdings x
-  other_list x n = moved.lists x ∙ ap (λ b. cond b (noted o (listed holdings a)) (listed holdings x)) (ne_eqb x.0 a.0 n)
+    other_list : (x : ActionId) → x.0 ≢ a.0 → listed holdings' x ≡ listed holdings x
+    other_list x n = moved.lists x ∙ ap (λ b. cond b (noted o (listed holdings a)) (listed holdings x)) (ne_eqb x.0 a.0 n)
 
-  held_now : (x : ActionId) (i : ℕ) → is_listed (listed holdings' x) i
-      ≡ holds (Accessed (a.0 + 1) o.0 e ▹ h) (x.0 + 1) i
-  held_now x i =
-      elim (cases_eq x.0 a.0) [
-        | inl q ↦
-            ap (λ list. is_listed list i) (own_list x q)
-            ∙ is_listed_noted o (listed holdings a) i
-            ∙ ap (λ b. b || eqb o.0 i) (k.held a i)
-            ∙ ap (λ b. holds h (a.0 + 1) i || b) (sym (both_and (o.0 == i)))
-            ∙ ap (λ b. holds h (a.0 + 1) i || (o.0 == i && b)) (sym (eq-eqb (a.0 + 1) (a.0 + 1) refl))
-            ∙ sym (holds_now (a.0 + 1) i)
-            ∙ ap (λ n. holds (Accessed (a.0 + 1) o.0 e ▹ h) (n + 1) i) (sym q)
-        | inr n ↦
-            ap (λ list. is_listed list i) (other_list x n)
-            ∙ k.held x i
-            ∙ or_none (holds h (x.0 + 1) i)
-            ∙ ap (λ b. holds h (x.0 + 1) i || b) (sym (none_and (o.0 == i)))
-            ∙ ap (λ b. holds h (x.0 + 1) i || (o.0 == i && b)) (sym (ne_eqb (x.0 + 1) (a.0 + 1) (λ z. n (omega arith))))
-            ∙ sym (holds_now (x.0 + 1) i)
-      ]
-    where
-      both_and : (b : Bool) → (b && true) ≡ b
-      both_and true = refl
-      both_and false = refl
+    held_now : (x : ActionId) (i : ℕ) → is_listed (listed holdings' x) i
+        ≡ holds (Accessed (a.0 + 1) o.0 e ▹ h) (x.0 + 1) i
+    held_now x i =
+        elim (cases_eq x.0 a.0) [
+          | inl q ↦
+              ap (λ list. is_listed list i) (own_list x q)
+              ∙ is_listed_noted o (listed holdings a) i
+              ∙ ap (λ b. b || eqb o.0 i) (k.held a i)
+              ∙ ap (λ b. holds h (a.0 + 1) i || b) (sym (both_and (o.0 == i)))
+              ∙ ap (λ b. holds h (a.0 + 1) i || (o.0 == i && b)) (sym (eq-eqb (a.0 + 1) (a.0 + 1) refl))
+              ∙ sym (holds_now (a.0 + 1) i)
+              ∙ ap (λ n. holds (Accessed (a.0 + 1) o.0 e ▹ h) (n + 1) i) (sym q)
+          | inr n ↦
+              ap (λ list. is_listed list i) (other_list x n)
+              ∙ k.held x i
+              ∙ or_none (holds h (x.0 + 1) i)
+              ∙ ap (λ b. holds h (x.0 + 1) i || b) (sym (none_and (o.0 == i)))
+              ∙ ap (λ b. holds h (x.0 + 1) i || (o.0 == i && b)) (sym (ne_eqb (x.0 + 1) (a.0 + 1) (λ z. n (omega arith))))
+              ∙ sym (holds_now (x.0 + 1) i)
+        ]
+      where
+        both_and : (b : Bool) → (b && true) ≡ b
+        both_and true = refl
+        both_and false = refl
 
-      none_and : (b : Bool) → (b && false) ≡ false
-      none_and true = refl
-      none_and false = refl
+        none_and : (b : Bool) → (b && false) ≡ false
+        none_and true = refl
+        none_and false = refl
 
-  pub parts_accessed : AreParts t objects' holdings' s (Accessed (a.0 + 1) o.0 e ▹ h)
-  parts_accessed = record {
-    actions = access_tree s h t k.actions a o.0 e l;
-    each = λ i d lt.
-        let less : i < length objects = subst (λ n. i < n) moved.objects.count lt in
-        cell_at i (slice_index_or objects i d).cell (slice_index_or objects' i d).cell (is_listed (o ∷ []) i) refl
-            (k.each i d less) (moved.objects.each i d less).cell;
-    held = held_now;
-    there = λ x i q.
-        subst (λ n. i < n) (sym moved.objects.count)
-        (elim (cases_eq x.0 a.0) [
-          | inl same ↦
-              ⊎_elim (λ j. k.there a i j) (λ j. subst (λ n. n < length objects) (eqb-true o.0 i j) low)
-              (or_cases (is_listed (listed holdings a) i) (eqb o.0 i)
-              (sym (is_listed_noted o (listed holdings a) i) ∙ sym (ap (λ list. is_listed list i) (own_list x same))
-                  ∙ q))
-          | inr n ↦ k.there x i (sym (ap (λ list. is_listed list i) (other_list x n)) ∙ q)
-        ]);
-  }
+    pub parts_accessed : AreParts t objects' holdings' s (Accessed (a.0 + 1) o.0 e ▹ h)
+    parts_accessed = record {
+      actions = access_tree s h t k.actions a o.0 e l;
+      each = λ i d lt.
+          let less : i < length objects = subst (λ n. i < n) moved.objects.count lt in
+          cell_at i (slice_index_or objects i d).cell (slice_index_or objects' i d).cell (is_listed (o ∷ []) i) refl
+          (k.each i d less) (moved.objects.each i d less).cell;
+      held = held_now;
+      there = λ x i q.
+          subst (λ n. i < n) (sym moved.objects.count)
+          (elim (cases_eq x.0 a.0) [
+            | inl same ↦
+                ⊎_elim (λ j. k.there a i j) (λ j. subst (λ n. n < length objects) (eqb-true o.0 i j) low)
+                (or_cases (is_listed (listed holdings a) i) (eqb o.0 i)
+                (sym (is_listed_noted o (listed holdings a) i) ∙ sym (ap (λ list. is_listed list i) (own_list x same))
+                ∙ q))
+            | inr n ↦ k.there x i (sym (ap (λ list. is_listed list i) (other_list x n)) ∙ q)
+          ]);
+    }
 
 -- but for room, all is as before
 pub kept_locks : (t : Tree) (objects objects' : List AtomicObject) (holdings holdings' : Holdings) (s : Opening)
@@ -148,7 +148,7 @@ pub kept_locks : (t : Tree) (objects objects' : List AtomicObject) (holdings hol
 kept_locks t objects objects' holdings holdings' s j o k same =
     let moved = same.objects in
     let p : AreParts t objects holdings' s (history s j) =
-        parts_lists t objects holdings holdings' s (history s j) same.lists k.parts in
+    parts_lists t objects holdings holdings' s (history s j) same.lists k.parts in
     record {
       legal = k.legal;
       sound = k.sound;

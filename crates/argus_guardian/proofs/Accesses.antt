@@ -45,7 +45,7 @@ found_at : (objects : List AtomicObject) (o : ℕ) (x : AtomicObject) (d : Atomi
     → x ≡ slice_index_or objects o d
 found_at objects o x d e =
     let k : Some x ≡ Some (get_or objects o d) =
-        sym e ∙ slice_get-get_or objects o d (slice_get_within objects o x e) in cc
+    sym e ∙ slice_get-get_or objects o d (slice_get_within objects o x e) in cc
 
 none_past : (objects : List AtomicObject) (o : ℕ) → slice_get objects o ≡ None → length objects ≤ o
 none_past objects o e =
@@ -112,18 +112,18 @@ module _ (t : Tree) (objects : List AtomicObject) (holdings : Holdings) (s : Ope
         let ge = none_past objects o e in
         let c = count in
         sym (ap (λ b. unless b NoObject (unless (suits fits (slice_get (shapes s j) o)) IllTyped
-            (unless lock Conflict None))) (le-ltb o (length (shapes s j)) (omega (arith, ge, c))))
+        (unless lock Conflict None))) (le-ltb o (length (shapes s j)) (omega (arith, ge, c))))
     at_object la (Some x) e =
         let lt = slice_get_within objects o x e in
         let c = count in
         let shape_is : slice_get (shapes s j) o ≡ Some x.shape =
         ap (λ xs. slice_get xs o) (sym k.shapes) ∙ slice_get-map (λ (k : AtomicObject). k.shape) objects o
-            ∙ ap (option_map (λ (k : AtomicObject). k.shape)) e in
+        ∙ ap (option_map (λ (k : AtomicObject). k.shape)) e in
         sym (ap (λ b. unless b NoObject (unless (suits fits (slice_get (shapes s j) o)) IllTyped
-            (unless lock Conflict None))) (lt-ltb o (length (shapes s j)) (omega (arith, lt, c)))
+        (unless lock Conflict None))) (lt-ltb o (length (shapes s j)) (omega (arith, lt, c)))
         ∙ ap (λ q. unless (suits fits q) IllTyped (unless lock Conflict None)) shape_is
         ∙ ap (λ b. unless (fits x.shape) IllTyped (unless b Conflict None))
-            (sym (agree la x lt) ∙ ap (λ (y : AtomicObject). free y.cell) (sym (found_at objects o x x e))))
+        (sym (agree la x lt) ∙ ap (λ (y : AtomicObject). free y.cell) (sym (found_at objects o x x e))))
 
     pub access_is : access_refusal t objects a.0 o fits free
         ≡ if_free (history s j) a.0 (if_declared (shapes s j) o

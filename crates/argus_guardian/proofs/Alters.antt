@@ -1,5 +1,5 @@
 -- Changes, as the guardian refuses and grants them.
-use Rattle.std.proofs.Common.{List, None, Some, ap, length, refl, sym, true, ◌+◌, ◌<◌, ◌∙◌, ◌∷◌, ◌≡◌}
+use Rattle.std.proofs.Common.{List, None, Some, ap, length, sym, true, ◌+◌, ◌<◌, ◌∙◌, ◌≡◌}
 use Rattle.std.specs.Prelude.{slice_get, slice_index_or}
 use Rattle.std.proofs.lemmas.Bool.{and_parts}
 use Rattle.argus_actions.specs.Tree.{Tree}
@@ -12,28 +12,21 @@ use Rattle.argus_contents.specs.Answer.{PlainAnswer}
 use Rattle.argus_contents.specs.declared.obj_id.ObjId.{ObjId}
 use Rattle.argus_entries.specs.Call.{alter}
 use Rattle.argus_entries.specs.Entry.{PlainEntry}
-use Rattle.argus_entries.specs.Reply.{PlainReply, answered, refused}
+use Rattle.argus_entries.specs.Reply.{answered, refused}
 use Rattle.argus_entries.specs.declared.refusal.Refusal.{Refusal}
 use Rattle.argus_entries.specs.declared.refusal.Refusal.TheVariants.{Conflict, IllTyped}
-use Rattle.argus_guardian.specs.Accessing.{IsAccessed, IsAltered, access_refusal, seen_at}
+use Rattle.argus_guardian.specs.Accessing.{access_refusal, seen_at}
 use Rattle.argus_guardian.specs.Keeping.{IsKept}
-use Rattle.argus_guardian.specs.Step.{entry_with}
 use Rattle.argus_guardian.specs.declared.atomic_object.AtomicObject.{AtomicObject}
-use Rattle.argus_guardian.proofs.Accesses.{IsGranted, access_is, acts, granted_parts, count, reads_agree, seen_is}
+use Rattle.argus_guardian.proofs.Accesses.{IsGranted, access_is, acts, granted_parts, count, seen_is}
 use Rattle.argus_guardian.proofs.Accesses.{seen_limits, writes_agree}
 use Rattle.argus_guardian.proofs.Ends.{some_object}
 use Rattle.argus_journal.specs.Answers.{answer, granted, if_declared, if_free, or_refused, refusal, suits, unless}
 use Rattle.argus_journal.specs.Entries.{entries}
 use Rattle.argus_journal.specs.Events.{history}
 use Rattle.argus_journal.specs.Objects.{shapes}
-use Rattle.argus_journal.specs.Opening.{Opening, opened}
-use Rattle.argus_journal.proofs.Legal.{lawful}
-use Rattle.argus_laws.proofs.CellAccesses.{written_cell}
-use Rattle.argus_laws.proofs.CellHolders.{may_read_is}
-use Rattle.argus_laws.proofs.CellSeen.{visible_is}
-use Rattle.argus_model.specs.Contents.{sees}
+use Rattle.argus_journal.specs.Opening.{Opening}
 use Rattle.argus_model.specs.Holders as model
-use Rattle.argus_objects.specs.Moves.{changed}
 use Rattle.argus_objects.specs.Object.{holders}
 use Rattle.argus_objects.specs.Rules.{all_above, may_read, may_write}
 use Rattle.argus_objects.specs.declared.holdings.Holdings.{Holdings}
@@ -44,11 +37,11 @@ module _ (t : Tree) (objects : List AtomicObject) (holdings : Holdings) (s : Ope
       (λ c. may_write t c a) ≡ refusal (history s j) (shapes s j) (alter a.0 o.0 change)
   alter_is =
       access_is t objects holdings s j k a o.0 (λ shape. change_suits shape (length objects) change)
-          (λ c. may_write t c a) (model.may_write entries (history s j) (a.0 + 1) o.0)
-          (writes_agree t objects holdings s j k a o.0)
+      (λ c. may_write t c a) (model.may_write entries (history s j) (a.0 + 1) o.0)
+      (writes_agree t objects holdings s j k a o.0)
       ∙ ap (λ n. if_free (history s j) a.0 (if_declared (shapes s j) o.0
-          (unless (suits (λ shape. change_suits shape n change) (slice_get (shapes s j) o.0)) IllTyped
-          (unless (model.may_write entries (history s j) (a.0 + 1) o.0) Conflict None))))
+      (unless (suits (λ shape. change_suits shape n change) (slice_get (shapes s j) o.0)) IllTyped
+      (unless (model.may_write entries (history s j) (a.0 + 1) o.0) Conflict None))))
       (sym (count t objects holdings s j k a o.0))
 
   pub alter_refused : (why : Refusal) → access_refusal t objects a.0 o.0
@@ -84,7 +77,7 @@ module _ (t : Tree) (objects : List AtomicObject) (holdings : Holdings) (s : Ope
         ≡ answer s j (alter a.0 o.0 change)
     alter_right d =
         ap (λ x. answered (outcome change x).1) (seen_is t objects holdings s j k a o.0
-            (acts t objects holdings s j k a o.0 parts.accepted) d parts.low (alter_reads d))
+        (acts t objects holdings s j k a o.0 parts.accepted) d parts.low (alter_reads d))
         ∙ sym (ap (λ r. or_refused r (granted s (history s j) (shapes s j) (alter a.0 o.0 change))) (sym alter_is ∙ e))
 
     -- what was read at any object is the answer

@@ -1,5 +1,5 @@
 -- Queries, as the guardian refuses and grants them.
-use Rattle.std.proofs.Common.{List, None, Some, ap, length, refl, sym, true, ◌+◌, ◌<◌, ◌∙◌, ◌∷◌, ◌≡◌}
+use Rattle.std.proofs.Common.{List, None, Some, ap, length, sym, true, ◌+◌, ◌<◌, ◌∙◌, ◌≡◌}
 use Rattle.std.specs.Prelude.{slice_index_or}
 use Rattle.argus_actions.specs.Tree.{Tree}
 use Rattle.argus_actions.specs.Refusals.{commit_refusal}
@@ -12,12 +12,10 @@ use Rattle.argus_contents.specs.declared.obj_id.ObjId.{ObjId}
 use Rattle.argus_contents.specs.declared.query.Query.{Query}
 use Rattle.argus_entries.specs.Call.{ask}
 use Rattle.argus_entries.specs.Entry.{PlainEntry}
-use Rattle.argus_entries.specs.Reply.{PlainReply, answered, refused}
+use Rattle.argus_entries.specs.Reply.{answered, refused}
 use Rattle.argus_entries.specs.declared.refusal.Refusal.{Refusal}
-use Rattle.argus_guardian.specs.Accessing.{IsAccessed, access_refusal, seen_at}
+use Rattle.argus_guardian.specs.Accessing.{access_refusal, seen_at}
 use Rattle.argus_guardian.specs.Keeping.{IsKept}
-use Rattle.argus_guardian.specs.Moving.{IsRead}
-use Rattle.argus_guardian.specs.Step.{entry_with}
 use Rattle.argus_guardian.specs.declared.atomic_object.AtomicObject.{AtomicObject}
 use Rattle.argus_guardian.proofs.Accesses.{IsGranted, access_is, acts, granted_parts, reads_agree, seen_is, seen_limits}
 use Rattle.argus_guardian.proofs.Ends.{some_object}
@@ -26,7 +24,6 @@ use Rattle.argus_journal.specs.Entries.{entries}
 use Rattle.argus_journal.specs.Events.{history}
 use Rattle.argus_journal.specs.Objects.{shapes}
 use Rattle.argus_journal.specs.Opening.{Opening}
-use Rattle.argus_laws.proofs.CellAccesses.{read_cell}
 use Rattle.argus_model.specs.Holders as model
 use Rattle.argus_objects.specs.Rules.{may_read}
 use Rattle.argus_objects.specs.declared.holdings.Holdings.{Holdings}
@@ -63,7 +60,7 @@ module _ (t : Tree) (objects : List AtomicObject) (holdings : Holdings) (s : Ope
         ≡ answer s j (ask a.0 o.0 query)
     ask_right d =
         ap (λ x. answered (reply query x)) (seen_is t objects holdings s j k a o.0
-            (acts t objects holdings s j k a o.0 parts.accepted) d parts.low (parts.free d))
+        (acts t objects holdings s j k a o.0 parts.accepted) d parts.low (parts.free d))
         ∙ sym (ap (λ r. or_refused r (granted s (history s j) (shapes s j) (ask a.0 o.0 query))) (sym ask_is ∙ e))
 
     -- what was read at any object is the answer

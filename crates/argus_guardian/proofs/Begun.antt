@@ -104,9 +104,9 @@ begin_parts s h t objects holdings from l k = record {
   held = λ a o.
       k.held a o
       ∙ ap (λ rs. contains rs (a.0 + 1) || contains (writers entries h o) (a.0 + 1))
-          (sym (holders_after_begin (reads entries) h (origin_said from) now o))
+      (sym (holders_after_begin (reads entries) h (origin_said from) now o))
       ∙ ap (λ ws. contains (readers entries (Began (origin_said from) ▹ h) o) (a.0 + 1) || contains ws (a.0 + 1))
-          (sym (holders_after_begin entries.writes h (origin_said from) now o));
+      (sym (holders_after_begin entries.writes h (origin_said from) now o));
   there = k.there;
 }
   where
@@ -138,8 +138,8 @@ module _ (t t1 t2 : Tree) (objects : List AtomicObject) (holdings : Holdings) (s
   kept_begun is =
       let e : PlainEntry = record { call = call; reply = begun n } in
       let parts : AreParts t1 objects holdings s (history s j) =
-          parts_room s (history s j) t t1 objects holdings same k.parts in
+      parts_room s (history s j) t t1 objects holdings same k.parts in
       kept_event s e j t t2 objects objects holdings holdings k begun_right (b.declares n) refl refl
-          (Began (origin_said from)) (b.happens n)
+      (Began (origin_said from)) (b.happens n)
       (λ l. subst (λ t. AreParts t objects holdings s (Began (origin_said from) ▹ history s j)) (sym is)
-          (begin_parts s (history s j) t1 objects holdings from l parts))
+      (begin_parts s (history s j) t1 objects holdings from l parts))

@@ -32,7 +32,7 @@ not_before list i d once lt (suc j) le =
     subst (λ n. is_listed (take n list) k ≡ false) up
     (list_any_more (λ x. eqb x.0 k) list j d (omega arith)
     ∙ or_from (is_listed (take j list) k) (eqb (get_or list j d).0 k) (not_before list i d once lt j (omega arith))
-        (apart_from_distinct (λ x y. eqb x.0 y.0) list j i d once (omega arith) lt))
+    (apart_from_distinct (λ x y. eqb x.0 y.0) list j i d once (omega arith) lt))
 
 or_false : (b : Bool) → (b || false) ≡ b
 or_false true = refl
@@ -74,34 +74,34 @@ module _ (R : Object → Object → Type 0) (list : List ObjId) (i : ℕ) (d : O
         count = length-set now at v ∙ k.count;
         each = λ o f less.
             let more : is_listed (take (i + 1) list) o ≡ (is_listed (take i list) o || eqb at o) =
-                list_any_more (λ x. eqb x.0 o) list i d lt in
+            list_any_more (λ x. eqb x.0 o) list i d lt in
             elim (cases_eq at o) [
               | inl same ↦
                   let here : slice_index_or (set now at v) o f ≡ v = get_or-set_at now at o v f (sym same) within in
                   let was : slice_index_or old o f ≡ get_or old at e =
-                      ap (λ n. get_or old n f) (sym same) ∙ any_default old at f e low in
+                  ap (λ n. get_or old n f) (sym same) ∙ any_default old at f e low in
                   record {
                     shape = ap (λ (x : AtomicObject). x.shape) here ∙ (k.each at e low).shape
                         ∙ sym (ap (λ (x : AtomicObject). x.shape) was);
                     cell =
                         changed_here R (is_listed (take (i + 1) list) o) (slice_index_or old o f).cell
-                            (slice_index_or (set now at v) o f).cell
+                        (slice_index_or (set now at v) o f).cell
                         (more ∙ or_right (is_listed (take i list) o) (eqb at o) (eq-eqb at o same))
                         (subst (λ (x : AtomicObject). R (slice_index_or old o f).cell x.cell) (sym here)
-                            (subst (λ c. R c new) (same_yet ∙ sym (ap (λ (x : AtomicObject). x.cell) was)) r));
+                        (subst (λ c. R c new) (same_yet ∙ sym (ap (λ (x : AtomicObject). x.cell) was)) r));
                   }
               | inr other ↦
                   let there' : slice_index_or (set now at v) o f ≡ slice_index_or now o f =
-                      get_or-set_other now at o v f (λ q. other (sym q)) in
+                  get_or-set_other now at o v f (λ q. other (sym q)) in
                   let was = k.each o f less in
                   record {
                     shape = ap (λ (x : AtomicObject). x.shape) there' ∙ was.shape;
                     cell =
                         subst (λ (x : AtomicObject). ChangedIf (is_listed (take (i + 1) list) o) R
-                            (slice_index_or old o f).cell x.cell) (sym there')
+                        (slice_index_or old o f).cell x.cell) (sym there')
                         (subst (λ b. ChangedIf b R (slice_index_or old o f).cell (slice_index_or now o f).cell)
                         (sym (more ∙ ap (λ b. is_listed (take i list) o || b) (ne_eqb at o other)
-                            ∙ or_false (is_listed (take i list) o))) was.cell);
+                        ∙ or_false (is_listed (take i list) o))) was.cell);
                   }
             ];
       }
@@ -112,7 +112,7 @@ pub set_changed : (R : Object → Object → Type 0) (o : ObjId) (old : List Ato
     (set old o.0 (record { shape = (get_or old o.0 e).shape; cell = new }))
 set_changed R o old e new lt r =
     more_changed R (o ∷ []) 0 o old old e (IsDistinct-from_apart (λ x y. eqb x.0 y.0) (o ∷ [])
-        (λ i j d ij jl. absurd (omega (arith, ij, jl)))) (omega arith)
+    (λ i j d ij jl. absurd (omega (arith, ij, jl)))) (omega arith)
     (λ n i. subst (λ k. k < length old) (only n i) lt) (start_changed R old) new r
   where
     only : (n : ℕ) → (eqb o.0 n || false) ≡ true → o.0 ≡ n

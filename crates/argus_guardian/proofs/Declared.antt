@@ -1,13 +1,13 @@
 -- A declaration: one more object, which nobody holds.
 use Rattle.std.proofs.Common.{List, None, Option, Some, [], ap, arith, false, inl, inr, length, refl, subst, suc, sym}
 use Rattle.std.proofs.Common.{true, zero, ℕ, ◌+◌, ◌<◌, ◌≤◌, ◌++◌, ◌∙◌, ◌∷◌, ◌≡◌}
-use Rattle.std.specs.Prelude.{map, nat_lt, slice_get, slice_index_or}
+use Rattle.std.specs.Prelude.{nat_lt, slice_index_or}
 use Rattle.std.proofs.Math.Seq.{get_or-append_seam}
 use Rattle.std.proofs.lemmas.Bool.{cases_Bool, cases_lt, or_parts}
 use Rattle.std.proofs.lemmas.Bool.Decides.{nat_tests}
 use Rattle.std.proofs.lemmas.List.{get_or_append_left, length-append, length-map, map-append}
 use Rattle.std.proofs.lemmas.Option.{slice_get_past}
-use Rattle.argus_actions.specs.Tree.{SameActions, Tree}
+use Rattle.argus_actions.specs.Tree.{Tree}
 use Rattle.argus_actions.specs.declared.action_id.ActionId.{ActionId}
 use Rattle.argus_contents.specs.Content.{PlainContent}
 use Rattle.argus_contents.specs.Shape.{PlainShape}
@@ -16,14 +16,13 @@ use Rattle.argus_entries.specs.Call.{declare}
 use Rattle.argus_entries.specs.Entry.{PlainEntry}
 use Rattle.argus_entries.specs.Reply.{object, refused}
 use Rattle.argus_entries.specs.declared.refusal.Refusal.TheVariants.{TooMany}
-use Rattle.argus_guardian.specs.Keeping.{AreParts, IsKept, holds}
-use Rattle.argus_guardian.specs.Moving.{is_listed}
+use Rattle.argus_guardian.specs.Keeping.{IsKept, holds}
 use Rattle.argus_guardian.specs.Step.{entry_with}
 use Rattle.argus_guardian.specs.declared.atomic_object.AtomicObject.{AtomicObject}
 use Rattle.argus_journal.specs.Answers.{answer, granted, or_refused, unless}
 use Rattle.argus_journal.specs.Entries.{entries}
 use Rattle.argus_journal.specs.Events.{history}
-use Rattle.argus_journal.specs.Objects.{declared, shape_of, shapes}
+use Rattle.argus_journal.specs.Objects.{declared, shapes}
 use Rattle.argus_journal.specs.Opening.{Opening, fits_shape, opened}
 use Rattle.argus_journal.proofs.Contents.{content_fits}
 use Rattle.argus_journal.proofs.Fitting.{nothing}
@@ -35,8 +34,7 @@ use Rattle.argus_model.specs.Holders.{readers, writers}
 use Rattle.argus_model.specs.Numbers.{contains}
 use Rattle.argus_model.specs.Owner.{is_base, owner}
 use Rattle.argus_model.proofs.Numbers.{contains_first}
-use Rattle.argus_objects.specs.Holdings.{listed}
-use Rattle.argus_objects.specs.Object.{Object, SameLocks}
+use Rattle.argus_objects.specs.Object.{Object}
 use Rattle.argus_objects.specs.declared.holdings.Holdings.{Holdings}
 
 -- a list without members is empty

@@ -1,9 +1,8 @@
 -- The objects that an action has written, sorted, are what its commit would leave.
-use Rattle.std.proofs.Common.{Bool, Less, List, None, Option, Some, [], ap, arith, cond, eqb, false, get_or, inl, inr}
+use Rattle.std.proofs.Common.{Bool, Less, List, None, Option, [], ap, arith, cond, eqb, false, get_or, inl, inr}
 use Rattle.std.proofs.Common.{length, map, refl, subst, suc, sym, true, zero, ℕ, ◌+◌, ◌<◌, ◌&&◌, ◌∙◌, ◌∷◌, ◌≡◌, ◌||◌}
-use Rattle.std.specs.Bool.{if◌then◌else◌}
 use Rattle.std.specs.List.{AllByRecursion, IsDistinct, list_any}
-use Rattle.std.specs.List.Sorted.{IsPermutation, IsSorted, IsStrictlyIncreasing}
+use Rattle.std.specs.List.Sorted.{IsPermutation, IsSorted}
 use Rattle.std.specs.List.Sorted.{IsStrictlySortedBy}
 use Rattle.std.specs.Option.{unwrap_or}
 use Rattle.std.specs.Ordering.{nat_cmp}
@@ -40,7 +39,7 @@ use Rattle.argus_model.proofs.Commits.{written_are_held}
 use Rattle.argus_model.proofs.Effects.{written-IsRising}
 use Rattle.argus_model.proofs.Numbers.{IsRising, contains_first, rising_same}
 use Rattle.argus_objects.specs.Holdings.{listed}
-use Rattle.argus_objects.specs.Moves.{has_version, version_of}
+use Rattle.argus_objects.specs.Moves.{has_version}
 use Rattle.argus_objects.specs.declared.holdings.Holdings.{Holdings}
 
 contains_any : (xs : List ℕ) (x : ℕ) → contains xs x ≡ list_any (λ y. eqb x y) xs
@@ -108,15 +107,15 @@ module _ (a : ActionId) (objects : List AtomicObject) (d : AtomicObject) where
             ∙ elim (cases_eq x.0 o) [
               | inl q ↦
                   ap (λ b. b || (is_listed list o && has_version a (slice_index_or objects o d).cell.versions))
-                      (eq-eqb o x.0 (sym q))
+                  (eq-eqb o x.0 (sym q))
                   ∙ sym (ap (λ b. (b || is_listed list o) && has_version a (slice_index_or objects o d).cell.versions)
-                      (eq-eqb x.0 o q)
+                  (eq-eqb x.0 o q)
                   ∙ subst (λ n. has_version a (slice_index_or objects n d).cell.versions ≡ true) q e)
               | inr n ↦
                   ap (λ b. b || (is_listed list o && has_version a (slice_index_or objects o d).cell.versions))
-                      (ne_eqb o x.0 (λ q. n (sym q)))
+                  (ne_eqb o x.0 (λ q. n (sym q)))
                   ∙ sym (ap (λ b. (b || is_listed list o) && has_version a (slice_index_or objects o d).cell.versions)
-                      (ne_eqb x.0 o n))
+                  (ne_eqb x.0 o n))
             ]
         | inr e ↦
             ap (λ b. contains (cond b (x.0 ∷ rest) rest) o) e
@@ -124,12 +123,12 @@ module _ (a : ActionId) (objects : List AtomicObject) (d : AtomicObject) where
             ∙ elim (cases_eq x.0 o) [
               | inl q ↦
                   let f : has_version a (slice_index_or objects o d).cell.versions ≡ false =
-                      subst (λ n. has_version a (slice_index_or objects n d).cell.versions ≡ false) q e in
+                  subst (λ n. has_version a (slice_index_or objects n d).cell.versions ≡ false) q e in
                   ap (λ b. is_listed list o && b) f ∙ and_false (is_listed list o)
                   ∙ sym (ap (λ b. (eqb x.0 o || is_listed list o) && b) f ∙ and_false (eqb x.0 o || is_listed list o))
               | inr n ↦
                   sym (ap (λ b. (b || is_listed list o) && has_version a (slice_index_or objects o d).cell.versions)
-                      (ne_eqb x.0 o n))
+                  (ne_eqb x.0 o n))
             ]
       ]
     where
@@ -145,11 +144,11 @@ module _ (a : ActionId) (objects : List AtomicObject) (d : AtomicObject) where
       elim (cases_Bool (has_version a (slice_index_or objects x.0 d).cell.versions)) [
         | inl e ↦
             subst (λ b. AllByRecursion (λ m. eqb n m ≡ false)
-                (cond b (x.0 ∷ written_in a objects d list) (written_in a objects d list)))
+            (cond b (x.0 ∷ written_in a objects d list) (written_in a objects d list)))
             (sym e) (all.0, written_apart n list all.1)
         | inr e ↦
             subst (λ b. AllByRecursion (λ m. eqb n m ≡ false)
-                (cond b (x.0 ∷ written_in a objects d list) (written_in a objects d list)))
+            (cond b (x.0 ∷ written_in a objects d list) (written_in a objects d list)))
             (sym e) (written_apart n list all.1)
       ]
 
@@ -163,12 +162,12 @@ module _ (a : ActionId) (objects : List AtomicObject) (d : AtomicObject) where
       elim (cases_Bool (has_version a (slice_index_or objects x.0 d).cell.versions)) [
         | inl q ↦
             subst (λ b. IsDistinct eqb (cond b (x.0 ∷ written_in a objects d list) (written_in a objects d list)))
-                (sym q)
+            (sym q)
             (IsDistinct-cons eqb x.0 (written_in a objects d list)
-                (written_apart x.0 list (IsDistinct-head e x list once)) ih)
+            (written_apart x.0 list (IsDistinct-head e x list once)) ih)
         | inr q ↦
             subst (λ b. IsDistinct eqb (cond b (x.0 ∷ written_in a objects d list) (written_in a objects d list)))
-                (sym q) ih
+            (sym q) ih
       ]
 
 module _ (t : Tree) (objects : List AtomicObject) (holdings : Holdings) (s : Opening) (j : List PlainEntry)
@@ -199,7 +198,7 @@ module _ (t : Tree) (objects : List AtomicObject) (holdings : Holdings) (s : Ope
   module _ (live : is_live (history s j) (a.0 + 1) ≡ true)
       (once : IsDistinct (λ (x y : ObjId). eqb x.0 y.0) (listed holdings a))
       (xs : List ℕ) (moved : IsPermutation (written_in a objects d (listed holdings a)) xs)
-          (sorted : IsSorted nat_cmp xs) where
+      (sorted : IsSorted nat_cmp xs) where
     member_is : (o : ℕ) → contains xs o ≡ contains (written_by s j a.0) o
     member_is o =
         contains_any xs o
@@ -213,9 +212,9 @@ module _ (t : Tree) (objects : List AtomicObject) (holdings : Holdings) (s : Ope
     sorted_is =
         rising_same xs (written_by s j a.0)
         (rising_from xs (sorted_from_strictly_increasing xs
-            (IsStrictlyIncreasing-from_distinct xs (IsNonDecreasingBy-from_sort (λ n. n) xs sorted)
+        (IsStrictlyIncreasing-from_distinct xs (IsNonDecreasingBy-from_sort (λ n. n) xs sorted)
         (IsDistinct-IsPermutation eqb flips (written_in a objects d (listed holdings a)) xs moved
-            (written_distinct a objects d (listed holdings a) once)))))
+        (written_distinct a objects d (listed holdings a) once)))))
         (written-IsRising entries (work (history s j) (a.0 + 1)))
         member_is
       where
@@ -247,7 +246,7 @@ module _ (t : Tree) (objects : List AtomicObject) (holdings : Holdings) (s : Ope
         each o m =
             let lt = sorted_there o m in
             let w = sym (written_are_held entries (opened s) (history s j) (a.0 + 1) o (lawful s j k.legal) live)
-                ∙ sym (member_is o) ∙ m in
+            ∙ sym (member_is o) ∙ m in
             let v = (k.parts.each o d lt).writers a ∙ w in
             ap (λ c. let p : ℕ × Option PlainContent = (o, unwrap_or c None) in p)
             (seen_at s (history s j) o a (slice_index_or objects o d).cell.versions (k.parts.each o d lt).seen v)

@@ -58,7 +58,7 @@ shapes_same old new count each =
     let low : o < length old = subst (λ n. o < n) count low' in
     let e : AtomicObject = some_object old o low in
     get_or-map (λ (k : AtomicObject). k.shape) new o e d low' ∙ each o e low
-        ∙ sym (get_or-map (λ (k : AtomicObject). k.shape) old o e d low))
+    ∙ sym (get_or-map (λ (k : AtomicObject). k.shape) old o e d low))
 
 pub shapes_kept : (R : Object → Object → Type 0) (list : List ObjId) (old new : List AtomicObject)
     → AreChanged R list old new → map (λ k. k.shape) new ≡ map (λ k. k.shape) old
@@ -137,9 +137,9 @@ module _ (t t' : Tree) (objects objects' : List AtomicObject) (holdings h1 holdi
       ((let e : PlainEntry = record { call = commit a.0; reply = answered done } in e) ∷ j)
   kept_top top moved cleared =
       kept_event s entry j t t' objects objects' holdings holdings' k (committed_right t objects holdings s j k a free)
-          refl (shapes_kept (IsSettled t a) (listed h1 a) objects objects' moved) moved.count (Committed (a.0 + 1)) refl
+      refl (shapes_kept (IsSettled t a) (listed h1 a) objects objects' moved) moved.count (Committed (a.0 + 1)) refl
       (λ l. subst (λ t. AreParts t objects' holdings' s (Committed (a.0 + 1) ▹ history s j)) (sym is)
-          (parts_top s (history s j) t objects objects' h1 holdings' parts1 a l top moved cleared))
+      (parts_top s (history s j) t objects objects' h1 holdings' parts1 a l top moved cleared))
 
   pub kept_sub : (p : ActionId) → parent_of t a.0 ≡ Some p
       → AreChanged (IsInherited t a p) (listed h1 a) objects objects' → PassedOn h1 a p holdings'
@@ -147,10 +147,10 @@ module _ (t t' : Tree) (objects objects' : List AtomicObject) (holdings h1 holdi
       ∷ j)
   kept_sub p sub moved handed_on =
       kept_event s entry j t t' objects objects' holdings holdings' k (committed_right t objects holdings s j k a free)
-          refl (shapes_kept (IsInherited t a p) (listed h1 a) objects objects' moved) moved.count (Committed (a.0 + 1))
-          refl
+      refl (shapes_kept (IsInherited t a p) (listed h1 a) objects objects' moved) moved.count (Committed (a.0 + 1))
+      refl
       (λ l. subst (λ t. AreParts t objects' holdings' s (Committed (a.0 + 1) ▹ history s j)) (sym is)
-          (parts_sub s (history s j) t objects objects' h1 holdings' parts1 a l p sub moved handed_on))
+      (parts_sub s (history s j) t objects objects' h1 holdings' parts1 a l p sub moved handed_on))
 
 module _ (t t' : Tree) (objects objects' : List AtomicObject) (holdings holdings' : Holdings) (s : Opening)
     (j : List PlainEntry) (a : ActionId) (k : IsKept t objects holdings s j) where
@@ -164,10 +164,10 @@ module _ (t t' : Tree) (objects objects' : List AtomicObject) (holdings holdings
       let w = kept_orderly t objects holdings s j k in
       let la = (abort_stands t objects holdings s j k a free).live in
       kept_event s entry j t t' objects objects' holdings holdings' k (aborted_right t objects holdings s j k a free)
-          refl (shapes_same objects objects' moved.count moved.shape) moved.count (Aborted ((a.0 + 1) ∷ [])) refl
+      refl (shapes_same objects objects' moved.count moved.shape) moved.count (Aborted ((a.0 + 1) ∷ [])) refl
       (λ l. subst (λ t. AreParts t objects' holdings' s (Aborted ((a.0 + 1) ∷ []) ▹ h)) (sym is)
       (parts_ended s h t (after_abort t a.0) objects objects' holdings holdings' k.parts ((a.0 + 1) ∷ [])
-          (is_ancestor t a.0) l
+      (is_ancestor t a.0) l
       (under_one h t k.parts.actions w a.0 la) (abort_more t a.0) (abort_tree t h k.parts.actions a.0) moved))
 
   pub kept_others : abort_others_refusal t a.0 ≡ None → t' ≡ after_abort_others t a.0
@@ -182,9 +182,9 @@ module _ (t t' : Tree) (objects objects' : List AtomicObject) (holdings holdings
       let actions = live_siblings h (a.0 + 1) in
       let u = others_under t a.0 free in
       kept_event s entry j t t' objects objects' holdings holdings' k (others_right t objects holdings s j k a free)
-          refl (shapes_same objects objects' moved.count moved.shape) moved.count (Aborted actions) refl
+      refl (shapes_same objects objects' moved.count moved.shape) moved.count (Aborted actions) refl
       (λ l. subst (λ t. AreParts t objects' holdings' s (Aborted actions ▹ h)) (sym is)
       (parts_ended s h t (after_abort_others t a.0) objects objects' holdings holdings' k.parts actions
-          (has_ancestor (is_live_sibling t a.0) t.folded t.rows) l
+      (has_ancestor (is_live_sibling t a.0) t.folded t.rows) l
       (under_siblings_is h t k.parts.actions w a.0 u.0 la u.1) (others_more t a.0)
       (abort_others_tree t h k.parts.actions w a.0 u.0 (live_begun h (a.0 + 1) la) u.1) moved))

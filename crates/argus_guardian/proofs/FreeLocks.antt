@@ -1,8 +1,7 @@
 -- What a test that says yes tells of the lock.
-use Rattle.std.proofs.Common.{Bool, List, None, Option, Some, ap, refl, true, ℕ, ◌+◌, ◌<◌, ◌∙◌, ◌≡◌}
+use Rattle.std.proofs.Common.{Bool, None, Option, Some, refl, true, ◌+◌, ◌∙◌, ◌≡◌}
 use Rattle.std.specs.Prelude.{slice_index_or}
 use Rattle.std.proofs.lemmas.Bool.{and_parts}
-use Rattle.argus_actions.specs.Tree.{Tree}
 use Rattle.argus_actions.specs.declared.action_id.ActionId.{ActionId}
 use Rattle.argus_contents.specs.Answer.{PlainAnswer, flag}
 use Rattle.argus_contents.specs.Content.{KeepsLimits}

@@ -1,8 +1,7 @@
 -- What making a prepared access leaves.
-use Rattle.std.proofs.Common.{List, Option, [], ap, false, sym, true, ℕ, ◌+◌, ◌∙◌, ◌∷◌, ◌≡◌}
+use Rattle.std.proofs.Common.{List, Option, [], ap, false, sym, true, ◌+◌, ◌∙◌, ◌∷◌, ◌≡◌}
 use Rattle.std.specs.Prelude.{slice_index_or}
 use Rattle.std.proofs.lemmas.Bool.{and_parts}
-use Rattle.argus_actions.specs.Tree.{Tree}
 use Rattle.argus_actions.specs.declared.action_id.ActionId.{ActionId}
 use Rattle.argus_contents.specs.Change.{PlainChange, outcome}
 use Rattle.argus_contents.specs.Content.{PlainContent, plain_option}

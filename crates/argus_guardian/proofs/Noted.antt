@@ -56,4 +56,4 @@ readers_none a [] e = refl
 readers_none a (x ∷ rs) e =
     let q = or_parts (eqb x.0 a.0) (is_reader a rs) e in
     ap (λ b. cond (not b) (x ∷ without_reader a rs) (without_reader a rs)) q.0
-        ∙ ap (λ ys. x ∷ ys) (readers_none a rs q.1)
+    ∙ ap (λ ys. x ∷ ys) (readers_none a rs q.1)

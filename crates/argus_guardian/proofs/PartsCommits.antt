@@ -61,16 +61,16 @@ module _ (s : Opening) (h : History PlainEntry) (t : Tree) (objects objects' : L
       || contains (inherited (a.0 + 1) up (writers entries h o)) n)
   held_after n o =
       ap (λ rs. contains rs n || contains (writers entries (Committed (a.0 + 1) ▹ h) o) n)
-          (holders_after_commit (reads entries) h (a.0 + 1) (now s h t k.actions a l) o)
+      (holders_after_commit (reads entries) h (a.0 + 1) (now s h t k.actions a l) o)
       ∙ ap (λ ws. contains (inherited (a.0 + 1) up (readers entries h o)) n || contains ws n)
-          (holders_after_commit entries.writes h (a.0 + 1) (now s h t k.actions a l) o)
+      (holders_after_commit entries.writes h (a.0 + 1) (now s h t k.actions a l) o)
 
   -- it holds nothing more
   own_after : (o : ℕ) → up ≢ a.0 + 1 → holds (Committed (a.0 + 1) ▹ h) (a.0 + 1) o ≡ false
   own_after o n =
       held_after (a.0 + 1) o
       ∙ ap (λ b. b || contains (inherited (a.0 + 1) up (writers entries h o)) (a.0 + 1))
-          (inherited_own (a.0 + 1) up (readers entries h o) n)
+      (inherited_own (a.0 + 1) up (readers entries h o) n)
       ∙ inherited_own (a.0 + 1) up (writers entries h o) n
 
   other_after : (x : ActionId) (o : ℕ) → x.0 ≢ a.0 → x.0 + 1 ≢ up
@@ -78,9 +78,9 @@ module _ (s : Opening) (h : History PlainEntry) (t : Tree) (objects objects' : L
   other_after x o na np =
       held_after (x.0 + 1) o
       ∙ ap (λ b. b || contains (inherited (a.0 + 1) up (writers entries h o)) (x.0 + 1))
-          (inherited_other (a.0 + 1) up (readers entries h o) (x.0 + 1) (λ e. na (omega arith)) np)
+      (inherited_other (a.0 + 1) up (readers entries h o) (x.0 + 1) (λ e. na (omega arith)) np)
       ∙ ap (λ b. contains (readers entries h o) (x.0 + 1) || b)
-          (inherited_other (a.0 + 1) up (writers entries h o) (x.0 + 1) (λ e. na (omega arith)) np)
+      (inherited_other (a.0 + 1) up (writers entries h o) (x.0 + 1) (λ e. na (omega arith)) np)
 
   module _ (top : parent_of t a.0 ≡ None) (moved : AreChanged (IsSettled t a) (listed holdings a) objects objects')
       (cleared : Lists holdings a [] holdings') where
@@ -91,8 +91,8 @@ module _ (s : Opening) (h : History PlainEntry) (t : Tree) (objects objects' : L
         let f = free_cell s h t o c a i (sym (k.held a o) ∙ e) in
         subst (IsCell s (Committed (a.0 + 1) ▹ h) (after_commit t a.0) o) (sym r)
         (top_cell s h t k.actions a l top o c c i (sym (ap (λ q. unwrap_or q c.base)
-            (version_of_none a c.versions f.versions))) (sym (readers_none a c.readers f.readers))
-            (sym (without_none a c.versions f.versions)) i.lawful)
+        (version_of_none a c.versions f.versions))) (sym (readers_none a c.readers f.readers))
+        (sym (without_none a c.versions f.versions)) i.lawful)
 
     pub parts_top : AreParts (after_commit t a.0) objects' holdings' s (Committed (a.0 + 1) ▹ h)
     parts_top = record {
@@ -100,7 +100,7 @@ module _ (s : Opening) (h : History PlainEntry) (t : Tree) (objects objects' : L
       each = λ o d lt.
           let low : o < length objects = subst (λ n. o < n) moved.count lt in
           settled_at o (slice_index_or objects o d).cell (slice_index_or objects' o d).cell
-              (is_listed (listed holdings a) o) refl (k.each o d low) (moved.each o d low).cell;
+          (is_listed (listed holdings a) o) refl (k.each o d low) (moved.each o d low).cell;
       held = λ x o.
           ap (λ list. is_listed list o) (cleared x)
           ∙ elim (cases_eq x.0 a.0) [
@@ -160,14 +160,14 @@ module _ (s : Opening) (h : History PlainEntry) (t : Tree) (objects objects' : L
         ∙ ap (λ b. b || is_listed (listed holdings a) o) (k.held p o)
         ∙ ap (λ b. holds h (p.0 + 1) o || b) (k.held a o)
         ∙ four (contains (readers entries h o) (a.0 + 1)) (contains (readers entries h o) (p.0 + 1))
-            (contains (writers entries h o) (a.0 + 1)) (contains (writers entries h o) (p.0 + 1))
+        (contains (writers entries h o) (a.0 + 1)) (contains (writers entries h o) (p.0 + 1))
         ∙ sym (held_after (p.0 + 1) o
         ∙ ap (λ n. contains (inherited (a.0 + 1) n (readers entries h o)) (p.0 + 1)
-            || contains (inherited (a.0 + 1) n (writers entries h o)) (p.0 + 1)) parent_now
+        || contains (inherited (a.0 + 1) n (writers entries h o)) (p.0 + 1)) parent_now
         ∙ ap (λ b. b || contains (inherited (a.0 + 1) (p.0 + 1) (writers entries h o)) (p.0 + 1))
-            (inherited_parent (a.0 + 1) (p.0 + 1) (readers entries h o) (λ e. omega (arith, lt)) (λ e. omega arith))
+        (inherited_parent (a.0 + 1) (p.0 + 1) (readers entries h o) (λ e. omega (arith, lt)) (λ e. omega arith))
         ∙ ap (λ b. (contains (readers entries h o) (a.0 + 1) || contains (readers entries h o) (p.0 + 1)) || b)
-            (inherited_parent (a.0 + 1) (p.0 + 1) (writers entries h o) (λ e. omega (arith, lt)) (λ e. omega arith)))
+        (inherited_parent (a.0 + 1) (p.0 + 1) (writers entries h o) (λ e. omega (arith, lt)) (λ e. omega arith)))
 
     pub parts_sub : AreParts (after_commit t a.0) objects' holdings' s (Committed (a.0 + 1) ▹ h)
     parts_sub = record {
@@ -175,7 +175,7 @@ module _ (s : Opening) (h : History PlainEntry) (t : Tree) (objects objects' : L
       each = λ o d lt.
           let low : o < length objects = subst (λ n. o < n) moved.count lt in
           inherited_at o (slice_index_or objects o d).cell (slice_index_or objects' o d).cell
-              (is_listed (listed holdings a) o) refl (k.each o d low) (moved.each o d low).cell;
+          (is_listed (listed holdings a) o) refl (k.each o d low) (moved.each o d low).cell;
       held = λ x o.
           elim (cases_eq x.0 a.0) [
             | inl e ↦ ap (λ list. is_listed list o) (list_own x e)
@@ -197,8 +197,8 @@ module _ (s : Opening) (h : History PlainEntry) (t : Tree) (objects objects' : L
               | inl e ↦
                   ⊎_elim (λ i. k.there p o i) (λ i. k.there a o i)
                   (or_cases (is_listed (listed holdings p) o) (is_listed (listed holdings a) o)
-                      (sym (is_listed_passed (listed holdings a) (listed holdings p) o)
-                      ∙ sym (ap (λ list. is_listed list o) (list_parent x e)) ∙ i))
+                  (sym (is_listed_passed (listed holdings a) (listed holdings p) o)
+                  ∙ sym (ap (λ list. is_listed list o) (list_parent x e)) ∙ i))
               | inr np ↦ k.there x o (sym (ap (λ list. is_listed list o) (list_now x na np)) ∙ i)
             ]
           ]);

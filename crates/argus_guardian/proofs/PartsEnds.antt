@@ -10,8 +10,8 @@ use Rattle.argus_actions.specs.declared.action_id.ActionId.{ActionId}
 use Rattle.argus_contents.specs.declared.obj_id.ObjId.{ObjId}
 use Rattle.argus_entries.specs.Entry.{PlainEntry}
 use Rattle.argus_guardian.specs.Keeping.{AreParts, holds}
-use Rattle.argus_guardian.specs.Moving.{AreLawful, is_listed}
-use Rattle.argus_guardian.specs.Sweeping.{AreAllThere, AreCovered, AreEnded}
+use Rattle.argus_guardian.specs.Moving.{is_listed}
+use Rattle.argus_guardian.specs.Sweeping.{AreCovered, AreEnded}
 use Rattle.argus_guardian.specs.declared.atomic_object.AtomicObject.{AtomicObject}
 use Rattle.argus_journal.specs.Entries.{entries}
 use Rattle.argus_journal.specs.Opening.{Opening, opened}
@@ -52,13 +52,13 @@ module _ (s : Opening) (h : History PlainEntry) (t t' : Tree) (objects objects' 
   spared x o =
       let p = λ (n : ℕ). not (model.is_under h actions n) in
       ap (λ rs. contains rs (x.0 + 1) || contains (writers entries (Aborted actions ▹ h) o) (x.0 + 1))
-          (holders_after_abort (reads entries) h actions (orderly s (Aborted actions ▹ h) l) o)
+      (holders_after_abort (reads entries) h actions (orderly s (Aborted actions ▹ h) l) o)
       ∙ ap (λ ws. contains (filter p (readers entries h o)) (x.0 + 1) || contains ws (x.0 + 1))
-          (holders_after_abort entries.writes h actions (orderly s (Aborted actions ▹ h) l) o)
+      (holders_after_abort entries.writes h actions (orderly s (Aborted actions ▹ h) l) o)
       ∙ ap (λ b. b || contains (filter p (writers entries h o)) (x.0 + 1))
-          (contains_filtered p (readers entries h o) (x.0 + 1))
+      (contains_filtered p (readers entries h o) (x.0 + 1))
       ∙ ap (λ b. (contains (readers entries h o) (x.0 + 1) && p (x.0 + 1)) || b)
-          (contains_filtered p (writers entries h o) (x.0 + 1))
+      (contains_filtered p (writers entries h o) (x.0 + 1))
       ∙ both (contains (readers entries h o) (x.0 + 1)) (contains (writers entries h o) (x.0 + 1)) (p (x.0 + 1))
     where
       both : (a b c : Bool) → ((a && c) || (b && c)) ≡ ((a || b) && c)
@@ -79,7 +79,7 @@ module _ (s : Opening) (h : History PlainEntry) (t t' : Tree) (objects objects' 
         let low : o < length objects = subst (λ n. o < n) moved.count lt in
         let r = moved.cell o d low in
         ended_cell s h t t' k.actions actions ended l under more o (slice_index_or objects o d).cell
-            (slice_index_or objects' o d).cell (k.each o d low) r.base r.readers r.versions r.lawful;
+        (slice_index_or objects' o d).cell (k.each o d low) r.base r.readers r.versions r.lawful;
     held = λ x o.
         ap (λ list. is_listed list o) (moved.lists x)
         ∙ elim (cases_Bool (holds h (x.0 + 1) o)) [
@@ -93,13 +93,13 @@ module _ (s : Opening) (h : History PlainEntry) (t t' : Tree) (objects objects' 
               ]
           | inr e ↦
               elim (ended x.0) as (λ b. is_listed (cond b [] (listed holdings x)) o ≡ false)
-                  [ true ↦ refl | false ↦ k.held x o ∙ e ]
+              [ true ↦ refl | false ↦ k.held x o ∙ e ]
               ∙ sym (spared x o ∙ ap (λ b. b && not (model.is_under h actions (x.0 + 1))) e)
         ];
     there = λ x o i.
         subst (λ n. o < n) (sym moved.count)
         (k.there x o (shrinks (ended x.0) (listed holdings x) o
-            (sym (ap (λ list. is_listed list o) (moved.lists x)) ∙ i)));
+        (sym (ap (λ list. is_listed list o) (moved.lists x)) ∙ i)));
   }
     where
       and_off : (b : Bool) → (b && false) ≡ false
@@ -132,7 +132,7 @@ module _ (h : History PlainEntry) (t : Tree) (is : IsTree t h) (w : Orderly h) (
   under_siblings_is x lx =
       let bx : is_begun h (x.0 + 1) ≡ true = live_begun h (x.0 + 1) lx in
       same_bool (has_ancestor (is_live_sibling t a) t.folded t.rows x.0)
-          (model.is_under h (live_siblings h (a + 1)) (x.0 + 1))
+      (model.is_under h (live_siblings h (a + 1)) (x.0 + 1))
       (λ e.
       let q = ancestor_found (is_live_sibling t a) t.folded t.rows x.0 e in
       let s = and_parts (is_live h (q.0 + 1)) (is_sibling h (a + 1) (q.0 + 1)) (sym (sibling q.0) ∙ q.1) in
@@ -149,7 +149,7 @@ module _ (h : History PlainEntry) (t : Tree) (is : IsTree t h) (w : Orderly h) (
       ancestor_from (is_live_sibling t a) t.folded t.rows y x.0
       (sibling y ∙ ap (λ z. is_live h z && is_sibling h (a + 1) z) same ∙ s)
       (ancestor_begun_is t h is w y x.0 (ap (λ z. is_begun h z) same ∙ bz) bx
-          ∙ ap (λ z. model.is_ancestor h z (x.0 + 1)) same ∙ q.2))
+      ∙ ap (λ z. model.is_ancestor h z (x.0 + 1)) same ∙ q.2))
 
 -- who holds an object has it on its list
 module _ (s : Opening) (h : History PlainEntry) (t : Tree) (objects : List AtomicObject) (holdings : Holdings)
@@ -159,6 +159,6 @@ module _ (s : Opening) (h : History PlainEntry) (t : Tree) (objects : List Atomi
       let c = k.each o d lt in
       k.held x o
       ∙ sym (ap (λ b. b || has_version x (slice_index_or objects o d).cell.versions)
-          (reader_said x (slice_index_or objects o d).cell.readers ∙ ap (λ rs. contains rs (x.0 + 1)) c.readers)
+      (reader_said x (slice_index_or objects o d).cell.readers ∙ ap (λ rs. contains rs (x.0 + 1)) c.readers)
       ∙ ap (λ b. contains (readers entries h o) (x.0 + 1) || b) (c.writers x))
       ∙ e

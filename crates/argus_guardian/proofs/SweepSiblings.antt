@@ -156,7 +156,7 @@ ended_both t p q both split a b c f g = record {
       ∙ sym (filter_same (λ x. both x.0) (λ x. p x.0 || q x.0) (λ x. split x.0) a.readers);
   versions =
       g.versions ∙ ap (filter (λ v. not (q v.holder.0))) f.versions
-          ∙ filter_both (λ v. p v.holder.0) (λ v. q v.holder.0) a.versions
+      ∙ filter_both (λ v. p v.holder.0) (λ v. q v.holder.0) a.versions
       ∙ sym (filter_same (λ v. both v.holder.0) (λ v. p v.holder.0 || q v.holder.0) (λ v. split v.holder.0) a.versions);
   lawful = g.lawful;
 }
@@ -175,11 +175,11 @@ all_both t p q both split old mid new held hm hn k m = record {
   shape = λ o d lt. m.shape o d (subst (λ n. o < n) (sym k.count) lt) ∙ k.shape o d lt;
   cell = λ o d lt.
       ended_both t p q both split (slice_index_or old o d).cell (slice_index_or mid o d).cell
-          (slice_index_or new o d).cell (k.cell o d lt)
+      (slice_index_or new o d).cell (k.cell o d lt)
       (m.cell o d (subst (λ n. o < n) (sym k.count) lt));
   lists = λ x.
       m.lists x ∙ ap (λ list. cond (q x.0) [] list) (k.lists x) ∙ join x (p x.0) (q x.0)
-          ∙ ap (λ b. cond b [] (listed held x)) (sym (split x.0));
+      ∙ ap (λ b. cond b [] (listed held x)) (sym (split x.0));
 }
   where
     join : (x : ActionId) (b c : Bool) → cond c [] (cond b [] (listed held x)) ≡ cond (b || c) [] (listed held x)
@@ -223,7 +223,7 @@ covered_more t ended old new held held' k cover = λ x o d lt e.
     let now : Object = (slice_index_or new o d).cell in
     let kept : ((is_reader x was.readers || has_version x was.versions) && not (ended x.0)) ≡ true =
     sym (ap (λ rs. is_reader x rs || has_version x now.versions) c.readers
-        ∙ ap (λ vs. is_reader x (filter (λ y. not (ended y.0)) was.readers) || has_version x vs) c.versions
+    ∙ ap (λ vs. is_reader x (filter (λ y. not (ended y.0)) was.readers) || has_version x vs) c.versions
     ∙ ap (λ b. b || has_version x (filter (λ v. not (ended v.holder.0)) was.versions)) (reader_filtered x was.readers)
     ∙ ap (λ b. (is_reader x was.readers && not (ended x.0)) || b) (has_filtered (λ n. not (ended n)) was.versions x)
     ∙ join (is_reader x was.readers) (has_version x was.versions) (not (ended x.0))) ∙ e in
@@ -257,7 +257,7 @@ covered_more t ended old new held held' k cover = λ x o d lt e.
               | inl same ↦
                   let gone : not (ended x.0) ≡ false = ap not (ap ended (sym same) ∙ e) in
                   and_right (is_reader x rs) (not (ended x.0)) gone
-                      ∙ sym (and_right (eqb y.0 x.0 || is_reader x rs) (not (ended x.0)) gone)
+                  ∙ sym (and_right (eqb y.0 x.0 || is_reader x rs) (not (ended x.0)) gone)
               | inr ne ↦ ap (λ b. (b || is_reader x rs) && not (ended x.0)) (sym (ne_eqb y.0 x.0 ne))
             ]
         at false e ih =
@@ -302,9 +302,9 @@ module _ (t : Tree) (a u : ℕ) (under : under_at t.folded t.rows a ≡ Some u) 
   sibling_row x e =
       let q = and_parts (is_live_at t.folded t.rows x) (is_sibling_of t.folded t.rows a x) e in
       let r = and_parts (not (x == a)) (option_map_or (λ under. is_child_of t.folded t.rows under x)
-          (under_at t.folded t.rows a) false) q.1 in
+      (under_at t.folded t.rows a) false) q.1 in
       came_row (comes_from u) t.folded t.rows x (sym (ap (λ o. option_map_or
-          (λ under. is_child_of t.folded t.rows under x) o false) under) ∙ r.1)
+      (λ under. is_child_of t.folded t.rows under x) o false) under) ∙ r.1)
 
   -- the next older one
   older_is : (bound c : ℕ) → newest_child_below t.folded t.rows u bound ≡ Some c
@@ -312,9 +312,9 @@ module _ (t : Tree) (a u : ℕ) (under : under_at t.folded t.rows a ≡ Some u) 
   older_is bound c e =
       let at = newest_where_at (comes_from u) t.folded t.rows bound c e in
       ap (option_and_then (λ (row : Row). named (option_and_then (λ under. newest_child_below t.folded t.rows under c)
-          (under_of row.origin)))) at.1.1.1.1.0
+      (under_of row.origin)))) at.1.1.1.1.0
       ∙ ap (λ o. named (option_and_then (λ under. newest_child_below t.folded t.rows under c) o))
-          (comes_under at.1.1.1.0.origin u at.1.1.1.1.1)
+      (comes_under at.1.1.1.0.origin u at.1.1.1.1.1)
 
   seen_more : (bound c : ℕ) → newest_child_below t.folded t.rows u bound ≡ Some c → (x : ℕ)
       → is_seen t a c x ≡ (is_seen t a bound x || (is_live_sibling t a c && c == x))
@@ -331,20 +331,20 @@ module _ (t : Tree) (a u : ℕ) (under : under_at t.folded t.rows a ≡ Some u) 
                     | inl same ↦
                         le-leb c x (omega (arith, same))
                         ∙ sym (or_right (is_seen t a bound x) (is_live_sibling t a c && c == x)
-                            (and_from (is_live_sibling t a c) (c == x) (ap (is_live_sibling t a) same ∙ live)
-                            (eq-eqb c x same)))
+                        (and_from (is_live_sibling t a c) (c == x) (ap (is_live_sibling t a) same ∙ live)
+                        (eq-eqb c x same)))
                     | inr ne ↦
                         lt-leb c x (omega (arith, le, ne))
                         ∙ sym (ap (λ b. (is_live_sibling t a x && b) || (is_live_sibling t a c && c == x))
-                            (lt-leb bound x below)
+                        (lt-leb bound x below)
                         ∙ ap (λ b. b || (is_live_sibling t a c && c == x))
-                            (and_right (is_live_sibling t a x) false refl)
+                        (and_right (is_live_sibling t a x) false refl)
                         ∙ and_right (is_live_sibling t a c) (c == x) (ne_eqb c x ne))
                   ]
               | inr past ↦
                   le-leb c x (omega (arith, past, at.1.1.0))
                   ∙ sym (or_left (is_seen t a bound x) (is_live_sibling t a c && c == x)
-                      (and_from (is_live_sibling t a x) (nat_le bound x) live (le-leb bound x past)))
+                  (and_from (is_live_sibling t a x) (nat_le bound x) live (le-leb bound x past)))
             ]
         | inr not_live ↦
             ap (λ b. b && nat_le c x) not_live
@@ -367,7 +367,7 @@ module _ (t : Tree) (a u : ℕ) (under : under_at t.folded t.rows a ≡ Some u) 
       next_child = is;
       ended = none_ended t (has_ancestor (is_seen t a (next t)) t.folded t.rows)
           (λ x. has_same (is_seen t a (next t)) (λ x. false) none t.folded t.rows x ∙ has_none t.folded t.rows x)
-              old held l;
+          old held l;
     }
       where
         none : (x : ℕ) → is_seen t a (next t) x ≡ false
@@ -376,7 +376,7 @@ module _ (t : Tree) (a u : ℕ) (under : under_at t.folded t.rows a ≡ Some u) 
               | inl live ↦
                   let r = sibling_row x live in
                   and_right (is_live_sibling t a x) (nat_le (next t) x)
-                      (lt-leb (next t) x (row_begun t.folded t.rows x r.0 r.1.0).1)
+                  (lt-leb (next t) x (row_begun t.folded t.rows x r.0 r.1.0).1)
               | inr off ↦ ap (λ b. b && nat_le (next t) x) off
             ]
 
@@ -384,7 +384,7 @@ module _ (t : Tree) (a u : ℕ) (under : under_at t.folded t.rows a ≡ Some u) 
     pub swing_next : (c : ActionId) → IsSwung t a u old new held held' (Some c) → (c.0 < next t) × (t.folded ≤ c.0)
     swing_next c k =
         let at = newest_where_at (comes_from u) t.folded t.rows k.bound c.0
-            (named_some (newest_child_below t.folded t.rows u k.bound) c k.next_child) in
+        (named_some (newest_child_below t.folded t.rows u k.bound) c k.next_child) in
         (at.1.0, at.0)
 
     -- whether it is a live sibling
@@ -392,11 +392,11 @@ module _ (t : Tree) (a u : ℕ) (under : under_at t.folded t.rows a ≡ Some u) 
         → is_live_sibling t a c.0 ≡ (is_live_at t.folded t.rows c.0 && not (c.0 == a))
     sibling_here c k =
         let at = newest_where_at (comes_from u) t.folded t.rows k.bound c.0
-            (named_some (newest_child_below t.folded t.rows u k.bound) c k.next_child) in
+        (named_some (newest_child_below t.folded t.rows u k.bound) c k.next_child) in
         ap (λ o. is_live_at t.folded t.rows c.0 && (not (c.0 == a)
-            && option_map_or (λ under. is_child_of t.folded t.rows under c.0) o false)) under
+        && option_map_or (λ under. is_child_of t.folded t.rows under c.0) o false)) under
         ∙ ap (λ b. is_live_at t.folded t.rows c.0 && (not (c.0 == a) && b))
-            (ap (λ o. option_map_or (λ (row : Row). comes_from u row.origin) o false) at.1.1.1.1.0 ∙ at.1.1.1.1.1)
+        (ap (λ o. option_map_or (λ (row : Row). comes_from u row.origin) o false) at.1.1.1.1.0 ∙ at.1.1.1.1.1)
         ∙ ap (λ b. is_live_at t.folded t.rows c.0 && b) (and_all (not (c.0 == a)))
       where
         and_all : (b : Bool) → (b && true) ≡ b
@@ -409,7 +409,7 @@ module _ (t : Tree) (a u : ℕ) (under : under_at t.folded t.rows a ≡ Some u) 
     swing_fewer c k =
         let e = named_some (newest_child_below t.folded t.rows u k.bound) c k.next_child in
         subst (λ o. steps_left o < c.0 + 1) (sym (older_is k.bound c.0 e))
-            (fewer (newest_child_below t.folded t.rows u c.0) refl)
+        (fewer (newest_child_below t.folded t.rows u c.0) refl)
       where
         fewer : (o : Option ℕ) → newest_child_below t.folded t.rows u c.0 ≡ o → steps_left (named o) < c.0 + 1
         fewer None i = omega arith
@@ -426,10 +426,10 @@ module _ (t : Tree) (a u : ℕ) (under : under_at t.folded t.rows a ≡ Some u) 
           next_child = older_is k.bound c.0 e;
           ended =
               all_both t (has_ancestor (is_seen t a k.bound) t.folded t.rows) (is_ancestor t c.0)
-                  (has_ancestor (is_seen t a c.0) t.folded t.rows)
+              (has_ancestor (is_seen t a c.0) t.folded t.rows)
               (λ y. has_same (is_seen t a c.0) (λ x. is_seen t a k.bound x || c.0 == x)
-                  (λ x. seen_more k.bound c.0 e x ∙ ap (λ b. is_seen t a k.bound x || (b && c.0 == x)) live)
-                  t.folded t.rows y
+              (λ x. seen_more k.bound c.0 e x ∙ ap (λ b. is_seen t a k.bound x || (b && c.0 == x)) live)
+              t.folded t.rows y
               ∙ has_either (is_seen t a k.bound) (λ x. c.0 == x) t.folded t.rows y
               ∙ ap (λ b. has_ancestor (is_seen t a k.bound) t.folded t.rows y || b) (has_one c.0 t.folded t.rows y))
               old new more held held' held2 k.ended m;
@@ -445,10 +445,10 @@ module _ (t : Tree) (a u : ℕ) (under : under_at t.folded t.rows a ≡ Some u) 
           next_child = older_is k.bound c.0 e;
           ended =
               all_same t (has_ancestor (is_seen t a k.bound) t.folded t.rows)
-                  (has_ancestor (is_seen t a c.0) t.folded t.rows)
+              (has_ancestor (is_seen t a c.0) t.folded t.rows)
               (λ y. has_same (is_seen t a c.0) (is_seen t a k.bound)
-                  (λ x. seen_more k.bound c.0 e x ∙ ap (λ b. is_seen t a k.bound x || (b && c.0 == x)) off
-                  ∙ or_off (is_seen t a k.bound x)) t.folded t.rows y)
+              (λ x. seen_more k.bound c.0 e x ∙ ap (λ b. is_seen t a k.bound x || (b && c.0 == x)) off
+              ∙ or_off (is_seen t a k.bound x)) t.folded t.rows y)
               old new held held' k.ended;
         }
       where
@@ -461,7 +461,7 @@ module _ (t : Tree) (a u : ℕ) (under : under_at t.folded t.rows a ≡ Some u) 
         → AreEnded t (has_ancestor (is_live_sibling t a) t.folded t.rows) old new held held'
     swing_end k =
         all_same t (has_ancestor (is_seen t a k.bound) t.folded t.rows)
-            (has_ancestor (is_live_sibling t a) t.folded t.rows)
+        (has_ancestor (is_live_sibling t a) t.folded t.rows)
         (λ y. has_same (is_live_sibling t a) (is_seen t a k.bound) all t.folded t.rows y)
         old new held held' k.ended
       where
@@ -473,6 +473,6 @@ module _ (t : Tree) (a u : ℕ) (under : under_at t.folded t.rows a ≡ Some u) 
                   live
                   ∙ sym (and_from (is_live_sibling t a x) (nat_le k.bound x) live
                   (le-leb k.bound x (newest_where_no (comes_from u) t.folded t.rows k.bound x r.0
-                      (named_none (newest_child_below t.folded t.rows u k.bound) k.next_child) r.1.0 r.1.1)))
+                  (named_none (newest_child_below t.folded t.rows u k.bound) k.next_child) r.1.0 r.1.1)))
               | inr off ↦ off ∙ sym (ap (λ b. b && nat_le k.bound x) off)
             ]

@@ -103,7 +103,7 @@ module _ (t : Tree) (top : ℕ) (one two both : ℕ → Bool) (split : (x : ℕ)
     shape = λ o d lt. m.shape o d (subst (λ n. o < n) (sym k.count) lt) ∙ k.shape o d lt;
     cell = λ o d lt.
         cell_more o (slice_index_or old o d).cell (slice_index_or mid o d).cell (slice_index_or new o d).cell
-            (k.cell o d lt)
+        (k.cell o d lt)
         (m.cell o d (subst (λ n. o < n) (sym k.count) lt));
     lists = lists_more;
   }
@@ -171,7 +171,7 @@ module _ (t : Tree) (linked : AreLinked t.folded t.rows) (a : ℕ) where
           | inr past ↦
               ap (λ b. x == a || b) (via_unbegun t.folded t.rows a c x past)
               ∙ sym (ap (λ b. (x == a || b) || is_above t.folded t.rows c x)
-                  (via_unbegun t.folded t.rows a bound x past)
+              (via_unbegun t.folded t.rows a bound x past)
               ∙ ap (λ b. (x == a || false) || b) (is_above_past t.folded t.rows c x past)
               ∙ or_off (x == a || false))
         ]
@@ -212,7 +212,7 @@ readers_spared : (ended : ℕ → Bool) (rs : List ActionId) → ((x : ActionId)
 readers_spared ended [] f = refl
 readers_spared ended (y ∷ rs) f =
     ap (λ b. cond (not b) (y ∷ filter (λ x. not (ended x.0)) rs) (filter (λ x. not (ended x.0)) rs))
-        (f y (or_left (eqb y.0 y.0) (is_reader y rs) (eq-eqb y.0 y.0 refl)))
+    (f y (or_left (eqb y.0 y.0) (is_reader y rs) (eq-eqb y.0 y.0 refl)))
     ∙ ap (λ ys. y ∷ ys) (readers_spared ended rs (λ x e. f x (or_right (eqb y.0 x.0) (is_reader x rs) e)))
 
 versions_spared : (ended : ℕ → Bool) (vs : List PlainVersion)
@@ -220,7 +220,7 @@ versions_spared : (ended : ℕ → Bool) (vs : List PlainVersion)
 versions_spared ended [] f = refl
 versions_spared ended (v ∷ vs) f =
     ap (λ b. cond (not b) (v ∷ filter (λ v. not (ended v.holder.0)) vs) (filter (λ v. not (ended v.holder.0)) vs))
-        (f v.holder (or_left (eqb v.holder.0 v.holder.0) (has_version v.holder vs) (eq-eqb v.holder.0 v.holder.0 refl)))
+    (f v.holder (or_left (eqb v.holder.0 v.holder.0) (has_version v.holder vs) (eq-eqb v.holder.0 v.holder.0 refl)))
     ∙ ap (λ ys. v ∷ ys) (versions_spared ended vs (λ x e. f x (or_right (eqb v.holder.0 x.0) (has_version x vs) e)))
 
 -- the walk has ended all that stand under the action
@@ -254,11 +254,11 @@ all_ended t a old new held held' k l cover = record {
           readers =
               ap (λ (z : Object). z.readers) e.0
               ∙ sym (readers_spared (is_ancestor t a) was.readers
-                  (λ x i. untouched o d lt e.1 x (or_left (is_reader x was.readers) (has_version x was.versions) i)));
+              (λ x i. untouched o d lt e.1 x (or_left (is_reader x was.readers) (has_version x was.versions) i)));
           versions =
               ap (λ (z : Object). z.versions) e.0
               ∙ sym (versions_spared (is_ancestor t a) was.versions
-                  (λ x i. untouched o d lt e.1 x (or_right (is_reader x was.readers) (has_version x was.versions) i)));
+              (λ x i. untouched o d lt e.1 x (or_right (is_reader x was.readers) (has_version x was.versions) i)));
           lawful = ap (is_lawful t) e.0 ∙ l o d lt;
         }
 
@@ -269,9 +269,9 @@ older_is t a bound c linked e =
     let at = newest_where_at (is_sub_of a) t.folded t.rows bound c e in
     let row = at.1.1.1.0 in
     ap (option_and_then (λ (row : Row). named (at_parent None row.origin
-        (λ parent. newest_below t.folded t.rows parent c)))) at.1.1.1.1.0
+    (λ parent. newest_below t.folded t.rows parent c)))) at.1.1.1.1.0
     ∙ ap (λ o. named (at_parent None o (λ parent. newest_below t.folded t.rows parent c)))
-        ((newest_sub_is t.folded t.rows a bound c linked e).under row at.1.1.1.1.0)
+    ((newest_sub_is t.folded t.rows a bound c linked e).under row at.1.1.1.1.0)
 
 -- in the midst of the loop: the action itself and its subactions from the bound on were handled, and the next is the
 -- newest below it
@@ -311,7 +311,7 @@ module _ (t : Tree) (linked : AreLinked t.folded t.rows) (top a : ℕ) (old new 
       → (a < below.0) × (below.0 < next t) × (t.folded ≤ below.0)
   walk_next below k =
       let q = newest_sub_is t.folded t.rows a k.bound below.0 linked
-          (named_some (newest_below t.folded t.rows a k.bound) below k.next_sub) in
+      (named_some (newest_below t.folded t.rows a k.bound) below k.next_sub) in
       (q.newer, q.begun, q.low)
 
   -- the steps get fewer
@@ -320,7 +320,7 @@ module _ (t : Tree) (linked : AreLinked t.folded t.rows) (top a : ℕ) (old new 
   walk_fewer below k =
       let e = named_some (newest_below t.folded t.rows a k.bound) below k.next_sub in
       subst (λ o. steps_left o < below.0 + 1) (sym (older_is t a k.bound below.0 linked e))
-          (fewer (newest_below t.folded t.rows a below.0) refl)
+      (fewer (newest_below t.folded t.rows a below.0) refl)
     where
       fewer : (o : Option ℕ) → newest_below t.folded t.rows a below.0 ≡ o → steps_left (named o) < below.0 + 1
       fewer None i = omega arith
@@ -346,7 +346,7 @@ module _ (t : Tree) (linked : AreLinked t.folded t.rows) (top a : ℕ) (old new 
   walk_end begun low k =
       swept_same t top (is_handled t.folded t.rows a k.bound) (is_ancestor t a)
       (handled_all t linked a begun low k.bound (named_none (newest_below t.folded t.rows a k.bound) k.next_sub))
-          old new held held' k.swept
+      old new held held' k.swept
 
 -- a live status
 abbrev pub has_live_status : Option Status → Bool
@@ -360,11 +360,11 @@ live_at_is t a =
       | inl low ↦
           ap (λ o. option_map_or (λ (row : Row). is_live row.status) o false) (numbered_low t.folded t.rows a low)
           ∙ sym (ap (λ b. has_live_status (cond b (Some Folded) (option_map (λ (row : Row). row.status) (row_of t a))))
-              (lt-ltb a t.folded low))
+          (lt-ltb a t.folded low))
       | inr high ↦
           found (row_of t a)
           ∙ sym (ap (λ b. has_live_status (cond b (Some Folded) (option_map (λ (row : Row). row.status) (row_of t a))))
-              (le-ltb a t.folded high))
+          (le-ltb a t.folded high))
     ]
   where
     found : (o : Option Row) → option_map_or (λ (row : Row). is_live row.status) o false

@@ -1,6 +1,6 @@
 -- Tests of read locks, as the guardian refuses and grants them.
-use Rattle.std.proofs.Common.{Bool, List, None, Some, [], ap, arith, false, inl, inr, length, refl, sym, true, ℕ, ◌+◌}
-use Rattle.std.proofs.Common.{◌<◌, ◌≤◌, ◌∙◌, ◌∷◌, ◌≡◌}
+use Rattle.std.proofs.Common.{Bool, List, None, Some, [], ap, arith, inl, inr, length, refl, sym, true, ℕ}
+use Rattle.std.proofs.Common.{◌<◌, ◌∙◌, ◌∷◌, ◌≡◌}
 use Rattle.std.specs.Prelude.{slice_get, slice_index_or}
 use Rattle.std.proofs.lemmas.Bool.{cases_lt, le-ltb}
 use Rattle.std.proofs.lemmas.Option.{slice_get-get_or}
@@ -14,21 +14,15 @@ use Rattle.argus_entries.specs.Entry.{PlainEntry}
 use Rattle.argus_entries.specs.Reply.{answered, refused}
 use Rattle.argus_entries.specs.declared.refusal.Refusal.{Refusal}
 use Rattle.argus_entries.specs.declared.refusal.Refusal.TheVariants.{Conflict, IllTyped, NoObject}
-use Rattle.argus_guardian.specs.Accessing.{IsAccessed, access_refusal}
+use Rattle.argus_guardian.specs.Accessing.{access_refusal}
 use Rattle.argus_guardian.specs.Keeping.{IsKept}
-use Rattle.argus_guardian.specs.Moving.{IsRead}
-use Rattle.argus_guardian.specs.Step.{entry_with}
 use Rattle.argus_guardian.specs.declared.atomic_object.AtomicObject.{AtomicObject}
 use Rattle.argus_guardian.proofs.Accesses.{IsGranted, access_is, acts, granted_parts, reads_agree}
-use Rattle.argus_guardian.proofs.Begun.{kept_nothing}
 use Rattle.argus_guardian.proofs.Ends.{some_object}
 use Rattle.argus_journal.specs.Answers.{answer, granted, if_declared, if_free, or_refused, refusal, suits, unless}
-use Rattle.argus_journal.specs.Entries.{entries}
 use Rattle.argus_journal.specs.Events.{history}
 use Rattle.argus_journal.specs.Objects.{shapes}
 use Rattle.argus_journal.specs.Opening.{Opening}
-use Rattle.argus_laws.proofs.CellAccesses.{read_cell}
-use Rattle.argus_model.specs.Holders as model
 use Rattle.argus_objects.specs.Rules.{may_read}
 use Rattle.argus_objects.specs.declared.holdings.Holdings.{Holdings}
 use Rattle.argus_contents.specs.Shape.{PlainShape}
@@ -42,7 +36,7 @@ all_suit xs o =
           (slice_get-get_or xs o (some_shape xs o lt) lt)
       | inr ge ↦
           ap (λ b. unless b NoObject (unless (suits (λ shape. true) (slice_get xs o)) IllTyped None))
-              (le-ltb o (length xs) ge)
+          (le-ltb o (length xs) ge)
           ∙ sym (ap (λ b. unless b NoObject None) (le-ltb o (length xs) ge))
     ]
   where
@@ -79,5 +73,5 @@ module _ (t : Tree) (objects : List AtomicObject) (holdings : Holdings) (s : Ope
     test_read_right b f =
         let d : AtomicObject = some_object objects o.0 parts.low in
         ap (λ b. answered (flag b)) (f d ∙ reads_agree t objects holdings s j k a o.0
-            (acts t objects holdings s j k a o.0 parts.accepted) d parts.low)
+        (acts t objects holdings s j k a o.0 parts.accepted) d parts.low)
         ∙ sym (ap (λ r. or_refused r (granted s (history s j) (shapes s j) (test_read a.0 o.0))) (sym test_is ∙ e))

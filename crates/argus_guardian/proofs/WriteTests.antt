@@ -1,7 +1,7 @@
 -- Tests of write locks, as the guardian refuses and grants them.
-use Rattle.std.proofs.Common.{Bool, List, None, Some, [], ap, arith, false, inl, inr, length, refl, sym, true, ℕ, ◌+◌}
-use Rattle.std.proofs.Common.{◌<◌, ◌≤◌, ◌∙◌, ◌∷◌, ◌≡◌}
-use Rattle.std.specs.Prelude.{slice_index_or, ◌&&◌}
+use Rattle.std.proofs.Common.{Bool, List, None, Some, ap, length, refl, sym, true}
+use Rattle.std.proofs.Common.{◌<◌, ◌∙◌, ◌≡◌}
+use Rattle.std.specs.Prelude.{slice_index_or}
 use Rattle.std.proofs.lemmas.Bool.{and_parts}
 use Rattle.argus_actions.specs.Refusals.{commit_refusal}
 use Rattle.argus_actions.specs.Tree.{Tree}
@@ -12,34 +12,20 @@ use Rattle.argus_entries.specs.Call.{test_write}
 use Rattle.argus_entries.specs.Entry.{PlainEntry}
 use Rattle.argus_entries.specs.Reply.{answered, refused}
 use Rattle.argus_entries.specs.declared.refusal.Refusal.{Refusal}
-use Rattle.argus_entries.specs.declared.refusal.Refusal.TheVariants.{Conflict, IllTyped, NoObject}
-use Rattle.argus_guardian.specs.Accessing.{IsAccessed, IsAltered, access_refusal, seen_at}
+use Rattle.argus_guardian.specs.Accessing.{access_refusal}
 use Rattle.argus_guardian.specs.Keeping.{IsKept}
-use Rattle.argus_guardian.specs.Step.{entry_with}
 use Rattle.argus_guardian.specs.declared.atomic_object.AtomicObject.{AtomicObject}
-use Rattle.argus_guardian.proofs.Accesses.{IsGranted, access_is, acts, granted_parts, reads_agree, seen_limits}
+use Rattle.argus_guardian.proofs.Accesses.{IsGranted, access_is, acts, granted_parts}
 use Rattle.argus_guardian.proofs.Accesses.{writes_agree}
 use Rattle.argus_guardian.proofs.Tests.{all_suit}
-use Rattle.argus_guardian.proofs.Begun.{kept_nothing}
 use Rattle.argus_guardian.proofs.Ends.{some_object}
-use Rattle.argus_journal.specs.Answers.{answer, granted, if_declared, if_free, or_refused, refusal, suits, unless}
-use Rattle.argus_journal.specs.Entries.{entries}
+use Rattle.argus_journal.specs.Answers.{answer, granted, if_free, or_refused, refusal}
 use Rattle.argus_journal.specs.Events.{history}
 use Rattle.argus_journal.specs.Objects.{shapes}
-use Rattle.argus_journal.specs.Opening.{Opening, opened}
-use Rattle.argus_laws.proofs.CellAccesses.{written_cell}
-use Rattle.argus_laws.proofs.CellHolders.{may_read_is}
-use Rattle.argus_laws.proofs.CellSeen.{visible_is}
-use Rattle.argus_model.specs.Holders as model
-use Rattle.argus_objects.specs.Moves.{changed}
-use Rattle.argus_objects.specs.Object.{Object, holders}
+use Rattle.argus_journal.specs.Opening.{Opening}
+use Rattle.argus_objects.specs.Object.{holders}
 use Rattle.argus_objects.specs.Rules.{all_above, may_read, may_write}
-use Rattle.argus_contents.specs.Change.{outcome, touch}
-use Rattle.argus_contents.specs.Content.{KeepsLimits}
-use Rattle.argus_journal.proofs.Legal.{lawful}
-use Rattle.argus_model.specs.Contents.{sees}
 use Rattle.argus_objects.specs.declared.holdings.Holdings.{Holdings}
-use Rattle.argus_contents.specs.Shape.{PlainShape}
 
 module _ (t : Tree) (objects : List AtomicObject) (holdings : Holdings) (s : Opening) (j : List PlainEntry)
     (k : IsKept t objects holdings s j) (a : ActionId) (o : ObjId) where
@@ -76,6 +62,6 @@ module _ (t : Tree) (objects : List AtomicObject) (holdings : Holdings) (s : Ope
     test_write_right b f =
         let d : AtomicObject = some_object objects o.0 parts.low in
         ap (λ b. answered (flag b)) (f d ∙ writes_agree t objects holdings s j k a o.0
-            (acts t objects holdings s j k a o.0 parts.accepted) d parts.low)
+        (acts t objects holdings s j k a o.0 parts.accepted) d parts.low)
         ∙ sym (ap (λ r. or_refused r (granted s (history s j) (shapes s j) (test_write a.0 o.0)))
-            (sym write_test_is ∙ e))
+        (sym write_test_is ∙ e))

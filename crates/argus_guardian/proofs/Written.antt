@@ -1,6 +1,6 @@
 -- What an action has written, as the walk over its list finds it.
-use Rattle.std.proofs.Common.{Bool, List, None, Option, Some, [], ap, cond, false, get_or, inl, inr, length, map, refl}
-use Rattle.std.proofs.Common.{sym, take, true, ℕ, ◌+◌, ◌<◌, ◌++◌, ◌∙◌, ◌∷◌, ◌≡◌, ◌||◌}
+use Rattle.std.proofs.Common.{List, None, Option, Some, [], ap, cond, get_or, inl, inr, length, map, refl}
+use Rattle.std.proofs.Common.{sym, take, ℕ, ◌+◌, ◌<◌, ◌++◌, ◌∙◌, ◌∷◌, ◌≡◌, ◌||◌}
 use Rattle.std.specs.Option.{is_some, option_map}
 use Rattle.std.proofs.lemmas.Bool.{cases_Bool, cases_eq, eq-eqb, ne_eqb}
 use Rattle.std.proofs.lemmas.List.{map-append, take_more}

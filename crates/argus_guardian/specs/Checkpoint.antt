@@ -1,6 +1,6 @@
 -- A checkpoint of a guardian: when there can be one, and what it leaves.
 use Rattle.std.specs.List.{list_any}
-use Rattle.std.specs.Prelude.{Bool, List, Option, [], map, not, ℕ}
+use Rattle.std.specs.Prelude.{Bool, List, Option, [], map, not}
 use Rattle.argus_contents.specs.Content.{PlainContent}
 use Rattle.argus_contents.specs.Shape.{PlainShape}
 use Rattle.argus_guardian.specs.Step.{Said}

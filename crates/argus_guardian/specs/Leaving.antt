@@ -1,5 +1,5 @@
 -- What an action would leave for good.
-use Rattle.std.specs.Option.{option_map, unwrap_or}
+use Rattle.std.specs.Option.{unwrap_or}
 use Rattle.std.specs.Prelude.{List, None, Option, Some, if◌then◌else◌, map, slice_index_or, ℕ, ◌∷◌}
 use Rattle.std.specs.Prelude.{[]}
 use Rattle.argus_actions.specs.declared.action_id.ActionId.{ActionId}
@@ -31,7 +31,7 @@ abbrev pub written_in : ActionId → List AtomicObject → AtomicObject → List
 written_in a objects d [] = []
 written_in a objects d (o ∷ list) =
     if has_version a (slice_index_or objects o.0 d).cell.versions then o.0
-        ∷ written_in a objects d list
+    ∷ written_in a objects d list
     else written_in a objects d list
 
 -- the content of the action's version of an object, absent where it has none

@@ -1,6 +1,6 @@
 -- What has to be at hand for a prepared call.
 use Rattle.std.specs.Prelude.{Bool, List, None, Option, Some, [], false}
-use Rattle.std.specs.Prelude.{length, slice_index_or, true, vec_capacity, vec_len, ℕ, ◌+◌, ◌<◌, ◌≡◌}
+use Rattle.std.specs.Prelude.{length, slice_index_or, true, vec_capacity, vec_len, ◌+◌, ◌<◌, ◌≡◌}
 use Rattle.std.specs.Prelude.{◌≤◌}
 use Rattle.argus_actions.specs.Refusals.{abort_others_refusal, abort_refusal, commit_refusal}
 use Rattle.argus_actions.specs.Refusals.{begin_nested_refusal, begin_sub_refusal, begin_top_refusal}

@@ -25,7 +25,7 @@ opening_coded =
     code_by (List (PlainShape × Option PlainContent) × (ℕ × ℕ))
     (coded× (coded_list (coded× shape_coded (coded_option content_coded))) (coded× coded_ℕ coded_ℕ))
     (λ s. (s.objects, (s.first_action, s.first_entry)))
-        (λ p. record { objects = p.0; first_action = p.1.0; first_entry = p.1.1 }) (λ _. refl)
+    (λ p. record { objects = p.0; first_action = p.1.0; first_entry = p.1.1 }) (λ _. refl)
 
 abbrev pub said_coded : Coded Said
 said_coded =

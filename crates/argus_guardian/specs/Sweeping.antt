@@ -55,5 +55,5 @@ abbrev pub AreCovered : List AtomicObject → Holdings → Type 0
 AreCovered objects held =
     (x : ActionId) (o : ℕ) (d : AtomicObject) → o < length objects
     → (is_reader x (slice_index_or objects o d).cell.readers
-        || has_version x (slice_index_or objects o d).cell.versions) ≡ true
+    || has_version x (slice_index_or objects o d).cell.versions) ≡ true
     → is_listed (listed held x) o ≡ true

@@ -1,8 +1,8 @@
 -- A cell when holders are ended: what stands under the aborted actions is let go.
-use Rattle.std.proofs.Common.{Bool, List, [], ap, false, inl, inr, refl, subst, sym, true, ℕ, ◌+◌, ◌∙◌, ◌∷◌, ◌≡◌}
+use Rattle.std.proofs.Common.{Bool, List, ap, inl, inr, subst, sym, true, ℕ, ◌+◌, ◌∙◌, ◌≡◌}
 use Rattle.std.specs.List.{filter}
 use Rattle.std.specs.Prelude.{not, ◌&&◌}
-use Rattle.std.proofs.lemmas.Bool.{and_left, and_parts, cases_Bool}
+use Rattle.std.proofs.lemmas.Bool.{and_left, cases_Bool}
 use Rattle.argus_actions.proofs.Marks.{is_above-mark}
 use Rattle.argus_actions.specs.Rows as tree_rows
 use Rattle.argus_actions.specs.Tree.{Tree, after_abort, after_abort_others, is_ancestor, is_live_sibling}
@@ -22,7 +22,7 @@ use Rattle.argus_model.proofs.Standing.{Orderly}
 use Rattle.argus_model.specs.Ancestors as model
 use Rattle.argus_model.specs.Event.{Aborted}
 use Rattle.argus_model.specs.History.{History, ◌▹◌}
-use Rattle.argus_model.specs.Holders.{readers, writers}
+use Rattle.argus_model.specs.Holders.{writers}
 use Rattle.argus_model.specs.Lawful.{Lawful}
 use Rattle.argus_model.specs.Meaning.{reads}
 use Rattle.argus_model.specs.Numbers.{contains}
@@ -70,7 +70,7 @@ module _ (s : Opening) (h : History PlainEntry) (t t' : Tree) (is : IsTree t h) 
         ap numbered r
         ∙ filter_said (λ x. not (ended x.0)) kept c.readers
         (λ x i. ap not (under x (reader_live s h l.1 o (x.0 + 1)
-            (ap (λ rs. contains rs (x.0 + 1)) (sym k.readers) ∙ i))))
+        (ap (λ rs. contains rs (x.0 + 1)) (sym k.readers) ∙ i))))
         ∙ ap (filter kept) k.readers
         ∙ sym (holders_after_abort (reads entries) h actions gone o);
     writers = writers_now o c c' k v;
@@ -79,9 +79,9 @@ module _ (s : Opening) (h : History PlainEntry) (t t' : Tree) (is : IsTree t h) 
         (seen_step s h (Aborted actions ▹ h) o (filter (λ v. not (ended v.holder.0)) c.versions)
         (λ x i.
         let lx = writer_live s (Aborted actions ▹ h) l o (x.0 + 1)
-            (sym (writers_now o c c' k v x) ∙ ap (has_version x) v ∙ i) in
+        (sym (writers_now o c c' k v x) ∙ ap (has_version x) v ∙ i) in
         sees_after_abort entries (opened s) h actions gone (x.0 + 1) o
-            (live_stands (Aborted actions ▹ h) gone (x.0 + 1) lx).1)
+        (live_stands (Aborted actions ▹ h) gone (x.0 + 1) lx).1)
         (seen_filter s h o (λ v. not (ended v.holder.0)) c.versions k.seen));
   }
 

@@ -1,5 +1,5 @@
 -- A cell when an access was granted: a read makes a reader, a write a version; other cells stay.
-use Rattle.std.proofs.Common.{Bool, List, ap, arith, cond, false, inl, inr, refl, subst, sym, true, ℕ, ◌+◌, ◌<◌, ◌≤◌}
+use Rattle.std.proofs.Common.{Bool, ap, arith, cond, false, inl, inr, refl, subst, sym, true, ℕ, ◌+◌}
 use Rattle.std.proofs.Common.{◌∙◌, ◌≡◌, ◌≢◌, eqb, ◌||◌}
 use Rattle.std.specs.Prelude.{Option, not, ◌&&◌, ◌==◌}
 use Rattle.std.proofs.lemmas.Bool.{and_left, and_parts, and_right, both_ways, cases_eq, eq-eqb, ne_eqb}
@@ -69,12 +69,12 @@ module _ (s : Opening) (h : History PlainEntry) (t : Tree) (is : IsTree t h) (a 
     readers =
         k.readers
         ∙ sym (readers_now i ∙ ap (λ b. cond b (insert (a.0 + 1) (readers entries h i)) (readers entries h i))
-            (and_left (o == i) (not (is_write e.call)) (ne_eqb o i other)));
+        (and_left (o == i) (not (is_write e.call)) (ne_eqb o i other)));
     writers = λ x.
         k.writers x
         ∙ ap (λ ws. contains ws (x.0 + 1))
         (sym (writers_now i ∙ ap (λ b. cond b (insert (a.0 + 1) (writers entries h i)) (writers entries h i))
-            (and_left (o == i) (is_write e.call) (ne_eqb o i other))));
+        (and_left (o == i) (is_write e.call) (ne_eqb o i other))));
     seen =
         seen_step s h (Accessed (a.0 + 1) o e ▹ h) i c.versions
         (λ x q.
@@ -83,7 +83,7 @@ module _ (s : Opening) (h : History PlainEntry) (t : Tree) (is : IsTree t h) (a 
               ap (λ n. sees entries (opened s) (Accessed (a.0 + 1) o e ▹ h) (n + 1) i) same
               ∙ own_sees i
               ∙ ap (λ b. cond b (left_by e.call (sees entries (opened s) h (a.0 + 1) i))
-                  (sees entries (opened s) h (a.0 + 1) i)) (ne_eqb o i other)
+              (sees entries (opened s) h (a.0 + 1) i)) (ne_eqb o i other)
               ∙ ap (λ n. sees entries (opened s) h (n + 1) i) (sym same)
           | inr n ↦ others_see x i (version_live s h l.1 t is i c k x q) n
         ])
@@ -101,13 +101,13 @@ module _ (s : Opening) (h : History PlainEntry) (t : Tree) (is : IsTree t h) (a 
         ap numbered r ∙ with_said a c.readers ∙ ap (insert (a.0 + 1)) k.readers
         ∙ sym (readers_now o
         ∙ ap (λ b. cond (b && not (is_write e.call)) (insert (a.0 + 1) (readers entries h o)) (readers entries h o))
-            (eq-eqb o o refl)
+        (eq-eqb o o refl)
         ∙ ap (λ b. cond (not b) (insert (a.0 + 1) (readers entries h o)) (readers entries h o)) read);
     writers = λ x.
         ap (has_version x) v ∙ k.writers x
         ∙ ap (λ ws. contains ws (x.0 + 1))
         (sym (writers_now o ∙ ap (λ b. cond b (insert (a.0 + 1) (writers entries h o)) (writers entries h o))
-            (and_right (o == o) (is_write e.call) read)));
+        (and_right (o == o) (is_write e.call) read)));
     seen =
         subst (AreSeen s (Accessed (a.0 + 1) o e ▹ h) o) (sym v)
         (seen_step s h (Accessed (a.0 + 1) o e ▹ h) o c.versions
@@ -117,7 +117,7 @@ module _ (s : Opening) (h : History PlainEntry) (t : Tree) (is : IsTree t h) (a 
               ap (λ n. sees entries (opened s) (Accessed (a.0 + 1) o e ▹ h) (n + 1) o) same
               ∙ own_sees o
               ∙ ap (λ c. cond (o == o) c (sees entries (opened s) h (a.0 + 1) o))
-                  (entry_keeps e read (sees entries (opened s) h (a.0 + 1) o))
+              (entry_keeps e read (sees entries (opened s) h (a.0 + 1) o))
               ∙ same_either (o == o) (sees entries (opened s) h (a.0 + 1) o)
               ∙ ap (λ n. sees entries (opened s) h (n + 1) o) (sym same)
           | inr n ↦ others_see x o (version_live s h l.1 t is o c k x q) n
@@ -140,7 +140,7 @@ module _ (s : Opening) (h : History PlainEntry) (t : Tree) (is : IsTree t h) (a 
     readers =
         ap numbered r ∙ k.readers
         ∙ sym (readers_now o ∙ ap (λ b. cond b (insert (a.0 + 1) (readers entries h o)) (readers entries h o))
-            (and_right (o == o) (not (is_write e.call)) (ap not write)));
+        (and_right (o == o) (not (is_write e.call)) (ap not write)));
     writers = λ x.
         ap (has_version x) v
         ∙ ap (λ b. eqb a.0 x.0 || b) (has_filtered (λ n. not (n == a.0)) c.versions x)
@@ -149,7 +149,7 @@ module _ (s : Opening) (h : History PlainEntry) (t : Tree) (is : IsTree t h) (a 
         ∙ ap (λ ws. contains ws (x.0 + 1))
         (sym (writers_now o
         ∙ ap (λ b. cond (b && is_write e.call) (insert (a.0 + 1) (writers entries h o)) (writers entries h o))
-            (eq-eqb o o refl)
+        (eq-eqb o o refl)
         ∙ ap (λ b. cond b (insert (a.0 + 1) (writers entries h o)) (writers entries h o)) write));
     seen =
         subst (AreSeen s (Accessed (a.0 + 1) o e ▹ h) o) (sym v) (
@@ -158,9 +158,9 @@ module _ (s : Opening) (h : History PlainEntry) (t : Tree) (is : IsTree t h) (a 
           seen_step s h (Accessed (a.0 + 1) o e ▹ h) o (without_version a c.versions)
               (λ x i.
               let q = and_parts (has_version x c.versions) (not (x.0 == a.0))
-                  (sym (has_filtered (λ n. not (n == a.0)) c.versions x) ∙ i) in
+              (sym (has_filtered (λ n. not (n == a.0)) c.versions x) ∙ i) in
               others_see x o (version_live s h l.1 t is o c k x q.0)
-                  (λ i. both_ways (not (x.0 == a.0)) (ap not (eq-eqb x.0 a.0 i)) q.1))
+              (λ i. both_ways (not (x.0 == a.0)) (ap not (eq-eqb x.0 a.0 i)) q.1))
               (seen_filter s h o (λ v. not (v.holder.0 == a.0)) c.versions k.seen),
         );
   }
@@ -172,11 +172,11 @@ module _ (s : Opening) (h : History PlainEntry) (t : Tree) (is : IsTree t h) (a 
             | inl q ↦
                 ap (λ b. b || (has_version x c.versions && not (x.0 == a.0))) (eq-eqb a.0 x.0 (sym q))
                 ∙ sym (ap (λ b. b || contains (writers entries h o) (x.0 + 1))
-                    (eq-eqb (x.0 + 1) (a.0 + 1) (ap (λ n. n + 1) q)))
+                (eq-eqb (x.0 + 1) (a.0 + 1) (ap (λ n. n + 1) q)))
             | inr n ↦
                 ap (λ b. b || (has_version x c.versions && not (x.0 == a.0))) (ne_eqb a.0 x.0 (λ q. n (sym q)))
                 ∙ ap (λ b. has_version x c.versions && not b) (ne_eqb x.0 a.0 n) ∙ and_all (has_version x c.versions)
-                    ∙ k.writers x
+                ∙ k.writers x
                 ∙ sym (ap (λ b. b || contains (writers entries h o) (x.0 + 1))
-                    (ne_eqb (x.0 + 1) (a.0 + 1) (λ q. n (omega arith))))
+                (ne_eqb (x.0 + 1) (a.0 + 1) (λ q. n (omega arith))))
           ]

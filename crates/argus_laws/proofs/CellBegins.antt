@@ -1,5 +1,5 @@
 -- A cell goes on when an action begins.
-use Rattle.std.proofs.Common.{ap, arith, refl, subst, sym, true, ℕ, ◌+◌, ◌<◌, ◌≤◌, ◌∙◌, ◌≡◌, ◌≢◌}
+use Rattle.std.proofs.Common.{ap, arith, sym, true, ℕ, ◌+◌, ◌∙◌, ◌≡◌}
 use Rattle.argus_actions.proofs.Above.{above_le}
 use Rattle.argus_actions.proofs.RowsLemmas.{is_above_older}
 use Rattle.argus_actions.specs.Row as act
@@ -11,7 +11,7 @@ use Rattle.argus_journal.specs.Entries.{entries}
 use Rattle.argus_journal.specs.Opening.{Opening, opened}
 use Rattle.argus_laws.proofs.CellHolders.{orderly, seen_step, version_live}
 use Rattle.argus_laws.proofs.CellLists.{lawful_more}
-use Rattle.argus_laws.specs.CellWords.{AreSeen, IsCell}
+use Rattle.argus_laws.specs.CellWords.{IsCell}
 use Rattle.argus_laws.specs.TreeWords.{IsTree, origin_said}
 use Rattle.argus_model.proofs.Live.{is_begun_parts}
 use Rattle.argus_model.proofs.NextHolders.{holders_after_begin}
@@ -20,7 +20,6 @@ use Rattle.argus_model.proofs.Siblings.{live_begun}
 use Rattle.argus_model.proofs.Standing.{Orderly}
 use Rattle.argus_model.specs.Event.{Began}
 use Rattle.argus_model.specs.History.{History, ◌▹◌}
-use Rattle.argus_model.specs.Holders.{readers, writers}
 use Rattle.argus_model.specs.Lawful.{Lawful}
 use Rattle.argus_model.specs.Meaning.{reads}
 use Rattle.argus_model.specs.Numbers.{contains}

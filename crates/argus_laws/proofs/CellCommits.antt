@@ -1,7 +1,6 @@
 -- A cell when its holder commits: what a subaction held is its parent's, what a topaction wrote is the base.
-use Rattle.std.proofs.Common.{Bool, List, None, Option, Some, [], ap, arith, cond, false, inl, inr, refl, subst, sym}
-use Rattle.std.proofs.Common.{true, ℕ, ◌+◌, ◌<◌, ◌≤◌, ◌∙◌, ◌∷◌, ◌≡◌, ◌≢◌, eqb, length, ◌||◌, ◌⊎◌, ⊎_elim, ◌++◌}
-use Rattle.std.specs.List.{filter, list_all, list_any}
+use Rattle.std.proofs.Common.{Bool, List, None, Some, [], ap, arith, cond, false, inl, inr, refl, subst, sym}
+use Rattle.std.proofs.Common.{true, ℕ, ◌+◌, ◌<◌, ◌≤◌, ◌∙◌, ◌∷◌, ◌≡◌, ◌≢◌, eqb, length, ◌||◌, ⊎_elim}
 use Rattle.std.specs.Option.{option_and_then, unwrap_or}
 use Rattle.std.specs.Prelude.{map, not, ◌&&◌, ◌==◌}
 use Rattle.std.proofs.lemmas.Bool.{and_from, and_left, and_parts, and_right, both_ways, cases_Bool, cases_eq, eq-eqb}
@@ -9,51 +8,48 @@ use Rattle.std.proofs.lemmas.Bool.{eqb-true, ne_eqb, or_cases, or_left, or_parts
 use Rattle.argus_actions.specs.Row as act
 use Rattle.argus_actions.specs.Rows.{is_above}
 use Rattle.argus_actions.specs.Rows as act_rows
-use Rattle.argus_actions.specs.Tree.{Tree, after_abort, after_commit, is_ancestor, parent_in, parent_of}
+use Rattle.argus_actions.specs.Tree.{Tree, after_commit, is_ancestor, parent_in, parent_of}
 use Rattle.argus_actions.specs.declared.action_id.ActionId.{ActionId}
 use Rattle.argus_actions.specs.declared.origin.Origin as act_origin
 use Rattle.argus_actions.specs.declared.origin.Origin.TheVariants as begun_as
-use Rattle.argus_actions.specs.declared.status.Status.TheVariants.{Aborted as became_aborted}
 use Rattle.argus_actions.specs.declared.status.Status.TheVariants.{Committed as became_committed}
 use Rattle.argus_actions.proofs.Above.{above_le, above_up}
 use Rattle.argus_actions.proofs.Marks.{is_above-mark}
 use Rattle.argus_actions.proofs.RowsLemmas.{is_above_newest, is_above_older, numbered_newest, numbered_older}
-use Rattle.argus_contents.specs.Content.{PlainContent}
 use Rattle.argus_entries.specs.Entry.{PlainEntry}
 use Rattle.argus_laws.specs.CellWords.{AreSeen, IsCell, numbered}
 use Rattle.argus_laws.specs.TreeWords.{IsTree}
-use Rattle.argus_laws.proofs.CellHolders.{above, orderly, reader_live, seen_filter, seen_step, version_live}
+use Rattle.argus_laws.proofs.CellHolders.{above, orderly, seen_filter, seen_step, version_live}
 use Rattle.argus_laws.proofs.CellHolders.{writer_live}
-use Rattle.argus_laws.proofs.TreeAnswers.{ancestor_begun_is, no_parent_is, parent_is}
+use Rattle.argus_laws.proofs.TreeAnswers.{no_parent_is, parent_is}
 use Rattle.argus_model.proofs.Siblings.{live_begun}
 use Rattle.argus_laws.proofs.CellLists.{filter_said, has_filtered, lawful_more, inherited_said, inherits_other}
-use Rattle.argus_laws.proofs.CellLists.{inherits_own, inherits_parent, reader_said}
+use Rattle.argus_laws.proofs.CellLists.{inherits_own, inherits_parent}
 use Rattle.argus_laws.proofs.TreeRows.{eqb_up}
 use Rattle.argus_journal.specs.Entries.{entries}
 use Rattle.argus_journal.specs.Opening.{Opening, opened}
 use Rattle.argus_model.specs.Ancestors as model
 use Rattle.argus_model.specs.Contents.{base, sees}
-use Rattle.argus_model.specs.Event.{Aborted, Committed}
+use Rattle.argus_model.specs.Event.{Committed}
 use Rattle.argus_model.specs.History.{History, ◌▹◌}
-use Rattle.argus_model.specs.Holders.{holders as holders_by, inherited, readers, writers}
+use Rattle.argus_model.specs.Holders.{inherited, readers, writers}
 use Rattle.argus_model.specs.Lawful.{Lawful}
 use Rattle.argus_model.specs.Meaning.{reads}
 use Rattle.argus_model.specs.OwnerSteps.{stands}
 use Rattle.argus_model.specs.Numbers.{contains, insert, without}
-use Rattle.argus_model.specs.Status.{has_live_child, is_begun, is_live}
+use Rattle.argus_model.specs.Status.{is_live}
 use Rattle.argus_model.proofs.Ancestors.{ancestor_self}
 use Rattle.argus_model.proofs.Lawful.{lawful_steps}
 use Rattle.argus_model.proofs.Live.{live_stands}
-use Rattle.argus_model.proofs.NextHolders.{contains_filtered, holders_after_abort, holders_after_commit}
+use Rattle.argus_model.proofs.NextHolders.{holders_after_commit}
 use Rattle.argus_model.proofs.NextHolders.{inherited_other, inherited_own, inherited_parent}
-use Rattle.argus_model.proofs.NextSees.{base_after_abort, base_after_commit, sees_after_abort, sees_after_commit}
+use Rattle.argus_model.proofs.NextSees.{base_after_commit, sees_after_commit}
 use Rattle.argus_model.proofs.Numbers.{joined}
 use Rattle.argus_model.proofs.Serial.{guarded}
-use Rattle.argus_model.proofs.Bools.{or_none}
 use Rattle.argus_model.proofs.Standing.{Orderly, parent_is as parent_step, parents_are_older}
 use Rattle.argus_model.proofs.Theorems.{ancestor_live, ancestor_older, live_alone, one_above_the_other}
-use Rattle.argus_objects.specs.Moves.{handed, has_version, is_reader, readers_discarded, readers_inherited, version_of}
-use Rattle.argus_objects.specs.Moves.{versions_discarded, versions_inherited, with_reader, without_reader}
+use Rattle.argus_objects.specs.Moves.{handed, has_version, readers_inherited, version_of}
+use Rattle.argus_objects.specs.Moves.{versions_inherited, without_reader}
 use Rattle.argus_objects.specs.Moves.{without_version}
 use Rattle.argus_objects.specs.Object.{Object, PlainVersion}
 use Rattle.argus_objects.specs.Rules.{is_lawful}
@@ -71,13 +67,13 @@ top_alone n (r ∷ older) x y e up =
     elim (cases_eq y (n + length older)) [
       | inl k ↦
           ⊎_elim (λ i. eqb-true x y i) (λ i. absurd (false≢true
-              (sym (alone r.origin (sym (ap (option_and_then (λ (row : act.Row). parent_in row.origin))
-              (numbered_newest n r older y k)) ∙ e)) ∙ i)))
+          (sym (alone r.origin (sym (ap (option_and_then (λ (row : act.Row). parent_in row.origin))
+          (numbered_newest n r older y k)) ∙ e)) ∙ i)))
           (or_cases (eqb x y) (act.at_parent false r.origin (is_above n older x))
-              (sym (is_above_newest n r older x y k) ∙ up))
+          (sym (is_above_newest n r older x y k) ∙ up))
       | inr ne ↦
           top_alone n older x y (sym (ap (option_and_then (λ (row : act.Row). parent_in row.origin))
-              (numbered_older n r older y ne)) ∙ e) (sym (is_above_older n r older x y ne) ∙ up)
+          (numbered_older n r older y ne)) ∙ e) (sym (is_above_older n r older x y ne) ∙ up)
     ]
   where
     alone : (o : act_origin.Origin) → parent_in o ≡ None → act.at_parent false o (is_above n older x) ≡ false
@@ -118,12 +114,15 @@ module _ (s : Opening) (h : History PlainEntry) (t : Tree) (is : IsTree t h) (a 
       → contains (writers entries h o) (x.0 + 1) ≡ true → x.0 ≢ a.0 → model.is_ancestor h (x.0 + 1) (a.0 + 1) ≡ true
   other_above o x wa wx ne =
       ⊎_elim
-      (λ up. absurd (ne (omega (arith, live_alone entries (opened s) h (a.0 + 1) (x.0 + 1) l.1
-          (writer_live s h l.1 o (x.0 + 1) wx) up l.0.1))))
+      (λ up. absurd (ne (omega (
+        arith,
+        live_alone entries (opened s) h (a.0 + 1) (x.0 + 1) l.1
+            (writer_live s h l.1 o (x.0 + 1) wx) up l.0.1,
+      ))))
       (λ up. up)
       (or_cases (model.is_ancestor h (a.0 + 1) (x.0 + 1)) (model.is_ancestor h (x.0 + 1) (a.0 + 1))
       (one_above_the_other entries (opened s) h o (a.0 + 1) (x.0 + 1) l.1 wa
-          (joined (readers entries h o) (writers entries h o) (x.0 + 1) wx)))
+      (joined (readers entries h o) (writers entries h o) (x.0 + 1) wx)))
 
   marked : (x y : ℕ) → is_ancestor t x y ≡ true → is_ancestor (after_commit t a.0) x y ≡ true
   marked x y up = is_above-mark t.folded (λ k. k == a.0) became_committed t.rows x y ∙ up
@@ -134,8 +133,8 @@ module _ (s : Opening) (h : History PlainEntry) (t : Tree) (is : IsTree t h) (a 
       (sees entries (opened s) h (a.0 + 1) o) (sees entries (opened s) h (x.0 + 1) o)
   sees_now x o lx ne =
       sees_after_commit entries (opened s) h (a.0 + 1) now
-          (guarded entries (opened s).contents h (lawful_steps entries (opened s) h l.1)) (x.0 + 1)
-          (live_stands h (orderly s h l.1) (x.0 + 1) lx).1 (λ e. ne (omega arith)) o
+      (guarded entries (opened s).contents h (lawful_steps entries (opened s) h l.1)) (x.0 + 1)
+      (live_stands h (orderly s h l.1) (x.0 + 1) lx).1 (λ e. ne (omega arith)) o
 
   -- a topaction
   module _ (top : parent_of t a.0 ≡ None) where
@@ -159,29 +158,29 @@ module _ (s : Opening) (h : History PlainEntry) (t : Tree) (is : IsTree t h) (a 
             | inl e ↦
                 ap (λ q. unwrap_or q c.base) (seen_at s h o a c.versions k.seen e)
                 ∙ sym (ap (λ b. cond (b && model.parent h (a.0 + 1) == 0) (sees entries (opened s) h (a.0 + 1) o)
-                    (base entries (opened s) h o)) (sym (k.writers a) ∙ e)
+                (base entries (opened s) h o)) (sym (k.writers a) ∙ e)
                 ∙ ap (λ b. cond b (sees entries (opened s) h (a.0 + 1) o) (base entries (opened s) h o))
-                    (eq-eqb (model.parent h (a.0 + 1)) 0 no_parent))
+                (eq-eqb (model.parent h (a.0 + 1)) 0 no_parent))
             | inr e ↦
                 ap (λ q. unwrap_or q c.base) (version_of_none a c.versions e)
                 ∙ k.base
                 ∙ sym (ap (λ b. cond (b && model.parent h (a.0 + 1) == 0) (sees entries (opened s) h (a.0 + 1) o)
-                    (base entries (opened s) h o)) (sym (k.writers a) ∙ e))
+                (base entries (opened s) h o)) (sym (k.writers a) ∙ e))
           ]
           ∙ sym (base_after_commit entries (opened s) h (a.0 + 1) now
-              (guarded entries (opened s).contents h (lawful_steps entries (opened s) h l.1)) o);
+          (guarded entries (opened s).contents h (lawful_steps entries (opened s) h l.1)) o);
       readers =
           ap numbered r
           ∙ filter_said (λ x. not (x.0 == a.0)) (λ n. not (n == a.0 + 1)) c.readers
-              (λ x i. ap not (sym (eqb_up x.0 a.0)))
+          (λ x i. ap not (sym (eqb_up x.0 a.0)))
           ∙ ap (without (a.0 + 1)) k.readers
           ∙ elim (cases_Bool (contains (readers entries h o) (a.0 + 1))) [
             | inl e ↦ sym (ap (λ b. cond b (cond (model.parent h (a.0 + 1) == 0)
                 (without (a.0 + 1) (readers entries h o)) (insert (model.parent h (a.0 + 1))
                 (without (a.0 + 1) (readers entries h o)))) (readers entries h o)) e
                 ∙ ap (λ b. cond b (without (a.0 + 1) (readers entries h o))
-                    (insert (model.parent h (a.0 + 1)) (without (a.0 + 1) (readers entries h o))))
-                    (eq-eqb (model.parent h (a.0 + 1)) 0 no_parent))
+                (insert (model.parent h (a.0 + 1)) (without (a.0 + 1) (readers entries h o))))
+                (eq-eqb (model.parent h (a.0 + 1)) 0 no_parent))
             | inr e ↦ without_none (a.0 + 1) (readers entries h o) e
                 ∙ sym (ap (λ b. cond b (cond (model.parent h (a.0 + 1) == 0) (without (a.0 + 1) (readers entries h o))
                 (insert (model.parent h (a.0 + 1)) (without (a.0 + 1) (readers entries h o)))) (readers entries h o)) e)
@@ -196,9 +195,9 @@ module _ (s : Opening) (h : History PlainEntry) (t : Tree) (is : IsTree t h) (a 
                 (λ i. omega (arith, no_parent)))
             | inr ne ↦
                 ap (λ b. has_version x c.versions && not b) (ne_eqb x.0 a.0 ne) ∙ and_yes (has_version x c.versions)
-                    ∙ k.writers x
+                ∙ k.writers x
                 ∙ sym (inherited_other (a.0 + 1) (model.parent h (a.0 + 1)) (writers entries h o) (x.0 + 1)
-                    (λ i. ne (omega arith)) (λ i. omega (arith, no_parent)))
+                (λ i. ne (omega arith)) (λ i. omega (arith, no_parent)))
           ]
           ∙ ap (λ ws. contains ws (x.0 + 1)) (sym (holders_after_commit entries.writes h (a.0 + 1) now o));
       seen =
@@ -206,7 +205,7 @@ module _ (s : Opening) (h : History PlainEntry) (t : Tree) (is : IsTree t h) (a 
           (seen_step s h (Committed (a.0 + 1) ▹ h) o (without_version a c.versions)
           (λ x i.
           let q = and_parts (has_version x c.versions) (not (x.0 == a.0))
-              (sym (has_filtered (λ n. not (n == a.0)) c.versions x) ∙ i) in
+          (sym (has_filtered (λ n. not (n == a.0)) c.versions x) ∙ i) in
           let ne : x.0 ≢ a.0 = λ e. both_ways (not (x.0 == a.0)) (ap not (eq-eqb x.0 a.0 e)) q.1 in
           sees_now x o (version_live s h l.1 t is o c k x q.0) ne
           ∙ elim (cases_Bool (has_version a c.versions)) [
@@ -247,9 +246,9 @@ module _ (s : Opening) (h : History PlainEntry) (t : Tree) (is : IsTree t h) (a 
           | inl e ↦
               let lx = version_live s h l.1 t is o c k x hx in
               let le : p.0 + 1 ≤ x.0 + 1 = ancestor_older entries (opened s) h (p.0 + 1) (x.0 + 1) l.1
-                  (live_begun h (x.0 + 1) lx) (subst (λ n. model.is_ancestor h n (x.0 + 1) ≡ true) up_is e) in
+              (live_begun h (x.0 + 1) lx) (subst (λ n. model.is_ancestor h n (x.0 + 1) ≡ true) up_is e) in
               let high : is_ancestor t x.0 a.0 ≡ true = above s h l.1 t is o c k x a hx l.0.0
-                  ∙ other_above o x (sym (k.writers a) ∙ ha) (sym (k.writers x) ∙ hx) na in
+              ∙ other_above o x (sym (k.writers a) ∙ ha) (sym (k.writers x) ∙ hx) na in
               let ge = (above_le t.folded t.rows x.0 p.0 (above_up t.folded t.rows x.0 a.0 p sub high na)).0 in
               absurd (np (omega arith))
           | inr e ↦ e
@@ -262,27 +261,29 @@ module _ (s : Opening) (h : History PlainEntry) (t : Tree) (is : IsTree t h) (a 
     versions_seen o [] f g k = tt
     versions_seen o (v ∷ vs) f g k =
         let rest : AreSeen s (Committed (a.0 + 1) ▹ h) o (map (handed a p) (without_version p vs)) =
-            versions_seen o vs (λ x i. f x (or_right (eqb v.holder.0 x.0) (has_version x vs) i)) g k.1 in
+        versions_seen o vs (λ x i. f x (or_right (eqb v.holder.0 x.0) (has_version x vs) i)) g k.1 in
         elim (cases_eq v.holder.0 p.0) [
           | inl e ↦ subst (λ b. AreSeen s (Committed (a.0 + 1) ▹ h) o
               (map (handed a p) (cond (not b) (v ∷ without_version p vs) (without_version p vs))))
               (sym (eq-eqb v.holder.0 p.0 e)) rest
           | inr np ↦
               subst (λ b. AreSeen s (Committed (a.0 + 1) ▹ h) o
-                  (map (handed a p) (cond (not b) (v ∷ without_version p vs) (without_version p vs))))
-                  (sym (ne_eqb v.holder.0 p.0 np))
+              (map (handed a p) (cond (not b) (v ∷ without_version p vs) (without_version p vs))))
+              (sym (ne_eqb v.holder.0 p.0 np))
               (elim (cases_eq v.holder.0 a.0) [
                 | inl e ↦
                     let r : PlainVersion = record { holder = p; content = v.content } in
                     subst (λ b. AreSeen s (Committed (a.0 + 1) ▹ h) o
-                        (cond b r v ∷ map (handed a p) (without_version p vs))) (sym (eq-eqb v.holder.0 a.0 e))
+                    (cond b r v ∷ map (handed a p) (without_version p vs))) (sym (eq-eqb v.holder.0 a.0 e))
                     (k.0 ∙ ap (λ n. sees entries (opened s) h (n + 1) o) e ∙ sym g, rest)
                 | inr na ↦
                     let r : PlainVersion = record { holder = p; content = v.content } in
                     subst (λ b. AreSeen s (Committed (a.0 + 1) ▹ h) o
-                        (cond b r v ∷ map (handed a p) (without_version p vs))) (sym (ne_eqb v.holder.0 a.0 na))
-                    (k.0 ∙ sym (f v.holder (or_left (eqb v.holder.0 v.holder.0) (has_version v.holder vs)
-                        (eq-eqb v.holder.0 v.holder.0 refl)) na np), rest)
+                    (cond b r v ∷ map (handed a p) (without_version p vs))) (sym (ne_eqb v.holder.0 a.0 na)) (
+                      k.0 ∙ sym (f v.holder (or_left (eqb v.holder.0 v.holder.0) (has_version v.holder vs)
+                          (eq-eqb v.holder.0 v.holder.0 refl)) na np),
+                      rest,
+                    )
               ])
         ]
 
@@ -294,38 +295,38 @@ module _ (s : Opening) (h : History PlainEntry) (t : Tree) (is : IsTree t h) (a 
       base =
           b ∙ k.base
           ∙ sym (ap (λ b. cond b (sees entries (opened s) h (a.0 + 1) o) (base entries (opened s) h o))
-              (and_right (contains (writers entries h o) (a.0 + 1)) (model.parent h (a.0 + 1) == 0)
-              (ne_eqb (model.parent h (a.0 + 1)) 0 (λ e. omega (arith, up_is)))))
+          (and_right (contains (writers entries h o) (a.0 + 1)) (model.parent h (a.0 + 1) == 0)
+          (ne_eqb (model.parent h (a.0 + 1)) 0 (λ e. omega (arith, up_is)))))
           ∙ sym (base_after_commit entries (opened s) h (a.0 + 1) now
-              (guarded entries (opened s).contents h (lawful_steps entries (opened s) h l.1)) o);
+          (guarded entries (opened s).contents h (lawful_steps entries (opened s) h l.1)) o);
       readers =
           ap numbered r ∙ inherited_said a p c.readers ∙ ap (λ rs. inherited (a.0 + 1) (p.0 + 1) rs) k.readers
-              ∙ ap (λ n. inherited (a.0 + 1) n (readers entries h o)) (sym up_is)
+          ∙ ap (λ n. inherited (a.0 + 1) n (readers entries h o)) (sym up_is)
           ∙ sym (holders_after_commit (reads entries) h (a.0 + 1) now o);
       writers = λ x.
           ap (has_version x) v
           ∙ elim (cases_eq x.0 a.0) [
             | inl e ↦
                 ap (λ y. has_version y (versions_inherited a p c.versions)) (same_id x a e)
-                    ∙ inherits_own a p c.versions (λ i. omega (arith, parent_less))
+                ∙ inherits_own a p c.versions (λ i. omega (arith, parent_less))
                 ∙ sym (ap (λ n. contains (inherited (a.0 + 1) (model.parent h (a.0 + 1)) (writers entries h o)) (n + 1))
-                    e ∙ inherited_own (a.0 + 1) (model.parent h (a.0 + 1)) (writers entries h o)
-                    (λ i. omega (arith, up_is, parent_less)))
+                e ∙ inherited_own (a.0 + 1) (model.parent h (a.0 + 1)) (writers entries h o)
+                (λ i. omega (arith, up_is, parent_less)))
             | inr na ↦ elim (cases_eq x.0 p.0) [
               | inl e ↦
                   ap (λ y. has_version y (versions_inherited a p c.versions)) (same_id x p e)
-                      ∙ inherits_parent a p c.versions (λ i. omega (arith, parent_less))
+                  ∙ inherits_parent a p c.versions (λ i. omega (arith, parent_less))
                   ∙ ap (λ b. b || has_version p c.versions) (k.writers a)
-                      ∙ ap (λ b. contains (writers entries h o) (a.0 + 1) || b)
-                      (k.writers p ∙ ap (contains (writers entries h o)) (sym up_is))
+                  ∙ ap (λ b. contains (writers entries h o) (a.0 + 1) || b)
+                  (k.writers p ∙ ap (contains (writers entries h o)) (sym up_is))
                   ∙ sym (inherited_parent (a.0 + 1) (model.parent h (a.0 + 1)) (writers entries h o)
-                      (λ i. omega (arith, up_is, parent_less)) (λ i. omega (arith, up_is)))
+                  (λ i. omega (arith, up_is, parent_less)) (λ i. omega (arith, up_is)))
                   ∙ ap (contains (inherited (a.0 + 1) (model.parent h (a.0 + 1)) (writers entries h o)))
-                      (up_is ∙ sym (ap (λ n. n + 1) e))
+                  (up_is ∙ sym (ap (λ n. n + 1) e))
               | inr np ↦
                   inherits_other a p c.versions x na np ∙ k.writers x
                   ∙ sym (inherited_other (a.0 + 1) (model.parent h (a.0 + 1)) (writers entries h o) (x.0 + 1)
-                      (λ i. na (omega arith)) (λ i. np (omega (arith, up_is))))
+                  (λ i. na (omega arith)) (λ i. np (omega (arith, up_is))))
             ]
           ]
           ∙ ap (λ ws. contains ws (x.0 + 1)) (sym (holders_after_commit entries.writes h (a.0 + 1) now o));
@@ -335,29 +336,29 @@ module _ (s : Opening) (h : History PlainEntry) (t : Tree) (is : IsTree t h) (a 
             | inl e ↦
                 let wrote : contains (writers entries h o) (a.0 + 1) ≡ true = sym (k.writers a) ∙ e in
                 subst (λ b. AreSeen s (Committed (a.0 + 1) ▹ h) o
-                    (cond b (map (handed a p) (without_version p c.versions)) c.versions)) (sym e)
+                (cond b (map (handed a p) (without_version p c.versions)) c.versions)) (sym e)
                 (versions_seen o c.versions
                 (λ x hx na np. sees_now x o (version_live s h l.1 t is o c k x hx) na
                 ∙ ap (λ b. cond b (sees entries (opened s) h (a.0 + 1) o) (sees entries (opened s) h (x.0 + 1) o))
-                    (and_right (contains (writers entries h o) (a.0 + 1))
-                    (model.is_ancestor h (model.parent h (a.0 + 1)) (x.0 + 1)) (not_below o c k x e hx na np)))
+                (and_right (contains (writers entries h o) (a.0 + 1))
+                (model.is_ancestor h (model.parent h (a.0 + 1)) (x.0 + 1)) (not_below o c k x e hx na np)))
                 (sees_now p o parent_live (λ e. omega (arith, parent_less))
                 ∙ ap (λ b. cond b (sees entries (opened s) h (a.0 + 1) o) (sees entries (opened s) h (p.0 + 1) o))
-                    (and_from (contains (writers entries h o) (a.0 + 1))
-                    (model.is_ancestor h (model.parent h (a.0 + 1)) (p.0 + 1)) wrote
-                    (ap (λ n. model.is_ancestor h n (p.0 + 1)) up_is ∙ ancestor_self h (p.0 + 1))))
+                (and_from (contains (writers entries h o) (a.0 + 1))
+                (model.is_ancestor h (model.parent h (a.0 + 1)) (p.0 + 1)) wrote
+                (ap (λ n. model.is_ancestor h n (p.0 + 1)) up_is ∙ ancestor_self h (p.0 + 1))))
                 k.seen)
             | inr e ↦
                 subst (λ b. AreSeen s (Committed (a.0 + 1) ▹ h) o
-                    (cond b (map (handed a p) (without_version p c.versions)) c.versions)) (sym e)
+                (cond b (map (handed a p) (without_version p c.versions)) c.versions)) (sym e)
                 (seen_step s h (Committed (a.0 + 1) ▹ h) o c.versions
                 (λ x i.
                 let na : x.0 ≢ a.0 = λ q. both_ways (has_version a c.versions) e
-                    (subst (λ y. has_version y c.versions ≡ true) (same_id x a q) i) in
+                (subst (λ y. has_version y c.versions ≡ true) (same_id x a q) i) in
                 sees_now x o (version_live s h l.1 t is o c k x i) na
                 ∙ ap (λ b. cond b (sees entries (opened s) h (a.0 + 1) o) (sees entries (opened s) h (x.0 + 1) o))
-                    (and_left (contains (writers entries h o) (a.0 + 1))
-                    (model.is_ancestor h (model.parent h (a.0 + 1)) (x.0 + 1)) (sym (k.writers a) ∙ e)))
+                (and_left (contains (writers entries h o) (a.0 + 1))
+                (model.is_ancestor h (model.parent h (a.0 + 1)) (x.0 + 1)) (sym (k.writers a) ∙ e)))
                 k.seen)
           ]);
     }

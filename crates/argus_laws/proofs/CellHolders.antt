@@ -1,14 +1,13 @@
 -- Who holds a cell is live, and the read lock is free in the cell exactly where it is free in the history.
-use Rattle.std.proofs.Common.{Bool, List, None, Option, Some, [], ap, arith, cond, false, inl, inr, refl, subst, sym}
-use Rattle.std.proofs.Common.{true, ℕ, ◌+◌, ◌<◌, ◌≤◌, ◌∙◌, ◌∷◌, ◌≡◌, ◌≢◌, eqb, ◌||◌, ◌⊎◌, ⊎_elim, ◌++◌}
-use Rattle.std.specs.List.{filter, list_all, list_any}
-use Rattle.std.specs.Prelude.{map, not, ◌&&◌, ◌==◌, ◌-◌}
-use Rattle.std.proofs.lemmas.Bool.{and_from, and_parts, cases_Bool, cases_eq, eq-eqb, eqb-true, ne_eqb, or_cases}
+use Rattle.std.proofs.Common.{Bool, List, [], ap, arith, cond, false, refl, subst, sym}
+use Rattle.std.proofs.Common.{true, ℕ, ◌+◌, ◌∙◌, ◌∷◌, ◌≡◌, ◌≢◌, eqb}
+use Rattle.std.specs.List.{filter, list_all}
+use Rattle.std.specs.Prelude.{◌&&◌, ◌-◌}
+use Rattle.std.proofs.lemmas.Bool.{eq-eqb}
 use Rattle.std.proofs.lemmas.Bool.{or_left, or_right, both_ways}
 use Rattle.argus_actions.specs.Tree.{SameActions, Tree, is_ancestor}
 use Rattle.argus_actions.specs.declared.action_id.ActionId.{ActionId}
 use Rattle.argus_actions.specs.Rows.{is_above}
-use Rattle.argus_contents.specs.Content.{PlainContent}
 use Rattle.argus_entries.specs.Entry.{PlainEntry}
 use Rattle.argus_laws.specs.CellWords.{AreSeen, IsCell, numbered}
 use Rattle.argus_laws.specs.TreeWords.{IsTree}
@@ -19,23 +18,21 @@ use Rattle.argus_journal.specs.Entries.{entries}
 use Rattle.argus_journal.specs.Opening.{Opening, opened}
 use Rattle.argus_model.specs.Ancestors as model
 use Rattle.argus_model.specs.Contents.{sees}
-use Rattle.argus_model.specs.History.{History, next_action}
+use Rattle.argus_model.specs.History.{History}
 use Rattle.argus_model.specs.Holders as holders_of
 use Rattle.argus_model.specs.Holders.{readers, writers}
 use Rattle.argus_model.specs.Lawful.{Lawful}
-use Rattle.argus_model.specs.Meaning.{reads}
 use Rattle.argus_model.specs.Numbers.{contains}
-use Rattle.argus_model.specs.Status.{is_begun, is_live}
+use Rattle.argus_model.specs.Status.{is_live}
 use Rattle.argus_model.proofs.Bools.{same_bool}
 use Rattle.argus_model.proofs.Lawful.{lawful_orderly}
-use Rattle.argus_model.proofs.Live.{is_begun_parts}
 use Rattle.argus_model.proofs.LockRules.{holders_live}
 use Rattle.argus_model.proofs.NextHolders.{no_base_holder}
 use Rattle.argus_model.proofs.Numbers.{every_at, every_from, joined, joined_left}
 use Rattle.argus_model.proofs.Standing.{Orderly}
 use Rattle.argus_objects.specs.Moves.{has_version}
 use Rattle.argus_objects.specs.Object.{Object, PlainVersion, SameLocks, holders}
-use Rattle.argus_objects.specs.Rules.{all_above, is_chain, is_lawful, is_related, may_read, may_write}
+use Rattle.argus_objects.specs.Rules.{is_chain, is_related, may_read}
 
 pub seen_step : (s : Opening) (h h' : History PlainEntry) (o : ℕ) (vs : List PlainVersion)
     → ((x : ActionId) → has_version x vs ≡ true → sees entries (opened s) h' (x.0 + 1) o
@@ -84,14 +81,14 @@ module _ (s : Opening) (h : History PlainEntry) (l : Lawful entries (opened s) h
         (λ e. every_from (λ x. model.is_ancestor h x (a.0 + 1)) (writers entries h o) (λ x i.
         let y : ActionId = record { 0 = x - 1 } in
         let n : x ≢ 0 = λ e. both_ways (contains (writers entries h o) 0) (no_base_holder entries.writes h o)
-            (subst (λ z. contains (writers entries h o) z ≡ true) e i) in
+        (subst (λ z. contains (writers entries h o) z ≡ true) e i) in
         let same : y.0 + 1 ≡ x = omega arith in
         let has : has_version y c.versions ≡ true = k.writers y ∙ ap (contains (writers entries h o)) same ∙ i in
         subst (λ z. model.is_ancestor h z (a.0 + 1) ≡ true) same
-            (sym (above y a has la) ∙ all_at (λ z. is_ancestor t z a.0) c.versions y e has)))
+        (sym (above y a has la) ∙ all_at (λ z. is_ancestor t z a.0) c.versions y e has)))
         (λ e. all_from (λ x. is_ancestor t x.0 a.0) c.versions
         (λ x i. above x a i la ∙ every_at (λ x. model.is_ancestor h x (a.0 + 1)) (writers entries h o) (x.0 + 1) e
-            (sym (k.writers x) ∙ i)))
+        (sym (k.writers x) ∙ i)))
 
 pub cell_same : (s : Opening) (h : History PlainEntry) (t t' : Tree) (o : ℕ) (c c' : Object) → SameActions t t'
     → SameLocks c c' → IsCell s h t o c → IsCell s h t' o c'
@@ -100,7 +97,7 @@ cell_same s h t t' o c c' ts cs k = record {
       ap (λ vs. is_chain t' (holders vs) && list_all (is_related t' (holders vs)) c'.readers) cs.versions
       ∙ ap (λ rs. is_chain t' (holders c.versions) && list_all (is_related t' (holders c.versions)) rs) cs.readers
       ∙ lawful_more t t' (λ x y up. ap (λ n. is_above n t'.rows x y) ts.folded
-          ∙ ap (λ rs. is_above t.folded rs x y) ts.rows ∙ up) c k.lawful;
+      ∙ ap (λ rs. is_above t.folded rs x y) ts.rows ∙ up) c k.lawful;
   base = cs.base ∙ k.base;
   readers = ap numbered cs.readers ∙ k.readers;
   writers = λ x. ap (has_version x) cs.versions ∙ k.writers x;

@@ -1,15 +1,14 @@
 -- Members of the lists of a cell, and its readers as the history numbers them.
-use Rattle.std.proofs.Common.{Bool, List, None, Option, Some, [], ap, arith, cond, false, inl, inr, refl, subst, sym}
+use Rattle.std.proofs.Common.{Bool, List, [], ap, arith, cond, false, inl, inr, refl, subst, sym}
 use Rattle.std.proofs.Common.{true, ℕ, ◌+◌, ◌<◌, ◌≤◌, ◌∙◌, ◌∷◌, ◌≡◌, ◌≢◌, eqb, ◌||◌, ◌⊎◌, ⊎_elim}
-use Rattle.std.specs.List.{filter, list_all, list_any}
-use Rattle.std.specs.Prelude.{map, not, ◌&&◌, ◌==◌, nat_lt, ltb}
+use Rattle.std.specs.List.{filter, list_all}
+use Rattle.std.specs.Prelude.{map, not, ◌&&◌, ◌==◌, nat_lt}
 use Rattle.std.proofs.lemmas.Bool.{and_from, and_parts, and_right, cases_Bool, cases_eq, cases_lt, eq-eqb, eqb-true}
 use Rattle.std.proofs.lemmas.Bool.{lt-ltb, le-ltb, ne_eqb, or_cases, or_left, or_right}
 use Rattle.argus_actions.specs.Tree.{Tree, is_ancestor}
 use Rattle.argus_actions.specs.declared.action_id.ActionId.{ActionId}
-use Rattle.argus_contents.specs.Content.{PlainContent}
-use Rattle.argus_objects.specs.Moves.{handed, has_version, is_reader, readers_inherited, version_of, versions_inherited}
-use Rattle.argus_objects.specs.Moves.{with_reader, with_version, without_reader, without_version}
+use Rattle.argus_objects.specs.Moves.{handed, has_version, is_reader, readers_inherited, versions_inherited}
+use Rattle.argus_objects.specs.Moves.{with_reader, without_reader, without_version}
 use Rattle.argus_objects.specs.Object.{Object, PlainVersion, holders}
 use Rattle.argus_objects.specs.Rules.{are_related, is_chain, is_lawful, is_related, is_strictly_above}
 use Rattle.argus_objects.proofs.Chains.{all_imp}
@@ -24,7 +23,7 @@ pub all_from : (p : ActionId → Bool) (vs : List PlainVersion) → ((x : Action
 all_from p [] f = refl
 all_from p (v ∷ vs) f =
     and_from (p v.holder) (list_all p (holders vs)) (f v.holder
-        (or_left (eqb v.holder.0 v.holder.0) (has_version v.holder vs) (eq-eqb v.holder.0 v.holder.0 refl)))
+    (or_left (eqb v.holder.0 v.holder.0) (has_version v.holder vs) (eq-eqb v.holder.0 v.holder.0 refl)))
     (all_from p vs (λ x k. f x (or_right (eqb v.holder.0 x.0) (has_version x vs) k)))
 
 pub all_at : (p : ℕ → Bool) (vs : List PlainVersion) (x : ActionId) → list_all (λ a. p a.0) (holders vs) ≡ true
@@ -33,7 +32,7 @@ all_at p [] x e k = cc
 all_at p (v ∷ vs) x e k =
     let q = and_parts (p v.holder.0) (list_all (λ a. p a.0) (holders vs)) e in
     ⊎_elim (λ i. subst (λ n. p n ≡ true) (eqb-true v.holder.0 x.0 i) q.0) (λ i. all_at p vs x q.1 i)
-        (or_cases (eqb v.holder.0 x.0) (has_version x vs) k)
+    (or_cases (eqb v.holder.0 x.0) (has_version x vs) k)
 
 -- a lawful cell stays so in a tree where who was an ancestor still is
 module _ (t t' : Tree) (more : (x y : ℕ) → is_ancestor t x y ≡ true → is_ancestor t' x y ≡ true) where
@@ -45,7 +44,7 @@ module _ (t t' : Tree) (more : (x y : ℕ) → is_ancestor t x y ≡ true → is
   related_more : (x y : ActionId) → are_related t x y ≡ true → are_related t' x y ≡ true
   related_more x y e =
       ⊎_elim (λ k. or_left (is_ancestor t' x.0 y.0) (is_ancestor t' y.0 x.0) (more x.0 y.0 k))
-          (λ k. or_right (is_ancestor t' x.0 y.0) (is_ancestor t' y.0 x.0) (more y.0 x.0 k))
+      (λ k. or_right (is_ancestor t' x.0 y.0) (is_ancestor t' y.0 x.0) (more y.0 x.0 k))
       (or_cases (is_ancestor t x.0 y.0) (is_ancestor t y.0 x.0) e)
 
   chain_more : (ids : List ActionId) → is_chain t ids ≡ true → is_chain t' ids ≡ true
@@ -54,7 +53,7 @@ module _ (t t' : Tree) (more : (x y : ℕ) → is_ancestor t x y ≡ true → is
       let q = and_parts (list_all (λ x. is_strictly_above t x y) ids) (is_chain t ids) e in
       and_from (list_all (λ x. is_strictly_above t' x y) ids) (is_chain t' ids)
       (all_imp (λ x. is_strictly_above t x y) (λ x. is_strictly_above t' x y) (λ x k. strictly_more x y k) ids q.0)
-          (chain_more ids q.1)
+      (chain_more ids q.1)
 
   pub lawful_more : (c : Object) → is_lawful t c ≡ true → is_lawful t' c ≡ true
   lawful_more c e =
@@ -62,7 +61,7 @@ module _ (t t' : Tree) (more : (x y : ℕ) → is_ancestor t x y ≡ true → is
       let q = and_parts (is_chain t ids) (list_all (is_related t ids) c.readers) e in
       and_from (is_chain t' ids) (list_all (is_related t' ids) c.readers) (chain_more ids q.0)
       (all_imp (is_related t ids) (is_related t' ids) (λ x k. all_imp (λ y. are_related t x y) (λ y. are_related t' x y)
-          (λ y k'. related_more x y k') ids k) c.readers q.1)
+      (λ y k'. related_more x y k') ids k) c.readers q.1)
 
 -- readers, as the history numbers them
 
@@ -90,17 +89,17 @@ filter_said p q [] f = refl
 filter_said p q (x ∷ rs) f =
     cond_said (p x) (x ∷ filter p rs) (filter p rs)
     ∙ ap (λ ys. cond (p x) ((x.0 + 1) ∷ ys) ys) (filter_said p q rs
-        (λ y k. f y (or_right (eqb (y.0 + 1) (x.0 + 1)) (contains (numbered rs) (y.0 + 1)) k)))
+    (λ y k. f y (or_right (eqb (y.0 + 1) (x.0 + 1)) (contains (numbered rs) (y.0 + 1)) k)))
     ∙ ap (λ b. cond b ((x.0 + 1) ∷ filter q (numbered rs)) (filter q (numbered rs)))
-        (f x (or_left (eqb (x.0 + 1) (x.0 + 1)) (contains (numbered rs) (x.0 + 1)) (eq-eqb (x.0 + 1) (x.0 + 1) refl)))
+    (f x (or_left (eqb (x.0 + 1) (x.0 + 1)) (contains (numbered rs) (x.0 + 1)) (eq-eqb (x.0 + 1) (x.0 + 1) refl)))
 
 pub with_said : (a : ActionId) (rs : List ActionId) → numbered (with_reader a rs) ≡ insert (a.0 + 1) (numbered rs)
 with_said a [] = refl
 with_said a (x ∷ rs) =
     cond_said (nat_lt a.0 x.0) (a ∷ x ∷ rs) (cond (eqb x.0 a.0) (x ∷ rs) (x ∷ with_reader a rs))
     ∙ ap (λ ys. cond (nat_lt a.0 x.0) (numbered (a ∷ x ∷ rs)) ys)
-        (cond_said (eqb x.0 a.0) (x ∷ rs) (x ∷ with_reader a rs)
-        ∙ ap (λ ys. cond (eqb x.0 a.0) (numbered (x ∷ rs)) ((x.0 + 1) ∷ ys)) (with_said a rs))
+    (cond_said (eqb x.0 a.0) (x ∷ rs) (x ∷ with_reader a rs)
+    ∙ ap (λ ys. cond (eqb x.0 a.0) (numbered (x ∷ rs)) ((x.0 + 1) ∷ ys)) (with_said a rs))
     ∙ order (cases_lt a.0 x.0)
   where
     there : List ℕ
@@ -114,13 +113,13 @@ with_said a (x ∷ rs) =
     order (inl lt) =
         ap (λ b. cond b ((a.0 + 1) ∷ there) (cond (eqb x.0 a.0) there past)) (lt-ltb a.0 x.0 lt)
         ∙ sym (ap (λ b. cond b there (cond (nat_lt (a.0 + 1) (x.0 + 1)) ((a.0 + 1) ∷ there) past))
-            (ne_eqb (a.0 + 1) (x.0 + 1) (λ e. omega arith))
+        (ne_eqb (a.0 + 1) (x.0 + 1) (λ e. omega arith))
         ∙ ap (λ b. cond b ((a.0 + 1) ∷ there) past) (lt-ltb (a.0 + 1) (x.0 + 1) (omega arith)))
     order (inr ge) =
         ap (λ b. cond b ((a.0 + 1) ∷ there) (cond (eqb x.0 a.0) there past)) (le-ltb a.0 x.0 ge)
         ∙ same (cases_eq a.0 x.0)
         ∙ sym (ap (λ b. cond (eqb (a.0 + 1) (x.0 + 1)) there (cond b ((a.0 + 1) ∷ there) past))
-            (le-ltb (a.0 + 1) (x.0 + 1) (omega arith)))
+        (le-ltb (a.0 + 1) (x.0 + 1) (omega arith)))
       where
         same : (a.0 ≡ x.0) ⊎ (a.0 ≢ x.0) → cond (eqb x.0 a.0) there past ≡ cond (eqb (a.0 + 1) (x.0 + 1)) there past
         same (inl e) = ap (λ b. cond b there past) (eq-eqb x.0 a.0 (sym e))
@@ -134,12 +133,12 @@ pub inherited_said : (a p : ActionId) (rs : List ActionId)
 inherited_said a p rs =
     cond_said (is_reader a rs) (with_reader p (without_reader a rs)) rs
     ∙ ap (λ ys. cond (is_reader a rs) ys (numbered rs)) (with_said p (without_reader a rs)
-        ∙ ap (insert (p.0 + 1)) (filter_said (λ x. not (x.0 == a.0)) (λ n. not (n == a.0 + 1)) rs
-        (λ x i. ap not (sym (eqb_up x.0 a.0)))))
+    ∙ ap (insert (p.0 + 1)) (filter_said (λ x. not (x.0 == a.0)) (λ n. not (n == a.0 + 1)) rs
+    (λ x i. ap not (sym (eqb_up x.0 a.0)))))
     ∙ ap (λ b. cond b (insert (p.0 + 1) (without (a.0 + 1) (numbered rs))) (numbered rs)) (reader_said a rs)
     ∙ sym (ap (λ b. cond (contains (numbered rs) (a.0 + 1))
-        (cond b (without (a.0 + 1) (numbered rs)) (insert (p.0 + 1) (without (a.0 + 1) (numbered rs)))) (numbered rs))
-        (ne_eqb (p.0 + 1) 0 (λ e. omega arith)))
+    (cond b (without (a.0 + 1) (numbered rs)) (insert (p.0 + 1) (without (a.0 + 1) (numbered rs)))) (numbered rs))
+    (ne_eqb (p.0 + 1) 0 (λ e. omega arith)))
 
 -- versions
 
@@ -184,7 +183,7 @@ module _ (a p : ActionId) where
   given v vs n e =
       let r : PlainVersion = record { holder = p; content = v.content } in
       ap (λ b. map (handed a p) (cond (not b) (v ∷ without_version p vs) (without_version p vs)))
-          (ne_eqb v.holder.0 p.0 n)
+      (ne_eqb v.holder.0 p.0 n)
       ∙ ap (λ b. cond b r v ∷ moved vs) (eq-eqb v.holder.0 a.0 e)
 
   stays : (v : PlainVersion) (vs : List PlainVersion) → v.holder.0 ≢ p.0 → v.holder.0 ≢ a.0
@@ -192,7 +191,7 @@ module _ (a p : ActionId) where
   stays v vs n e =
       let r : PlainVersion = record { holder = p; content = v.content } in
       ap (λ b. map (handed a p) (cond (not b) (v ∷ without_version p vs) (without_version p vs)))
-          (ne_eqb v.holder.0 p.0 n)
+      (ne_eqb v.holder.0 p.0 n)
       ∙ ap (λ b. cond b r v ∷ moved vs) (ne_eqb v.holder.0 a.0 e)
 
   first : (b : Bool) (x : ActionId) (y : ℕ) → eqb y x.0 ≡ b → (rest : Bool) → (eqb y x.0 || rest) ≡ (b || rest)
@@ -208,7 +207,7 @@ module _ (a p : ActionId) where
         | inr n ↦ elim (cases_eq v.holder.0 a.0) [
           | inl e ↦
               ap (has_version x) (given v vs n e) ∙ first false x p.0 (ne_eqb p.0 x.0 (λ k. np (sym k)))
-                  (has_version x (moved vs)) ∙ moved_other vs x na np
+              (has_version x (moved vs)) ∙ moved_other vs x na np
               ∙ sym (first false x v.holder.0 (ne_eqb v.holder.0 x.0 (λ k. na (sym k ∙ e))) (has_version x vs))
           | inr m ↦ ap (has_version x) (stays v vs n m) ∙ ap (λ b. eqb v.holder.0 x.0 || b) (moved_other vs x na np)
         ]
@@ -238,7 +237,7 @@ module _ (a p : ActionId) where
               (has_version p (moved vs)) ∙ sym (first true a v.holder.0 (eq-eqb v.holder.0 a.0 e) (has_version a vs))
           | inr m ↦
               ap (has_version p) (stays v vs n m) ∙ first false p v.holder.0 (ne_eqb v.holder.0 p.0 n)
-                  (has_version p (moved vs)) ∙ moved_parent vs pa
+              (has_version p (moved vs)) ∙ moved_parent vs pa
               ∙ sym (first false a v.holder.0 (ne_eqb v.holder.0 a.0 m) (has_version a vs))
         ]
       ]

@@ -1,8 +1,8 @@
 -- What a tree with the rows of a history answers is what the history says.
-use Rattle.std.proofs.Common.{Bool, List, None, Option, Some, [], ap, arith, cond, false, inl, inr, length, refl, subst}
-use Rattle.std.proofs.Common.{sym, true, ℕ, ◌+◌, ◌<◌, ◌≤◌, ◌∙◌, ◌∷◌, ◌≡◌, ◌≢◌, eqb}
+use Rattle.std.proofs.Common.{None, Option, Some, ap, arith, cond, false, inl, inr, length, refl}
+use Rattle.std.proofs.Common.{sym, true, ℕ, ◌+◌, ◌<◌, ◌≤◌, ◌∙◌, ◌≡◌}
 use Rattle.std.specs.Option.{option_and_then, option_map, option_map_or}
-use Rattle.std.specs.Prelude.{map, not, ◌&&◌, ◌==◌, ◌-◌}
+use Rattle.std.specs.Prelude.{not, ◌&&◌, ◌-◌}
 use Rattle.std.proofs.lemmas.Bool.{and_from, both_ways, cases_Bool, cases_lt, le-ltb}
 use Rattle.std.proofs.lemmas.List.{length-map}
 use Rattle.argus_actions.proofs.RowsLemmas.{numbered_low, numbered_past}
@@ -13,7 +13,6 @@ use Rattle.argus_actions.specs.Tree.{parent_in, parent_of, row_of, status_of}
 use Rattle.argus_actions.specs.declared.action_id.ActionId.{ActionId}
 use Rattle.argus_actions.specs.declared.origin.Origin as tree_origin
 use Rattle.argus_actions.specs.declared.origin.Origin.TheVariants as begun
-use Rattle.argus_actions.specs.declared.status.Status as tree_status
 use Rattle.argus_actions.specs.declared.status.Status.TheVariants as became
 use Rattle.argus_laws.proofs.TreeRows.{above_said, depth_said, live_row_said, live_said, row_at_said}
 use Rattle.argus_laws.specs.TreeWords.{IsTree, origin_said, row_said, status_said}
@@ -40,7 +39,7 @@ module _ {V : Type 0} (t : Tree) (h : History V) (is : IsTree t h) (w : Orderly 
   pub next_is : next t + 1 ≡ next_action h
   next_is =
       let len : length t.rows ≡ length (model_rows.rows h) =
-          sym (length-map t.rows row_said) ∙ ap (λ rs. length rs) is.rows in
+      sym (length-map t.rows row_said) ∙ ap (λ rs. length rs) is.rows in
       let e = is.folded in
       let top = rows_length h in omega arith
 
@@ -94,7 +93,7 @@ module _ {V : Type 0} (t : Tree) (h : History V) (is : IsTree t h) (w : Orderly 
       let f = is.folded in
       let low : t.folded ≤ a = omega (arith, q.0) in
       ap (λ b. option_map status_said (cond b (Some became.Folded) (option_map (λ row. row.status) (row_of t a))))
-          (le-ltb a t.folded low)
+      (le-ltb a t.folded low)
       ∙ ap (λ o. option_map status_said (option_map (λ row. row.status) o)) r.1.0
       ∙ ap (λ (row : model_rows.Row). Some row.status) r.1.1
 
@@ -133,7 +132,7 @@ module _ {V : Type 0} (t : Tree) (h : History V) (is : IsTree t h) (w : Orderly 
   depth_of_is a b =
       let r = begun_row a b in
       ap (λ o. option_map (λ (row : tree_row.Row). tree_rows.depth_at t.folded t.rows a) o) r.1.0
-          ∙ ap Some (depth_in_rows a b)
+      ∙ ap Some (depth_in_rows a b)
 
   parent_said : (o : tree_origin.Origin) (p : ActionId) → parent_in o ≡ Some p
       → event.parent_of (origin_said o) ≡ p.0 + 1
@@ -192,7 +191,7 @@ module _ {V : Type 0} (t : Tree) (h : History V) (is : IsTree t h) (w : Orderly 
       let r = begun_row a b in
       sym (creator_of_origin h (a + 1)) ∙ sym (ap (λ (q : model_rows.Row). event.creator_of q.origin) r.1.1)
       ∙ under_said r.0.origin u (sym (ap (option_and_then (λ (row : tree_row.Row). tree_row.under_of row.origin)) r.1.0)
-          ∙ e)
+      ∙ e)
 
   pub under_none_is : (a : ℕ) → is_begun h (a + 1) ≡ true → tree_rows.under_at t.folded t.rows a ≡ None
       → model.creator h (a + 1) ≡ 0
@@ -200,4 +199,4 @@ module _ {V : Type 0} (t : Tree) (h : History V) (is : IsTree t h) (w : Orderly 
       let r = begun_row a b in
       sym (creator_of_origin h (a + 1)) ∙ sym (ap (λ (q : model_rows.Row). event.creator_of q.origin) r.1.1)
       ∙ under_none_said r.0.origin (sym (ap (option_and_then (λ (row : tree_row.Row). tree_row.under_of row.origin))
-          r.1.0) ∙ e)
+      r.1.0) ∙ e)

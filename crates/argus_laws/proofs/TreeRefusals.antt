@@ -1,15 +1,14 @@
 -- The tree refuses a call exactly where the journal does, and for the same reason.
-use Rattle.std.proofs.Common.{Bool, None, Option, Some, ap, arith, cond, false, inl, inr, length, refl, subst, sym}
-use Rattle.std.proofs.Common.{true, ℕ, ◌+◌, ◌<◌, ◌≤◌, ◌∙◌, ◌≡◌, ◌≢◌, eqb}
+use Rattle.std.proofs.Common.{Bool, None, Option, Some, ap, arith, cond, false, inl, inr, refl, sym}
+use Rattle.std.proofs.Common.{true, ℕ, ◌+◌, ◌<◌, ◌≤◌, ◌∙◌, ◌≡◌}
 use Rattle.std.specs.Option.{is_none, option_map, option_or}
 use Rattle.std.specs.Prelude.{nat_le, nat_lt, not, ◌&&◌, ◌==◌, ◌-◌}
 use Rattle.std.proofs.lemmas.Bool.{cases_Bool, cases_lt, le-leb, le-ltb, lt-leb, lt-ltb, ne_eqb}
 use Rattle.argus_actions.proofs.RowsLemmas.{numbered_past}
 use Rattle.argus_actions.specs.Refusals.{abort_others_refusal, abort_refusal, begin_nested_refusal, begin_sub_refusal}
 use Rattle.argus_actions.specs.Refusals.{begin_top_refusal, commit_refusal, refused_if, unless_live}
-use Rattle.argus_actions.specs.Row as tree_row
 use Rattle.argus_actions.specs.Rows as tree_rows
-use Rattle.argus_actions.specs.Tree.{Tree, has_live_child, next, row_of, status_of}
+use Rattle.argus_actions.specs.Tree.{Tree, has_live_child, next, row_of}
 use Rattle.argus_actions.specs.declared.action_refusal.ActionRefusal.{ActionRefusal}
 use Rattle.argus_actions.specs.declared.action_refusal.ActionRefusal.TheVariants as refusal
 use Rattle.argus_actions.specs.declared.status.Status as tree_status
@@ -22,7 +21,6 @@ use Rattle.argus_entries.specs.declared.refusal.Refusal.TheVariants.{TooMany}
 use Rattle.argus_journal.specs.Answers.{depth, if_created, if_free, if_live, if_room, if_shallow, unless}
 use Rattle.argus_laws.proofs.TreeAnswers.{begun_from_tree, begun_row, child_is, depth_in_rows, next_is, under_is}
 use Rattle.argus_laws.proofs.TreeAnswers.{under_none_is}
-use Rattle.argus_laws.proofs.TreeRows.{live_said}
 use Rattle.argus_laws.specs.TreeWords.{IsTree, refusals_said, status_said}
 use Rattle.argus_model.proofs.Live.{is_begun_parts}
 use Rattle.argus_model.proofs.Rows.{live_status_is}
@@ -133,26 +131,26 @@ module _ (t : Tree) (h : History PlainEntry) (is : IsTree t h) (w : Orderly h) w
         | inl low ↦
             let lt : a + 1 < next_action h = omega arith in
             ap (λ b. refusals_said (unless_live (cond b (Some became.Folded)
-                (option_map (λ row. row.status) (row_of t a))))) (lt-ltb a t.folded low)
+            (option_map (λ row. row.status) (row_of t a))))) (lt-ltb a t.folded low)
             ∙ sym (ap (λ b. unless b NoAction (unless (is_live h (a + 1)) Over None))
-                (lt-ltb (a + 1) (next_action h) lt)
+            (lt-ltb (a + 1) (next_action h) lt)
             ∙ ap (λ b. unless b Over None) (never_live a (omega (arith, low, f))))
         | inr high ↦
             ap (λ b. refusals_said (unless_live (cond b (Some became.Folded)
-                (option_map (λ row. row.status) (row_of t a))))) (le-ltb a t.folded high)
+            (option_map (λ row. row.status) (row_of t a))))) (le-ltb a t.folded high)
             ∙ elim (cases_lt a (next t)) [
               | inl lt ↦
                   let r = begun_row t h is w a (begun_from_tree t h is w a high lt) in
                   ap (λ q. refusals_said (unless_live (option_map (λ row. row.status) q))) r.1.0
                   ∙ unless_status r.0.status (is_live h (a + 1))
-                      (ap (λ (q : Row). is_live_status q.status) r.1.1 ∙ live_status_is h (a + 1))
+                  (ap (λ (q : Row). is_live_status q.status) r.1.1 ∙ live_status_is h (a + 1))
                   ∙ sym (ap (λ b. unless b NoAction (unless (is_live h (a + 1)) Over None))
-                      (lt-ltb (a + 1) (next_action h) (omega arith)))
+                  (lt-ltb (a + 1) (next_action h) (omega arith)))
               | inr ge ↦
                   ap (λ q. refusals_said (unless_live (option_map (λ row. row.status) q)))
-                      (numbered_past t.folded t.rows a ge)
+                  (numbered_past t.folded t.rows a ge)
                   ∙ sym (ap (λ b. unless b NoAction (unless (is_live h (a + 1)) Over None))
-                      (le-ltb (a + 1) (next_action h) (omega arith)))
+                  (le-ltb (a + 1) (next_action h) (omega arith)))
             ]
       ]
     where

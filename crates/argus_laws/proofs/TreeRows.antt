@@ -1,7 +1,7 @@
 -- The rows of a tree, said in the words of the history: each test of them, number by number.
-use Rattle.std.proofs.Common.{Bool, List, None, Option, Some, [], ap, arith, cond, false, inl, inr, length, refl, subst}
-use Rattle.std.proofs.Common.{sym, true, ℕ, ◌+◌, ◌<◌, ◌≤◌, ◌∙◌, ◌∷◌, ◌≡◌, ◌≢◌, eqb, ◌||◌, ⊎_elim}
-use Rattle.std.specs.Option.{option_map, option_map_or}
+use Rattle.std.proofs.Common.{Bool, List, Option, Some, [], ap, arith, cond, false, inl, inr, length, refl, subst}
+use Rattle.std.proofs.Common.{sym, true, ℕ, ◌+◌, ◌∙◌, ◌∷◌, ◌≡◌, eqb, ◌||◌, ⊎_elim}
+use Rattle.std.specs.Option.{option_map}
 use Rattle.std.specs.Prelude.{map, ◌&&◌, ◌==◌}
 use Rattle.std.proofs.lemmas.Bool.{cases_eq, eq-eqb, eqb-true, false≢true, ne_eqb, or_cases, or_left, or_right}
 use Rattle.std.proofs.lemmas.List.{length-map}
@@ -12,7 +12,7 @@ use Rattle.argus_actions.specs.declared.origin.Origin.TheVariants as begun
 use Rattle.argus_actions.specs.declared.status.Status as tree_status
 use Rattle.argus_actions.specs.declared.status.Status.TheVariants as became
 use Rattle.argus_laws.specs.TreeWords.{origin_said, row_said, status_said}
-use Rattle.argus_model.proofs.Bools.{and_all, or_none}
+use Rattle.argus_model.proofs.Bools.{and_all}
 use Rattle.argus_model.specs.Event.{creator_of, parent_of}
 use Rattle.argus_model.specs.Rows.{Row, depth_at, has_live_row, is_above, is_live_status, mark, row_at, with_status}
 
@@ -35,7 +35,7 @@ no_base n [] x = refl
 no_base n (r ∷ rs) x =
     ap
     (λ b. cond b (x == 0 || is_above n (map row_said rs) x (parent_of (origin_said r.origin)))
-        (is_above n (map row_said rs) x 0))
+    (is_above n (map row_said rs) x 0))
     (ne_eqb 0 (n + length (map row_said rs) + 1) (λ e. omega arith))
     ∙ no_base n rs x
 
@@ -65,10 +65,10 @@ above_said n (r ∷ rs) x y =
     ∙ ap (λ b. cond (eqb y (n + length rs)) (b || up) down) (eqb_up x y)
     ∙ ap (λ b. cond (eqb y (n + length rs)) (eqb x y || b) down)
     (at_parent_said false (is_above n (map row_said rs) (x + 1)) (tree_rows.is_above n rs x) r.origin
-        (no_base n rs (x + 1))
+    (no_base n rs (x + 1))
     (λ p. above_said n rs x p))
     ∙ ap (λ b. cond (eqb y (n + length rs)) (eqb x y || tree_row.at_parent false r.origin (tree_rows.is_above n rs x))
-        b)
+    b)
     (above_said n rs x y)
 
 -- depth
@@ -99,7 +99,7 @@ mark_said n test test' st (r ∷ rs) f =
     let rest : List Row = mark n test (status_said st) (map row_said rs) in
     sym
     (ap (λ k. cond (test (n + k + 1)) (with_status (status_said st) (row_said r)) (row_said r) ∷ rest)
-        (length-map rs row_said)
+    (length-map rs row_said)
     ∙ ap (λ b. cond b (with_status (status_said st) (row_said r)) (row_said r) ∷ rest) (f (n + length rs))
     ∙ ap (λ q. q ∷ rest) (marked_row (test' (n + length rs)) st r)
     ∙ ap (λ qs. row_said (cond (test' (n + length rs)) (tree_row.with_status st r) r) ∷ qs)
@@ -155,7 +155,7 @@ live_row_said [] a = refl
 live_row_said (r ∷ rs) a =
     let rest : Bool = has_live_row (map row_said rs) (a + 1) in
     let from : Bool =
-        eqb (parent_of (origin_said r.origin)) (a + 1) || eqb (creator_of (origin_said r.origin)) (a + 1) in
+    eqb (parent_of (origin_said r.origin)) (a + 1) || eqb (creator_of (origin_said r.origin)) (a + 1) in
     ap (λ b. (b && from) || rest) (live_said r.status)
     ∙ ap (λ b. (tree_row.is_live r.status && b) || rest) (from_said r.origin a)
     ∙ ap (λ b. b || rest) (and_turn (tree_row.is_live r.status) (tree_row.comes_from a r.origin))
@@ -208,8 +208,12 @@ ancestor_found test n (r ∷ rs) y e = at (λ p. ancestor_found test n rs p) (eq
         (tree_rows.is_above n rs x y) ≡ true)
     at older true e =
         ⊎_elim
-        (λ t. (y, t, or_left (eqb y y) (tree_row.at_parent false r.origin (tree_rows.is_above n rs y))
-            (eq-eqb y y refl)))
+        (λ t. (
+          y,
+          t,
+          or_left (eqb y y) (tree_row.at_parent false r.origin (tree_rows.is_above n rs y))
+              (eq-eqb y y refl),
+        ))
         (λ i. let q = above older r.origin i in
         (q.0, q.1, or_right (eqb q.0 y) (tree_row.at_parent false r.origin (tree_rows.is_above n rs q.0)) q.2))
         (or_cases (test y) (tree_row.at_parent false r.origin (tree_rows.has_ancestor test n rs)) e)

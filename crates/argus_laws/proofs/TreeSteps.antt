@@ -1,17 +1,17 @@
 -- Each call of a tree is an event of its history.
-use Rattle.std.proofs.Common.{Bool, List, None, Option, Some, [], ap, arith, cond, false, inl, inr, length, refl, subst}
-use Rattle.std.proofs.Common.{suc, sym, true, zero, ℕ, ◌+◌, ◌<◌, ◌≤◌, ◌∙◌, ◌∷◌, ◌≡◌, ◌≢◌, eqb}
+use Rattle.std.proofs.Common.{Bool, Some, [], ap, arith, false, inl, inr}
+use Rattle.std.proofs.Common.{sym, true, ℕ, ◌+◌, ◌∙◌, ◌∷◌, ◌≡◌, ◌≢◌, eqb}
 use Rattle.std.specs.List.{list_any}
-use Rattle.std.specs.Option.{option_and_then, option_map, option_map_or}
+use Rattle.std.specs.Option.{option_map_or}
 use Rattle.std.specs.Prelude.{map, not, ◌&&◌, ◌==◌, ◌-◌}
-use Rattle.std.proofs.lemmas.Bool.{and_from, and_parts, both_ways, cases_Bool, eq-eqb, ne_eqb, not-true}
+use Rattle.std.proofs.lemmas.Bool.{and_parts, both_ways, cases_Bool, eq-eqb, ne_eqb, not-true}
 use Rattle.argus_actions.specs.Row as tree_row
 use Rattle.argus_actions.specs.Rows as tree_rows
 use Rattle.argus_actions.specs.Tree.{SameActions, Tree, after_abort, after_abort_others, after_begin, after_commit}
 use Rattle.argus_actions.specs.Tree.{is_ancestor, is_live_sibling}
 use Rattle.argus_actions.specs.declared.origin.Origin as tree_origin
 use Rattle.argus_actions.specs.declared.status.Status.TheVariants as became
-use Rattle.argus_laws.proofs.TreeAnswers.{begun_row, live_is, no_row, under_is}
+use Rattle.argus_laws.proofs.TreeAnswers.{begun_row, live_is, under_is}
 use Rattle.argus_laws.proofs.TreeRows.{above_said, ancestor_found, ancestor_from, eqb_up, mark_said, under_said}
 use Rattle.argus_laws.specs.TreeWords.{IsTree, origin_said, row_said}
 use Rattle.argus_model.proofs.Bools.{or_none, same_bool}
@@ -20,9 +20,8 @@ use Rattle.argus_model.proofs.Numbers.{any_found, any_from}
 use Rattle.argus_model.proofs.Rows.{creator_of_origin}
 use Rattle.argus_model.proofs.Standing.{Orderly}
 use Rattle.argus_model.specs.Ancestors.{creator}
-use Rattle.argus_model.specs.Event.{Aborted, Began, Committed, Event, creator_of}
+use Rattle.argus_model.specs.Event.{Aborted, Began, Committed, creator_of}
 use Rattle.argus_model.specs.History.{History, Opened, folded, ◌▹◌}
-use Rattle.argus_model.specs.Numbers.{contains}
 use Rattle.argus_model.specs.Rows.{Row, is_above, mark, rows}
 use Rattle.argus_model.specs.Status.{IsAborted, IsCommitted, IsLive, has_committed, is_begun, is_doomed, is_live}
 use Rattle.argus_model.specs.Status.{is_sibling, live_siblings}
@@ -94,14 +93,14 @@ module _ {V : Type 0} (t : Tree) (h : History V) (is : IsTree t h) where
     pub sibling_is : (x : ℕ) → is_live_sibling t a x ≡ (is_live h (x + 1) && is_sibling h (a + 1) (x + 1))
     sibling_is x =
         ap (λ o. tree_rows.is_live_at t.folded t.rows x && (not (x == a)
-            && option_map_or (λ under. tree_rows.is_child_of t.folded t.rows under x) o false)) under
+        && option_map_or (λ under. tree_rows.is_child_of t.folded t.rows under x) o false)) under
         ∙ ap (λ b. b && (not (x == a) && tree_rows.is_child_of t.folded t.rows u x)) (sym (live_is t h is w x))
         ∙ elim (cases_Bool (is_begun h (x + 1))) [
           | inl bx ↦
               ap (λ b. is_live h (x + 1) && (not b && tree_rows.is_child_of t.folded t.rows u x)) (sym (eqb_up x a))
               ∙ ap (λ b. is_live h (x + 1) && (not (x + 1 == a + 1) && b)) (child_is x bx)
               ∙ sym (ap (λ b. is_live h (x + 1) && (not b && (not (x + 1 == a + 1)
-                  && creator h (x + 1) == creator h (a + 1)))) (ne_eqb (x + 1) 0 (λ e. omega arith)))
+              && creator h (x + 1) == creator h (a + 1)))) (ne_eqb (x + 1) 0 (λ e. omega arith)))
           | inr bx ↦ never x bx (not (x == a) && tree_rows.is_child_of t.folded t.rows u x)
               (is_sibling h (a + 1) (x + 1))
         ]

@@ -1,7 +1,7 @@
 -- A tree of actions in the words of the history. The tree's action a is a + 1 there, where 0 is the
 -- base.
 use Rattle.std.specs.Option.{option_map}
-use Rattle.std.specs.Prelude.{List, Option, map, ℕ, ◌+◌, ◌≡◌}
+use Rattle.std.specs.Prelude.{Option, map, ◌+◌, ◌≡◌}
 use Rattle.argus_actions.specs.Row as tree_row
 use Rattle.argus_actions.specs.Tree.{Tree}
 use Rattle.argus_actions.specs.declared.action_refusal.ActionRefusal.{ActionRefusal}

@@ -89,13 +89,13 @@ pub fn refusals_agree()
     ensures begin_nested { (t : Tree) (s : Opening) (j : List PlainEntry) (c : ℕ) → Legal s j
         → IsTree t (history s j)
         → refusals_said (begin_nested_refusal t c)
-            ≡ if_live (history s j) c (if_room (history s j)) }
+        ≡ if_live (history s j) c (if_room (history s j)) }
     ensures commit { (t : Tree) (s : Opening) (j : List PlainEntry) (a : ℕ) → Legal s j
         → IsTree t (history s j)
         → refusals_said (commit_refusal t a) ≡ if_free (history s j) a None }
     ensures abort { (t : Tree) (s : Opening) (j : List PlainEntry) (a : ℕ) → Legal s j
         → IsTree t (history s j) → refusals_said (abort_refusal t a)
-            ≡ if_live (history s j) a None }
+        ≡ if_live (history s j) a None }
     ensures abort_others { (t : Tree) (s : Opening) (j : List PlainEntry) (a : ℕ) → Legal s j
         → IsTree t (history s j)
         → refusals_said (abort_others_refusal t a)

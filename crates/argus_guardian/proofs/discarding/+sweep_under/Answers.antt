@@ -8,7 +8,7 @@ pub loop-sub-init : goal.loop-sub-init
 loop-sub-init t c =
     walk_start c.args.tree.now c.requires.linked c.args.top.0 c.args.a.0 c.args.objects.now c.discard_all.new.objects
     c.args.holdings.now c.clear.new.self c.newest_sub-sub.result c.requires.begun c.requires.held
-        c.newest_sub-sub.ensures
+    c.newest_sub-sub.ensures
     (swept_own c.args.tree.now c.args.top.0 c.args.a c.args.objects.now c.discard_all.new.objects c.args.holdings.now
     c.clear.new.self (rw c.of.ensures.list at c.discard_all.ensures) c.clear.ensures)
 
@@ -16,9 +16,9 @@ pub sweep_under-requires : goal.sweep_under-requires
 sweep_under-requires t c =
     let tree = c.args.tree.now in
     let k = subst (IsWalked tree c.args.top.0 c.args.a.0 c.args.objects.now c.loop-sub.objects c.args.holdings.now
-        c.loop-sub.holdings) c.in-Some.is c.loop-sub.invariant in
+    c.loop-sub.holdings) c.in-Some.is c.loop-sub.invariant in
     let q = walk_next tree c.requires.linked c.args.top.0 c.args.a.0 c.args.objects.now c.loop-sub.objects
-        c.args.holdings.now c.loop-sub.holdings c.in-Some.below k in (
+    c.args.holdings.now c.loop-sub.holdings c.in-Some.below k in (
       omega (arith, q.0, q.1, c.decreases),
       (
         c.requires.linked,
@@ -41,25 +41,25 @@ pub loop-sub-smaller : goal.loop-sub-smaller
 loop-sub-smaller t c =
     let tree = c.args.tree.now in
     let k = subst (IsWalked tree c.args.top.0 c.args.a.0 c.args.objects.now c.loop-sub.objects c.args.holdings.now
-        c.loop-sub.holdings) c.in-Some.is c.loop-sub.invariant in
+    c.loop-sub.holdings) c.in-Some.is c.loop-sub.invariant in
     rw (c.older_sub-sub.ensures, c.in-Some.is)
     (walk_fewer tree c.requires.linked c.args.top.0 c.args.a.0 c.args.objects.now c.loop-sub.objects c.args.holdings.now
-        c.loop-sub.holdings c.in-Some.below k)
+    c.loop-sub.holdings c.in-Some.below k)
 
 pub loop-sub-preserved : goal.loop-sub-preserved
 loop-sub-preserved t c =
     let tree = c.args.tree.now in
     let k = subst (IsWalked tree c.args.top.0 c.args.a.0 c.args.objects.now c.loop-sub.objects c.args.holdings.now
-        c.loop-sub.holdings) c.in-Some.is c.loop-sub.invariant in
+    c.loop-sub.holdings) c.in-Some.is c.loop-sub.invariant in
     rw c.older_sub-sub.ensures
     (walk_step tree c.requires.linked c.args.top.0 c.args.a.0 c.args.objects.now c.loop-sub.objects c.args.holdings.now
-        c.loop-sub.holdings c.in-Some.below c.sweep_under.new.objects c.sweep_under.new.holdings k
-        c.sweep_under.ensures)
+    c.loop-sub.holdings c.in-Some.below c.sweep_under.new.objects c.sweep_under.new.holdings k
+    c.sweep_under.ensures)
 
 pub returns : goal.returns
 returns t c =
     let tree = c.args.tree.now in
     let k = subst (IsWalked tree c.args.top.0 c.args.a.0 c.args.objects.now c.loop-sub.objects c.args.holdings.now
-        c.loop-sub.holdings) c.in_default.is c.loop-sub.invariant in
+    c.loop-sub.holdings) c.in_default.is c.loop-sub.invariant in
     walk_end tree c.requires.linked c.args.top.0 c.args.a.0 c.args.objects.now c.loop-sub.objects c.args.holdings.now
-        c.loop-sub.holdings c.requires.begun c.requires.held k
+    c.loop-sub.holdings c.requires.begun c.requires.held k

@@ -6,11 +6,11 @@ pub discard_siblings-requires-clause-under : goal.discard_siblings-requires-clau
 discard_siblings-requires-clause-under c =
     let t = c.args.tree.now in
     named_under c.begun_under.result (under_at t.folded t.rows c.args.a.0)
-        c.in-Some.under c.begun_under.ensures c.in-Some.is
+    c.in-Some.under c.begun_under.ensures c.in-Some.is
 
 pub returns-in-None : goal.returns-in-None
 returns-in-None c =
     let t = c.args.tree.now in
     let u = others_under t c.args.a.0 c.requires.accepted in
     absurd (none_under c.begun_under.result (under_at t.folded t.rows c.args.a.0)
-        u.0 c.begun_under.ensures c.in-None.is u.1)
+    u.0 c.begun_under.ensures c.in-None.is u.1)

@@ -7,4 +7,4 @@ use Rattle.argus_guardian.proofs.leaving.contents_of.Given as goal
 abbrev pub invariant-loop-number : goal.invariant-loop-number
 invariant-loop-number l =
     (d : AtomicObject) → effect_told l.contents.items ≡ map (λ o. (o, version_in l.a l.objects d o))
-        (take l.number-index l.numbers)
+    (take l.number-index l.numbers)

@@ -23,6 +23,6 @@ loop-o-preserved c = λ d.
     c.in_ok-add_if_written.ensures
     ∙ ap (λ ns. ns ++ cond (has_version c.args.a x.cell.versions) (o.0 ∷ []) []) (c.loop-o.invariant d)
     ∙ ap (λ (y : AtomicObject). written_in c.args.a objects d (take i list)
-        ++ cond (has_version c.args.a y.cell.versions) (o.0 ∷ []) [])
+    ++ cond (has_version c.args.a y.cell.versions) (o.0 ∷ []) [])
     (c.index-objects-o.is ∙ get_or_default objects o.0 x d low)
     ∙ sym (written_more c.args.a objects d list i (record { 0 = 0 }) c.loop-o-test.true)

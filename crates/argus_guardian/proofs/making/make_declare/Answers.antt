@@ -1,4 +1,4 @@
-use Rattle.std.proofs.Common.{[], length, refl, subst, sym, ◌++◌, ◌∷◌, ◌≡◌}
+use Rattle.std.proofs.Common.{[], length, refl, subst, sym, ◌++◌, ◌∷◌}
 use Rattle.argus_entries.specs.Entry.{PlainEntry}
 use Rattle.argus_guardian.specs.Keeping.{IsKept}
 use Rattle.argus_guardian.specs.declared.atomic_object.AtomicObject.{AtomicObject}

@@ -1,10 +1,9 @@
 -- The proof of what a cell tells.
-use Rattle.std.proofs.Common.{List, [], ap, arith, refl, sym, true, ℕ, ◌+◌, ◌-◌, ◌∙◌, ◌∷◌, ◌≡◌}
+use Rattle.std.proofs.Common.{List, [], ap, arith, refl, ℕ, ◌+◌, ◌-◌, ◌∙◌, ◌∷◌, ◌≡◌}
 use Rattle.std.specs.Prelude.{Option, map}
 use Rattle.argus_actions.specs.declared.action_id.ActionId.{ActionId}
 use Rattle.argus_contents.specs.Content.{PlainContent}
 use Rattle.argus_journal.proofs.Legal.{lawful}
-use Rattle.argus_journal.specs.Entries.{entries}
 use Rattle.argus_journal.specs.Events.{history}
 use Rattle.argus_journal.specs.Numbering.{all_in_program}
 use Rattle.argus_journal.specs.Words.{seen_by}

@@ -9,4 +9,4 @@ use Rattle.std.specs.Prelude.{reverse}
 pub returns : goal.returns
 returns c = λ s j t o cell l is rise reads writes.
     lawful_by_exclusion s (history s j) (lawful s j l) o t is cell (rises (reverse (holders cell.versions)) rise)
-        reads writes
+    reads writes

@@ -1,10 +1,9 @@
 -- The proof of what a tree tells.
 use Rattle.std.proofs.Common.{List, None, Option, Some, ap, arith, cond, refl, sym, true, ℕ, ◌+◌, ◌-◌, ◌∙◌, ◌≡◌}
 use Rattle.std.specs.Option.{option_map}
-use Rattle.std.specs.Prelude.{◌==◌}
-use Rattle.std.proofs.lemmas.Bool.{eq-eqb, ne_eqb}
+use Rattle.std.proofs.lemmas.Bool.{ne_eqb}
 use Rattle.argus_actions.specs.Rows.{under_at}
-use Rattle.argus_actions.specs.Tree.{Tree, next, parent_of}
+use Rattle.argus_actions.specs.Tree.{Tree, parent_of}
 use Rattle.argus_actions.specs.declared.action_id.ActionId.{ActionId}
 use Rattle.argus_entries.specs.Entry.{PlainEntry}
 use Rattle.argus_journal.proofs.Legal.{lawful}

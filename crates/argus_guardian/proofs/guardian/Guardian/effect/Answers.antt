@@ -15,10 +15,10 @@ returns-then-not-is_live c =
     let s = opening_in g.journal in
     let j = entries_in g.journal in
     let live = live_is g.tree (history s j) c.self.invariant.parts.actions
-        (kept_orderly g.tree g.objects.items g.holdings s j c.self.invariant) c.args.a.0 in
+    (kept_orderly g.tree g.objects.items g.holdings s j c.self.invariant) c.args.a.0 in
     rw (← c.self.view_is)
     (sym (ap (λ b. cond b (Some (effect_of (record { opening = s; entries = j }) c.args.a.0)) None)
-        (live ∙ sym c.if-not-is_live.ensures)))
+    (live ∙ sym c.if-not-is_live.ensures)))
 
 pub contents_of-requires : goal.contents_of-requires
 contents_of-requires c =
@@ -27,13 +27,13 @@ contents_of-requires c =
     let j = entries_in g.journal in
     let h = kept_orderly g.tree g.objects.items g.holdings s j c.self.invariant in
     let live =
-        live_is g.tree (history s j) c.self.invariant.parts.actions h c.args.a.0 ∙ sym c.if-not-is_live.ensures in
+    live_is g.tree (history s j) c.self.invariant.parts.actions h c.args.a.0 ∙ sym c.if-not-is_live.ensures in
     let once = rw (c.of.ensures.list) at c.of.ensures.once in
     let found = rw (c.of.ensures.list, c.as_slice-objects.ensures.value) at c.in_ok-numbers.ensures any_object in
     let moved = subst (λ xs. IsPermutation xs c.sort.new.self.items) found c.sort.ensures.permutation in
     rw (c.as_slice.ensures.value, c.as_slice-objects.ensures.value)
     (all_there g.tree g.objects.items g.holdings s j c.self.invariant c.args.a any_object live once
-        c.sort.new.self.items
+    c.sort.new.self.items
     moved c.in_ok-sort.ensures.sorted)
 
 pub returns : goal.returns
@@ -43,7 +43,7 @@ returns c =
     let j = entries_in g.journal in
     let h = kept_orderly g.tree g.objects.items g.holdings s j c.self.invariant in
     let live =
-        live_is g.tree (history s j) c.self.invariant.parts.actions h c.args.a.0 ∙ sym c.if-not-is_live.ensures in
+    live_is g.tree (history s j) c.self.invariant.parts.actions h c.args.a.0 ∙ sym c.if-not-is_live.ensures in
     let once = rw (c.of.ensures.list) at c.of.ensures.once in
     let found = rw (c.of.ensures.list, c.as_slice-objects.ensures.value) at c.in_ok-numbers.ensures any_object in
     let moved = subst (λ xs. IsPermutation xs c.sort.new.self.items) found c.sort.ensures.permutation in
@@ -51,6 +51,6 @@ returns c =
     rw (← c.self.view_is)
     (ap Some ((rw (c.as_slice.ensures.value, c.as_slice-objects.ensures.value) at c.in_ok-effect.ensures any_object)
     ∙ effect_is g.tree g.objects.items g.holdings s j c.self.invariant c.args.a any_object live once
-        c.sort.new.self.items
+    c.sort.new.self.items
     moved c.in_ok-sort.ensures.sorted)
     ∙ sym (ap (λ b. cond b (Some (effect_of said c.args.a.0)) None) live))
