@@ -6,7 +6,6 @@ use argus_actions::ActionId;
 use argus_guardian::Guardian;
 use argus_journal::Owner;
 use argus_memory::Heap;
-use argus_texts::read_shape;
 use std::test::Fail;
 
 #[test]
@@ -45,47 +44,4 @@ fn so_many_actions_may_be_begun(rt: HostRuntime) -> Result<(), Fail> {
         "begin_nested a0 -> refused TooMany",
     ];
     say(&rt, heap, &mut guardian, &rows)
-}
-
-// Subactions to the last that may stand so deep, the one too deep, and all commits.
-#[test]
-fn a_chain_commits_from_the_deepest_on(rt: HostRuntime) -> Result<(), Fail> {
-    let heap = Heap::new(rt.alloc())?;
-    let mut guardian = Guardian::new(heap);
-    say(&rt, heap, &mut guardian, &["begin_top -> a0"])?;
-    for a in 1..64u32 {
-        let row = format!(in heap; "begin_sub a{} -> a{a}", a - 1)?;
-        say(&rt, heap, &mut guardian, &[row.as_str()])?;
-    }
-    say(
-        &rt,
-        heap,
-        &mut guardian,
-        &["begin_sub a63 -> refused TooDeep"],
-    )?;
-    for a in (0..64u32).rev() {
-        let row = format!(in heap; "commit a{a} -> done")?;
-        say(&rt, heap, &mut guardian, &[row.as_str()])?;
-    }
-    assert_eq!(rt; guardian.journal().journal().len(), 129);
-    Ok(())
-}
-
-#[test]
-fn so_many_objects_may_be_declared(rt: HostRuntime) -> Result<(), Fail> {
-    let heap = Heap::new(rt.alloc())?;
-    let mut guardian = Guardian::new(heap);
-    let Some(shape) = read_shape(heap, "atomic_record[n:int]")? else {
-        panic!(&rt; "no shape")
-    };
-    for _ in 0..65_534u32 {
-        guardian.declare(shape.duplicate(heap)?)?;
-    }
-    let rows = [
-        "declare atomic_record[n:int] -> o65534",
-        "declare atomic_record[n:int] -> refused TooMany",
-    ];
-    say(&rt, heap, &mut guardian, &rows)?;
-    assert_eq!(rt; guardian.objects(), 65_535);
-    Ok(())
 }

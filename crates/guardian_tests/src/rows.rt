@@ -1,27 +1,31 @@
 //! Rows through a guardian: each is a call with what it is answered, as the journal writes it.
 
 use crate::reading::call_of;
-use argus_entries::{Reply, write_entry};
+use argus_entries::{Call, Reply, write_entry};
 use argus_guardian::Guardian;
-use argus_memory::Heap;
+use argus_memory::{Heap, OutOfMemory};
 use std::process::Abort;
 use std::test::Fail;
 
-/// Two objects, records of one number, which topaction 0 creates with 0 in them.
-pub(crate) const PREPARED: [&str; 6] = [
-    "declare atomic_record[n:int] -> o0",
-    "declare atomic_record[n:int] -> o1",
-    "begin_top -> a0",
-    "alter a0 o0 create {0} -> done",
-    "alter a0 o1 create {0} -> done",
-    "commit a0 -> done",
-];
-
-/// A guardian after the calls of `PREPARED`.
-pub(crate) fn prepared(rt: &impl Abort, heap: Heap) -> Result<Guardian, Fail> {
-    let mut guardian = Guardian::new(heap);
-    say(rt, heap, &mut guardian, &PREPARED)?;
-    Ok(guardian)
+/// Makes the call.
+pub(crate) fn make(
+    rt: &impl Abort,
+    guardian: &mut Guardian,
+    call: Call,
+) -> Result<Reply, OutOfMemory> {
+    match call {
+        Call::BeginTop => guardian.begin_top(),
+        Call::BeginSub(parent) => guardian.begin_sub(parent),
+        Call::BeginNested(creator) => guardian.begin_nested(creator),
+        Call::Commit(a) => guardian.commit(a),
+        Call::Abort(a) => guardian.abort(a),
+        Call::AbortOthers(a) => guardian.abort_others(a),
+        Call::Ask(a, o, query) => guardian.ask(a, o, query),
+        Call::Alter(a, o, change) => guardian.alter(a, o, change),
+        Call::Declare(_) | Call::TestRead(_, _) | Call::TestWrite(_, _) => panic!(rt;
+            "no such call"
+        ),
+    }
 }
 
 /// Makes the calls of these rows, and compares what is answered and journalled.
@@ -33,7 +37,7 @@ pub(crate) fn say(
 ) -> Result<(), Fail> {
     for row in rows {
         let call = call_of(rt, heap, row)?;
-        let reply = guardian.call(call)?;
+        let reply = make(rt, guardian, call)?;
         is_journalled(rt, heap, guardian, &reply, row)?;
     }
     Ok(())
