@@ -1,15 +1,16 @@
-//! The call that a row spells. A call that is read wrongly is seen: its line is compared.
+//! What a row spells before its arrow. A call that is read wrongly is seen: its line is compared.
 
+use crate::asking::question_of;
+use crate::row::Row;
+use crate::row_fault::RowFault;
 use argus_actions::ActionId;
 use argus_contents::{Change, ObjId, Query};
 use argus_entries::Call;
 use argus_memory::Heap;
 use argus_texts::{read_content, read_shape, read_value};
-use std::process::Abort;
-use std::test::Fail;
 
-// The first word, and what comes after it.
-fn first_word<'a>(text: &'a str) -> (&'a str, &'a str) {
+/// The first word, and what comes after it.
+pub(crate) fn first_word<'a>(text: &'a str) -> (&'a str, &'a str) {
     match text.split_once(' ') {
         Some((word, rest)) => (word, rest),
         None => (text, ""),
@@ -17,114 +18,122 @@ fn first_word<'a>(text: &'a str) -> (&'a str, &'a str) {
 }
 
 // The number behind this letter.
-fn number(rt: &impl Abort, letter: &str, text: &str) -> u32 {
-    let Some(digits) = text.strip_prefix(letter) else {
-        panic!(rt; "no number: {text}")
-    };
-    let Ok(number) = digits.parse::<u32>() else {
-        panic!(rt; "no number: {text}")
-    };
-    number
+fn number(letter: &str, text: &str) -> Result<u32, RowFault> {
+    match text.strip_prefix(letter) {
+        Some(digits) => digits.parse::<u32>().map_err(|_| RowFault::NotSpelled),
+        None => Err(RowFault::NotSpelled),
+    }
 }
 
-fn action(rt: &impl Abort, text: &str) -> ActionId {
-    ActionId(number(rt, "a", text))
+/// An action, as `a0`.
+pub(crate) fn action(text: &str) -> Result<ActionId, RowFault> {
+    Ok(ActionId(number("a", text)?))
 }
 
-fn place(rt: &impl Abort, text: &str) -> i64 {
-    let Ok(place) = text.parse::<i64>() else {
-        panic!(rt; "no place: {text}")
-    };
-    place
+/// An object, as `o0`.
+pub(crate) fn object(text: &str) -> Result<ObjId, RowFault> {
+    Ok(ObjId(number("o", text)?))
+}
+
+/// An action and an object, as `a0 o0`.
+pub(crate) fn pair(text: &str) -> Result<(ActionId, ObjId), RowFault> {
+    let (actor, rest) = first_word(text);
+    Ok((action(actor)?, object(rest)?))
+}
+
+fn place(text: &str) -> Result<i64, RowFault> {
+    text.parse::<i64>().map_err(|_| RowFault::NotSpelled)
 }
 
 // A field, or a tag.
-fn part(rt: &impl Abort, text: &str) -> u8 {
-    let Ok(part) = text.parse::<u8>() else {
-        panic!(rt; "no field and no tag: {text}")
-    };
-    part
+fn part(text: &str) -> Result<u8, RowFault> {
+    text.parse::<u8>().map_err(|_| RowFault::NotSpelled)
 }
 
-/// The call of a row that has an arrow and the reply after it.
-pub(crate) fn call_of(rt: &impl Abort, heap: Heap, row: &str) -> Result<Call, Fail> {
-    let Some((text, _)) = row.split_once(" -> ") else {
-        panic!(rt; "no reply: {row}")
-    };
+/// What the text before a row's arrow asks for.
+pub(crate) fn row_of(heap: Heap, text: &str) -> Result<Row, RowFault> {
+    if text == "checkpoint" {
+        return Ok(Row::Checkpoint);
+    }
     let (word, rest) = first_word(text);
-    match word {
-        "declare" => {
-            let Some(shape) = read_shape(heap, rest)? else {
-                panic!(rt; "no shape: {rest}")
-            };
-            Ok(Call::Declare(shape))
-        }
-        "begin_top" => Ok(Call::BeginTop),
-        "begin_sub" => Ok(Call::BeginSub(action(rt, rest))),
-        "begin_nested" => Ok(Call::BeginNested(action(rt, rest))),
-        "commit" => Ok(Call::Commit(action(rt, rest))),
-        "abort" => Ok(Call::Abort(action(rt, rest))),
-        "abort_others" => Ok(Call::AbortOthers(action(rt, rest))),
-        _ => access_of(rt, heap, word, rest),
+    match question_of(word, rest)? {
+        Some(question) => Ok(Row::Question(question)),
+        None => Ok(Row::Call(call_of(heap, word, rest)?)),
     }
 }
 
-fn access_of(rt: &impl Abort, heap: Heap, word: &str, rest: &str) -> Result<Call, Fail> {
+fn call_of(heap: Heap, word: &str, rest: &str) -> Result<Call, RowFault> {
+    match word {
+        "declare" => declaration_of(heap, rest),
+        "begin_top" => Ok(Call::BeginTop),
+        "begin_sub" => Ok(Call::BeginSub(action(rest)?)),
+        "begin_nested" => Ok(Call::BeginNested(action(rest)?)),
+        "commit" => Ok(Call::Commit(action(rest)?)),
+        "abort" => Ok(Call::Abort(action(rest)?)),
+        "abort_others" => Ok(Call::AbortOthers(action(rest)?)),
+        _ => access_of(heap, word, rest),
+    }
+}
+
+fn declaration_of(heap: Heap, text: &str) -> Result<Call, RowFault> {
+    match read_shape(heap, text)? {
+        Some(shape) => Ok(Call::Declare(shape)),
+        None => Err(RowFault::NotSpelled),
+    }
+}
+
+fn access_of(heap: Heap, word: &str, rest: &str) -> Result<Call, RowFault> {
     let (actor, rest) = first_word(rest);
-    let a = action(rt, actor);
-    let (object, operation) = first_word(rest);
-    let o = ObjId(number(rt, "o", object));
+    let (accessed, operation) = first_word(rest);
+    let a = action(actor)?;
+    let o = object(accessed)?;
     match word {
         "test_read" => Ok(Call::TestRead(a, o)),
         "test_write" => Ok(Call::TestWrite(a, o)),
-        "ask" => Ok(Call::Ask(a, o, query_of(rt, operation))),
-        "alter" => Ok(Call::Alter(a, o, change_of(rt, heap, operation)?)),
-        _ => panic!(rt; "no call: {word}"),
+        "ask" => Ok(Call::Ask(a, o, query_of(operation)?)),
+        "alter" => Ok(Call::Alter(a, o, change_of(heap, operation)?)),
+        _ => Err(RowFault::NotSpelled),
     }
 }
 
-fn query_of(rt: &impl Abort, text: &str) -> Query {
+fn query_of(text: &str) -> Result<Query, RowFault> {
     let (word, rest) = first_word(text);
     match word {
-        "whole" => Query::Whole,
-        "field" => Query::Field(part(rt, rest)),
-        "high" => Query::High,
-        "fetch" => Query::Fetch(place(rt, rest)),
-        "is_tag" => Query::IsTag(part(rt, rest)),
-        "tag_value" => Query::TagValue(part(rt, rest)),
-        _ => panic!(rt; "no query: {word}"),
+        "whole" => Ok(Query::Whole),
+        "field" => Ok(Query::Field(part(rest)?)),
+        "low" => Ok(Query::Low),
+        "high" => Ok(Query::High),
+        "size" => Ok(Query::Size),
+        "fetch" => Ok(Query::Fetch(place(rest)?)),
+        "bottom" => Ok(Query::Bottom),
+        "top" => Ok(Query::Top),
+        "is_tag" => Ok(Query::IsTag(part(rest)?)),
+        "tag_value" => Ok(Query::TagValue(part(rest)?)),
+        _ => Err(RowFault::NotSpelled),
     }
 }
 
-fn change_of(rt: &impl Abort, heap: Heap, text: &str) -> Result<Change, Fail> {
+fn change_of(heap: Heap, text: &str) -> Result<Change, RowFault> {
     let (word, rest) = first_word(text);
     match word {
-        "create" => {
-            let Ok(content) = read_content(heap, rest) else {
-                panic!(rt; "no content: {rest}")
-            };
-            Ok(Change::Create(content))
-        }
+        "create" => Ok(Change::Create(read_content(heap, rest)?)),
+        "addh" => Ok(Change::Addh(read_value(heap, rest)?)),
+        "addl" => Ok(Change::Addl(read_value(heap, rest)?)),
         "remh" => Ok(Change::Remh),
+        "reml" => Ok(Change::Reml),
+        "set_low" => Ok(Change::SetLow(place(rest)?)),
         "touch" => Ok(Change::Touch),
-        "addh" => {
-            let Ok(value) = read_value(heap, rest) else {
-                panic!(rt; "no value: {rest}")
-            };
-            Ok(Change::Addh(value))
-        }
-        _ => part_change_of(rt, heap, word, rest),
+        _ => part_change_of(heap, word, rest),
     }
 }
 
-fn part_change_of(rt: &impl Abort, heap: Heap, word: &str, rest: &str) -> Result<Change, Fail> {
-    let (number, text) = first_word(rest);
-    let Ok(value) = read_value(heap, text) else {
-        panic!(rt; "no value: {text}")
-    };
+fn part_change_of(heap: Heap, word: &str, rest: &str) -> Result<Change, RowFault> {
+    let (where_to, text) = first_word(rest);
     match word {
-        "set_field" => Ok(Change::SetField(part(rt, number), value)),
-        "change_tag" => Ok(Change::ChangeTag(part(rt, number), value)),
-        _ => panic!(rt; "no change: {word}"),
+        "set_field" => Ok(Change::SetField(part(where_to)?, read_value(heap, text)?)),
+        "store" => Ok(Change::Store(place(where_to)?, read_value(heap, text)?)),
+        "trim" => Ok(Change::Trim(place(where_to)?, place(text)?)),
+        "change_tag" => Ok(Change::ChangeTag(part(where_to)?, read_value(heap, text)?)),
+        _ => Err(RowFault::NotSpelled),
     }
 }

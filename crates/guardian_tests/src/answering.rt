@@ -1,0 +1,124 @@
+//! What questions are answered, as text.
+
+use crate::question::Question;
+use crate::telling::{
+    tell_action, tell_base, tell_content, tell_flag, tell_number, tell_readers, tell_shape,
+    tell_versions, tell_word,
+};
+use argus_actions::ActionId;
+use argus_contents::{Content, ObjId};
+use argus_entries::write_entry;
+use argus_guardian::Guardian;
+use argus_journal::{Owner, owner_of, replay_base, replay_for};
+use argus_memory::{Heap, OutOfMemory};
+use std::fmt::Write;
+
+/// Adds what the guardian answers, in the heap that may be refused memory.
+pub(crate) fn tell_answer(
+    guardian: &Guardian,
+    heap: Heap,
+    question: Question,
+    out: &mut String<Heap>,
+) -> Result<(), OutOfMemory> {
+    match question {
+        Question::Objects => tell_number(u64::from(guardian.objects()), out),
+        Question::Shape(o) => tell_shape(guardian, o, out),
+        Question::Base(o) => tell_base(guardian, o, out),
+        Question::Readers(o) => tell_readers(guardian, o, out),
+        Question::Versions(o) => tell_versions(guardian, o, out),
+        Question::CanRead(a, o) => tell_flag(guardian.can_read(a, o), out),
+        Question::CanWrite(a, o) => tell_flag(guardian.can_write(a, o), out),
+        Question::Effect(a) => tell_effect(guardian, a, out),
+        Question::Status(a) => tell_word(status_in(guardian, a), out),
+        Question::Owner(a) => tell_owner(guardian, a, out),
+        Question::Replay(a, o) => tell_replay(guardian, heap, a, o, out),
+        Question::ReplayBase(o) => tell_replay_base(guardian, heap, o, out),
+        Question::Length => tell_number(guardian.journal().journal().len(), out),
+        Question::FirstEntry => tell_number(guardian.journal().journal().first_entry(), out),
+        Question::FirstAction => {
+            tell_number(u64::from(guardian.journal().journal().first_action()), out)
+        }
+        Question::Entry(at) => tell_entry(guardian, at, out),
+    }
+}
+
+fn tell_effect(
+    guardian: &Guardian,
+    a: ActionId,
+    out: &mut String<Heap>,
+) -> Result<(), OutOfMemory> {
+    match guardian.effect(a)? {
+        Some(effect) if effect.is_empty() => tell_word("nothing", out),
+        Some(effect) => tell_contents(effect.as_slice(), out),
+        None => tell_word("none", out),
+    }
+}
+
+fn tell_contents(
+    contents: &[(ObjId, Option<Content>)],
+    out: &mut String<Heap>,
+) -> Result<(), OutOfMemory> {
+    for (o, content) in contents {
+        let number = o.0;
+        write!(out, " o{number}")?;
+        tell_content(content, out)?;
+    }
+    Ok(())
+}
+
+// An action is live where it answers for itself.
+fn status_in(guardian: &Guardian, a: ActionId) -> &'static str {
+    match owner_of(guardian.journal().journal(), a) {
+        None => "unbegun",
+        Some(Owner::Folded) => "folded",
+        Some(Owner::Gone) => "aborted",
+        Some(Owner::Base) => "committed",
+        Some(Owner::Held(holder)) => { if holder == a { "live" } else { "committed" } }
+    }
+}
+
+fn tell_owner(guardian: &Guardian, a: ActionId, out: &mut String<Heap>) -> Result<(), OutOfMemory> {
+    match owner_of(guardian.journal().journal(), a) {
+        None => tell_word("unbegun", out),
+        Some(Owner::Folded) => tell_word("folded", out),
+        Some(Owner::Gone) => tell_word("gone", out),
+        Some(Owner::Base) => tell_word("base", out),
+        Some(Owner::Held(holder)) => tell_action(holder, out),
+    }
+}
+
+fn tell_replay(
+    guardian: &Guardian,
+    heap: Heap,
+    a: ActionId,
+    o: ObjId,
+    out: &mut String<Heap>,
+) -> Result<(), OutOfMemory> {
+    let content = replay_for(heap, guardian.journal().journal(), a, o)?;
+    tell_content(&content, out)
+}
+
+fn tell_replay_base(
+    guardian: &Guardian,
+    heap: Heap,
+    o: ObjId,
+    out: &mut String<Heap>,
+) -> Result<(), OutOfMemory> {
+    let content = replay_base(heap, guardian.journal().journal(), o)?;
+    tell_content(&content, out)
+}
+
+/// Adds the line of the entry, with its number, or `none`.
+pub(crate) fn tell_entry(
+    guardian: &Guardian,
+    at: u64,
+    out: &mut String<Heap>,
+) -> Result<(), OutOfMemory> {
+    match guardian.journal().journal().get(at) {
+        Some(entry) => {
+            out.push_str(" ")?;
+            write_entry(at, entry, out)
+        }
+        None => tell_word("none", out),
+    }
+}

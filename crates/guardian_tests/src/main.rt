@@ -1,0 +1,45 @@
+//! Guardians worked out: makes the calls and asks the questions of the rows in data/, and tells
+//! for each test how many rows it has. A row that isn't answered as it says is told, and the
+//! status is then 1.
+#![tactic(auto)]
+
+mod answering;
+mod asking;
+mod counting;
+mod picture;
+mod question;
+mod reading;
+mod row;
+mod row_fault;
+mod subject;
+mod telling;
+mod tester;
+mod tight_line;
+mod tight_subject;
+mod trial;
+
+use anyhow::{Result, ensure};
+use std::fs;
+use tester::Tester;
+
+// The files in data/.
+const TEXTS: [&str; 7] = [
+    "locks.rows",
+    "ends.rows",
+    "contents.rows",
+    "questions.rows",
+    "checkpoints.rows",
+    "limits.rows",
+    "memory.rows",
+];
+
+fn main(rt: HostRuntime) -> Result<()> {
+    let mut tester = Tester::new(rt.alloc())?;
+    for name in TEXTS {
+        let text = fs::read_to_string(&rt, name)?;
+        tester.run_text(&rt, text.as_str())?;
+    }
+    tester.tell_end(&rt)?;
+    ensure!(tester.is_content(), "not all rows are answered as they say");
+    Ok(())
+}

@@ -1,0 +1,29 @@
+//! All that a guardian tells, as one text.
+
+use crate::answering::tell_entry;
+use crate::telling::{tell_base, tell_number, tell_readers, tell_shape, tell_versions};
+use argus_contents::ObjId;
+use argus_guardian::Guardian;
+use argus_memory::{Heap, OutOfMemory};
+
+/// What the guardian tells of its journal and of each object. Two that are the same stand for the
+/// same objects, locks and versions, and a journal of the same length with the same last entry.
+pub(crate) fn picture(guardian: &Guardian, texts: Heap) -> Result<String<Heap>, OutOfMemory> {
+    let mut out = String::new(texts);
+    let journal = guardian.journal().journal();
+    tell_number(journal.first_entry(), &mut out)?;
+    tell_number(u64::from(journal.first_action()), &mut out)?;
+    tell_number(journal.len(), &mut out)?;
+    tell_entry(guardian, journal.len().saturating_sub(1), &mut out)?;
+    for number in 0..guardian.objects() {
+        tell_object(guardian, ObjId(number), &mut out)?;
+    }
+    Ok(out)
+}
+
+fn tell_object(guardian: &Guardian, o: ObjId, out: &mut String<Heap>) -> Result<(), OutOfMemory> {
+    tell_shape(guardian, o, out)?;
+    tell_base(guardian, o, out)?;
+    tell_readers(guardian, o, out)?;
+    tell_versions(guardian, o, out)
+}

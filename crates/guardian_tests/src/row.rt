@@ -1,0 +1,19 @@
+//! `Row`: what a row of a test asks for.
+
+use crate::question::Question;
+use argus_entries::Call;
+
+/// What a row asks for, before its arrow.
+///
+/// ```text
+/// let row = row_of(heap, "begin_sub a0")?;        // Row::Call(Call::BeginSub(ActionId(0)))
+/// ```
+#[derive(Drop)]
+pub(crate) enum Row {
+    /// A call, which is journalled.
+    Call(Call),
+    /// A checkpoint.
+    Checkpoint,
+    /// A question, after which all is as before.
+    Question(Question),
+}

@@ -1,0 +1,105 @@
+//! `Subject`: a guardian that rows are told to.
+
+use crate::answering::tell_answer;
+use crate::picture::picture;
+use crate::question::Question;
+use crate::reading::row_of;
+use crate::row::Row;
+use crate::row_fault::RowFault;
+use argus_entries::{Call, write_entry};
+use argus_guardian::{CheckpointError, Guardian};
+use argus_memory::{Heap, OutOfMemory};
+
+/// A guardian that rows are told to, and the heap of its calls. What it answers is written in
+/// another heap, which always has memory.
+///
+/// ```text
+/// let mut subject = Subject::new(heap, texts);
+/// let line = subject.answer("begin_top")?;        // `begin_top -> a0`
+/// ```
+#[derive(Drop)]
+pub(crate) struct Subject {
+    heap: Heap,
+    texts: Heap,
+    guardian: Guardian,
+}
+
+impl Subject {
+    pub(crate) fn new(heap: Heap, texts: Heap) -> Subject {
+        Subject {
+            heap,
+            texts,
+            guardian: Guardian::new(heap),
+        }
+    }
+
+    /// The whole row as it has to be: what is asked, an arrow, and what is answered.
+    pub(crate) fn answer(&mut self, asked: &str) -> Result<String<Heap>, RowFault> {
+        let row = self.read(asked)?;
+        let line = self.line_of(row, asked)?;
+        Ok(line)
+    }
+
+    /// What the row asks for.
+    pub(crate) fn read(&self, asked: &str) -> Result<Row, RowFault> {
+        row_of(self.heap, asked)
+    }
+
+    /// All that the guardian tells.
+    pub(crate) fn picture(&self) -> Result<String<Heap>, OutOfMemory> {
+        picture(&self.guardian, self.texts)
+    }
+
+    /// The same as `answer`, of a row that was read.
+    pub(crate) fn line_of(&mut self, row: Row, asked: &str) -> Result<String<Heap>, OutOfMemory> {
+        match row {
+            Row::Call(call) => self.line_of_call(call),
+            Row::Checkpoint => self.line_of_checkpoint(),
+            Row::Question(question) => self.line_of_question(question, asked),
+        }
+    }
+
+    // The line of the one entry that the call has added.
+    fn line_of_call(&mut self, call: Call) -> Result<String<Heap>, OutOfMemory> {
+        let at = self.guardian.journal().journal().len();
+        let reply = self.guardian.call(call)?;
+        let journal = self.guardian.journal().journal();
+        match journal.get(at) {
+            Some(entry) if entry.reply == reply && journal.len() == at.saturating_add(1) => {
+                let mut line = String::new(self.texts);
+                write_entry(at, entry, &mut line)?;
+                without_number(self.texts, line.as_str())
+            }
+            Some(_) | None => Ok(String::from_str(self.texts, "another entry")?),
+        }
+    }
+
+    fn line_of_checkpoint(&mut self) -> Result<String<Heap>, OutOfMemory> {
+        let line = match self.guardian.checkpoint() {
+            Ok(()) => "checkpoint -> done",
+            Err(CheckpointError::Busy) => "checkpoint -> Busy",
+            Err(CheckpointError::Full) => "checkpoint -> Full",
+            Err(CheckpointError::OutOfMemory) => return Err(OutOfMemory),
+        };
+        Ok(String::from_str(self.texts, line)?)
+    }
+
+    fn line_of_question(
+        &self,
+        question: Question,
+        asked: &str,
+    ) -> Result<String<Heap>, OutOfMemory> {
+        let mut line = String::from_str(self.texts, asked)?;
+        line.push_str(" ->")?;
+        tell_answer(&self.guardian, self.heap, question, &mut line)?;
+        Ok(line)
+    }
+}
+
+// An entry's line without the number before it.
+fn without_number(texts: Heap, line: &str) -> Result<String<Heap>, OutOfMemory> {
+    match line.split_once(' ') {
+        Some((_, rest)) => Ok(String::from_str(texts, rest)?),
+        None => Ok(String::new(texts)),
+    }
+}

@@ -1,0 +1,10 @@
+//! `TightLine`: what was answered after some refusals.
+
+use argus_memory::Heap;
+
+/// What was answered, and how many allocations had been refused before.
+#[derive(Drop)]
+pub(crate) struct TightLine {
+    pub(crate) line: String<Heap>,
+    pub(crate) refused: u64,
+}
