@@ -46,7 +46,7 @@ module _ {V C A : Type 0} (meaning : Meaning V C A) (opening : Opening C) where
       let u = lawful_orderly meaning opening (Committed s ▹ h) l in
       effects_grow meaning opening h s u e
       ∙ ap (λ m. effects meaning opening h ++ m ∷ [])
-      (effect_seen meaning opening h st s u.0 u.1 e
+      (effect_seen meaning opening h st s u.0.not_base u.0.standing e
       ∙ map_agree (λ o. (o, content_after meaning opening.contents o (visible_accesses h s)))
       (λ o. (o, sees meaning opening h s o)) (written_objects meaning (work h s))
       (λ o. ap (λ c. (o, c)) (sym (sees_is meaning opening h w s o))))
@@ -88,7 +88,7 @@ module _ {V C A : Type 0} (meaning : Meaning V C A) (opening : Opening C) where
       let u = lawful_orderly meaning opening g l in
       let old = tops_same h (Committed s) w u in
       let tops = committed_topactions h in
-      let ps = parent_is h (parents_are_older h w) s u.0 u.1 in
+      let ps = parent_is h (parents_are_older h w) s u.0.not_base u.0.standing in
       let own : work g s ≡ work h s =
       ap (λ q. cond q (work h s ++ work h s) (work h s)) (ne_eqb (parent h s) s (omega (arith, ps.0))) in
       ⊎_elim

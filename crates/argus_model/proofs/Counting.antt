@@ -39,23 +39,23 @@ owner_stands (Began from ▹ h) w a x e =
     stands_old h from x (λ q. omega arith) ∙ ih)
     (owner_cases h from a)
 owner_stands (Committed s ▹ h) w a x e =
-    let f = parents_are_older h w.3 in
-    let i = parent_is h f s w.0 w.1 in
+    let f = parents_are_older h w.1 in
+    let i = parent_is h f s w.0.not_base w.0.standing in
     let p = parent h s in
     let stays : (y : ℕ) → stands h y ≡ true → y ≢ s → stands (Committed s ▹ h) y ≡ true =
     λ y l n. some_at (owner_by_steps (Committed s ▹ h) y) y
     (handed_stays s p (owner_by_steps h y) y (at_some (owner_by_steps h y) y l) n) in
     ⊎_elim
     (λ k. subst (λ u. stands (Committed s ▹ h) u ≡ true) (sym k.1)
-    (stays p (stands_upward h w.3 p s w.1 i.1) (λ q. omega (arith, i.0))))
-    (λ k. stays x (owner_stands h w.3 a x k.0) k.1)
+    (stays p (stands_upward h w.1 p s w.0.standing i.1) (λ q. omega (arith, i.0))))
+    (λ k. stays x (owner_stands h w.1 a x k.0) k.1)
     (handed_cases s p (owner_by_steps h a) x e)
 owner_stands (Aborted z ▹ h) w a x e =
     let k = kept_cases (is_under h z) (owner_by_steps h a) x e in
     let ih = owner_stands h w.1 a x k.0 in
     some_at (owner_by_steps (Aborted z ▹ h) x) x
     (kept_stays (is_under h z) (owner_by_steps h x) x (at_some (owner_by_steps h x) x ih) k.1)
-owner_stands (Accessed b o v ▹ h) w a x e = owner_stands h w.3 a x e
+owner_stands (Accessed b o v ▹ h) w a x e = owner_stands h w.1 a x e
 
 abbrev is_gone : Owner → Bool
 is_gone Gone = true
@@ -116,7 +116,7 @@ pub base_stays : {V : Type 0} (h : History V) (e : Event V) → Orderly (e ▹ h
     → owner_by_steps (e ▹ h) a ≡ Some 0
 base_stays h (Began from) w a b = let l = owned_begun h a 0 b in
     ⊎_elim (λ c. absurd (omega (arith, c.0))) (λ c. c.1 ∙ b) (owner_cases h from a)
-base_stays h (Committed s) w a b = handed_stays s (parent h s) (owner_by_steps h a) 0 b (λ q. w.0 (sym q))
+base_stays h (Committed s) w a b = handed_stays s (parent h s) (owner_by_steps h a) 0 b (λ q. w.0.not_base (sym q))
 base_stays h (Aborted z) w a b = kept_stays (is_under h z) (owner_by_steps h a) 0 b (base_spared h z w)
 base_stays h (Accessed d o v) w a b = b
 
@@ -124,15 +124,15 @@ base_stays h (Accessed d o v) w a b = b
 stood : {V : Type 0} (h : History V) (e : Event V) → Orderly (e ▹ h) → (a : ℕ) → a < next_action h
     → stands (e ▹ h) a ≡ true → stands h a ≡ true
 stood h (Began from) w a l s = sym (stands_old h from a (λ q. omega arith)) ∙ s
-stood h (Committed b) w a l s = (stands_commit h (parents_are_older h w.3) (stands_upward h w.3) b a w.0 w.1 s).0
+stood h (Committed b) w a l s = (stands_commit h (parents_are_older h w.1) (stands_upward h w.1) b a w.0.not_base w.0.standing s).0
 stood h (Aborted z) w a l s = (stands_abort h z a s).0
 stood h (Accessed b o v) w a l s = s
 
 orderly_older : {V : Type 0} (h : History V) (e : Event V) → Orderly (e ▹ h) → Orderly h
 orderly_older h (Began from) w = w.1
-orderly_older h (Committed b) w = w.3
+orderly_older h (Committed b) w = w.1
 orderly_older h (Aborted z) w = w.1
-orderly_older h (Accessed b o v) w = w.3
+orderly_older h (Accessed b o v) w = w.1
 
 pub over_stays : {V : Type 0} (h : History V) (e : Event V) → Orderly (e ▹ h) → (a : ℕ) → is_begun h a ≡ true
     → is_live h a ≡ false → is_live (e ▹ h) a ≡ false
@@ -192,9 +192,9 @@ tops_are (Began from ▹ h) w t =
     (⊎_elim (λ k. absurd (omega (arith, k.0, l.1))) (λ k. sym k.1) (parent_cases h from t)))
     (⊎_elim (λ c. inr c) (λ c. inl c) (cases_Bool (has_committed h t)))
 tops_are (Aborted z ▹ h) w t = tops_are h w.1 t
-tops_are (Accessed a o v ▹ h) w t = tops_are h w.3 t
+tops_are (Accessed a o v ▹ h) w t = tops_are h w.1 t
 tops_are (Committed s ▹ h) w t =
-    let rest = tops_are h w.3 t in
+    let rest = tops_are h w.1 t in
     ⊎_elim
     (λ e. ap (λ b. contains (cond b (s ∷ committed_topactions h) (committed_topactions h)) t) e
     ∙ ap (λ b. (t == s) || b) rest
@@ -240,14 +240,14 @@ unfolding IsDistinct
 tops-IsDistinct (Opened n) w = tt
 tops-IsDistinct (Began from ▹ h) w = tops-IsDistinct h w.1
 tops-IsDistinct (Aborted z ▹ h) w = tops-IsDistinct h w.1
-tops-IsDistinct (Accessed a o v ▹ h) w = tops-IsDistinct h w.3
+tops-IsDistinct (Accessed a o v ▹ h) w = tops-IsDistinct h w.1
 tops-IsDistinct (Committed s ▹ h) w =
     let tops = committed_topactions h in
-    let rest = tops-IsDistinct h w.3 in
+    let rest = tops-IsDistinct h w.1 in
     ⊎_elim
     (λ e. subst (λ b. IsDistinct ◌==◌ (cond b (s ∷ tops) tops)) (sym e) (
       different s tops
-          (false_from_ne_true (contains tops s) (λ m. both_ways (stands h s) (tops_over h w.3 s m) w.1)),
+          (false_from_ne_true (contains tops s) (λ m. both_ways (stands h s) (tops_over h w.1 s m) w.0.standing)),
       rest,
     ))
     (λ e. subst (λ b. IsDistinct ◌==◌ (cond b (s ∷ tops) tops)) (sym e) rest)

@@ -116,8 +116,8 @@ module _ {V C A : Type 0} (meaning : Meaning V C A) where
       ⊎_elim
       (λ k. subst (λ q. touches meaning.writes (work (Committed s ▹ h) q) o all ≡ true) (sym k.1)
       (subst (λ b. touches meaning.writes (cond b (work h s ++ work h p) (work h p)) o all ≡ true)
-      (sym (eq-eqb p p refl)) (touches_front (work h s) (work h p) o all (work_of_user h w.3 a s o all u k.0))))
-      (λ k. let ih = work_of_user h w.3 a y o all u k.0 in
+      (sym (eq-eqb p p refl)) (touches_front (work h s) (work h p) o all (work_of_user h w.1 a s o all u k.0))))
+      (λ k. let ih = work_of_user h w.1 a y o all u k.0 in
       ⊎_elim
       (λ q. subst (λ b. touches meaning.writes (cond b (work h s ++ work h y) (work h y)) o all ≡ true) (sym q)
       (touches_back (work h s) (work h y) o all ih))
@@ -130,13 +130,13 @@ module _ {V C A : Type 0} (meaning : Meaning V C A) where
       let x : Access V = record { object = o'; what = v } in
       let here = o' == o && (all || meaning.writes v) in
       ⊎_elim
-      (λ k. let od = at_some (owner_by_steps h d) d w.0 in
+      (λ k. let od = at_some (owner_by_steps h d) d w.0.standing in
       let oy : owner_by_steps h d ≡ Some y = ap (owner_by_steps h) k.0 ∙ e in
       let q : d ≡ y = grind arith in
       subst (λ b. touches meaning.writes (cond b (x ∷ work h y) (work h y)) o all ≡ true) (sym (eq-eqb d y q))
       (or_left here (touches meaning.writes (work h y) o all)
       (and_from (o' == o) (all || meaning.writes v) (eq-eqb o' o k.1) k.2)))
-      (λ k. let ih = work_of_user h w.3 a y o all k e in
+      (λ k. let ih = work_of_user h w.1 a y o all k e in
       ⊎_elim
       (λ q. subst (λ b. touches meaning.writes (cond b (x ∷ work h y) (work h y)) o all ≡ true) (sym q)
       (or_right here (touches meaning.writes (work h y) o all) ih))
@@ -189,16 +189,16 @@ module _ {V C A : Type 0} (meaning : Meaning V C A) (opening : Opening C) where
   effects_grow h s w e =
       let g = Committed s ▹ h in
       let own : work g s ≡ work h s =
-      ap (λ q. cond q (work h s ++ work h s) (work h s)) (ne_eqb (parent h s) s (λ k. w.0 (sym k ∙ e))) in
+      ap (λ q. cond q (work h s ++ work h s) (work h s)) (ne_eqb (parent h s) s (λ k. w.0.not_base (sym k ∙ e))) in
       let past : all_of (work g) (committed_topactions h) ≡ work h 0 =
       all_of_agree (work g) (work h) (committed_topactions h)
-      (λ z m. work_final h (Committed s) w z (tops_over h w.3 z m)) ∙ sym (serial_tops h w.3) in
+      (λ z m. work_final h (Committed s) w z (tops_over h w.1 z m)) ∙ sym (serial_tops h w.1) in
       let m = effect_of meaning opening.contents (work g s) (all_of (work g) (committed_topactions h)) in
       ap (λ q. reverse
       (effects_of meaning opening.contents (work g) (cond q (s ∷ committed_topactions h) (committed_topactions h))))
       (eq-eqb (parent h s) 0 e)
       ∙ reverse-append (m ∷ []) (effects_of meaning opening.contents (work g) (committed_topactions h))
-      ∙ ap (λ ms. reverse ms ++ m ∷ []) (effects_of_same h (Committed s) w.3 w)
+      ∙ ap (λ ms. reverse ms ++ m ∷ []) (effects_of_same h (Committed s) w.1 w)
       ∙ ap (λ es. effects meaning opening h ++ effect_of meaning opening.contents es
       (all_of (work g) (committed_topactions h)) ∷ []) own
       ∙ ap (λ es. effects meaning opening h ++ effect_of meaning opening.contents (work h s) es ∷ []) past

@@ -65,10 +65,10 @@ module _ {V : Type 0} (writes : V → Bool) where
       → y < next_action h
   has_used_begun (Opened n) w y o all e = absurd (false≢true e)
   has_used_begun (Began from ▹ h) w y o all e = let l = has_used_begun h w.1 y o all e in omega arith
-  has_used_begun (Committed s ▹ h) w y o all e = has_used_begun h w.3 y o all e
+  has_used_begun (Committed s ▹ h) w y o all e = has_used_begun h w.1 y o all e
   has_used_begun (Aborted z ▹ h) w y o all e = has_used_begun h w.1 y o all e
   has_used_begun (Accessed b o' v ▹ h) w y o all e =
-      ⊎_elim (λ k. subst (λ u. u < next_action h) k.0 (stands_begun h b w.0)) (λ k. has_used_begun h w.3 y o all k)
+      ⊎_elim (λ k. subst (λ u. u < next_action h) k.0 (stands_begun h b w.0.standing)) (λ k. has_used_begun h w.1 y o all k)
       (has_used_cases h b o' v y o all e)
 
   -- each holder that was asked is an ancestor
@@ -150,19 +150,19 @@ module _ {V : Type 0} (writes : V → Bool) where
       ⊎_elim (λ k. inl (ancestor_old h from x y (omega arith) k)) (λ k. inr (ancestor_old h from y x (omega arith) k))
       (exclusion h w.1 g a b o x y ua ub ea' eb')
   exclusion (Committed s ▹ h) w g a b o x y ua ub ea eb =
-      let f = parents_are_older h w.3 in let p = parent h s in
+      let f = parents_are_older h w.1 in let p = parent h s in
       let ih : (x y : ℕ) → owner_by_steps h a ≡ Some x → owner_by_steps h b ≡ Some y → Related h x y =
-      λ x y. exclusion h w.3 g a b o x y ua ub in
+      λ x y. exclusion h w.1 g a b o x y ua ub in
       ⊎_elim
       (λ k. ⊎_elim
       (λ m. inl (subst (λ q. is_ancestor h x q ≡ true) (k.1 ∙ sym m.1) (ancestor_self h x)))
       (λ m. subst (λ q. Related h q y) (sym k.1)
-      (handed_related h w.3 s x y w.0 w.1 (owner_begun h b y f m.0) m.1 (ih s y k.0 m.0)))
+      (handed_related h w.1 s x y w.0.not_base w.0.standing (owner_begun h b y f m.0) m.1 (ih s y k.0 m.0)))
       (handed_cases s p (owner_by_steps h b) y eb))
       (λ k. ⊎_elim
       (λ m. turned h y x
       (subst (λ q. Related h q x) (sym m.1)
-      (handed_related h w.3 s x x w.0 w.1 (owner_begun h a x f k.0) k.1 (turned h x s (ih x s k.0 m.0)))))
+      (handed_related h w.1 s x x w.0.not_base w.0.standing (owner_begun h a x f k.0) k.1 (turned h x s (ih x s k.0 m.0)))))
       (λ m. ih x y k.0 m.0)
       (handed_cases s p (owner_by_steps h b) y eb))
       (handed_cases s p (owner_by_steps h a) x ea)
@@ -171,10 +171,10 @@ module _ {V : Type 0} (writes : V → Bool) where
       (kept_cases (is_under h z) (owner_by_steps h b) y eb).0
   exclusion (Accessed d o' v ▹ h) w g a b o x y ua ub ea eb =
       ⊎_elim
-      (λ k. let xd = same_owner h d a x k.0 w.0 ea in
+      (λ k. let xd = same_owner h d a x k.0 w.0.standing ea in
       let wv : writes v ≡ true = k.2 in
       ⊎_elim
-      (λ m. let yd = same_owner h d b y m.0 w.0 eb in
+      (λ m. let yd = same_owner h d b y m.0 w.0.standing eb in
       inl (subst (λ q. is_ancestor h x q ≡ true) (xd ∙ sym yd) (ancestor_self h x)))
       (λ m. let u : has_used writes h b o' (writes v) ≡ true =
       subst (λ q. has_used writes h b q (writes v) ≡ true) (sym k.1)
@@ -182,10 +182,10 @@ module _ {V : Type 0} (writes : V → Bool) where
       inr (subst (λ q. is_ancestor h y q ≡ true) (sym xd) (may_tells h h d o' b y (writes v) g.0 u eb)))
       (has_used_cases h d o' v b o true ub))
       (λ k. ⊎_elim
-      (λ m. let yd = same_owner h d b y m.0 w.0 eb in
+      (λ m. let yd = same_owner h d b y m.0 w.0.standing eb in
       let u : has_used writes h a o' (writes v) ≡ true =
       subst (λ q. has_used writes h a q (writes v) ≡ true) (sym m.1) (has_used_all h a o (writes v) k) in
       inl (subst (λ q. is_ancestor h x q ≡ true) (sym yd) (may_tells h h d o' a x (writes v) g.0 u ea)))
-      (λ m. exclusion h w.3 g.1 a b o x y k m ea eb)
+      (λ m. exclusion h w.1 g.1 a b o x y k m ea eb)
       (has_used_cases h d o' v b o true ub))
       (has_used_cases h d o' v a o false ua)

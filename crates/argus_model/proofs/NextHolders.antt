@@ -124,13 +124,13 @@ module _ {V : Type 0} (kind : V → Bool) where
       let now = holds_access kind h a o' v o false in
       ⊎_elim
       (λ k. holders_listed g w o (insert a old) (insert-IsRising a old (holders_rising kind h o))
-      (contains_insert a old 0 ∙ ap (λ b. b || contains old 0) (ne_eqb 0 a (λ e. w.2 (sym e))) ∙ no_base_holder h o)
-      (λ x n. now x w.0 ∙ ap (λ b. b && (a == x) || holds kind h o false x) k
+      (contains_insert a old 0 ∙ ap (λ b. b || contains old 0) (ne_eqb 0 a (λ e. w.0.not_base (sym e))) ∙ no_base_holder h o)
+      (λ x n. now x w.0.standing ∙ ap (λ b. b && (a == x) || holds kind h o false x) k
       ∙ ap (λ b. b || holds kind h o false x) (eqb_sym a x)
-      ∙ ap (λ b. (x == a) || b) (sym (contains_holders kind h w.3 o x n)) ∙ sym (contains_insert a old x))
+      ∙ ap (λ b. (x == a) || b) (sym (contains_holders kind h w.1 o x n)) ∙ sym (contains_insert a old x))
       ∙ sym (ap (λ b. cond b (insert a old) old) k))
       (λ k. holders_listed g w o old (holders_rising kind h o) (no_base_holder h o)
-      (λ x n. now x w.0 ∙ ap (λ b. b && (a == x) || holds kind h o false x) k ∙ sym (contains_holders kind h w.3 o x n))
+      (λ x n. now x w.0.standing ∙ ap (λ b. b && (a == x) || holds kind h o false x) k ∙ sym (contains_holders kind h w.1 o x n))
       ∙ sym (ap (λ b. cond b (insert a old) old) k))
       (cases_Bool (o' == o && kind v))
 
@@ -158,7 +158,7 @@ module _ {V : Type 0} (kind : V → Bool) where
   holders_after_commit h s w o =
       let p = parent h s in
       let old = holders kind h o in
-      let i = parent_is h (parents_are_older h w.3) s w.0 w.1 in
+      let i = parent_is h (parents_are_older h w.1) s w.0.not_base w.0.standing in
       let ps : p ≢ s = omega (arith, i.0) in
       holders_listed (Committed s ▹ h) w o (inherited s p old) (inherited-IsRising s p old (holders_rising kind h o))
       (inherited_zero s p old (no_base_holder h o))
@@ -168,10 +168,10 @@ module _ {V : Type 0} (kind : V → Bool) where
       (λ q. ⊎_elim
       (λ e. subst (λ y. y ≢ 0 → holds kind (Committed s ▹ h) o false y ≡ contains (inherited s p old) y) (sym e)
       (λ p0. holds_commit_parent kind h s o false ps
-      ∙ ap (λ b. b || holds kind h o false p) (sym (contains_holders kind h w.3 o s w.0))
-      ∙ ap (λ b. contains old s || b) (sym (contains_holders kind h w.3 o p p0))
+      ∙ ap (λ b. b || holds kind h o false p) (sym (contains_holders kind h w.1 o s w.0.not_base))
+      ∙ ap (λ b. contains old s || b) (sym (contains_holders kind h w.1 o p p0))
       ∙ sym (inherited_parent s p old ps p0)) n)
-      (λ e. holds_commit_other kind h s o false x q e ∙ sym (contains_holders kind h w.3 o x n)
+      (λ e. holds_commit_other kind h s o false x q e ∙ sym (contains_holders kind h w.1 o x n)
       ∙ sym (inherited_other s p old x q e))
       (cases_eq x p))
       (cases_eq x s))

@@ -57,9 +57,9 @@ pub live_after_commit : {V : Type 0} (h : History V) (s : ℕ) → Orderly (Comm
     → is_live (Committed s ▹ h) x ≡ (is_live h x && not (x == s))
 live_after_commit h s w =
     let g = Committed s ▹ h in
-    from_stands h g w.3 w (λ x. not (x == s))
+    from_stands h g w.1 w (λ x. not (x == s))
     (λ x. same_bool (stands g x) (stands h x && not (x == s))
-    (λ k. let q = stands_commit h (parents_are_older h w.3) (stands_upward h w.3) s x w.0 w.1 k in
+    (λ k. let q = stands_commit h (parents_are_older h w.1) (stands_upward h w.1) s x w.0.not_base w.0.standing k in
     and_from (stands h x) (not (x == s)) q.0 (ap not (ne_eqb x s q.1)))
     (λ k. let q = and_parts (stands h x) (not (x == s)) k in
     some_at (owner_by_steps g x) x
@@ -89,7 +89,7 @@ owner_after_begin h from w x k =
 
 pub owner_after_access : {V : Type 0} (h : History V) (a o : ℕ) (v : V) → Orderly (Accessed a o v ▹ h) → (x : ℕ)
     → is_begun h x ≡ true → owner (Accessed a o v ▹ h) x ≡ owner h x
-owner_after_access h a o v w x k = owner_is (Accessed a o v ▹ h) w x k ∙ sym (owner_is h w.3 x k)
+owner_after_access h a o v w x k = owner_is (Accessed a o v ▹ h) w x k ∙ sym (owner_is h w.1 x k)
 
 handed_is : (s p : ℕ) → s ≢ 0 → (q : Option ℕ) → as_owner (handed_up s p q) ≡ passed_up s p (as_owner q)
 handed_is s p s0 None = refl
@@ -110,8 +110,8 @@ handed_is s p s0 (Some x) =
 pub owner_after_commit : {V : Type 0} (h : History V) (s : ℕ) → Orderly (Committed s ▹ h) → (x : ℕ)
     → is_begun h x ≡ true → owner (Committed s ▹ h) x ≡ passed_up s (parent h s) (owner h x)
 owner_after_commit h s w x k =
-    owner_is (Committed s ▹ h) w x k ∙ handed_is s (parent h s) w.0 (owner_by_steps h x)
-    ∙ ap (passed_up s (parent h s)) (sym (owner_is h w.3 x k))
+    owner_is (Committed s ▹ h) w x k ∙ handed_is s (parent h s) w.0.not_base (owner_by_steps h x)
+    ∙ ap (passed_up s (parent h s)) (sym (owner_is h w.1 x k))
 
 lost_is : (lost : ℕ → Bool) → lost 0 ≡ false → (q : Option ℕ)
     → as_owner (unless_lost lost q) ≡ unless_gone lost (as_owner q)

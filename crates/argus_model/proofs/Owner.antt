@@ -27,9 +27,9 @@ parent_unfolded (Began from ▹ h) w a l b n =
     (λ k. subst (λ u. folded h < u) (sym k.1) (stands_unfolded h (parent_of from) (λ e. n (k.1 ∙ e)) w.0))
     (λ k. subst (λ u. folded h < u) (sym k.1) (parent_unfolded h w.1 a l (omega (arith, k.0)) (λ e. n (k.1 ∙ e))))
     (parent_cases h from a)
-parent_unfolded (Committed s ▹ h) w a l b n = parent_unfolded h w.3 a l b n
+parent_unfolded (Committed s ▹ h) w a l b n = parent_unfolded h w.1 a l b n
 parent_unfolded (Aborted z ▹ h) w a l b n = parent_unfolded h w.1 a l b n
-parent_unfolded (Accessed d o v ▹ h) w a l b n = parent_unfolded h w.3 a l b n
+parent_unfolded (Accessed d o v ▹ h) w a l b n = parent_unfolded h w.1 a l b n
 
 pub owner_unfolded : {V : Type 0} (h : History V) → Orderly h → (a x : ℕ) → owner_by_steps h a ≡ Some x → x ≢ 0
     → folded h < x
@@ -43,12 +43,12 @@ owner_unfolded (Began from ▹ h) w a x e n =
 owner_unfolded (Committed s ▹ h) w a x e n =
     ⊎_elim
     (λ k. subst (λ u. folded h < u) (sym k.1)
-    (parent_unfolded h w.3 s (stands_unfolded h s w.0 w.1) (stands_begun h s w.1) (λ q. n (k.1 ∙ q))))
-    (λ k. owner_unfolded h w.3 a x k.0 n)
+    (parent_unfolded h w.1 s (stands_unfolded h s w.0.not_base w.0.standing) (stands_begun h s w.0.standing) (λ q. n (k.1 ∙ q))))
+    (λ k. owner_unfolded h w.1 a x k.0 n)
     (handed_cases s (parent h s) (owner_by_steps h a) x e)
 owner_unfolded (Aborted z ▹ h) w a x e n =
     owner_unfolded h w.1 a x (kept_cases (is_under h z) (owner_by_steps h a) x e).0 n
-owner_unfolded (Accessed d o v ▹ h) w a x e n = owner_unfolded h w.3 a x e n
+owner_unfolded (Accessed d o v ▹ h) w a x e n = owner_unfolded h w.1 a x e n
 
 up_is : {V : Type 0} (h : History V) → Orderly h → (n a : ℕ) → a < n → (a ≢ 0 → folded h < a) → a < next_action h
     → owner_up h (lineage h a) ≡ as_owner (owner_by_steps h a)

@@ -174,11 +174,11 @@ is_above_is (Began from ▹ h) w x y x0 k =
     ∙ sym (ap (λ l. contains l x) t.1))
     (lineage_cases h from y)
 is_above_is (Committed s ▹ h) w x y x0 k =
-    is_above-mark (folded h) (λ k. k == s) IsCommitted (rows h) x y ∙ is_above_is h w.3 x y x0 k
+    is_above-mark (folded h) (λ k. k == s) IsCommitted (rows h) x y ∙ is_above_is h w.1 x y x0 k
 is_above_is (Aborted zs ▹ h) w x y x0 k =
     is_above-mark (folded h) (λ k. list_any (λ z. is_above (folded h) (rows h) z k) zs) IsAborted (rows h) x y
     ∙ is_above_is h w.1 x y x0 k
-is_above_is (Accessed a o v ▹ h) w x y x0 k = is_above_is h w.3 x y x0 k
+is_above_is (Accessed a o v ▹ h) w x y x0 k = is_above_is h w.1 x y x0 k
 
 -- and each row says what the history says
 pub row_is : {V : Type 0} (h : History V) → Orderly h → (a : ℕ) → is_begun h a ≡ true
@@ -205,11 +205,11 @@ row_is (Began from ▹ h) w a k =
 row_is (Committed s ▹ h) w a k =
     let made : Status → Option Row = λ t. Some (record { origin = origin h a; status = t }) in
     row_at-mark (folded h) (λ k. k == s) IsCommitted (rows h) a
-    ∙ ap (marked (a == s) IsCommitted) (row_is h w.3 a k)
+    ∙ ap (marked (a == s) IsCommitted) (row_is h w.1 a k)
     ∙ ⊎_elim
     (λ e. ap (λ b. Some (cond b (with_status IsCommitted (row_of h a)) (row_of h a))) (eq-eqb a s e)
     ∙ ap made (sym
-    (subst (λ u. status (Committed s ▹ h) u ≡ IsCommitted) (sym e) (status_commit_own h s w.3 w.0 w.1))))
+    (subst (λ u. status (Committed s ▹ h) u ≡ IsCommitted) (sym e) (status_commit_own h s w.1 w.0.not_base w.0.standing))))
     (λ ne. ap (λ b. Some (cond b (with_status IsCommitted (row_of h a)) (row_of h a))) (ne_eqb a s ne)
     ∙ ap made (sym (status_commit_other h s a ne)))
     (cases_eq a s)
@@ -230,7 +230,7 @@ row_is (Aborted zs ▹ h) w a k =
         ≡ Some (record { origin = origin h a; status = cond b IsAborted (status h a) })
     pushed true made = refl
     pushed false made = refl
-row_is (Accessed d o v ▹ h) w a k = row_is h w.3 a k
+row_is (Accessed d o v ▹ h) w a k = row_is h w.1 a k
 
 -- the origin says who is the parent and who the creator
 pub parent_of_origin : {V : Type 0} (h : History V) (a : ℕ) → parent_of (origin h a) ≡ parent h a

@@ -9,8 +9,8 @@ use Rattle.argus_model.specs.Ancestors.{is_ancestor, is_under, lineage, parent}
 use Rattle.argus_model.specs.Event.{Aborted, Accessed, Began, Committed, Origin, creator_of, parent_of}
 use Rattle.argus_model.specs.History.{History, Opened, folded, next_action, ◌▹◌}
 use Rattle.argus_model.specs.Numbers.{contains}
-use Rattle.argus_model.specs.OwnerSteps.{AllStand, handed_up, is_exactly, owner_by_steps, standing_child, stands}
-use Rattle.argus_model.specs.OwnerSteps.{unless_lost}
+use Rattle.argus_model.specs.OwnerSteps.{AllStand, StandsAlone, handed_up, is_exactly, owner_by_steps, standing_child}
+use Rattle.argus_model.specs.OwnerSteps.{stands, unless_lost}
 use Rattle.argus_model.proofs.Ancestors.{ParentsAreOlder, ancestor_new_is, ancestor_old_is, ancestor_self}
 use Rattle.argus_model.proofs.Ancestors.{child_on_path, folded_next, parent_cases, parent_older, under_below}
 
@@ -18,11 +18,9 @@ use Rattle.argus_model.proofs.Ancestors.{child_on_path, folded_next, parent_case
 abbrev pub Orderly : {V : Type 0} → History V → Type 0
 Orderly (Opened n) = Unit {0}
 Orderly (Began from ▹ older) = (stands older (parent_of from) ≡ true) × Orderly older
-Orderly (Committed s ▹ older) =
-    (s ≢ 0) × (stands older s ≡ true) × (standing_child older s older ≡ false) × Orderly older
+Orderly (Committed s ▹ older) = StandsAlone older s × Orderly older
 Orderly (Aborted zs ▹ older) = AllStand older zs × Orderly older
-Orderly (Accessed a o v ▹ older) =
-    (stands older a ≡ true) × (standing_child older a older ≡ false) × (a ≢ 0) × Orderly older
+Orderly (Accessed a o v ▹ older) = StandsAlone older a × Orderly older
 
 pub at_some : (o : Option ℕ) (y : ℕ) → is_exactly o y ≡ true → o ≡ Some y
 at_some None y e = absurd (false≢true e)
@@ -91,9 +89,9 @@ stands_begun h y e = owned_begun h y y (at_some (owner_by_steps h y) y e)
 pub parents_are_older : {V : Type 0} (h : History V) → Orderly h → ParentsAreOlder h
 parents_are_older (Opened n) w = tt
 parents_are_older (Began from ▹ h) w = (stands_begun h (parent_of from) w.0, parents_are_older h w.1)
-parents_are_older (Committed s ▹ h) w = parents_are_older h w.3
+parents_are_older (Committed s ▹ h) w = parents_are_older h w.1
 parents_are_older (Aborted zs ▹ h) w = parents_are_older h w.1
-parents_are_older (Accessed a o v ▹ h) w = parents_are_older h w.3
+parents_are_older (Accessed a o v ▹ h) w = parents_are_older h w.1
 
 -- an owner has begun
 pub parent_begun : {V : Type 0} (h : History V) (y : ℕ) → ParentsAreOlder h → parent h y < next_action h
@@ -203,10 +201,10 @@ stands_upward (Began from ▹ h) w x y l a =
     (cases_eq y (next_action h)))
     (cases_eq x (next_action h))
 stands_upward (Committed s ▹ h) w x y l a =
-    let f = parents_are_older h w.3 in let up : StandsUpward h = stands_upward h w.3 in
-    let k = stands_commit h f up s y w.0 w.1 l in
+    let f = parents_are_older h w.1 in let up : StandsUpward h = stands_upward h w.1 in
+    let k = stands_commit h f up s y w.0.not_base w.0.standing l in
     let ox = at_some (owner_by_steps h x) x (up x y k.0 a) in
-    let ne : x ≢ s = λ e. k.1 (sym (alone h f up s y k.0 (subst (λ u. is_ancestor h u y ≡ true) e a) w.2)) in
+    let ne : x ≢ s = λ e. k.1 (sym (alone h f up s y k.0 (subst (λ u. is_ancestor h u y ≡ true) e a) w.0.childless)) in
     some_at (owner_by_steps (Committed s ▹ h) x) x (handed_stays s (parent h s) (owner_by_steps h x) x ox ne)
 stands_upward (Aborted z ▹ h) w x y l a =
     let f = parents_are_older h w.1 in let up : StandsUpward h = stands_upward h w.1 in
@@ -216,4 +214,4 @@ stands_upward (Aborted z ▹ h) w x y l a =
     ⊎_elim (λ t. absurd (both_ways (is_under h z y) k.1 (under_below h z x y f (stands_begun h y k.0) t a)))
     (λ t. t) (cases_Bool (is_under h z x)) in
     some_at (owner_by_steps (Aborted z ▹ h) x) x (kept_stays (is_under h z) (owner_by_steps h x) x ox n)
-stands_upward (Accessed b o v ▹ h) w x y l a = stands_upward h w.3 x y l a
+stands_upward (Accessed b o v ▹ h) w x y l a = stands_upward h w.1 x y l a

@@ -47,14 +47,14 @@ serial_tops (Opened n) w = refl
 serial_tops (Began from ▹ h) w = serial_tops h w.1
 serial_tops (Aborted z ▹ h) w = serial_tops h w.1
 serial_tops (Accessed a o v ▹ h) w =
-    ap (λ q. cond q (record { object = o; what = v } ∷ work h 0) (work h 0)) (ne_eqb a 0 w.2)
-    ∙ serial_tops h w.3 ∙ sym (tops_same h (Accessed a o v) w.3 w)
+    ap (λ q. cond q (record { object = o; what = v } ∷ work h 0) (work h 0)) (ne_eqb a 0 w.0.not_base)
+    ∙ serial_tops h w.1 ∙ sym (tops_same h (Accessed a o v) w.1 w)
 serial_tops (Committed s ▹ h) w =
     let g = Committed s ▹ h in
-    let ps = parent_is h (parents_are_older h w.3) s w.0 w.1 in
+    let ps = parent_is h (parents_are_older h w.1) s w.0.not_base w.0.standing in
     let own : work g s ≡ work h s =
     ap (λ q. cond q (work h s ++ work h s) (work h s)) (ne_eqb (parent h s) s (omega (arith, ps.0))) in
-    let rest = serial_tops h w.3 ∙ sym (tops_same h (Committed s) w.3 w) in
+    let rest = serial_tops h w.1 ∙ sym (tops_same h (Committed s) w.1 w) in
     ⊎_elim
     (λ e. ap (λ q. cond q (work h s ++ work h 0) (work h 0)) e
     ∙ ap (λ es. work h s ++ es) rest ∙ ap (λ es. es ++ all_of (work g) (committed_topactions h)) (sym own)

@@ -21,29 +21,29 @@ pub no_work : {V : Type 0} (h : History V) → Orderly h → (y : ℕ) → next_
 no_work (Opened n) w y l = refl
 no_work (Began from ▹ h) w y l = no_work h w.1 y (omega arith)
 no_work (Committed s ▹ h) w y l =
-    let q = parent_begun h s (parents_are_older h w.3) in
+    let q = parent_begun h s (parents_are_older h w.1) in
     let n : parent h s == y ≡ false = ne_eqb (parent h s) y (λ e. omega arith) in
-    ap (λ b. cond b (work h s ++ work h y) (work h y)) n ∙ no_work h w.3 y l
+    ap (λ b. cond b (work h s ++ work h y) (work h y)) n ∙ no_work h w.1 y l
 no_work (Aborted z ▹ h) w y l = no_work h w.1 y l
 no_work (Accessed a o v ▹ h) w y l =
-    let q = stands_begun h a w.0 in
+    let q = stands_begun h a w.0.standing in
     let n : a == y ≡ false = ne_eqb a y (λ e. omega arith) in
-    ap (λ b. cond b (record { object = o; what = v } ∷ work h y) (work h y)) n ∙ no_work h w.3 y l
+    ap (λ b. cond b (record { object = o; what = v } ∷ work h y) (work h y)) n ∙ no_work h w.1 y l
 
 -- the work of what is over stays
 pub work_final : {V : Type 0} (h : History V) (e : Event V) → Orderly (e ▹ h) → (y : ℕ) → stands h y ≡ false
     → work (e ▹ h) y ≡ work h y
 work_final h (Began from) w y n = refl
 work_final h (Committed s) w y n =
-    let f = parents_are_older h w.3 in
+    let f = parents_are_older h w.1 in
     ap (λ b. cond b (work h s ++ work h y) (work h y))
     (ne_eqb (parent h s) y
     (λ e. both_ways (stands h y) n
-    (subst (λ u. stands h u ≡ true) e (stands_upward h w.3 (parent h s) s w.1 (parent_is h f s w.0 w.1).1))))
+    (subst (λ u. stands h u ≡ true) e (stands_upward h w.1 (parent h s) s w.0.standing (parent_is h f s w.0.not_base w.0.standing).1))))
 work_final h (Aborted z) w y n = refl
 work_final h (Accessed a o v) w y n =
     ap (λ b. cond b (record { object = o; what = v } ∷ work h y) (work h y))
-    (ne_eqb a y (λ e. both_ways (stands h y) n (subst (λ u. stands h u ≡ true) e w.0)))
+    (ne_eqb a y (λ e. both_ways (stands h y) n (subst (λ u. stands h u ≡ true) e w.0.standing)))
 
 pub all_of-append : {X : Type 0} (f : ℕ → List X) (ys zs : List ℕ) → all_of f (ys ++ zs) ≡ all_of f ys ++ all_of f zs
 all_of-append f [] zs = refl
@@ -124,10 +124,10 @@ module _ {V : Type 0} (writes : V → Bool) where
       })
       (cases_eq y (next_action h))
   user_of (Committed s ▹ h) w y o all l m =
-      let k = stands_commit h (parents_are_older h w.3) (stands_upward h w.3) s y w.0 w.1 l in
+      let k = stands_commit h (parents_are_older h w.1) (stands_upward h w.1) s y w.0.not_base w.0.standing l in
       let p = parent h s in
       let ih : touches (work h y) o all ≡ true → User (Committed s ▹ h) y o all =
-      λ q. let u = user_of h w.3 y o all k.0 q in
+      λ q. let u = user_of h w.1 y o all k.0 q in
       record {
         action = u.action;
         uses = u.uses;
@@ -135,7 +135,7 @@ module _ {V : Type 0} (writes : V → Bool) where
       } in
       ⊎_elim
       (λ e. ⊎_elim
-      (λ q. let u = user_of h w.3 s o all w.1 q in
+      (λ q. let u = user_of h w.1 s o all w.0.standing q in
       record {
         action = u.action;
         uses = u.uses;
@@ -155,7 +155,7 @@ module _ {V : Type 0} (writes : V → Bool) where
       }
   user_of (Accessed a o' v ▹ h) w y o all l m =
       let ih : touches (work h y) o all ≡ true → User (Accessed a o' v ▹ h) y o all =
-      λ q. let u = user_of h w.3 y o all l q in
+      λ q. let u = user_of h w.1 y o all l q in
       record { action = u.action; uses = has_used_more h a o' v u.action o all u.uses; owned = u.owned } in
       let here = o' == o && (all || writes v) in
       ⊎_elim
@@ -163,7 +163,7 @@ module _ {V : Type 0} (writes : V → Bool) where
       (λ q. record {
         action = a;
         uses = or_left (a == a && here) (has_used writes h a o all) (and_from (a == a) here (eq-eqb a a refl) q);
-        owned = at_some (owner_by_steps h a) a w.0 ∙ ap Some k;
+        owned = at_some (owner_by_steps h a) a w.0.standing ∙ ap Some k;
       })
       ih
       (or_cases here (touches (work h y) o all)
