@@ -1,17 +1,16 @@
 -- A fitting change leaves a fitting content, and what fits goes on to fit when more objects are declared.
-use Rattle.std.proofs.Common.{Bool, List, None, Option, Some, [], arith, drop, false, length, nat_le, nat_lt, refl, suc}
-use Rattle.std.proofs.Common.{take, true, zero, ℕ, ℤ, pos, ◌++◌, ◌+ℤ◌, ◌-◌, ◌-ℤ◌, ◌∷◌, ◌≡◌, ◌≤ℤ◌, ◌≤◌}
-use Rattle.std.specs.Prelude.{if◌then◌else◌, int_lt, not, slice_set, unsigned_abs, ◌&&◌, ◌||◌}
+use Rattle.std.proofs.Common.{Bool, List, None, Option, Some, [], arith, drop, false, length, nat_lt, refl, suc}
+use Rattle.std.proofs.Common.{take, true, zero, ℕ, ℤ, pos, ◌++◌, ◌+ℤ◌, ◌-◌, ◌-ℤ◌, ◌∷◌, ◌≡◌, ◌≤◌}
+use Rattle.std.specs.Prelude.{if◌then◌else◌, int_lt, slice_set, unsigned_abs, ◌||◌}
 use Rattle.std.specs.Ordering.{int_eq}
 use Rattle.std.proofs.lemmas.Bool.{and_from, and_parts, false≢true}
 use Rattle.std.proofs.lemmas.Bool.Decides.{nat_tests}
-use Rattle.std.proofs.lemmas.Int.{ints}
 use Rattle.argus_contents.specs.Change.{Outcome, PlainChange, addh, addl, array_outcome, change_tag, create}
 use Rattle.argus_contents.specs.Change.{is_full_high, is_full_low, is_out_of_limits, reml, remh, removed_low, outcome}
 use Rattle.argus_contents.specs.Change.{set_field, set_low, store, stored_at, touch, trim, trimmed}
 use Rattle.argus_contents.specs.Content.{KeepsLimits, PlainContent, arr, is_within, rec, var}
 use Rattle.argus_contents.specs.Fitting.{change_suits, is_fitting}
-use Rattle.argus_contents.specs.Place.{high_of, place_of}
+use Rattle.argus_contents.specs.Place.{place_of}
 use Rattle.argus_contents.specs.Shape as shape
 use Rattle.argus_contents.specs.Shape.{PlainShape}
 use Rattle.argus_contents.specs.Ty as ty
@@ -19,7 +18,7 @@ use Rattle.argus_contents.specs.Ty.{PlainFields, PlainTy}
 use Rattle.argus_contents.specs.Typing.{all_typed, each_typed, is_typed, is_typed_at, ty_at}
 use Rattle.argus_contents.specs.Value as value
 use Rattle.argus_contents.specs.Value.{PlainValue, PlainValues, listed}
-use Rattle.argus_contents.specs.declared.limits.TheConstants.{MAX_BOUND, MAX_ITEMS, MIN_BOUND}
+use Rattle.argus_contents.specs.declared.limits.TheConstants.{MAX_BOUND}
 use Rattle.argus_contents.proofs.Fitted.{keeps_within, within_keeps}
 use Rattle.argus_contents.proofs.Kept.{array_keeps}
 use Rattle.argus_journal.specs.Opening.{fits_shape}

@@ -124,7 +124,8 @@ base_stays h (Accessed d o v) w a b = b
 stood : {V : Type 0} (h : History V) (e : Event V) → Orderly (e ▹ h) → (a : ℕ) → a < next_action h
     → stands (e ▹ h) a ≡ true → stands h a ≡ true
 stood h (Began from) w a l s = sym (stands_old h from a (λ q. omega arith)) ∙ s
-stood h (Committed b) w a l s = (stands_commit h (parents_are_older h w.1) (stands_upward h w.1) b a w.0.not_base w.0.standing s).0
+stood h (Committed b) w a l s =
+    (stands_commit h (parents_are_older h w.1) (stands_upward h w.1) b a w.0.not_base w.0.standing s).0
 stood h (Aborted z) w a l s = (stands_abort h z a s).0
 stood h (Accessed b o v) w a l s = s
 

@@ -68,7 +68,8 @@ module _ {V : Type 0} (writes : V → Bool) where
   has_used_begun (Committed s ▹ h) w y o all e = has_used_begun h w.1 y o all e
   has_used_begun (Aborted z ▹ h) w y o all e = has_used_begun h w.1 y o all e
   has_used_begun (Accessed b o' v ▹ h) w y o all e =
-      ⊎_elim (λ k. subst (λ u. u < next_action h) k.0 (stands_begun h b w.0.standing)) (λ k. has_used_begun h w.1 y o all k)
+      ⊎_elim (λ k. subst (λ u. u < next_action h) k.0 (stands_begun h b w.0.standing))
+      (λ k. has_used_begun h w.1 y o all k)
       (has_used_cases h b o' v y o all e)
 
   -- each holder that was asked is an ancestor
@@ -162,7 +163,8 @@ module _ {V : Type 0} (writes : V → Bool) where
       (λ k. ⊎_elim
       (λ m. turned h y x
       (subst (λ q. Related h q x) (sym m.1)
-      (handed_related h w.1 s x x w.0.not_base w.0.standing (owner_begun h a x f k.0) k.1 (turned h x s (ih x s k.0 m.0)))))
+      (handed_related h w.1 s x x w.0.not_base w.0.standing (owner_begun h a x f k.0) k.1
+      (turned h x s (ih x s k.0 m.0)))))
       (λ m. ih x y k.0 m.0)
       (handed_cases s p (owner_by_steps h b) y eb))
       (handed_cases s p (owner_by_steps h a) x ea)

@@ -29,7 +29,8 @@ module _ {V : Type 0} (kind : V → Bool) where
   has_used_unfolded (Committed s ▹ h) w a o u = has_used_unfolded h w.1 a o u
   has_used_unfolded (Aborted z ▹ h) w a o u = has_used_unfolded h w.1 a o u
   has_used_unfolded (Accessed d o' v ▹ h) w a o u =
-      ⊎_elim (λ k. subst (λ q. folded h < q) k.0 (stands_unfolded h d w.0.not_base w.0.standing)) (λ k. has_used_unfolded h w.1 a o k)
+      ⊎_elim (λ k. subst (λ q. folded h < q) k.0 (stands_unfolded h d w.0.not_base w.0.standing))
+      (λ k. has_used_unfolded h w.1 a o k)
       (has_used_cases kind h d o' v a o false u)
 
   pub has_used_begun_action : (h : History V) → Orderly h → (a o : ℕ) → has_used kind h a o false ≡ true

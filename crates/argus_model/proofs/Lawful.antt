@@ -58,8 +58,7 @@ module _ {V C A : Type 0} (meaning : Meaning V C A) (opening : Opening C) where
       (stands_alone h (orderly meaning opening.contents h s) a q.0 q.1, s)
   step h (Aborted actions) s q = (all_stand h (orderly meaning opening.contents h s) actions q, s)
   step h (Accessed a o v) s q =
-      let w = orderly meaning opening.contents h s in
-      (
+      let w = orderly meaning opening.contents h s in (
         record {
           alone = stands_alone h w a q.live q.childless;
           lock = sym (access_by_steps h w a o v) ∙ q.lock;

@@ -124,13 +124,15 @@ module _ {V : Type 0} (kind : V → Bool) where
       let now = holds_access kind h a o' v o false in
       ⊎_elim
       (λ k. holders_listed g w o (insert a old) (insert-IsRising a old (holders_rising kind h o))
-      (contains_insert a old 0 ∙ ap (λ b. b || contains old 0) (ne_eqb 0 a (λ e. w.0.not_base (sym e))) ∙ no_base_holder h o)
+      (contains_insert a old 0 ∙ ap (λ b. b || contains old 0) (ne_eqb 0 a (λ e. w.0.not_base (sym e)))
+      ∙ no_base_holder h o)
       (λ x n. now x w.0.standing ∙ ap (λ b. b && (a == x) || holds kind h o false x) k
       ∙ ap (λ b. b || holds kind h o false x) (eqb_sym a x)
       ∙ ap (λ b. (x == a) || b) (sym (contains_holders kind h w.1 o x n)) ∙ sym (contains_insert a old x))
       ∙ sym (ap (λ b. cond b (insert a old) old) k))
       (λ k. holders_listed g w o old (holders_rising kind h o) (no_base_holder h o)
-      (λ x n. now x w.0.standing ∙ ap (λ b. b && (a == x) || holds kind h o false x) k ∙ sym (contains_holders kind h w.1 o x n))
+      (λ x n. now x w.0.standing ∙ ap (λ b. b && (a == x) || holds kind h o false x) k
+      ∙ sym (contains_holders kind h w.1 o x n))
       ∙ sym (ap (λ b. cond b (insert a old) old) k))
       (cases_Bool (o' == o && kind v))
 

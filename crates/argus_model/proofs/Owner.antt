@@ -43,7 +43,8 @@ owner_unfolded (Began from ▹ h) w a x e n =
 owner_unfolded (Committed s ▹ h) w a x e n =
     ⊎_elim
     (λ k. subst (λ u. folded h < u) (sym k.1)
-    (parent_unfolded h w.1 s (stands_unfolded h s w.0.not_base w.0.standing) (stands_begun h s w.0.standing) (λ q. n (k.1 ∙ q))))
+    (parent_unfolded h w.1 s (stands_unfolded h s w.0.not_base w.0.standing) (stands_begun h s w.0.standing)
+    (λ q. n (k.1 ∙ q))))
     (λ k. owner_unfolded h w.1 a x k.0 n)
     (handed_cases s (parent h s) (owner_by_steps h a) x e)
 owner_unfolded (Aborted z ▹ h) w a x e n =

@@ -40,7 +40,8 @@ owner_ancestor (Began from ▹ h) w a x e =
 owner_ancestor (Committed s ▹ h) w a x e =
     ⊎_elim
     (λ k. ancestor_trans h x s a (parents_are_older h w.1) (owned_begun h a s k.0)
-    (subst (λ u. is_ancestor h u s ≡ true) (sym k.1) (parent_is h (parents_are_older h w.1) s w.0.not_base w.0.standing).1)
+    (subst (λ u. is_ancestor h u s ≡ true) (sym k.1)
+    (parent_is h (parents_are_older h w.1) s w.0.not_base w.0.standing).1)
     (owner_ancestor h w.1 a s k.0))
     (λ k. owner_ancestor h w.1 a x k.0)
     (handed_cases s (parent h s) (owner_by_steps h a) x e)
@@ -147,7 +148,9 @@ pub committed_begun : {V : Type 0} (h : History V) → Orderly h → (a : ℕ) �
 committed_begun (Opened n) w a m = absurd (false≢true m)
 committed_begun (Began from ▹ h) w a m = let k = committed_begun h w.1 a m in (k.0, omega (arith, k.1))
 committed_begun (Committed s ▹ h) w a m =
-    ⊎_elim (λ k. let e = eqb-true s a k in let l = stands_begun h s w.0.standing in let n = w.0.not_base in (omega arith, omega arith))
+    ⊎_elim
+    (λ k. let e = eqb-true s a k in let l = stands_begun h s w.0.standing in let n = w.0.not_base in
+    (omega arith, omega arith))
     (λ k. committed_begun h w.1 a k) (or_cases (s == a) (has_committed h a) m)
 committed_begun (Aborted z ▹ h) w a m = committed_begun h w.1 a m
 committed_begun (Accessed b o v ▹ h) w a m = committed_begun h w.1 a m

@@ -209,7 +209,8 @@ row_is (Committed s ▹ h) w a k =
     ∙ ⊎_elim
     (λ e. ap (λ b. Some (cond b (with_status IsCommitted (row_of h a)) (row_of h a))) (eq-eqb a s e)
     ∙ ap made (sym
-    (subst (λ u. status (Committed s ▹ h) u ≡ IsCommitted) (sym e) (status_commit_own h s w.1 w.0.not_base w.0.standing))))
+    (subst (λ u. status (Committed s ▹ h) u ≡ IsCommitted) (sym e)
+    (status_commit_own h s w.1 w.0.not_base w.0.standing))))
     (λ ne. ap (λ b. Some (cond b (with_status IsCommitted (row_of h a)) (row_of h a))) (ne_eqb a s ne)
     ∙ ap made (sym (status_commit_other h s a ne)))
     (cases_eq a s)

@@ -271,7 +271,8 @@ module _ {V C A : Type 0} (meaning : Meaning V C A) (contents : ℕ → C) where
     work_stays z k = ap (λ b. cond b (work h s ++ work h z) (work h z)) (ne_eqb (parent h s) z k)
 
     lineage_s : lineage h s ≡ s ∷ lineage h (parent h s)
-    lineage_s = (parent_older h s (parents_are_older h w) (omega (arith, now.not_base)) (stands_begun h s now.standing)).1
+    lineage_s =
+        (parent_older h s (parents_are_older h w) (omega (arith, now.not_base)) (stands_begun h s now.standing)).1
 
     serial_s : serial_order_to h s ≡ work h s ++ serial_order_to h (parent h s)
     serial_s = ap (all_of (work h)) lineage_s
@@ -340,7 +341,8 @@ module _ {V C A : Type 0} (meaning : Meaning V C A) (contents : ℕ → C) where
           (λ k. zs (sym (alone h (parents_are_older h w) (stands_upward h w) s z lz k now.childless)))
           (λ k. let q =
           ancestor_le h z (parent h s) (parents_are_older h w) (parent_begun h s (parents_are_older h w))
-          (above_parent h (parents_are_older h w) s z now.not_base now.standing zs k) in let b = cut.above z t.among in omega arith)
+          (above_parent h (parents_are_older h w) s z now.not_base now.standing zs k) in
+          let b = cut.above z t.among in omega arith)
           (exclusion meaning.writes h w gd a u.action o s z ua u.uses ea u.owned))
 
       pub seen_same : (o : ℕ) → ((a : ℕ) → has_used meaning.writes h a o false ≡ true → owner_by_steps h a ≢ Some s)

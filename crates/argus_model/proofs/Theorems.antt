@@ -97,7 +97,8 @@ module _ {V C A : Type 0} (meaning : Meaning V C A) (opening : Opening C) where
       → (more : List (Access V)) × (serial_order_to h a ≡ more ++ serial_order h)
   live_begins h a l k =
       let w = lawful_orderly meaning opening h l in
-      let s = split_lineage h 0 a (parents_are_older h w) (stands_begun h a (live_stands h w a k).1) (base_above h a) in (
+      let s = split_lineage h 0 a (parents_are_older h w) (stands_begun h a (live_stands h w a k).1)
+      (base_above h a) in (
         all_of (work h) s.front,
         ap (all_of (work h)) s.is ∙ all_of-append (work h) s.front (lineage h 0)
             ∙ ap (λ es. all_of (work h) s.front ++ es) (serial_is h l),

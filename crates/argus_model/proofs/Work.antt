@@ -39,7 +39,8 @@ work_final h (Committed s) w y n =
     ap (λ b. cond b (work h s ++ work h y) (work h y))
     (ne_eqb (parent h s) y
     (λ e. both_ways (stands h y) n
-    (subst (λ u. stands h u ≡ true) e (stands_upward h w.1 (parent h s) s w.0.standing (parent_is h f s w.0.not_base w.0.standing).1))))
+    (subst (λ u. stands h u ≡ true) e (stands_upward h w.1 (parent h s) s w.0.standing
+    (parent_is h f s w.0.not_base w.0.standing).1))))
 work_final h (Aborted z) w y n = refl
 work_final h (Accessed a o v) w y n =
     ap (λ b. cond b (record { object = o; what = v } ∷ work h y) (work h y))

@@ -13,8 +13,8 @@ module _ {V C A : Type 0} (meaning : Meaning V C A) where
   abbrev pub may_access : History V → ℕ → ℕ → V → Bool
   may_access h a o v = if meaning.writes v then may_write meaning h a o else may_read meaning h a o
 
-  -- an access may come next: who makes it is live and has no live child, its lock is free, and it is
-  -- answered by what the action sees
+  -- an access may come next: who makes it is live and has no live child, its lock is free, and its
+  -- answer is by what the action sees
   pub record AllowedAccess (opening : Opening C) (h : History V) (a o : ℕ) (v : V) : Type 0 where
     pub live : is_live h a ≡ true
     pub childless : has_live_child h a ≡ false

@@ -1,7 +1,7 @@
 -- A second form of what an action sees and of what is lawful, for proofs: lists of accesses, and
 -- the events' own forms.
 use Rattle.std.specs.Prelude.{Bool, List, None, Option, Some, [], false, if◌then◌else◌, true, ℕ}
-use Rattle.std.specs.Prelude.{◌∷◌, ◌≡◌, ◌≢◌}
+use Rattle.std.specs.Prelude.{◌∷◌, ◌≡◌}
 use Rattle.argus_model.specs.Ancestors.{is_ancestor}
 use Rattle.argus_model.specs.Event.{Aborted, Accessed, Began, Committed, parent_of}
 use Rattle.argus_model.specs.History.{History, Opened, ◌▹◌}
