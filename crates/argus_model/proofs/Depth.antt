@@ -74,6 +74,7 @@ depth_up (Aborted zs ▹ h) w a k =
     ∙ depth_up h w.1 a k
 depth_up (Accessed d o v ▹ h) w a k = depth_up h w.1 a k
 
+-- the depth that the rows give an action is the length of its lineage without the base
 pub depth_is : {V : Type 0} (h : History V) → Orderly h → (a : ℕ) → is_begun h a ≡ true
     → depth_at (folded h) (rows h) a ≡ length (lineage h a) - 1
 depth_is h w a k = let e = depth_up h w a (inr k) in omega (arith, e)

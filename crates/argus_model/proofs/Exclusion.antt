@@ -35,6 +35,7 @@ module _ {V : Type 0} (writes : V → Bool) where
   Guarded (Aborted z ▹ older) = Guarded older
   Guarded (Accessed a o v ▹ older) = (may_by_steps writes older a o (writes v) older ≡ true) × Guarded older
 
+  -- after one more access an action has used an object by that access, or had used it before
   pub has_used_cases : (h : History V) (b o' : ℕ) (v : V) (y o : ℕ) (all : Bool)
       → has_used writes (Accessed b o' v ▹ h) y o all ≡ true
       → ((b ≡ y) × (o' ≡ o) × ((all || writes v) ≡ true)) ⊎ (has_used writes h y o all ≡ true)
@@ -46,6 +47,7 @@ module _ {V : Type 0} (writes : V → Bool) where
       inr
       (or_cases (b == y && (o' == o && (all || writes v))) (has_used writes h y o all) e)
 
+  -- a write access counts among all accesses, too
   pub has_used_all : (h : History V) (y o : ℕ) (all : Bool) → has_used writes h y o false ≡ true
       → has_used writes h y o all ≡ true
   has_used_all (Opened n) y o all e = absurd (false≢true e)
@@ -61,6 +63,7 @@ module _ {V : Type 0} (writes : V → Bool) where
       (λ k. or_right head (has_used writes h y o all) (has_used_all h y o all k))
       (has_used_cases h b o' v y o false e)
 
+  -- who has an access has begun
   pub has_used_begun : (h : History V) → Orderly h → (y o : ℕ) (all : Bool) → has_used writes h y o all ≡ true
       → y < next_action h
   has_used_begun (Opened n) w y o all e = absurd (false≢true e)
@@ -72,7 +75,7 @@ module _ {V : Type 0} (writes : V → Bool) where
       (λ k. has_used_begun h w.1 y o all k)
       (has_used_cases h b o' v y o all e)
 
-  -- each holder that was asked is an ancestor
+  -- where a lock is free for a, each owner of an access in k to the object is an ancestor of a
   pub may_tells : (h k : History V) (a o b x : ℕ) (all : Bool) → may_by_steps writes h a o all k ≡ true
       → has_used writes k b o all ≡ true → owner_by_steps h b ≡ Some x → is_ancestor h x a ≡ true
   may_tells h (Opened n) a o b x all m u e = absurd (false≢true u)
@@ -90,7 +93,7 @@ module _ {V : Type 0} (writes : V → Bool) where
       (λ w. may_tells h k a o b x all n.1 w e)
       (has_used_cases k d o' v b o all u)
 
-  -- and it is enough to ask each holder
+  -- where each owner of an access in k to the object is an ancestor of a, the lock is free for a
   pub may_from : (h k : History V) (a o : ℕ) (all : Bool)
       → ((b x : ℕ) → has_used writes k b o all ≡ true → owner_by_steps h b ≡ Some x → is_ancestor h x a ≡ true)
       → may_by_steps writes h a o all k ≡ true
@@ -117,6 +120,7 @@ module _ {V : Type 0} (writes : V → Bool) where
       asked None e u = refl
       asked (Some x) e u = each d x u e
 
+  -- of the owners of a write access and of any access to the object, one is an ancestor of the other
   abbrev pub Exclusive : History V → Type 0
   Exclusive h =
       (a b o x y : ℕ) → has_used writes h a o false ≡ true → has_used writes h b o true ≡ true
@@ -137,6 +141,7 @@ module _ {V : Type 0} (writes : V → Bool) where
   turned h x y (inl a) = inr a
   turned h x y (inr a) = inl a
 
+  -- a history in which each access got its lock is exclusive
   pub exclusion : (h : History V) → Orderly h → Guarded h → Exclusive h
   exclusion (Opened n) w g a b o x y ua ub ea eb = absurd (false≢true ua)
   exclusion (Began from ▹ h) w g a b o x y ua ub ea eb =

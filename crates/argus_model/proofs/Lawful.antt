@@ -20,7 +20,7 @@ use Rattle.argus_model.proofs.Sees.{sees_is}
 use Rattle.argus_model.proofs.Serial.{base_stands, orderly}
 use Rattle.argus_model.proofs.Standing.{Orderly}
 
--- the parent of an action that may begin
+-- the parent of an action that may begin stands
 pub parent_stands : {V : Type 0} (h : History V) → Orderly h → (from : Origin)
     → (creator_of from == 0 || is_live h (creator_of from)) ≡ true → stands h (parent_of from) ≡ true
 parent_stands h w Top e = base_stands h w
@@ -29,6 +29,7 @@ parent_stands h w (Sub p) e =
     ⊎_elim (λ k. subst (λ u. stands h u ≡ true) (sym (eqb-true p 0 k)) (base_stands h w)) (λ k. (live_stands h w p k).1)
     (or_cases (p == 0) (is_live h p) e)
 
+-- live actions all stand, and none of them is the base
 pub all_stand : {V : Type 0} (h : History V) → Orderly h → (actions : List ℕ) → list_all (is_live h) actions ≡ true
     → AllStand h actions
 all_stand h w actions e = λ a i. live_stands h w a (every_at (is_live h) actions a e i)
@@ -50,7 +51,7 @@ module _ {V C A : Type 0} (meaning : Meaning V C A) (opening : Opening C) where
       ∙ ap (λ b. may_by_steps meaning.writes h a o b h) (sym k))
       (cases_Bool (meaning.writes v))
 
-  -- one more event
+  -- an allowed event after what is lawful by steps is lawful by steps
   pub step : (h : History V) (e : Event V) → LawfulSteps meaning opening.contents h → Allowed meaning opening h e
       → LawfulSteps meaning opening.contents (e ▹ h)
   step h (Began from) s q = (parent_stands h (orderly meaning opening.contents h s) from q, s)
@@ -67,9 +68,11 @@ module _ {V C A : Type 0} (meaning : Meaning V C A) (opening : Opening C) where
         s,
       )
 
+  -- a lawful history is lawful by steps
   pub lawful_steps : (h : History V) → Lawful meaning opening h → LawfulSteps meaning opening.contents h
   lawful_steps (Opened n) l = tt
   lawful_steps (e ▹ h) l = step h e (lawful_steps h l.1) l.0
 
+  -- a lawful history is orderly
   pub lawful_orderly : (h : History V) → Lawful meaning opening h → Orderly h
   lawful_orderly h l = orderly meaning opening.contents h (lawful_steps h l)

@@ -36,6 +36,7 @@ from_stands h g w u test same x =
     (λ n. sym (stands_is_live g u x n) ∙ same x ∙ ap (λ b. b && test x) (stands_is_live h w x n))
     (cases_eq x 0)
 
+-- after a begin are live the new action and who was live
 pub live_after_begin : {V : Type 0} (h : History V) (from : Origin) → Orderly (Began from ▹ h) → (x : ℕ)
     → is_live (Began from ▹ h) x ≡ ((x == next_action h) || is_live h x)
 live_after_begin h from w x =
@@ -53,6 +54,7 @@ live_after_begin h from w x =
     (cases_eq x (next_action h)))
     (cases_eq x 0)
 
+-- after a commit are live all who were, but for the action itself
 pub live_after_commit : {V : Type 0} (h : History V) (s : ℕ) → Orderly (Committed s ▹ h) → (x : ℕ)
     → is_live (Committed s ▹ h) x ≡ (is_live h x && not (x == s))
 live_after_commit h s w =
@@ -66,6 +68,7 @@ live_after_commit h s w =
     (handed_stays s (parent h s) (owner_by_steps h x) x (at_some (owner_by_steps h x) x q.0)
     (λ e. both_ways (x == s) (not-true (x == s) q.1) (eq-eqb x s e)))))
 
+-- after an abort are live all who were, but for those under the aborted ones
 pub live_after_abort : {V : Type 0} (h : History V) (z : List ℕ) → Orderly (Aborted z ▹ h) → (x : ℕ)
     → is_live (Aborted z ▹ h) x ≡ (is_live h x && not (is_under h z x))
 live_after_abort h z w =
@@ -78,7 +81,7 @@ live_after_abort h z w =
     (kept_stays (is_under h z) (owner_by_steps h x) x (at_some (owner_by_steps h x) x q.0)
     (not-true (is_under h z x) q.1))))
 
--- owners
+-- a begin leaves the owner of each begun action
 pub owner_after_begin : {V : Type 0} (h : History V) (from : Origin) → Orderly (Began from ▹ h) → (x : ℕ)
     → is_begun h x ≡ true → owner (Began from ▹ h) x ≡ owner h x
 owner_after_begin h from w x k =
@@ -87,6 +90,7 @@ owner_after_begin h from w x k =
     ∙ ap as_owner (⊎_elim (λ c. absurd (omega (arith, c.0, q.1))) (λ c. c.1) (owner_cases h from x))
     ∙ sym (owner_is h w.1 x k)
 
+-- an access leaves the owner of each begun action
 pub owner_after_access : {V : Type 0} (h : History V) (a o : ℕ) (v : V) → Orderly (Accessed a o v ▹ h) → (x : ℕ)
     → is_begun h x ≡ true → owner (Accessed a o v ▹ h) x ≡ owner h x
 owner_after_access h a o v w x k = owner_is (Accessed a o v ▹ h) w x k ∙ sym (owner_is h w.1 x k)
@@ -107,6 +111,7 @@ handed_is s p s0 (Some x) =
     (cases_eq x 0))
     (cases_eq x s)
 
+-- a commit passes what the action answers for to its parent
 pub owner_after_commit : {V : Type 0} (h : History V) (s : ℕ) → Orderly (Committed s ▹ h) → (x : ℕ)
     → is_begun h x ≡ true → owner (Committed s ▹ h) x ≡ passed_up s (parent h s) (owner h x)
 owner_after_commit h s w x k =
@@ -128,12 +133,14 @@ lost_is lost n (Some x) =
     (cases_Bool (lost x)))
     (cases_eq x 0)
 
+-- after an abort what was held by those under the aborted ones is gone
 pub owner_after_abort : {V : Type 0} (h : History V) (z : List ℕ) → Orderly (Aborted z ▹ h) → (x : ℕ)
     → is_begun h x ≡ true → owner (Aborted z ▹ h) x ≡ unless_gone (is_under h z) (owner h x)
 owner_after_abort h z w x k =
     owner_is (Aborted z ▹ h) w x k ∙ lost_is (is_under h z) (base_spared h z w) (owner_by_steps h x)
     ∙ ap (unless_gone (is_under h z)) (sym (owner_is h w.1 x k))
 
+-- a new action answers for itself
 pub new_owner : {V : Type 0} (h : History V) (from : Origin) → Orderly (Began from ▹ h)
     → owner (Began from ▹ h) (next_action h) ≡ Held (next_action h)
 new_owner h from w =
@@ -143,6 +150,7 @@ new_owner h from w =
     ∙ ap as_owner (at_some (owner_by_steps (Began from ▹ h) n) n (stands_new h from n refl))
     ∙ as_held n (λ e. omega arith)
 
+-- a new action's lineage is itself, then its parent's
 pub new_lineage : {V : Type 0} (h : History V) (from : Origin)
     → lineage (Began from ▹ h) (next_action h) ≡ next_action h ∷ lineage h (parent_of from)
 new_lineage h from = ⊎_elim (λ k. k.1) (λ k. absurd (k.0 refl)) (lineage_cases h from (next_action h))

@@ -40,22 +40,26 @@ module _ {V C A : Type 0} (meaning : Meaning V C A) (opening : Opening C) where
       → sees meaning opening g 0 o ≡ sees meaning opening h 0 o → base meaning opening g o ≡ base meaning opening h o
   for_base g h v w o e = sym (sees_base g v o) ∙ e ∙ sees_base h w o
 
+  -- a new action sees what its parent sees
   pub sees_after_begin_new : (h : History V) (from : Origin) → Orderly (Began from ▹ h) → (o : ℕ)
       → sees meaning opening (Began from ▹ h) (next_action h) o ≡ sees meaning opening h (parent_of from) o
   sees_after_begin_new h from w o =
       both (Began from ▹ h) h w w.1 (next_action h) (parent_of from) o
       (seen_begin_new meaning opening.contents h from (next_action h) o w.1 refl)
 
+  -- a begin leaves what every other sees
   pub sees_after_begin : (h : History V) (from : Origin) → Orderly (Began from ▹ h) → (y o : ℕ) → y ≢ next_action h
       → sees meaning opening (Began from ▹ h) y o ≡ sees meaning opening h y o
   sees_after_begin h from w y o n =
       both (Began from ▹ h) h w w.1 y y o (seen_begin_old meaning opening.contents h from y o w.1 n)
 
+  -- a begin leaves what is there for good
   pub base_after_begin : (h : History V) (from : Origin) → Orderly (Began from ▹ h) → (o : ℕ)
       → base meaning opening (Began from ▹ h) o ≡ base meaning opening h o
   base_after_begin h from w o =
       for_base (Began from ▹ h) h w w.1 o (sees_after_begin h from w 0 o (let k = next_pos h in omega arith))
 
+  -- who accesses an object sees there what the access leaves, and in others what it saw
   pub sees_after_access_own : (h : History V) (a o : ℕ) (v : V) → Orderly (Accessed a o v ▹ h) → (i : ℕ)
       → sees meaning opening (Accessed a o v ▹ h) a i
       ≡ cond (o == i) (meaning.after v (sees meaning opening h a i)) (sees meaning opening h a i)
@@ -64,6 +68,7 @@ module _ {V C A : Type 0} (meaning : Meaning V C A) (opening : Opening C) where
       ∙ seen_access_own meaning opening.contents h a o v i w.0.standing
       ∙ ap (λ c. cond (o == i) (meaning.after v c) c) (sym (sees_is meaning opening h w.1 a i))
 
+  -- an access leaves what every other that stands sees
   pub sees_after_access_other : (h : History V) (a o : ℕ) (v : V) → Orderly (Accessed a o v ▹ h) → (y i : ℕ)
       → stands h y ≡ true → y ≢ a → sees meaning opening (Accessed a o v ▹ h) y i ≡ sees meaning opening h y i
   sees_after_access_other h a o v w y i l n =
@@ -71,16 +76,19 @@ module _ {V C A : Type 0} (meaning : Meaning V C A) (opening : Opening C) where
       (seen_access_other meaning opening.contents h a o v y i w.0.standing
       (λ m. n (sym (alone h (parents_are_older h w.1) (stands_upward h w.1) a y l m w.0.childless))))
 
+  -- an access leaves what is there for good
   pub base_after_access : (h : History V) (a o : ℕ) (v : V) → Orderly (Accessed a o v ▹ h) → (i : ℕ)
       → base meaning opening (Accessed a o v ▹ h) i ≡ base meaning opening h i
   base_after_access h a o v w i =
       for_base (Accessed a o v ▹ h) h w w.1 i
       (sees_after_access_other h a o v w 0 i (base_stands h w.1) (λ e. w.0.not_base (sym e)))
 
+  -- an abort leaves what those see that still stand
   pub sees_after_abort : (h : History V) (z : List ℕ) → Orderly (Aborted z ▹ h) → (y o : ℕ)
       → stands (Aborted z ▹ h) y ≡ true → sees meaning opening (Aborted z ▹ h) y o ≡ sees meaning opening h y o
   sees_after_abort h z w y o l = both (Aborted z ▹ h) h w w.1 y y o (seen_abort meaning opening.contents h z y o w.1 l)
 
+  -- an abort leaves what is there for good
   pub base_after_abort : (h : History V) (z : List ℕ) → Orderly (Aborted z ▹ h) → (o : ℕ)
       → base meaning opening (Aborted z ▹ h) o ≡ base meaning opening h o
   base_after_abort h z w o =
@@ -103,6 +111,7 @@ module _ {V C A : Type 0} (meaning : Meaning V C A) (opening : Opening C) where
         ∙ used_by_from meaning.writes (λ b. is_exactly (owner_by_steps h b) s) o false h a u
         (some_at (owner_by_steps h a) s e))
 
+    -- after a commit, who is under the parent sees as the action saw where it wrote, and else as before
     pub sees_after_commit : sees meaning opening (Committed s ▹ h) y o
         ≡ cond (contains (writers meaning h o) s && is_ancestor h (parent h s) y) (sees meaning opening h s o)
         (sees meaning opening h y o)
@@ -127,6 +136,7 @@ module _ {V C A : Type 0} (meaning : Meaning V C A) (opening : Opening C) where
         ∙ sym (ap at (and_left wr up k)))
         (cases_Bool wr)
 
+  -- after a topaction's commit what it saw, where it wrote, is there for good; all else stays
   pub base_after_commit : (h : History V) (s : ℕ) → Orderly (Committed s ▹ h) → Guarded meaning.writes h → (o : ℕ)
       → base meaning opening (Committed s ▹ h) o
       ≡ cond (contains (writers meaning h o) s && parent h s == 0) (sees meaning opening h s o)

@@ -26,7 +26,7 @@ abbrev gone : Option ℕ → Bool
 gone None = true
 gone (Some x) = false
 
--- an owner is an ancestor
+-- an owner is an ancestor of what it answers for
 pub owner_ancestor : {V : Type 0} (h : History V) → Orderly h → (a x : ℕ) → owner_by_steps h a ≡ Some x
     → is_ancestor h x a ≡ true
 owner_ancestor (Opened n) w a x e =
@@ -129,7 +129,7 @@ doomed_gone (Aborted zs ▹ h) w a u l =
     (λ m. ancestor_trans h z x a (parents_are_older h w.1) l m (owner_ancestor h w.1 a x e))))
 doomed_gone (Accessed b o v ▹ h) w a u l = doomed_gone h w.1 a u l
 
--- what is owned by another has committed
+-- what has not committed has no owner but itself
 pub moved : {V : Type 0} (h : History V) → Orderly h → (a x : ℕ) → owner_by_steps h a ≡ Some x
     → has_committed h a ≡ false → x ≡ a
 moved (Opened m) w a x e n =
@@ -143,6 +143,7 @@ moved (Committed s ▹ h) w a x e n =
 moved (Aborted z ▹ h) w a x e n = moved h w.1 a x (kept_cases (is_under h z) (owner_by_steps h a) x e).0 n
 moved (Accessed b o v ▹ h) w a x e n = moved h w.1 a x e n
 
+-- who has committed is an action that has begun
 pub committed_begun : {V : Type 0} (h : History V) → Orderly h → (a : ℕ) → has_committed h a ≡ true
     → (0 < a) × (a < next_action h)
 committed_begun (Opened n) w a m = absurd (false≢true m)
@@ -155,6 +156,7 @@ committed_begun (Committed s ▹ h) w a m =
 committed_begun (Aborted z ▹ h) w a m = committed_begun h w.1 a m
 committed_begun (Accessed b o v ▹ h) w a m = committed_begun h w.1 a m
 
+-- who has committed has a number past the folded ones
 pub committed_unfolded : {V : Type 0} (h : History V) → Orderly h → (a : ℕ) → has_committed h a ≡ true → folded h < a
 committed_unfolded (Opened n) w a m = absurd (false≢true m)
 committed_unfolded (Began from ▹ h) w a m = committed_unfolded h w.1 a m
@@ -194,7 +196,7 @@ passed_on (Committed s ▹ h) w a m =
 passed_on (Aborted z ▹ h) w a m = ap (unless_lost (is_under h z)) (passed_on h w.1 a m)
 passed_on (Accessed b o v ▹ h) w a m = passed_on h w.1 a m
 
--- the owner by the words of its definition
+-- a doomed action has no owner
 pub owner_gone : {V : Type 0} (h : History V) → Orderly h → (a : ℕ) → folded h < a → a < next_action h
     → is_doomed h a ≡ true → owner_by_steps h a ≡ None
 owner_gone h w a u l d = none_of (owner_by_steps h a) (sym (doomed_gone h w a (λ k. u) l) ∙ d)
@@ -203,6 +205,7 @@ owner_gone h w a u l d = none_of (owner_by_steps h a) (sym (doomed_gone h w a (�
     none_of None e = refl
     none_of (Some x) e = absurd (false≢true e)
 
+-- an action that is neither doomed nor committed has itself as owner
 pub owner_self : {V : Type 0} (h : History V) → Orderly h → (a : ℕ) → folded h < a → a < next_action h
     → is_doomed h a ≡ false → has_committed h a ≡ false → owner_by_steps h a ≡ Some a
 owner_self h w a u l d n = some_of (owner_by_steps h a) refl (sym (doomed_gone h w a (λ k. u) l) ∙ d)
@@ -211,11 +214,12 @@ owner_self h w a u l d n = some_of (owner_by_steps h a) refl (sym (doomed_gone h
     some_of None e g = absurd (false≢true (sym g))
     some_of (Some x) e g = e ∙ ap Some (moved h w a x e n)
 
+-- who has committed has the owner of its parent
 pub owner_passed : {V : Type 0} (h : History V) → Orderly h → (a : ℕ) → has_committed h a ≡ true
     → owner_by_steps h a ≡ owner_by_steps h (parent h a)
 owner_passed h w a m = passed_on h w a m
 
--- what is live has begun, and is neither committed nor doomed
+-- what stands has begun, and is neither committed nor doomed
 pub stands_plain : {V : Type 0} (h : History V) → Orderly h → (a : ℕ) → stands h a ≡ true
     → (a < next_action h) × (has_committed h a ≡ false) × (is_doomed h a ≡ false)
 stands_plain h w a l =

@@ -26,12 +26,13 @@ use Rattle.argus_model.proofs.Standing.{stands_begun, stands_commit, stands_old,
 use Rattle.argus_model.proofs.Work.{all_of-append, all_of_agree, find_writer, no_work, touches, touches-all_of}
 use Rattle.argus_model.proofs.Work.{touches_all, user_of}
 
--- the rest of a lineage: smaller numbers
+-- a lineage is y and then a rest of smaller numbers
 pub record Rest {V : Type 0} (h : History V) (y : ℕ) : Type 0 where
   pub rest : List ℕ
   pub is : lineage h y ≡ y ∷ rest
   pub less : (z : ℕ) → contains rest z ≡ true → z < y
 
+-- the lineage of the base is the base alone
 pub lineage-base : {V : Type 0} (h : History V) → lineage h 0 ≡ 0 ∷ []
 lineage-base (Opened n) = refl
 lineage-base (Began from ▹ h) = lineage_old h from 0 (let q = next_pos h in omega arith) ∙ lineage-base h
@@ -39,7 +40,7 @@ lineage-base (Committed s ▹ h) = lineage-base h
 lineage-base (Aborted z ▹ h) = lineage-base h
 lineage-base (Accessed a o v ▹ h) = lineage-base h
 
--- to the base there is its work alone
+-- the serial order up to the base is the work of the base
 pub serial_to-base : {V : Type 0} (h : History V) → serial_order_to h 0 ≡ work h 0
 serial_to-base h = ap (all_of (work h)) (lineage-base h) ∙ append-nil (work h 0)
 
@@ -60,6 +61,7 @@ rest_of h f y l =
     })
     (cases_eq y 0)
 
+-- the base stands
 pub base_stands : {V : Type 0} (h : History V) → Orderly h → stands h 0 ≡ true
 base_stands (Opened n) w = refl
 base_stands (Began from ▹ h) w = stands_old h from 0 (let q = next_pos h in omega arith) ∙ base_stands h w.1
@@ -101,6 +103,7 @@ owner_passes_kept t lost (Some x) a =
     (cases_Bool (lost x))
 
 module _ {V C A : Type 0} (meaning : Meaning V C A) (contents : ℕ → C) where
+  -- what is lawful by steps is orderly
   pub orderly : (h : History V) → LawfulSteps meaning contents h → Orderly h
   orderly (Opened n) w = tt
   orderly (Began from ▹ h) w = (w.0, orderly h w.1)
@@ -108,6 +111,7 @@ module _ {V C A : Type 0} (meaning : Meaning V C A) (contents : ℕ → C) where
   orderly (Aborted z ▹ h) w = (w.0, orderly h w.1)
   orderly (Accessed a o v ▹ h) w = (w.0.alone, orderly h w.1)
 
+  -- in what is lawful by steps each access got its lock
   pub guarded : (h : History V) → LawfulSteps meaning contents h → Guarded meaning.writes h
   guarded (Opened n) w = tt
   guarded (Began from ▹ h) w = guarded h w.1
@@ -115,7 +119,7 @@ module _ {V C A : Type 0} (meaning : Meaning V C A) (contents : ℕ → C) where
   guarded (Aborted z ▹ h) w = guarded h w.1
   guarded (Accessed a o v ▹ h) w = (w.0.lock, guarded h w.1)
 
-  -- the two invariants, at each live action
+  -- y sees what the serial order up to y leaves, and that order replays
   pub record Serial (h : History V) (y : ℕ) : Type 0 where
     pub sees : (o : ℕ)
         → content_after meaning contents o (serial_order_to h y)
@@ -134,7 +138,7 @@ module _ {V C A : Type 0} (meaning : Meaning V C A) (contents : ℕ → C) where
     replays = subst (λ es. Replays meaning contents es) (sym e) s.replays;
   }
 
-  -- what each live action sees, after one more step
+  -- an abort leaves what those see that still stand
   pub seen_abort : (h : History V) (z : List ℕ) (y o : ℕ) → Orderly h → stands (Aborted z ▹ h) y ≡ true
       → content_after meaning contents o (visible_accesses h y)
       ≡ content_after meaning contents o (visible_accesses (Aborted z ▹ h) y)
@@ -158,6 +162,7 @@ module _ {V C A : Type 0} (meaning : Meaning V C A) (contents : ℕ → C) where
       ⊎_elim (λ k. absurd (let l = has_used_begun meaning.writes h w a o false u in omega (arith, k.0))) (λ k. sym k.1)
       (owner_cases h from a)
 
+  -- a new action sees what its parent sees
   pub seen_begin_new : (h : History V) (from : Origin) (y o : ℕ) → Orderly h → y ≡ next_action h
       → content_after meaning contents o (visible_accesses h (parent_of from))
       ≡ content_after meaning contents o (visible_accesses (Began from ▹ h) y)
@@ -174,6 +179,7 @@ module _ {V C A : Type 0} (meaning : Meaning V C A) (contents : ℕ → C) where
       sym (ap (λ t. contains t x) t ∙ ap (λ b. b || contains (lineage h (parent_of from)) x) ne))
       ∙ ap (owner_passes (λ x. is_ancestor g x y)) (has_used_owner h from a o w u))
 
+  -- a begin leaves what every other sees
   pub seen_begin_old : (h : History V) (from : Origin) (y o : ℕ) → Orderly h → y ≢ next_action h
       → content_after meaning contents o (visible_accesses h y)
       ≡ content_after meaning contents o (visible_accesses (Began from ▹ h) y)
@@ -198,6 +204,7 @@ module _ {V C A : Type 0} (meaning : Meaning V C A) (contents : ℕ → C) where
       (ih y (sym (stands_old h from y k.0) ∙ l)))
       (lineage_cases h from y)
 
+  -- who accesses an object sees there what the access leaves, and in others what it saw
   pub seen_access_own : (h : History V) (a o : ℕ) (v : V) (i : ℕ) → stands h a ≡ true
       → content_after meaning contents i (visible_accesses (Accessed a o v ▹ h) a)
       ≡ cond (o == i) (meaning.after v (content_after meaning contents i (visible_accesses h a)))
@@ -208,6 +215,7 @@ module _ {V C A : Type 0} (meaning : Meaning V C A) (contents : ℕ → C) where
       (cond b (record { object = o; what = v } ∷ accesses_by t h) (accesses_by t h)))
       (ap (owner_passes (λ x. is_ancestor h x a)) (at_some (owner_by_steps h a) a la) ∙ ancestor_self h a)
 
+  -- an access leaves what those see that are not under its action
   pub seen_access_other : (h : History V) (a o : ℕ) (v : V) (y i : ℕ) → stands h a ≡ true
       → (is_ancestor h a y ≡ true → ⊥)
       → content_after meaning contents i (visible_accesses h y)
@@ -345,6 +353,7 @@ module _ {V C A : Type 0} (meaning : Meaning V C A) (contents : ℕ → C) where
           let b = cut.above z t.among in omega arith)
           (exclusion meaning.writes h w gd a u.action o s z ua u.uses ea u.owned))
 
+      -- after the commit of s, who is under its parent sees as before what s had not written
       pub seen_same : (o : ℕ) → ((a : ℕ) → has_used meaning.writes h a o false ≡ true → owner_by_steps h a ≢ Some s)
           → content_after meaning contents o (visible_accesses h y)
           ≡ content_after meaning contents o (visible_accesses (Committed s ▹ h) y)
@@ -354,6 +363,7 @@ module _ {V C A : Type 0} (meaning : Meaning V C A) (contents : ℕ → C) where
           (λ a u. owner_passes_handed (λ x. is_ancestor h x y) (λ x. is_ancestor h x y) s (parent h s)
           (owner_by_steps h a) (λ e. absurd (none a u e)) (λ x e k. refl))
 
+      -- after the commit of s, who is under its parent sees as s saw what s had written
       pub seen_as_s : (o a : ℕ) → has_used meaning.writes h a o false ≡ true → owner_by_steps h a ≡ Some s
           → content_after meaning contents o (visible_accesses h s)
           ≡ content_after meaning contents o (visible_accesses (Committed s ▹ h) y)
@@ -386,6 +396,7 @@ module _ {V C A : Type 0} (meaning : Meaning V C A) (contents : ℕ → C) where
             (ih s now.standing).replays);
       }
 
+    -- after the commit of s, who is not under its parent sees as before
     pub seen_aside : is_ancestor h (parent h s) y ≡ false → (o : ℕ)
         → content_after meaning contents o (visible_accesses h y)
         ≡ content_after meaning contents o (visible_accesses (Committed s ▹ h) y)
@@ -414,6 +425,7 @@ module _ {V C A : Type 0} (meaning : Meaning V C A) (contents : ℕ → C) where
       (λ m. commit_aside h s y w g now k.0 k.1 m ih)
       (cases_Bool (is_ancestor h (parent h s) y))
 
+  -- whatever stands sees what the serial order up to it leaves, and that order replays
   pub serials : (h : History V) → LawfulSteps meaning contents h → Serials h
   serials (Opened n) w = λ y l.
       let b : y ≡ 0 = let o = at_some (owner_by_steps {V = V} (Opened n) y) y l in
@@ -424,5 +436,6 @@ module _ {V C A : Type 0} (meaning : Meaning V C A) (contents : ℕ → C) where
   serials (Aborted z ▹ h) w = after_abort h z (orderly h w.1) (serials h w.1)
   serials (Accessed a o v ▹ h) w = after_access h a o v (orderly h w.1) w.0 (serials h w.1)
 
+  -- the base sees what the serial order up to it leaves, and that order replays
   pub base_serial : (h : History V) → LawfulSteps meaning contents h → Serial h 0
   base_serial h w = serials h w 0 (base_stands h (orderly h w))

@@ -14,6 +14,7 @@ use Rattle.argus_model.proofs.OwnerRules.{stands_plain}
 use Rattle.argus_model.proofs.Standing.{Orderly, parent_is, parents_are_older}
 use Rattle.argus_model.proofs.Work.{all_of_agree, work_final}
 
+-- who is listed as a committed topaction has committed
 pub tops_committed : {V : Type 0} (h : History V) (z : ℕ) → contains (committed_topactions h) z ≡ true
     → has_committed h z ≡ true
 tops_committed (Opened n) z m = m
@@ -32,16 +33,19 @@ tops_committed (Committed s ▹ h) z m =
     (subst (λ b. contains (cond b (s ∷ committed_topactions h) (committed_topactions h)) z ≡ true) e m)))
     (cases_Bool (parent h s == 0))
 
+-- who is listed as a committed topaction doesn't stand
 pub tops_over : {V : Type 0} (h : History V) → Orderly h → (z : ℕ) → contains (committed_topactions h) z ≡ true
     → stands h z ≡ false
 tops_over h w z m =
     false_from_ne_true (stands h z) (λ l. both_ways (has_committed h z) (stands_plain h w z l).1 (tops_committed h z m))
 
+-- one more event leaves the work of the topactions that had committed
 pub tops_same : {V : Type 0} (h : History V) (e : Event V) → Orderly h → Orderly (e ▹ h)
     → all_of (work (e ▹ h)) (committed_topactions h) ≡ all_of (work h) (committed_topactions h)
 tops_same h e w w' =
     all_of_agree (work (e ▹ h)) (work h) (committed_topactions h) (λ z m. work_final h e w' z (tops_over h w z m))
 
+-- the work of the base is that of the committed topactions, the last to commit first
 pub serial_tops : {V : Type 0} (h : History V) → Orderly h → work h 0 ≡ all_of (work h) (committed_topactions h)
 serial_tops (Opened n) w = refl
 serial_tops (Began from ▹ h) w = serial_tops h w.1
