@@ -172,7 +172,8 @@ deep_lead k c (choice t v) b p q h w l = none_within v (subst (λ j. Within j v)
 
 other_by : (k c : ℕ) (e : PlainValue) → BeginsNoScalar c → c ≢ 91 → c ≢ 123 → (c ≢ 60) ⊎ (k ≡ 1) → Within k e → Lead e c
     → ⊥
-other_by k c e b p q (inl n) w l = no_lead e c (b.0, b.1, b.2, b.5, b.3, b.4, p, q, n) l
+other_by k c e b p q (inl n) w l =
+    no_lead e c (record { no_scalar = b; no_sequence = p; no_fields = q; no_choice = n }) l
 other_by k c e b p q (inr h) w l = deep_lead k c e b p q h w l
 
 other_lead : (k : ℕ) (e : PlainValue) (c : ℕ) → IsOther k c → Within k e → Lead e c → ⊥
