@@ -1,6 +1,6 @@
 -- Where reading a value stops, from where a part of it does.
 use Rattle.std.proofs.Common.{◌≡◌, ◌≢◌, ℕ, ◌<◌, ◌≤◌, ◌-◌, ◌⊎◌, inl, inr, true, false, List, [], ◌∷◌, ◌++◌, length, refl}
-use Rattle.std.proofs.Common.{ap, subst, arith}
+use Rattle.std.proofs.Common.{ap, subst, sym, arith}
 use Rattle.std.specs.Prelude.{codes}
 use Rattle.argus_contents.specs.Value.{PlainValue, null, bool, int, text, atomic, sequence, fields, choice}
 use Rattle.argus_texts.specs.Language.{Starts, NoWay, Stops, First}
@@ -183,6 +183,11 @@ other_way : (k : ℕ) (x : List ℕ) → First (IsOther k) x → NoWay (Values k
 other_way k [] o = λ s. some_form k s.thing s.rest s.reads.good s.reads.is
 other_way k (c ∷ u) o =
     λ more s. other_lead k s.thing c o s.reads.good (lead_of k s.thing c more s.rest s.reads.good s.reads.is)
+
+-- a first byte that begins no scalar and opens no compound of this depth begins no value of it
+pub first_other : (k c : ℕ) (x y : List ℕ) → y ≡ c ∷ x → First BeginsNoScalar y → c ≢ 91 → c ≢ 123 → (c ≢ 60) ⊎ (k ≡ 1)
+    → First (IsOther k) y
+first_other k c x y e b p q n = subst (First (IsOther k)) (sym e) (subst (First BeginsNoScalar) e b, p, q, n)
 
 pub other_stops : (k : ℕ) → 0 < k → (x : List ℕ) → First (IsOther k) x → Stops (Values k) x (length x)
 other_stops k p x o =
