@@ -1,7 +1,7 @@
 -- A fitting change leaves a fitting content, and what fits goes on to fit when more objects are declared.
 use Rattle.std.proofs.Common.{Bool, List, None, Option, Some, [], arith, drop, false, length, nat_lt, refl, suc}
-use Rattle.std.proofs.Common.{take, true, zero, ℕ, ℤ, pos, ◌++◌, ◌+ℤ◌, ◌-◌, ◌-ℤ◌, ◌∷◌, ◌≡◌, ◌≤◌}
-use Rattle.std.specs.Prelude.{if◌then◌else◌, int_lt, slice_set, unsigned_abs, ◌||◌}
+use Rattle.std.proofs.Common.{take, true, zero, ℕ, ℤ, ◌++◌, ◌-◌, ◌-ℤ◌, ◌∷◌, ◌≡◌, ◌≤◌}
+use Rattle.std.specs.Prelude.{if◌then◌else◌, slice_set, unsigned_abs}
 use Rattle.std.specs.Ordering.{int_eq}
 use Rattle.std.proofs.lemmas.Bool.{and_from, and_parts, false≢true}
 use Rattle.std.proofs.lemmas.Bool.Decides.{nat_tests}
