@@ -1,8 +1,9 @@
-//! Times the tree of actions: `actions_bench SIZE..` prints nanoseconds a call for each number of actions.
+//! Times the tree of actions: `actions_bench SIZE..` prints nanoseconds a call for each number of
+//! actions.
 //!
-//! Three kinds of tree: all topactions (flat), chains of 64 actions each of which is the subaction of the one before, and
-//! one topaction with all others as its subactions, which is then aborted (wide). With no size it makes one small tree of
-//! each kind and prints what has become of it.
+//! Three kinds of tree: all topactions (flat), chains of 64 actions each of which is the subaction
+//! of the one before, and one topaction with all others as its subactions, which is then aborted
+//! (wide). With no size it makes one small tree of each kind and prints what has become of it.
 #![tactic(auto)]
 
 mod kinds;
@@ -42,7 +43,8 @@ fn time<R: Print + Clock>(rt: &R, heap: Heap, kind: Kind, size: u32) -> Result<(
     let (begin, ask, end) = (begins / actions, asks / actions, ends / actions);
     let name = kind.name();
     println!(rt;
-        "{name} {size}: {begin} ns a begin, {ask} ns a question of ancestry ({asked} yes), {end} ns an action ended ({ended} calls)"
+        "{name} {size}: {begin} ns a begin, {ask} ns a question of ancestry ({asked} yes), \
+         {end} ns an action ended ({ended} calls)"
     )?;
     Ok(())
 }

@@ -1,20 +1,18 @@
 -- Items and fields that are written, and what a trim leaves.
-use Rattle.std.proofs.Common.{◌≡◌, ℕ, ◌<◌, ℤ, pos, ◌+ℤ◌, ◌-ℤ◌, ◌≤ℤ◌, ◌<ℤ◌, List, length, take, drop, Some, true, false}
+use Rattle.std.proofs.Common.{◌≡◌, ℕ, ◌<◌, ℤ, ◌≤ℤ◌, ◌<ℤ◌, List, length, take, drop, Some, true, false}
 use Rattle.std.proofs.Common.{refl, arith, nat_lt}
-use Rattle.std.specs.Prelude.{int_lt, unsigned_abs}
+use Rattle.std.specs.Prelude.{int_lt}
 use Rattle.std.proofs.lemmas.List.{map-set, length-map, drop-map}
 use Rattle.std.proofs.lemmas.Int.{ints}
 use Rattle.std.proofs.lemmas.Bool.Decides.{nat_tests}
 use Rattle.std.specs.List.{take-map}
 use lib.ListN.{set}
-use Rattle.argus_contents.specs.Value.{PlainValue, plain_value, plain_list}
+use Rattle.argus_contents.specs.Value.{plain_value, plain_list}
 use Rattle.argus_contents.specs.Content.{rec, arr}
 use Rattle.argus_contents.specs.Answer.{done}
-use Rattle.argus_contents.specs.Change.{array_outcome, store, set_in, trimmed, signals}
+use Rattle.argus_contents.specs.Change.{array_outcome, store, set_in}
 use Rattle.argus_contents.specs.Place.{place_of}
 use Rattle.argus_contents.specs.declared.value.Value.{Value}
-use Rattle.argus_contents.specs.declared.limits.TheConstants.{MAX_BOUND}
-use Rattle.argus_contents.specs.declared.signal.Signal.TheVariants.{Bounds, Limits}
 use Rattle.argus_contents.proofs.Places.{place_of-plain}
 
 pub stored : (vs : List Value) (low i : ℤ) (place : ℕ) (v : Value) → Some place ≡ place_of low (length vs) i
@@ -36,39 +34,6 @@ below_true a b h = grind (arith, ints)
 
 pub below_false : (a b : ℤ) → b ≤ℤ a → int_lt a b ≡ false
 below_false a b h = grind (arith, ints)
-
--- a trim from below the low bound
-pub trim_below : (vs : List PlainValue) (low from count : ℤ) → pos 0 ≤ℤ count → from <ℤ low
-    → signals Bounds (arr low vs) ≡ trimmed from count low vs
-trim_below vs low from count c b = rw (below_false count (pos 0) c, below_true from low b) refl
-
--- a trim from past the high bound
-pub trim_above : (vs : List PlainValue) (low from count : ℤ) → pos 0 ≤ℤ count → low ≤ℤ from
-    → (low +ℤ pos (length vs)) <ℤ from → signals Bounds (arr low vs) ≡ trimmed from count low vs
-trim_above vs low from count c b a =
-    rw (below_false count (pos 0) c, below_false from low b, below_true (low +ℤ pos (length vs)) from a) refl
-
--- a trim to a low bound past the greatest
-pub trim_past : (vs : List PlainValue) (low from count : ℤ) → pos 0 ≤ℤ count → low ≤ℤ from
-    → from ≤ℤ (low +ℤ pos (length vs)) → MAX_BOUND <ℤ from → signals Limits (arr low vs) ≡ trimmed from count low vs
-trim_past vs low from count c b a m = rw (
-  below_false count (pos 0) c,
-  below_false from low b,
-  below_false (low +ℤ pos (length vs)) from a,
-  below_true MAX_BOUND from m,
-) refl
-
--- a trim that is made
-pub trim_made : (vs : List PlainValue) (low from count : ℤ) → pos 0 ≤ℤ count → low ≤ℤ from
-    → from ≤ℤ (low +ℤ pos (length vs)) → from ≤ℤ MAX_BOUND
-    → (Some (arr from (take (unsigned_abs count) (drop (unsigned_abs (from -ℤ low)) vs))), done)
-    ≡ trimmed from count low vs
-trim_made vs low from count c b a m = rw (
-  below_false count (pos 0) c,
-  below_false from low b,
-  below_false (low +ℤ pos (length vs)) from a,
-  below_false MAX_BOUND from m,
-) refl
 
 -- what is kept of the items, and what it says
 pub kept_items : (vs : List Value) (k m k' m' : ℕ) (dropped kept : List Value) → k ≡ k' → dropped ≡ drop k vs → m ≡ m'

@@ -11,10 +11,13 @@ use Rattle.std.proofs.Math.ListN.{length-set}
 use Rattle.argus_contents.specs.Value.{PlainValue}
 use Rattle.argus_contents.specs.Content.{PlainContent, rec, arr, var, KeepsBounds, KeepsLimits}
 use Rattle.argus_contents.specs.Change.{PlainChange, Outcome, outcome, array_outcome, CreatesWithin, stored_at}
-use Rattle.argus_contents.specs.Change.{removed_low, is_full_high, is_full_low, is_out_of_limits, trimmed, create}
+use Rattle.argus_contents.specs.Change.{removed_low, is_full_high, is_full_low, is_out_of_limits, trim_refusal}
+use Rattle.argus_contents.specs.Change.{trimmed, create}
 use Rattle.argus_contents.specs.Change.{set_field, store, addh, addl, remh, reml, set_low, trim, change_tag, touch}
 use Rattle.argus_contents.specs.Place.{place_of, high_of}
 use Rattle.argus_contents.specs.declared.limits.TheConstants.{MIN_BOUND, MAX_BOUND, MAX_ITEMS}
+use Rattle.argus_contents.specs.declared.signal.Signal.{Signal}
+use Rattle.argus_contents.specs.declared.signal.Signal.TheVariants.{Bounds, Limits, NegativeSize}
 
 -- a choice has a property where each of its arms has
 by_if : {A : Type 0} (P : A → Type 0) (b : Bool) (x y : A) → (b ≡ true → P x) → (b ≡ false → P y)
@@ -106,21 +109,47 @@ set_low_keeps i low vs k = by_if Keeps (is_out_of_limits i (length vs)) _ _ (λ 
 trim_size : (count k : ℕ) (vs : List PlainValue) → length (take count (drop k vs)) ≤ length vs - k
 trim_size count k vs = omega (arith, length-take count (drop k vs), length-drop k vs)
 
-trim_keeps : (from count low : ℤ) (vs : List PlainValue) → KeepsBounds low (length vs)
-    → Keeps (trimmed from count low vs)
-trim_keeps from count low vs k =
-    by_if Keeps (int_lt count (pos 0)) _ _ (λ e. k) (λ e.
-    by_if Keeps (int_lt from low || int_lt (low +ℤ pos (length vs)) from) _ _ (λ o. k) (λ o.
-    by_if Keeps (int_lt MAX_BOUND from) _ _ (λ m. k) (λ m.
-    let above = not_below from low (neither_left (int_lt from low) _ o) in
-    let below = not_below (low +ℤ pos (length vs)) from (neither_right (int_lt from low) _ o) in
-    let to = not_below MAX_BOUND from m in
-    let start = k.from in
-    let high = k.high in
-    let items = k.items in
+-- a trim begins at one of the items or just behind them, and at a bound
+record CanTrim (from low : ℤ) (size : ℕ) : Type 0 where
+  pub from_low : low ≤ℤ from
+  pub to_end : from ≤ℤ (low +ℤ pos size)
+  pub to_bound : from ≤ℤ MAX_BOUND
+
+-- where nothing refuses the trim, it can be made
+abbrev IsFine : (from count low : ℤ) → ℕ → Option Signal → Type 0
+IsFine from count low size why = why ≡ None → CanTrim from low size
+
+refused : (from count low : ℤ) (size : ℕ) (why : Signal) → IsFine from count low size (Some why)
+refused from count low size why n = absurd (cc)
+
+can_trim : (from count low : ℤ) (size : ℕ) → trim_refusal from count low size ≡ None → CanTrim from low size
+can_trim from count low size =
+    let P = IsFine from count low size in
+    let no = refused from count low size in
+    by_if P (int_lt count (pos 0)) _ _ (λ e. no NegativeSize) (λ e.
+    by_if P (int_lt from low || int_lt (low +ℤ pos size) from) _ _ (λ o. no Bounds) (λ o.
+    by_if P (int_lt MAX_BOUND from) _ _ (λ m. no Limits) (λ m n.
+    record {
+      from_low = not_below from low (neither_left (int_lt from low) _ o);
+      to_end = not_below (low +ℤ pos size) from (neither_right (int_lt from low) _ o);
+      to_bound = not_below MAX_BOUND from m;
+    })))
+
+trimmed_keeps : (why : Option Signal) (from count low : ℤ) (vs : List PlainValue)
+    → trim_refusal from count low (length vs) ≡ why → KeepsBounds low (length vs)
+    → Keeps (trimmed why from count low vs)
+trimmed_keeps (Some why) from count low vs e k = k
+trimmed_keeps None from count low vs e k =
+    let c = can_trim from count low (length vs) e in
     let size = trim_size (unsigned_abs count) (unsigned_abs (from -ℤ low)) vs in
-    let place : pos (unsigned_abs (from -ℤ low)) ≡ (from -ℤ low) = abs_of (from -ℤ low) (omega (arith, ints)) in
-    record { from = omega (arith, ints); to = to; high = omega (arith, ints); items = omega arith })))
+    let place : pos (unsigned_abs (from -ℤ low)) ≡ (from -ℤ low) =
+    abs_of (from -ℤ low) (omega (arith, ints, c.from_low)) in
+    record {
+      from = omega (arith, ints, k.from, c.from_low);
+      to = c.to_bound;
+      high = omega (arith, ints, k.high, c.to_end);
+      items = omega (arith, k.items);
+    }
 
 -- what a change of an array leaves keeps the limits
 pub array_keeps : (c : PlainChange) (low : ℤ) (vs : List PlainValue) → KeepsBounds low (length vs)
@@ -133,7 +162,8 @@ array_keeps (addl v) low vs k = addl_keeps v low vs k
 array_keeps remh low vs k = remh_keeps low vs k
 array_keeps reml low vs k = reml_keeps low vs k
 array_keeps (set_low i) low vs k = set_low_keeps i low vs k
-array_keeps (trim from count) low vs k = trim_keeps from count low vs k
+array_keeps (trim from count) low vs k =
+    trimmed_keeps (trim_refusal from count low (length vs)) from count low vs refl k
 array_keeps (set_field i v) low vs k = k
 array_keeps (change_tag t v) low vs k = k
 

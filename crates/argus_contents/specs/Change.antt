@@ -84,14 +84,18 @@ abbrev pub is_out_of_limits : ℤ → ℕ → Bool
 is_out_of_limits i size =
     int_lt i MIN_BOUND || int_lt MAX_BOUND i || int_lt MAX_BOUND (high_of i size)
 
--- the items from an index on are kept, at most so many of them
-abbrev pub trimmed : ℤ → ℤ → ℤ → List PlainValue → Outcome
-trimmed from count low vs =
-    if int_lt count (pos 0) then signals NegativeSize (arr low vs) else
-    (if int_lt from low || int_lt (low +ℤ pos (length vs)) from then signals Bounds (arr low vs)
-    else
-    (if int_lt MAX_BOUND from then signals Limits (arr low vs) else
-    (Some (arr from (take (unsigned_abs count) (drop (unsigned_abs (from -ℤ low)) vs))), done)))
+-- why an array of this low bound and size isn't trimmed to an index and a count, if it isn't
+abbrev pub trim_refusal : ℤ → ℤ → ℤ → ℕ → Option Signal
+trim_refusal from count low size =
+    if int_lt count (pos 0) then Some NegativeSize else
+    (if int_lt from low || int_lt (low +ℤ pos size) from then Some Bounds else
+    (if int_lt MAX_BOUND from then Some Limits else None))
+
+-- unless that is refused, the items from the index on are kept, at most so many of them
+abbrev pub trimmed : Option Signal → ℤ → ℤ → ℤ → List PlainValue → Outcome
+trimmed (Some why) from count low vs = signals why (arr low vs)
+trimmed None from count low vs =
+    (Some (arr from (take (unsigned_abs count) (drop (unsigned_abs (from -ℤ low)) vs))), done)
 
 -- what a change does to an array
 abbrev pub array_outcome : PlainChange → ℤ → List PlainValue → Outcome
@@ -109,7 +113,8 @@ array_outcome remh low vs =
 array_outcome reml low vs = removed_low low vs
 array_outcome (set_low i) low vs =
     if is_out_of_limits i (length vs) then signals Limits (arr low vs) else (Some (arr i vs), done)
-array_outcome (trim from count) low vs = trimmed from count low vs
+array_outcome (trim from count) low vs =
+    trimmed (trim_refusal from count low (length vs)) from count low vs
 array_outcome (set_field field v) low vs = signals Absent (arr low vs)
 array_outcome (change_tag tag v) low vs = signals Absent (arr low vs)
 

@@ -23,7 +23,14 @@ abbrev mutual
   is_typed (ty.fields fs) n (value.fields vs) = each_typed fs n vs
   is_typed (ty.choice fs) n (value.choice t v) =
       elim (ty_at fs t) [ None ↦ false | Some x ↦ is_typed x n v ]
-  is_typed _ n _ = false
+  is_typed ty.null n v = false
+  is_typed ty.bool n v = false
+  is_typed ty.int n v = false
+  is_typed ty.text n v = false
+  is_typed ty.atomic n v = false
+  is_typed (ty.sequence x) n v = false
+  is_typed (ty.fields fs) n v = false
+  is_typed (ty.choice fs) n v = false
 
   -- each value is of the one type
   pub all_typed : PlainTy → ℕ → PlainValues → Bool

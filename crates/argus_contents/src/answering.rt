@@ -3,13 +3,13 @@
 ghost use Rattle.std.specs.Prelude.{◌≡◌, if◌then◌else◌, length, IfOk};
 ghost use Rattle.argus_contents.specs.Answer.{done, plain_answer, signal};
 ghost use Rattle.argus_contents.specs.Change.{absent_outcome, array_outcome, plain_change, outcome};
-ghost use Rattle.argus_contents.specs.Change.{record_outcome, reml, store, trimmed};
+ghost use Rattle.argus_contents.specs.Change.{record_outcome, reml, store, trim};
 ghost use Rattle.argus_contents.specs.Change.{variant_outcome};
 ghost use Rattle.argus_contents.specs.Content.{KeepsBounds, KeepsLimits, plain_option};
 ghost use Rattle.argus_contents.specs.Value.{plain_value, plain_list};
 
 use crate::answer::Answer;
-use crate::array::{is_full_high, is_full_low, is_out_of_limits};
+use crate::array::{is_full_high, is_full_low, is_out_of_limits, trim_refusal};
 use crate::asking::{place_in, value_or_signal};
 use crate::change::Change;
 use crate::content::Content;
@@ -156,16 +156,11 @@ fn first_answer(heap: Heap, low: i64, items: &VecDeque<Value, Heap>) -> Result<A
 
 fn trim_answer(low: i64, items: &VecDeque<Value, Heap>, from: i64, count: i64) -> Answer
     requires { KeepsBounds low (length items.now.items) }
-    ensures { plain_answer result ≡ (trimmed from count low (plain_list items.now.items)).1 }
+    ensures { plain_answer result ≡ (array_outcome (trim from count) low
+        (plain_list items.now.items)).1 }
 {
-    if count < 0 {
-        return Answer::Signal(Signal::NegativeSize);
+    match trim_refusal(low, items.len(), from, count) {
+        None => Answer::Done,
+        Some(why) => Answer::Signal(why),
     }
-    if from < low || from > low + items.len() as i64 {
-        return Answer::Signal(Signal::Bounds);
-    }
-    if from > MAX_BOUND {
-        return Answer::Signal(Signal::Limits);
-    }
-    Answer::Done
 }

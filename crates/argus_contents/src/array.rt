@@ -5,7 +5,7 @@ ghost use Rattle.std.specs.Prelude.{OnErr};
 ghost use Rattle.argus_contents.specs.Answer.{plain_answer, value_or};
 ghost use Rattle.argus_contents.specs.Change.{addh, addl, is_full_high, is_full_low};
 ghost use Rattle.argus_contents.specs.Change.{is_out_of_limits, Leaves, plain_change, reml};
-ghost use Rattle.argus_contents.specs.Change.{set_low, store, trim};
+ghost use Rattle.argus_contents.specs.Change.{set_low, store, trim, trim_refusal};
 ghost use Rattle.argus_contents.specs.Content.{KeepsBounds};
 ghost use Rattle.argus_contents.specs.declared.limits.TheConstants.{MAX_ITEMS};
 ghost use Rattle.argus_contents.specs.Value.{plain_value, plain_list};
@@ -65,6 +65,23 @@ pub(crate) fn is_out_of_limits(bound: i64, size: usize) -> bool
     ensures { result ≡ is_out_of_limits bound size }
 {
     bound < MIN_BOUND || bound > MAX_BOUND || bound + size as i64 - 1 > MAX_BOUND
+}
+
+/// Why an array isn't trimmed so, if it isn't.
+pub(crate) fn trim_refusal(low: i64, size: usize, from: i64, count: i64) -> Option<Signal>
+    requires { KeepsBounds low size }
+    ensures { result ≡ trim_refusal from count low size }
+{
+    if count < 0 {
+        return Some(Signal::NegativeSize);
+    }
+    if from < low || from > low + size as i64 {
+        return Some(Signal::Bounds);
+    }
+    if from > MAX_BOUND {
+        return Some(Signal::Limits);
+    }
+    None
 }
 
 fn store_item(low: i64, items: &mut VecDeque<Value, Heap>, index: i64, value: Value) -> Answer
@@ -163,14 +180,8 @@ fn trim_items(low: &mut i64, items: &mut VecDeque<Value, Heap>, from: i64, count
     requires { KeepsBounds low.old (length items.old.items) }
     ensures { Leaves (trim from count) low.old items.old.items low.new items.new.items result }
 {
-    if count < 0 {
-        return Answer::Signal(Signal::NegativeSize);
-    }
-    if from < *low || from > *low + items.len() as i64 {
-        return Answer::Signal(Signal::Bounds);
-    }
-    if from > MAX_BOUND {
-        return Answer::Signal(Signal::Limits);
+    if let Some(why) = trim_refusal(*low, items.len(), from, count) {
+        return Answer::Signal(why);
     }
     drop_first(items, from.abs_diff(*low) as usize);
     items.truncate(count.unsigned_abs() as usize);

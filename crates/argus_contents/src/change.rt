@@ -16,19 +16,33 @@ use argus_memory::{Heap, OutOfMemory};
 /// applies is answered. Every change but `Create` and `Touch` signals `Absent` on an absent content
 /// and on a content of another kind than its own.
 ///
-/// | Change | Of | Effect and answer |
-/// |---|---|---|
-/// | `Create(c)` | any | `Exists` if there is a content; the content becomes `c`, `Done` |
-/// | `SetField(i, v)` | a record | `Absent` if there is no such field; the field becomes `v`, `Done` |
-/// | `Store(i, v)` | an array | `Bounds` if `i < low` or `i > high`; the item becomes `v`, `Done` |
-/// | `Addh(v)` | an array | `Limits` if there are 65,535 items or `low + size` is past the greatest bound; `v` becomes the last, `Done` |
-/// | `Addl(v)` | an array | `Limits` if there are 65,535 items or `low` is the least bound; `v` becomes the first and `low` falls by 1, `Done` |
-/// | `Remh` | an array | `Bounds` if it is empty; the last leaves, `Val` of it |
-/// | `Reml` | an array | `Bounds` if it is empty; `Limits` if `low` is the greatest bound; the first leaves and `low` rises by 1, `Val` of it |
-/// | `SetLow(i)` | an array | `Limits` if `i` or `i + size - 1` is no bound; `low` becomes `i`, `Done` |
-/// | `Trim(i, n)` | an array | `NegativeSize` if `n < 0`; `Bounds` if `i < low` or `i > high + 1`; `Limits` if `i` is past the greatest bound; the items from `i` on are kept, at most `n`, and `low` becomes `i`, `Done` |
-/// | `ChangeTag(t, v)` | a variant | tag and value become these, `Done` |
-/// | `Touch` | any, also absent | unchanged, `Done` |
+/// | Change | Of | Effect | Answer |
+/// |---|---|---|---|
+/// | `Create(c)` | any | the content becomes `c` | `Done` |
+/// | `SetField(i, v)` | a record | the field becomes `v` | `Done` |
+/// | `Store(i, v)` | an array | the item becomes `v` | `Done` |
+/// | `Addh(v)` | an array | `v` becomes the last | `Done` |
+/// | `Addl(v)` | an array | `v` becomes the first and `low` falls by 1 | `Done` |
+/// | `Remh` | an array | the last leaves | `Val` of it |
+/// | `Reml` | an array | the first leaves and `low` rises by 1 | `Val` of it |
+/// | `SetLow(i)` | an array | `low` becomes `i` | `Done` |
+/// | `Trim(i, n)` | an array | what is from `i` on is kept, at most `n`; `low` becomes `i` | `Done` |
+/// | `ChangeTag(t, v)` | a variant | tag and value become these | `Done` |
+/// | `Touch` | any, also absent | unchanged | `Done` |
+///
+/// | Change | Signals, in this order |
+/// |---|---|
+/// | `Create(c)` | `Exists` if there is a content |
+/// | `SetField(i, v)` | `Absent` if there is no such field |
+/// | `Store(i, v)` | `Bounds` if `i < low` or `i > high` |
+/// | `Addh(v)` | `Limits` if there are 65,535 items or `low + size` is past the greatest bound |
+/// | `Addl(v)` | `Limits` if there are 65,535 items or `low` is the least bound |
+/// | `Remh` | `Bounds` if it is empty |
+/// | `Reml` | `Bounds` if it is empty; `Limits` if `low` is the greatest bound |
+/// | `SetLow(i)` | `Limits` if `i` or `i + size - 1` is no bound |
+/// | `Trim(i, n)` | `NegativeSize` if `n < 0` |
+/// | | `Bounds` if `i < low` or `i > high + 1` |
+/// | | `Limits` if `i` is past the greatest bound |
 ///
 /// Source: in the manner of the built-in atomic types of the Argus Reference Manual
 /// (MIT/LCS/TR-400, 1987); the signals and their order are this project's own.

@@ -46,7 +46,17 @@ fn has_type(value: &Value, ty: &Ty, declared: u32) -> bool
             Some((_, ty)) => has_type(part, ty, declared),
             None => false,
         },
-        _ => false,
+        (
+            Ty::Null
+            | Ty::Bool
+            | Ty::Int
+            | Ty::Text
+            | Ty::Atomic
+            | Ty::Sequence(_)
+            | Ty::Fields(_)
+            | Ty::Choice(_),
+            _,
+        ) => false,
     }
 }
 

@@ -146,7 +146,9 @@ pub(crate) fn append_copies(
             Value::Bool(truth) => copies.push(Value::Bool(*truth))?,
             Value::Int(number) => copies.push(Value::Int(*number))?,
             Value::Atomic(object) => copies.push(Value::Atomic(*object))?,
-            _ => copies.push(duplicate_value(heap, value)?)?,
+            Value::Text(_) | Value::Sequence(_) | Value::Fields(_) | Value::Choice(_, _) => {
+                copies.push(duplicate_value(heap, value)?)?
+            }
         }
     }
     Ok(())

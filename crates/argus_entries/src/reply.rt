@@ -18,7 +18,9 @@ use argus_memory::{Heap, OutOfMemory};
 /// |---|---|
 /// | `Object` | `Declare`: the number of the object |
 /// | `Begun` | `BeginTop`, `BeginSub`, `BeginNested`: the number of the action |
-/// | `Answered` | `Ask`, `Alter`: the operation's answer; a signal's lock was granted, too. `Commit`, `Abort`, `AbortOthers`: `Done`. `TestRead`, `TestWrite`: a `Flag` |
+/// | `Answered` | `Ask`, `Alter`: the operation's answer; a signal's lock was granted, too |
+/// | `Answered` | `Commit`, `Abort`, `AbortOthers`: `Done` |
+/// | `Answered` | `TestRead`, `TestWrite`: a `Flag` |
 /// | `Refused` | every call; nothing was changed |
 ///
 /// ```text

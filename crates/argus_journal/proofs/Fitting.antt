@@ -1,17 +1,17 @@
 -- A fitting change leaves a fitting content, and what fits goes on to fit when more objects are declared.
-use Rattle.std.proofs.Common.{Bool, List, None, Option, Some, [], arith, drop, false, length, nat_le, nat_lt, refl, suc}
-use Rattle.std.proofs.Common.{take, true, zero, ℕ, ℤ, pos, ◌++◌, ◌+ℤ◌, ◌-◌, ◌-ℤ◌, ◌∷◌, ◌≡◌, ◌≤ℤ◌, ◌≤◌}
-use Rattle.std.specs.Prelude.{if◌then◌else◌, int_lt, not, slice_set, unsigned_abs, ◌&&◌, ◌||◌}
+use Rattle.std.proofs.Common.{Bool, List, None, Option, Some, [], arith, drop, false, length, nat_lt, refl, suc}
+use Rattle.std.proofs.Common.{take, true, zero, ℕ, ℤ, ◌++◌, ◌-◌, ◌-ℤ◌, ◌∷◌, ◌≡◌, ◌≤◌}
+use Rattle.std.specs.Prelude.{if◌then◌else◌, slice_set, unsigned_abs}
 use Rattle.std.specs.Ordering.{int_eq}
 use Rattle.std.proofs.lemmas.Bool.{and_from, and_parts, false≢true}
 use Rattle.std.proofs.lemmas.Bool.Decides.{nat_tests}
-use Rattle.std.proofs.lemmas.Int.{ints}
 use Rattle.argus_contents.specs.Change.{Outcome, PlainChange, addh, addl, array_outcome, change_tag, create}
 use Rattle.argus_contents.specs.Change.{is_full_high, is_full_low, is_out_of_limits, reml, remh, removed_low, outcome}
-use Rattle.argus_contents.specs.Change.{set_field, set_low, store, stored_at, touch, trim, trimmed}
+use Rattle.argus_contents.specs.Change.{set_field, set_low, store, stored_at, touch, trim, trim_refusal}
+use Rattle.argus_contents.specs.Change.{trimmed}
 use Rattle.argus_contents.specs.Content.{KeepsLimits, PlainContent, arr, is_within, rec, var}
 use Rattle.argus_contents.specs.Fitting.{change_suits, is_fitting}
-use Rattle.argus_contents.specs.Place.{high_of, place_of}
+use Rattle.argus_contents.specs.Place.{place_of}
 use Rattle.argus_contents.specs.Shape as shape
 use Rattle.argus_contents.specs.Shape.{PlainShape}
 use Rattle.argus_contents.specs.Ty as ty
@@ -19,7 +19,8 @@ use Rattle.argus_contents.specs.Ty.{PlainFields, PlainTy}
 use Rattle.argus_contents.specs.Typing.{all_typed, each_typed, is_typed, is_typed_at, ty_at}
 use Rattle.argus_contents.specs.Value as value
 use Rattle.argus_contents.specs.Value.{PlainValue, PlainValues, listed}
-use Rattle.argus_contents.specs.declared.limits.TheConstants.{MAX_BOUND, MAX_ITEMS, MIN_BOUND}
+use Rattle.argus_contents.specs.declared.limits.TheConstants.{MAX_BOUND}
+use Rattle.argus_contents.specs.declared.signal.Signal.{Signal}
 use Rattle.argus_contents.proofs.Fitted.{keeps_within, within_keeps}
 use Rattle.argus_contents.proofs.Kept.{array_keeps}
 use Rattle.argus_journal.specs.Opening.{fits_shape}
@@ -147,14 +148,12 @@ removed_typed t n low [] e = e
 removed_typed t n low (v ∷ vs) e =
     by_if (Typed t n) (int_eq low MAX_BOUND) _ _ e (and_parts (is_typed t n v) (all_typed t n (listed vs)) e).1
 
-trimmed_typed : (t : PlainTy) (n : ℕ) (from count low : ℤ) (vs : List PlainValue) → all_typed t n (listed vs) ≡ true
-    → Typed t n (trimmed from count low vs)
-trimmed_typed t n from count low vs e =
-    by_if (Typed t n) (int_lt count (pos 0)) _ _ e
-    (by_if (Typed t n) (int_lt from low || int_lt (low +ℤ pos (length vs)) from) _ _ e
-    (by_if (Typed t n) (int_lt MAX_BOUND from) _ _ e
-    (all_take t n (unsigned_abs count) (drop (unsigned_abs (from -ℤ low)) vs)
-    (all_drop t n (unsigned_abs (from -ℤ low)) vs e))))
+trimmed_typed : (why : Option Signal) (t : PlainTy) (n : ℕ) (from count low : ℤ) (vs : List PlainValue)
+    → all_typed t n (listed vs) ≡ true → Typed t n (trimmed why from count low vs)
+trimmed_typed (Some why) t n from count low vs e = e
+trimmed_typed None t n from count low vs e =
+    all_take t n (unsigned_abs count) (drop (unsigned_abs (from -ℤ low)) vs)
+    (all_drop t n (unsigned_abs (from -ℤ low)) vs e)
 
 array_typed : (c : PlainChange) (t : PlainTy) (n : ℕ) (low : ℤ) (vs : List PlainValue)
     → change_suits (shape.arr t) n c ≡ true → all_typed t n (listed vs) ≡ true → Typed t n (array_outcome c low vs)
@@ -167,7 +166,8 @@ array_typed (addl v) t n low vs h e =
 array_typed remh t n low vs h e = all_take t n (length vs - 1) vs e
 array_typed reml t n low vs h e = removed_typed t n low vs e
 array_typed (set_low i) t n low vs h e = by_if (Typed t n) (is_out_of_limits i (length vs)) _ _ e e
-array_typed (trim from count) t n low vs h e = trimmed_typed t n from count low vs e
+array_typed (trim from count) t n low vs h e =
+    trimmed_typed (trim_refusal from count low (length vs)) t n from count low vs e
 array_typed (set_field i v) t n low vs h e = e
 array_typed (change_tag k v) t n low vs h e = e
 

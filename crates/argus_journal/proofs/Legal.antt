@@ -123,20 +123,22 @@ granted_step s h objects (ask a o q) w e =
     let test = suits_query objects o q in
     let lock = may_read entries h (a + 1) o in
     let k = free_none h a (if_declared objects o (unless test IllTyped (unless lock Conflict None))) e in
-    ((k.live, k.childless, (access_none objects o test lock k.none).lock, refl), w)
+    let free = (access_none objects o test lock k.none).lock in
+    (record { live = k.live; childless = k.childless; lock = free; answer = refl }, w)
 granted_step s h objects (alter a o x) w e =
     let test = suits_change objects o x in
     let lock = may_write entries h (a + 1) o in
     let k = free_none h a (if_declared objects o (unless test IllTyped (unless lock Conflict None))) e in
-    ((k.live, k.childless, (access_none objects o test lock k.none).lock, refl), w)
+    let free = (access_none objects o test lock k.none).lock in
+    (record { live = k.live; childless = k.childless; lock = free; answer = refl }, w)
 granted_step s h objects (test_read a o) w e =
     let k = free_none h a (if_declared objects o None) e in
     tested (IsLawful s) h a o (may_read entries h (a + 1) o) (test_read a o) (test_read_event h a o)
-    (λ m. ((k.live, k.childless, m, refl), w)) w
+    (λ m. (record { live = k.live; childless = k.childless; lock = m; answer = refl }, w)) w
 granted_step s h objects (test_write a o) w e =
     let k = free_none h a (if_declared objects o None) e in
     tested (IsLawful s) h a o (may_write entries h (a + 1) o) (test_write a o) (test_write_event h a o)
-    (λ m. ((k.live, k.childless, m, refl), w)) w
+    (λ m. (record { live = k.live; childless = k.childless; lock = m; answer = refl }, w)) w
 
 answered_step : (s : Opening) (h : History PlainEntry) (objects : List PlainShape) (c : PlainCall)
     (why : Option Refusal) → refusal h objects c ≡ why → IsLawful s h

@@ -1,5 +1,5 @@
 -- Journals worked out: which refusal comes first where several apply, and calls at the limits.
-use Rattle.std.specs.Prelude.{List, [], codes, pos, ℕ, ◌+◌, ◌-◌, ◌∷◌}
+use Rattle.std.specs.Prelude.{List, [], codes, pos, ℕ, ◌-◌, ◌∷◌}
 use Rattle.argus_contents.specs.Change.{create, set_field}
 use Rattle.argus_contents.specs.Content.{arr}
 use Rattle.argus_contents.specs.Shape as shape

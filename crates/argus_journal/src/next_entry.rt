@@ -6,8 +6,8 @@
 //! |---|---|---|---|---|---|
 //! | live | the same | a, too | the same | a no more | those under them no more |
 //! | readers, writers | the same | the same | a, too | p in the place of a | without those under them |
-//! | seen by a live x | the same | a sees as its parent | a sees what it left | as a saw it, where x is under p and a wrote | the same |
-//! | there for good | the same | the same | the same | as a saw it, where a has no parent and wrote | the same |
+//! | a live x sees | the same | a as its parent | a what it left | as a saw it, where a wrote, if under p | the same |
+//! | for good | the same | the same | the same | as a saw it, where a wrote, if it has no parent | the same |
 ghost use Rattle.std.specs.Prelude.{◌≡◌, ◌≢◌, ◌&&◌, ◌||◌, ◌==◌, ◌∷◌, List, None, Some, filter};
 ghost use Rattle.std.specs.Prelude.{if◌then◌else◌, is_none, not, true, ℕ};
 ghost use Rattle.argus_entries.specs.Call.{abort_others};

@@ -175,7 +175,8 @@ module _ (s : Opening) (h : History PlainEntry) (l : Lawful entries (opened s) h
     chain_from (v ∷ vs) w r =
         let q = rising_front (stack vs) (v.holder.0 + 1) (subst IsRising (stack_more v vs) r) in
         let own : contains (writers entries h o) (v.holder.0 + 1) ≡ true =
-        w v.holder (or_left (eqb v.holder.0 v.holder.0) (has_version v.holder vs) (eq-eqb v.holder.0 v.holder.0 refl)) in
+        w v.holder
+        (or_left (eqb v.holder.0 v.holder.0) (has_version v.holder vs) (eq-eqb v.holder.0 v.holder.0 refl)) in
         and_from (list_all (λ x. is_strictly_above t x v.holder) (holders vs)) (is_chain t (holders vs))
         (all_from (λ x. is_strictly_above t x v.holder) vs
         (λ x e.

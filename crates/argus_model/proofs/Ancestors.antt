@@ -18,6 +18,7 @@ ParentsAreOlder (Committed a ▹ older) = ParentsAreOlder older
 ParentsAreOlder (Aborted a ▹ older) = ParentsAreOlder older
 ParentsAreOlder (Accessed a o v ▹ older) = ParentsAreOlder older
 
+-- the next number is positive
 pub next_pos : {V : Type 0} (h : History V) → 0 < next_action h
 next_pos (Opened n) = omega arith
 next_pos (Began from ▹ h) = omega arith
@@ -25,11 +26,13 @@ next_pos (Committed a ▹ h) = next_pos h
 next_pos (Aborted a ▹ h) = next_pos h
 next_pos (Accessed a o v ▹ h) = next_pos h
 
+-- the lineage of what began last is itself, then its parent's; every other lineage stays
 pub lineage_cases : {V : Type 0} (h : History V) (from : Origin) (y : ℕ)
     → ((y ≡ next_action h) × (lineage (Began from ▹ h) y ≡ y ∷ lineage h (parent_of from)))
     ⊎ ((y ≢ next_action h) × (lineage (Began from ▹ h) y ≡ lineage h y))
 lineage_cases h from y = grind (arith, nat_tests)
 
+-- each number is its own ancestor
 pub ancestor_self : {V : Type 0} (h : History V) (y : ℕ) → is_ancestor h y y ≡ true
 ancestor_self (Opened n) y =
     ⊎_elim (λ e. subst (λ u. contains (to_base u) u ≡ true) (sym e) (contains_first 0 []))
@@ -59,6 +62,7 @@ small_step : (n p x y : ℕ) (tp ty t : List ℕ) → p < n → y < n + 1 → ((
     → (contains tp x ≡ true → x ≤ p) → (y < n → contains ty x ≡ true → x ≤ y) → contains t x ≡ true → x ≤ y
 small_step n p x y tp ty t pn yn k ip iy h = grind (arith, nat_tests)
 
+-- an ancestor's number is no greater
 pub ancestor_le : {V : Type 0} (h : History V) (x y : ℕ) → ParentsAreOlder h → y < next_action h
     → is_ancestor h x y ≡ true → x ≤ y
 ancestor_le (Opened n) x y f l a = ⊎_elim (λ e. omega arith) (λ k. omega (arith, k.0)) (opened_ancestor x y a)
@@ -70,7 +74,7 @@ ancestor_le (Committed b ▹ h) x y f l a = ancestor_le h x y f l a
 ancestor_le (Aborted b ▹ h) x y f l a = ancestor_le h x y f l a
 ancestor_le (Accessed b o v ▹ h) x y f l a = ancestor_le h x y f l a
 
--- the lineage of y, down to x
+-- a lineage ty that ends with the lineage tx of x; all before that is greater than x
 pub record Split (ty tx : List ℕ) (x : ℕ) : Type 0 where
   pub front : List ℕ
   pub is : ty ≡ front ++ tx
@@ -106,6 +110,7 @@ split_step n p x y tp ty tx t tx' pn yn ne (inr k) kx lp ly sp sy a =
     let ex : tx' ≡ tx = kx (omega arith) in
     rw (k.1, ex) (sy y' m)
 
+-- a begin leaves the lineage of every other
 pub lineage_old : {V : Type 0} (h : History V) (from : Origin) (y : ℕ) → y ≢ next_action h
     → lineage (Began from ▹ h) y ≡ lineage h y
 lineage_old h from y ne = grind (arith, nat_tests)
@@ -113,6 +118,7 @@ lineage_old h from y ne = grind (arith, nat_tests)
 split_same : (x y : ℕ) (ty tx : List ℕ) → (tx ≡ ty) → Split ty tx x
 split_same x y ty tx e = rw e (split_here y x ty)
 
+-- the lineage of y ends with that of each ancestor of y
 pub split_lineage : {V : Type 0} (h : History V) (x y : ℕ) → ParentsAreOlder h → y < next_action h
     → is_ancestor h x y ≡ true → Split (lineage h y) (lineage h x) x
 split_lineage (Opened n) x y f l a =
@@ -133,10 +139,12 @@ split_lineage (Committed b ▹ h) x y f l a = split_lineage h x y f l a
 split_lineage (Aborted b ▹ h) x y f l a = split_lineage h x y f l a
 split_lineage (Accessed b o v ▹ h) x y f l a = split_lineage h x y f l a
 
+-- an ancestor's ancestor is an ancestor
 pub ancestor_trans : {V : Type 0} (h : History V) (x y z : ℕ) → ParentsAreOlder h → z < next_action h
     → is_ancestor h x y ≡ true → is_ancestor h y z ≡ true → is_ancestor h x z ≡ true
 ancestor_trans h x y z f l a b = let s = split_lineage h y z f l b in rw (s.is) (joined s.front (lineage h y) x a)
 
+-- the parent of what began last is that of its origin; every other parent stays
 pub parent_cases : {V : Type 0} (h : History V) (from : Origin) (y : ℕ)
     → ((y ≡ next_action h) × (parent (Began from ▹ h) y ≡ (parent_of from)))
     ⊎ ((y ≢ next_action h) × (parent (Began from ▹ h) y ≡ parent h y))
@@ -149,6 +157,7 @@ parent_step : (n p y q q' : ℕ) (tp ty tq tq' t : List ℕ) → p < n → 0 < y
     → (q' < y) × (t ≡ y ∷ tq')
 parent_step n p y q q' tp ty tq tq' t pn y0 yn k kq ep eq ih = (grind arith, grind arith)
 
+-- an action's parent is older, and its lineage is itself, then its parent's
 pub parent_older : {V : Type 0} (h : History V) (y : ℕ) → ParentsAreOlder h → 0 < y → y < next_action h
     → (parent h y < y) × (lineage h y ≡ y ∷ lineage h (parent h y))
 parent_older (Opened n) y f y0 l = (y0, opened_lineage y (omega arith))
@@ -163,7 +172,7 @@ parent_older (Committed b ▹ h) y f y0 l = parent_older h y f y0 l
 parent_older (Aborted b ▹ h) y f y0 l = parent_older h y f y0 l
 parent_older (Accessed b o v ▹ h) y f y0 l = parent_older h y f y0 l
 
--- an action's proper ancestor has a child on the way to it
+-- a child of x on the way down to y
 pub record Child {V : Type 0} (h : History V) (x y : ℕ) : Type 0 where
   pub child : ℕ
   pub real : 0 < child
@@ -193,22 +202,27 @@ child_up h from x y z k m =
       of = ⊎_elim (λ w. absurd (omega arith)) (λ w. w.1 ∙ k.of) (parent_cases h from k.child);
     }
 
+-- an ancestor of the parent is one of what began last
 pub ancestor_new : {V : Type 0} (h : History V) (from : Origin) (x y : ℕ) → y ≡ next_action h
     → is_ancestor h x (parent_of from) ≡ true → is_ancestor (Began from ▹ h) x y ≡ true
 ancestor_new h from x y e a = grind (arith, nat_tests)
 
+-- a begin takes no ancestor from what was there
 pub ancestor_old : {V : Type 0} (h : History V) (from : Origin) (x y : ℕ) → y ≢ next_action h → is_ancestor h x y ≡ true
     → is_ancestor (Began from ▹ h) x y ≡ true
 ancestor_old h from x y e a = grind (arith, nat_tests)
 
+-- an ancestor of what began last, other than itself, is one of its parent
 pub ancestor_new_is : {V : Type 0} (h : History V) (from : Origin) (x y : ℕ) → y ≡ next_action h → x ≢ y
     → is_ancestor (Began from ▹ h) x y ≡ true → is_ancestor h x (parent_of from) ≡ true
 ancestor_new_is h from x y e ne a = grind (arith, nat_tests)
 
+-- a begin gives no ancestor to what was there
 pub ancestor_old_is : {V : Type 0} (h : History V) (from : Origin) (x y : ℕ) → y ≢ next_action h
     → is_ancestor (Began from ▹ h) x y ≡ true → is_ancestor h x y ≡ true
 ancestor_old_is h from x y e a = grind (arith, nat_tests)
 
+-- another's ancestor has a child on the way down to it
 pub child_on_path : {V : Type 0} (h : History V) (x y : ℕ) → ParentsAreOlder h → y < next_action h → x ≢ y
     → is_ancestor h x y ≡ true → Child h x y
 child_on_path {V} (Opened n) x y f l ne a =
@@ -246,6 +260,7 @@ folded_next (Committed a ▹ h) = folded_next h
 folded_next (Aborted a ▹ h) = folded_next h
 folded_next (Accessed a o v ▹ h) = folded_next h
 
+-- what is below an action that is under one of these is under one of them, too
 pub under_below : {V : Type 0} (h : History V) (zs : List ℕ) (x y : ℕ) → ParentsAreOlder h → y < next_action h
     → is_under h zs x ≡ true → is_ancestor h x y ≡ true → is_under h zs y ≡ true
 under_below h zs x y f l u a = let w = any_found (λ z. is_ancestor h z x) zs u in

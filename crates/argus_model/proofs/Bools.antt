@@ -3,47 +3,57 @@ use Rattle.std.proofs.Common.{Bool, arith, false, refl, sym, true, ℕ, ◌≡�
 use Rattle.std.specs.Prelude.{not, ◌&&◌, ◌==◌, ◌||◌}
 use Rattle.std.proofs.lemmas.Bool.{eq-eqb, eqb-true}
 
+-- two tests are the same where each follows from the other
 pub same_bool : (a b : Bool) → (a ≡ true → b ≡ true) → (b ≡ true → a ≡ true) → a ≡ b
 same_bool true b f g = sym (f refl)
 same_bool false true f g = g refl
 same_bool false false f g = refl
 
+-- an alternative that fails changes nothing
 pub or_none : (a : Bool) → a ≡ (a || false)
 or_none true = refl
 or_none false = refl
 
+-- the same alternative twice counts once
 pub or_twice : (a r : Bool) → (a || r) ≡ (a || (a || r))
 or_twice true r = refl
 or_twice false r = refl
 
+-- two alternatives may change places
 pub or_swap : (a b r : Bool) → (a || (b || r)) ≡ (b || (a || r))
 or_swap true true r = refl
 or_swap true false r = refl
 or_swap false b r = refl
 
+-- equality of numbers goes both ways
 pub eqb_sym : (a b : ℕ) → a == b ≡ b == a
 eqb_sym a b =
     same_bool (a == b) (b == a) (λ e. eq-eqb b a (sym (eqb-true a b e))) (λ e. eq-eqb a b (sym (eqb-true b a e)))
 
+-- what fails by its first two parts fails with a third
 pub and_off : (a b c : Bool) → (a && b) ≡ false → (a && (b && c)) ≡ false
 and_off false b c e = refl
 and_off true true c e = grind arith
 and_off true false c e = refl
 
+-- three parts are the same, grouped from the right or from the left
 pub and_split : (a b c r : Bool) → ((a && (b && c)) || r) ≡ (((a && b) && c) || r)
 and_split false b c r = refl
 and_split true b c r = refl
 
+-- a test of all accesses is the test of the reads or that of the writes
 pub kinds_apart : (here w t r s : Bool)
     → ((here && true) && t || (r || s)) ≡ (((here && not w) && t || r) || ((here && w) && t || s))
 kinds_apart false w t r s = refl
 kinds_apart true true t r s = grind arith
 kinds_apart true false t r s = grind arith
 
+-- a part that fails makes the whole fail
 pub and_none : (b : Bool) → (b && false) ≡ false
 and_none true = refl
 and_none false = refl
 
+-- a part that holds changes nothing
 pub and_all : (b : Bool) → (b && true) ≡ b
 and_all true = refl
 and_all false = refl

@@ -36,6 +36,7 @@ module _ {V C A : Type 0} (meaning : Meaning V C A) (opening : Opening C) where
       same
       ∙ sym (append-nil (effects meaning opening h))
 
+  -- the commit of a topaction adds its effect: what it sees in each object that it has written
   pub effect_added : (h : History V) (s : ℕ) → Lawful meaning opening (Committed s ▹ h) → parent h s ≡ 0
       → effects meaning opening (Committed s ▹ h)
       ≡ effects meaning opening h ++ map (λ o. (o, sees meaning opening h s o))
@@ -46,11 +47,12 @@ module _ {V C A : Type 0} (meaning : Meaning V C A) (opening : Opening C) where
       let u = lawful_orderly meaning opening (Committed s ▹ h) l in
       effects_grow meaning opening h s u e
       ∙ ap (λ m. effects meaning opening h ++ m ∷ [])
-      (effect_seen meaning opening h st s u.0 u.1 e
+      (effect_seen meaning opening h st s u.0.not_base u.0.standing e
       ∙ map_agree (λ o. (o, content_after meaning opening.contents o (visible_accesses h s)))
       (λ o. (o, sees meaning opening h s o)) (written_objects meaning (work h s))
       (λ o. ap (λ c. (o, c)) (sym (sees_is meaning opening h w s o))))
 
+  -- the objects that a live action's work writes are those that it holds for writing
   pub written_are_held : (h : History V) (s o : ℕ) → Lawful meaning opening h → is_live h s ≡ true
       → contains (written_objects meaning (work h s)) o ≡ contains (writers meaning h o) s
   written_are_held h s o l k =
@@ -58,6 +60,7 @@ module _ {V C A : Type 0} (meaning : Meaning V C A) (opening : Opening C) where
       let q = live_stands h w s k in
       written_holds meaning h w s o q.1 ∙ sym (contains_holders meaning.writes h w o s q.0)
 
+  -- the commit of a subaction adds no effect
   pub no_effect : (h : History V) (s : ℕ) → Lawful meaning opening (Committed s ▹ h) → parent h s ≢ 0
       → effects meaning opening (Committed s ▹ h) ≡ effects meaning opening h
   no_effect h s l n =
@@ -80,6 +83,7 @@ module _ {V C A : Type 0} (meaning : Meaning V C A) (opening : Opening C) where
       ∙ sym (ap (λ b. old ++ cond b (m ∷ []) []) (ne_eqb (parent h a) 0 n)))
       (cases_eq (parent h a) 0)
 
+  -- the commit of a topaction puts its work last in the serial order; that of a subaction leaves it
   pub order_added : (h : History V) (s : ℕ) → Lawful meaning opening (Committed s ▹ h)
       → serial_order (Committed s ▹ h) ≡ cond (parent h s == 0) (work h s ++ serial_order h) (serial_order h)
   order_added h s l =
@@ -88,7 +92,7 @@ module _ {V C A : Type 0} (meaning : Meaning V C A) (opening : Opening C) where
       let u = lawful_orderly meaning opening g l in
       let old = tops_same h (Committed s) w u in
       let tops = committed_topactions h in
-      let ps = parent_is h (parents_are_older h w) s u.0 u.1 in
+      let ps = parent_is h (parents_are_older h w) s u.0.not_base u.0.standing in
       let own : work g s ≡ work h s =
       ap (λ q. cond q (work h s ++ work h s) (work h s)) (ne_eqb (parent h s) s (omega (arith, ps.0))) in
       ⊎_elim
@@ -98,6 +102,7 @@ module _ {V C A : Type 0} (meaning : Meaning V C A) (opening : Opening C) where
       ∙ sym (ap (λ b. cond b (work h s ++ serial_order h) (serial_order h)) e))
       (cases_Bool (parent h s == 0))
 
+  -- the work of an action that is over stays as it is
   pub over_is_final : (h : History V) (e : Event V) (a : ℕ) → Lawful meaning opening (e ▹ h) → is_begun h a ≡ true
       → is_live h a ≡ false → work (e ▹ h) a ≡ work h a
   over_is_final h e a l k n =
@@ -106,9 +111,11 @@ module _ {V C A : Type 0} (meaning : Meaning V C A) (opening : Opening C) where
       work_final h e (lawful_orderly meaning opening (e ▹ h) l) a
       (stands_is_live h (lawful_orderly meaning opening h l.1) a a0 ∙ n)
 
+  -- after a fold the next action gets the number that it would have got
   pub fold_numbers : (h : History V) → next_action {V = V} (Opened (next_action h - 1)) ≡ next_action h
   fold_numbers h = let k = next_pos h in omega arith
 
+  -- the effects before a fold, and then those after it, make what is there for good
   pub fold_table : (h : History V) (entries : ℕ) (later : History V) (o : ℕ) → Lawful meaning opening h
       → Lawful meaning (fold meaning opening h entries) later
       → table opening.contents (effects meaning opening h ++ effects meaning (fold meaning opening h entries) later) o

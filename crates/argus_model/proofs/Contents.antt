@@ -11,6 +11,7 @@ use Rattle.argus_model.specs.WorkSteps.{Replays, accesses_by}
 use Rattle.argus_model.proofs.Work.{has_used_more, touches}
 
 module _ {V C A : Type 0} (meaning : Meaning V C A) (contents : ℕ → C) where
+  -- where two lists leave the same in an object, they do so with the same later accesses, too
   pub content_front : (o : ℕ) (es fs gs : List (Access V))
       → content_after meaning contents o fs ≡ content_after meaning contents o gs
       → content_after meaning contents o (es ++ fs) ≡ content_after meaning contents o (es ++ gs)
@@ -36,6 +37,7 @@ module _ {V C A : Type 0} (meaning : Meaning V C A) (contents : ℕ → C) where
       cond b (meaning.after x.what (content_after meaning contents o es)) (content_after meaning contents o es)) e)
       (cases_Bool (x.object == o))
 
+  -- accesses that don't write the object leave it as it was
   pub content_past : (o : ℕ) (es fs : List (Access V)) → touches meaning.writes es o false ≡ false
       → content_after meaning contents o (es ++ fs) ≡ content_after meaning contents o fs
   content_past o [] fs n = refl
@@ -43,7 +45,7 @@ module _ {V C A : Type 0} (meaning : Meaning V C A) (contents : ℕ → C) where
       let q = or_parts (x.object == o && (false || meaning.writes x.what)) (touches meaning.writes es o false) n in
       content_stays o x (es ++ fs) q.0 ∙ content_past o es fs q.1
 
-  -- which writes to the object are picked decides its content
+  -- two tests that pick the same writers of an object leave the same in it
   pub accesses_by_agree : (o : ℕ) (t u : ℕ → Bool) (k : History V)
       → ((a : ℕ) → has_used meaning.writes k a o false ≡ true → t a ≡ u a)
       → content_after meaning contents o (accesses_by t k) ≡ content_after meaning contents o (accesses_by u k)
@@ -76,7 +78,7 @@ module _ {V C A : Type 0} (meaning : Meaning V C A) (contents : ℕ → C) where
       skip (t b) (accesses_by t k) ∙ ih ∙ sym (skip (u b) (accesses_by u k)))
       (cases_Bool here)
 
-  -- a block that reads only objects that two lists leave alike
+  -- a block that replays after fs does after gs, where gs replays and leaves what the block touches alike
   pub replays_on : (es fs gs : List (Access V))
       → ((o : ℕ) → touches meaning.writes es o true ≡ true
       → content_after meaning contents o fs ≡ content_after meaning contents o gs) → Replays meaning contents (es ++ fs)

@@ -26,7 +26,7 @@ use Rattle.argus_model.proofs.Standing.{owned_begun, owner_cases, parent_is, par
 use Rattle.argus_model.proofs.Standing.{stands_begun, stands_commit, stands_new, stands_old, stands_upward}
 use Rattle.argus_model.proofs.Topactions.{tops_over}
 
--- who answers is the base, or begun, and answers for itself
+-- who answers for an action answers for itself, too
 pub owner_stands : {V : Type 0} (h : History V) → Orderly h → (a x : ℕ) → owner_by_steps h a ≡ Some x
     → stands h x ≡ true
 owner_stands {V} (Opened n) w a x e =
@@ -39,23 +39,23 @@ owner_stands (Began from ▹ h) w a x e =
     stands_old h from x (λ q. omega arith) ∙ ih)
     (owner_cases h from a)
 owner_stands (Committed s ▹ h) w a x e =
-    let f = parents_are_older h w.3 in
-    let i = parent_is h f s w.0 w.1 in
+    let f = parents_are_older h w.1 in
+    let i = parent_is h f s w.0.not_base w.0.standing in
     let p = parent h s in
     let stays : (y : ℕ) → stands h y ≡ true → y ≢ s → stands (Committed s ▹ h) y ≡ true =
     λ y l n. some_at (owner_by_steps (Committed s ▹ h) y) y
     (handed_stays s p (owner_by_steps h y) y (at_some (owner_by_steps h y) y l) n) in
     ⊎_elim
     (λ k. subst (λ u. stands (Committed s ▹ h) u ≡ true) (sym k.1)
-    (stays p (stands_upward h w.3 p s w.1 i.1) (λ q. omega (arith, i.0))))
-    (λ k. stays x (owner_stands h w.3 a x k.0) k.1)
+    (stays p (stands_upward h w.1 p s w.0.standing i.1) (λ q. omega (arith, i.0))))
+    (λ k. stays x (owner_stands h w.1 a x k.0) k.1)
     (handed_cases s p (owner_by_steps h a) x e)
 owner_stands (Aborted z ▹ h) w a x e =
     let k = kept_cases (is_under h z) (owner_by_steps h a) x e in
     let ih = owner_stands h w.1 a x k.0 in
     some_at (owner_by_steps (Aborted z ▹ h) x) x
     (kept_stays (is_under h z) (owner_by_steps h x) x (at_some (owner_by_steps h x) x ih) k.1)
-owner_stands (Accessed b o v ▹ h) w a x e = owner_stands h w.3 a x e
+owner_stands (Accessed b o v ▹ h) w a x e = owner_stands h w.1 a x e
 
 abbrev is_gone : Owner → Bool
 is_gone Gone = true
@@ -65,7 +65,7 @@ abbrev held_number : Owner → ℕ
 held_number (Held x) = x
 held_number _ = 0
 
--- back from the words of the definition
+-- what is called gone has no owner by steps
 pub none_of : (q : Option ℕ) → as_owner q ≡ Gone → q ≡ None
 none_of None e = refl
 none_of (Some x) e =
@@ -73,6 +73,7 @@ none_of (Some x) e =
     (⊎_elim (λ k. sym (ap (λ b. is_gone (cond b Base (Held x))) k))
     (λ k. sym (ap (λ b. is_gone (cond b Base (Held x))) k)) (cases_Bool (x == 0)) ∙ ap is_gone e))
 
+-- what is called held by x has the owner x by steps
 pub some_of : (q : Option ℕ) (x : ℕ) → as_owner q ≡ Held x → q ≡ Some x
 some_of None x e = absurd (false≢true (sym (ap is_gone e)))
 some_of (Some y) x e =
@@ -81,6 +82,7 @@ some_of (Some y) x e =
     (λ k. ap Some (ap held_number (sym (ap (λ b. cond b Base (Held y)) (ne_eqb y 0 k)) ∙ e)))
     (cases_eq y 0)
 
+-- what is called there for good has the base as owner by steps
 pub base_of : (q : Option ℕ) → as_owner q ≡ Base → q ≡ Some 0
 base_of None e = absurd (false≢true (ap is_base e))
 base_of (Some y) e =
@@ -89,6 +91,7 @@ base_of (Some y) e =
     (λ k. absurd (false≢true (ap is_base (sym (ap (λ b. cond b Base (Held y)) (ne_eqb y 0 k)) ∙ e))))
     (cases_eq y 0)
 
+-- an owner other than the base is called a holder
 pub as_held : (x : ℕ) → x ≢ 0 → as_owner (Some x) ≡ Held x
 as_held x n = ap (λ b. cond b Base (Held x)) (ne_eqb x 0 n)
 
@@ -100,10 +103,11 @@ begun_stays h (Committed s) a k = k
 begun_stays h (Aborted z) a k = k
 begun_stays h (Accessed b o v) a k = k
 
--- an abort takes nothing from the base
+-- the base stands under none of those that are aborted
 pub base_spared : {V : Type 0} (h : History V) (z : List ℕ) → Orderly (Aborted z ▹ h) → is_under h z 0 ≡ false
 base_spared h z w = (stands_abort h z 0 (base_stands (Aborted z ▹ h) w)).1
 
+-- a begun action that has no owner never gets one again
 pub none_stays : {V : Type 0} (h : History V) (e : Event V) (a : ℕ) → is_begun h a ≡ true → owner_by_steps h a ≡ None
     → owner_by_steps (e ▹ h) a ≡ None
 none_stays h (Began from) a k n = let q = is_begun_parts h a k in
@@ -112,11 +116,12 @@ none_stays h (Committed s) a k n = ap (handed_up s (parent h s)) n
 none_stays h (Aborted z) a k n = ap (unless_lost (is_under h z)) n
 none_stays h (Accessed b o v) a k n = n
 
+-- what the base owns stays with the base
 pub base_stays : {V : Type 0} (h : History V) (e : Event V) → Orderly (e ▹ h) → (a : ℕ) → owner_by_steps h a ≡ Some 0
     → owner_by_steps (e ▹ h) a ≡ Some 0
 base_stays h (Began from) w a b = let l = owned_begun h a 0 b in
     ⊎_elim (λ c. absurd (omega (arith, c.0))) (λ c. c.1 ∙ b) (owner_cases h from a)
-base_stays h (Committed s) w a b = handed_stays s (parent h s) (owner_by_steps h a) 0 b (λ q. w.0 (sym q))
+base_stays h (Committed s) w a b = handed_stays s (parent h s) (owner_by_steps h a) 0 b (λ q. w.0.not_base (sym q))
 base_stays h (Aborted z) w a b = kept_stays (is_under h z) (owner_by_steps h a) 0 b (base_spared h z w)
 base_stays h (Accessed d o v) w a b = b
 
@@ -124,16 +129,18 @@ base_stays h (Accessed d o v) w a b = b
 stood : {V : Type 0} (h : History V) (e : Event V) → Orderly (e ▹ h) → (a : ℕ) → a < next_action h
     → stands (e ▹ h) a ≡ true → stands h a ≡ true
 stood h (Began from) w a l s = sym (stands_old h from a (λ q. omega arith)) ∙ s
-stood h (Committed b) w a l s = (stands_commit h (parents_are_older h w.3) (stands_upward h w.3) b a w.0 w.1 s).0
+stood h (Committed b) w a l s =
+    (stands_commit h (parents_are_older h w.1) (stands_upward h w.1) b a w.0.not_base w.0.standing s).0
 stood h (Aborted z) w a l s = (stands_abort h z a s).0
 stood h (Accessed b o v) w a l s = s
 
 orderly_older : {V : Type 0} (h : History V) (e : Event V) → Orderly (e ▹ h) → Orderly h
 orderly_older h (Began from) w = w.1
-orderly_older h (Committed b) w = w.3
+orderly_older h (Committed b) w = w.1
 orderly_older h (Aborted z) w = w.1
-orderly_older h (Accessed b o v) w = w.3
+orderly_older h (Accessed b o v) w = w.1
 
+-- an action that is over is never live again
 pub over_stays : {V : Type 0} (h : History V) (e : Event V) → Orderly (e ▹ h) → (a : ℕ) → is_begun h a ≡ true
     → is_live h a ≡ false → is_live (e ▹ h) a ≡ false
 over_stays h e w a k n =
@@ -143,18 +150,20 @@ over_stays h e w a k n =
     let s = stood h e w a q.1 (stands_is_live (e ▹ h) w a a0 ∙ m) in
     both_ways (is_live h a) n (sym (stands_is_live h (orderly_older h e w) a a0) ∙ s))
 
--- the owner, up the parents
+-- what a doomed action did is gone
 pub owner_when_doomed : {V : Type 0} (h : History V) → Orderly h → (a : ℕ) → is_begun h a ≡ true → is_doomed h a ≡ true
     → owner h a ≡ Gone
 owner_when_doomed h w a k d = let q = is_begun_parts h a k in
     owner_is h w a k ∙ ap as_owner (owner_gone h w a q.0 q.1 d)
 
+-- a live action answers for itself
 pub owner_when_live : {V : Type 0} (h : History V) → Orderly h → (a : ℕ) → is_live h a ≡ true → owner h a ≡ Held a
 owner_when_live h w a l =
     let k = (and_parts (is_begun h a) (not (has_committed h a) && not (is_doomed h a)) l).0 in
     let s = live_stands h w a l in
     owner_is h w a k ∙ ap as_owner (at_some (owner_by_steps h a) a s.1) ∙ as_held a s.0
 
+-- for a committed subaction answers who answers for its parent
 pub owner_when_committed : {V : Type 0} (h : History V) → Orderly h → (a : ℕ) → is_begun h a ≡ true
     → has_committed h a ≡ true → parent h a ≢ 0 → owner h a ≡ owner h (parent h a)
 owner_when_committed h w a k c n =
@@ -164,12 +173,14 @@ owner_when_committed h w a k c n =
     ∙ sym (owner_is h w (parent h a)
     (is_begun_from h (parent h a) (parent_unfolded h w a q.0 q.1 n) (omega (arith, p.0, q.1))))
 
+-- what a committed topaction did is there for good
 pub owner_when_top : {V : Type 0} (h : History V) → Orderly h → (a : ℕ) → is_begun h a ≡ true → has_committed h a ≡ true
     → parent h a ≡ 0 → owner h a ≡ Base
 owner_when_top h w a k c e =
     owner_is h w a k
     ∙ ap as_owner (owner_passed h w a c ∙ ap (owner_by_steps h) e ∙ at_some (owner_by_steps h 0) 0 (base_stands h w))
 
+-- who answers for an action is live, and an ancestor of it
 pub held_by_live : {V : Type 0} (h : History V) → Orderly h → (a x : ℕ) → is_begun h a ≡ true → owner h a ≡ Held x
     → (is_live h x ≡ true) × (is_ancestor h x a ≡ true)
 held_by_live h w a x k e =
@@ -179,7 +190,7 @@ held_by_live h w a x k e =
     (ap is_base (sym (ap Held z ∙ refl) ∙ sym e ∙ owner_is h w a k ∙ ap as_owner (q ∙ ap Some z))) in
     (sym (stands_is_live h w x n) ∙ owner_stands h w a x q, owner_ancestor h w a x q)
 
--- the committed topactions
+-- the list of committed topactions has who has committed and has the base as parent, and no other
 pub tops_are : {V : Type 0} (h : History V) → Orderly h → (t : ℕ)
     → contains (committed_topactions h) t ≡ (has_committed h t && parent h t == 0)
 tops_are (Opened n) w t = refl
@@ -192,9 +203,9 @@ tops_are (Began from ▹ h) w t =
     (⊎_elim (λ k. absurd (omega (arith, k.0, l.1))) (λ k. sym k.1) (parent_cases h from t)))
     (⊎_elim (λ c. inr c) (λ c. inl c) (cases_Bool (has_committed h t)))
 tops_are (Aborted z ▹ h) w t = tops_are h w.1 t
-tops_are (Accessed a o v ▹ h) w t = tops_are h w.3 t
+tops_are (Accessed a o v ▹ h) w t = tops_are h w.1 t
 tops_are (Committed s ▹ h) w t =
-    let rest = tops_are h w.3 t in
+    let rest = tops_are h w.1 t in
     ⊎_elim
     (λ e. ap (λ b. contains (cond b (s ∷ committed_topactions h) (committed_topactions h)) t) e
     ∙ ap (λ b. (t == s) || b) rest
@@ -215,6 +226,7 @@ tops_are (Committed s ▹ h) w t =
     (cases_eq t s))
     (cases_Bool (parent h s == 0))
 
+-- what those on the list of committed topactions did is there for good
 pub tops_stay : {V : Type 0} (h : History V) → Orderly h → (t : ℕ) → contains (committed_topactions h) t ≡ true
     → owner h t ≡ Base
 tops_stay h w t m =
@@ -222,32 +234,34 @@ tops_stay h w t m =
     let c = committed_begun h w t q.0 in
     owner_when_top h w t (is_begun_from h t (committed_unfolded h w t q.0) c.1) q.0 (eqb-true (parent h t) 0 q.1)
 
+-- what is gone stays gone
 pub gone_stays : {V : Type 0} (h : History V) (e : Event V) → Orderly h → Orderly (e ▹ h) → (a : ℕ)
     → is_begun h a ≡ true → owner h a ≡ Gone → owner (e ▹ h) a ≡ Gone
 gone_stays h e w u a k g =
     owner_is (e ▹ h) u a (begun_stays h e a k)
     ∙ ap as_owner (none_stays h e a k (none_of (owner_by_steps h a) (sym (owner_is h w a k) ∙ g)))
 
+-- what is there for good stays there
 pub good_stays : {V : Type 0} (h : History V) (e : Event V) → Orderly h → Orderly (e ▹ h) → (a : ℕ)
     → is_begun h a ≡ true → owner h a ≡ Base → owner (e ▹ h) a ≡ Base
 good_stays h e w u a k g =
     owner_is (e ▹ h) u a (begun_stays h e a k)
     ∙ ap as_owner (base_stays h e u a (base_of (owner_by_steps h a) (sym (owner_is h w a k) ∙ g)))
 
--- who commits stood until then, so it is not among those who committed before
+-- no committed topaction is listed twice
 pub tops-IsDistinct : {V : Type 0} (h : History V) → Orderly h → IsDistinct ◌==◌ (committed_topactions h)
 unfolding IsDistinct
 tops-IsDistinct (Opened n) w = tt
 tops-IsDistinct (Began from ▹ h) w = tops-IsDistinct h w.1
 tops-IsDistinct (Aborted z ▹ h) w = tops-IsDistinct h w.1
-tops-IsDistinct (Accessed a o v ▹ h) w = tops-IsDistinct h w.3
+tops-IsDistinct (Accessed a o v ▹ h) w = tops-IsDistinct h w.1
 tops-IsDistinct (Committed s ▹ h) w =
     let tops = committed_topactions h in
-    let rest = tops-IsDistinct h w.3 in
+    let rest = tops-IsDistinct h w.1 in
     ⊎_elim
     (λ e. subst (λ b. IsDistinct ◌==◌ (cond b (s ∷ tops) tops)) (sym e) (
       different s tops
-          (false_from_ne_true (contains tops s) (λ m. both_ways (stands h s) (tops_over h w.3 s m) w.1)),
+          (false_from_ne_true (contains tops s) (λ m. both_ways (stands h s) (tops_over h w.1 s m) w.0.standing)),
       rest,
     ))
     (λ e. subst (λ b. IsDistinct ◌==◌ (cond b (s ∷ tops) tops)) (sym e) rest)

@@ -67,13 +67,14 @@ depth_up (Began from ▹ h) w a k =
     before n (inr m) = let q = is_begun_parts (Began from ▹ h) a m in
         inr (is_begun_from h a q.0 (let u = q.1 in omega arith))
 depth_up (Committed s ▹ h) w a k =
-    ap (λ d. d + 1) (depth_at-mark (folded h) (λ x. x == s) IsCommitted (rows h) a) ∙ depth_up h w.3 a k
+    ap (λ d. d + 1) (depth_at-mark (folded h) (λ x. x == s) IsCommitted (rows h) a) ∙ depth_up h w.1 a k
 depth_up (Aborted zs ▹ h) w a k =
     ap (λ d. d + 1)
     (depth_at-mark (folded h) (λ x. list_any (λ z. is_above (folded h) (rows h) z x) zs) IsAborted (rows h) a)
     ∙ depth_up h w.1 a k
-depth_up (Accessed d o v ▹ h) w a k = depth_up h w.3 a k
+depth_up (Accessed d o v ▹ h) w a k = depth_up h w.1 a k
 
+-- the depth that the rows give an action is the length of its lineage without the base
 pub depth_is : {V : Type 0} (h : History V) → Orderly h → (a : ℕ) → is_begun h a ≡ true
     → depth_at (folded h) (rows h) a ≡ length (lineage h a) - 1
 depth_is h w a k = let e = depth_up h w a (inr k) in omega (arith, e)

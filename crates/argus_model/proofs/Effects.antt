@@ -27,6 +27,7 @@ use Rattle.argus_model.proofs.Standing.{some_at, stands_begun}
 use Rattle.argus_model.proofs.Topactions.{serial_tops, tops_over}
 use Rattle.argus_model.proofs.Work.{all_of_agree, touches, user_of, work_final}
 
+-- functions that agree everywhere give the same list
 pub map_agree : {X : Type 0} (f g : ℕ → X) (xs : List ℕ) → ((x : ℕ) → f x ≡ g x) → map f xs ≡ map g xs
 map_agree f g [] same = refl
 map_agree f g (x ∷ xs) same = ap (λ u. u ∷ map f xs) (same x) ∙ ap (λ u. g x ∷ u) (map_agree f g xs same)
@@ -48,17 +49,19 @@ module _ {C : Type 0} where
   table-more s [] m o = refl
   table-more s (k ∷ l) m o = table-more (λ x. content_by k x (s x)) l m o
 
-  -- where a history goes on from a fold: the effects before it, then its own
+  -- a table of effects may be made in two parts, the second on what the first leaves
   pub table-append : (s : ℕ → C) (l k : List (List (ℕ × C))) (o : ℕ) → table s (l ++ k) o ≡ table (table s l) k o
   table-append s [] k o = refl
   table-append s (m ∷ l) k o = table-append (λ x. content_by m x (s x)) l k o
 
+  -- from the same contents the same effects make the same table
   pub table_same : (s t : ℕ → C) (l : List (List (ℕ × C))) → ((o : ℕ) → s o ≡ t o) → (o : ℕ) → table s l o ≡ table t l o
   table_same s t [] same o = same o
   table_same s t (m ∷ l) same o =
       table_same (λ x. content_by m x (s x)) (λ x. content_by m x (t x)) l (λ x. ap (content_by m x) (same x)) o
 
 module _ {V C A : Type 0} (meaning : Meaning V C A) where
+  -- the written objects are those that one of the accesses writes
   pub contains_written : (es : List (Access V)) (o : ℕ)
       → contains (written_objects meaning es) o ≡ touches meaning.writes es o false
   contains_written [] o = refl
@@ -78,6 +81,7 @@ module _ {V C A : Type 0} (meaning : Meaning V C A) where
       anded true = refl
       anded false = refl
 
+  -- the written objects are listed in increasing number
   pub written-IsRising : (es : List (Access V)) → IsRising (written_objects meaning es)
   written-IsRising [] = tt
   written-IsRising (e ∷ es) =
@@ -116,8 +120,8 @@ module _ {V C A : Type 0} (meaning : Meaning V C A) where
       ⊎_elim
       (λ k. subst (λ q. touches meaning.writes (work (Committed s ▹ h) q) o all ≡ true) (sym k.1)
       (subst (λ b. touches meaning.writes (cond b (work h s ++ work h p) (work h p)) o all ≡ true)
-      (sym (eq-eqb p p refl)) (touches_front (work h s) (work h p) o all (work_of_user h w.3 a s o all u k.0))))
-      (λ k. let ih = work_of_user h w.3 a y o all u k.0 in
+      (sym (eq-eqb p p refl)) (touches_front (work h s) (work h p) o all (work_of_user h w.1 a s o all u k.0))))
+      (λ k. let ih = work_of_user h w.1 a y o all u k.0 in
       ⊎_elim
       (λ q. subst (λ b. touches meaning.writes (cond b (work h s ++ work h y) (work h y)) o all ≡ true) (sym q)
       (touches_back (work h s) (work h y) o all ih))
@@ -130,13 +134,13 @@ module _ {V C A : Type 0} (meaning : Meaning V C A) where
       let x : Access V = record { object = o'; what = v } in
       let here = o' == o && (all || meaning.writes v) in
       ⊎_elim
-      (λ k. let od = at_some (owner_by_steps h d) d w.0 in
+      (λ k. let od = at_some (owner_by_steps h d) d w.0.standing in
       let oy : owner_by_steps h d ≡ Some y = ap (owner_by_steps h) k.0 ∙ e in
       let q : d ≡ y = grind arith in
       subst (λ b. touches meaning.writes (cond b (x ∷ work h y) (work h y)) o all ≡ true) (sym (eq-eqb d y q))
       (or_left here (touches meaning.writes (work h y) o all)
       (and_from (o' == o) (all || meaning.writes v) (eq-eqb o' o k.1) k.2)))
-      (λ k. let ih = work_of_user h w.3 a y o all k e in
+      (λ k. let ih = work_of_user h w.1 a y o all k e in
       ⊎_elim
       (λ q. subst (λ b. touches meaning.writes (cond b (x ∷ work h y) (work h y)) o all ≡ true) (sym q)
       (or_right here (touches meaning.writes (work h y) o all) ih))
@@ -144,7 +148,7 @@ module _ {V C A : Type 0} (meaning : Meaning V C A) where
       (cases_Bool (d == y)))
       (has_used_cases meaning.writes h d o' v a o all u)
 
-  -- what a live action has written is what it holds for writing
+  -- what a live action's work has written is what it holds for writing
   pub written_holds : (h : History V) → Orderly h → (y o : ℕ) → stands h y ≡ true
       → contains (written_objects meaning (work h y)) o ≡ holds meaning.writes h o false y
   written_holds h w y o l =
@@ -174,7 +178,7 @@ module _ {V C A : Type 0} (meaning : Meaning V C A) (opening : Opening C) where
   effects_of_same h e w w' =
       effects_of_agree (work (e ▹ h)) (work h) (committed_topactions h) (λ z m. work_final h e w' z (tops_over h w z m))
 
-  -- any entry but the commit of a topaction
+  -- an event that commits no topaction leaves the effects as they are
   pub effects_stay : (h : History V) (e : Event V) → Orderly h → Orderly (e ▹ h)
       → committed_topactions (e ▹ h) ≡ committed_topactions h
       → effects meaning opening (e ▹ h) ≡ effects meaning opening h
@@ -182,23 +186,23 @@ module _ {V C A : Type 0} (meaning : Meaning V C A) (opening : Opening C) where
       ap (λ ts. reverse (effects_of meaning opening.contents (work (e ▹ h)) ts)) same
       ∙ ap reverse (effects_of_same h e w w')
 
-  -- the commit of a topaction: one more, at the end
+  -- the commit of a topaction adds the effect of its work, at the end
   pub effects_grow : (h : History V) (s : ℕ) → Orderly (Committed s ▹ h) → parent h s ≡ 0
       → effects meaning opening (Committed s ▹ h)
       ≡ effects meaning opening h ++ effect_of meaning opening.contents (work h s) (work h 0) ∷ []
   effects_grow h s w e =
       let g = Committed s ▹ h in
       let own : work g s ≡ work h s =
-      ap (λ q. cond q (work h s ++ work h s) (work h s)) (ne_eqb (parent h s) s (λ k. w.0 (sym k ∙ e))) in
+      ap (λ q. cond q (work h s ++ work h s) (work h s)) (ne_eqb (parent h s) s (λ k. w.0.not_base (sym k ∙ e))) in
       let past : all_of (work g) (committed_topactions h) ≡ work h 0 =
       all_of_agree (work g) (work h) (committed_topactions h)
-      (λ z m. work_final h (Committed s) w z (tops_over h w.3 z m)) ∙ sym (serial_tops h w.3) in
+      (λ z m. work_final h (Committed s) w z (tops_over h w.1 z m)) ∙ sym (serial_tops h w.1) in
       let m = effect_of meaning opening.contents (work g s) (all_of (work g) (committed_topactions h)) in
       ap (λ q. reverse
       (effects_of meaning opening.contents (work g) (cond q (s ∷ committed_topactions h) (committed_topactions h))))
       (eq-eqb (parent h s) 0 e)
       ∙ reverse-append (m ∷ []) (effects_of meaning opening.contents (work g) (committed_topactions h))
-      ∙ ap (λ ms. reverse ms ++ m ∷ []) (effects_of_same h (Committed s) w.3 w)
+      ∙ ap (λ ms. reverse ms ++ m ∷ []) (effects_of_same h (Committed s) w.1 w)
       ∙ ap (λ es. effects meaning opening h ++ effect_of meaning opening.contents es
       (all_of (work g) (committed_topactions h)) ∷ []) own
       ∙ ap (λ es. effects meaning opening h ++ effect_of meaning opening.contents (work h s) es ∷ []) past
@@ -227,6 +231,7 @@ module _ {V C A : Type 0} (meaning : Meaning V C A) (opening : Opening C) where
       (sym (contains_written meaning (done t) o) ∙ k)))
       (cases_Bool (contains (written_objects meaning (done t)) o))
 
+  -- the table of all effects is what the base sees
   pub table_base : (h : History V) → LawfulSteps meaning opening.contents h → (o : ℕ)
       → table opening.contents (effects meaning opening h) o
       ≡ content_after meaning opening.contents o (visible_accesses h 0)
@@ -236,7 +241,7 @@ module _ {V C A : Type 0} (meaning : Meaning V C A) (opening : Opening C) where
       (sym (serial_tops h (orderly meaning opening.contents h w)) ∙ sym (serial_to-base h))
       ∙ (base_serial meaning opening.contents h w).sees o
 
-  -- the new member: what the topaction sees in each object that it holds for writing
+  -- the effect of a topaction's work is what it sees in each object that it has written
   pub effect_seen : (h : History V) → LawfulSteps meaning opening.contents h → (s : ℕ) → s ≢ 0 → stands h s ≡ true
       → parent h s ≡ 0
       → effect_of meaning opening.contents (work h s) (work h 0)
@@ -254,7 +259,7 @@ module _ {V C A : Type 0} (meaning : Meaning V C A) (opening : Opening C) where
       (λ o. ap (λ c. (o, c))
       (sym (ap (content_after meaning opening.contents o) all) ∙ (serials meaning opening.contents h w s l).sees o))
 
-  -- a list of members that makes the opening, then these, makes the base
+  -- effects that make the opening's contents, and then those of the history, make what the base sees
   pub table_goes_on : (s : ℕ → C) (l : List (List (ℕ × C))) → ((o : ℕ) → table s l o ≡ opening.contents o)
       → (h : History V) → LawfulSteps meaning opening.contents h → (o : ℕ)
       → table s (l ++ effects meaning opening h) o ≡ content_after meaning opening.contents o (visible_accesses h 0)

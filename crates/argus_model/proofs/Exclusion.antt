@@ -35,6 +35,7 @@ module _ {V : Type 0} (writes : V → Bool) where
   Guarded (Aborted z ▹ older) = Guarded older
   Guarded (Accessed a o v ▹ older) = (may_by_steps writes older a o (writes v) older ≡ true) × Guarded older
 
+  -- after one more access an action has used an object by that access, or had used it before
   pub has_used_cases : (h : History V) (b o' : ℕ) (v : V) (y o : ℕ) (all : Bool)
       → has_used writes (Accessed b o' v ▹ h) y o all ≡ true
       → ((b ≡ y) × (o' ≡ o) × ((all || writes v) ≡ true)) ⊎ (has_used writes h y o all ≡ true)
@@ -46,6 +47,7 @@ module _ {V : Type 0} (writes : V → Bool) where
       inr
       (or_cases (b == y && (o' == o && (all || writes v))) (has_used writes h y o all) e)
 
+  -- a write access counts among all accesses, too
   pub has_used_all : (h : History V) (y o : ℕ) (all : Bool) → has_used writes h y o false ≡ true
       → has_used writes h y o all ≡ true
   has_used_all (Opened n) y o all e = absurd (false≢true e)
@@ -61,17 +63,19 @@ module _ {V : Type 0} (writes : V → Bool) where
       (λ k. or_right head (has_used writes h y o all) (has_used_all h y o all k))
       (has_used_cases h b o' v y o false e)
 
+  -- who has an access has begun
   pub has_used_begun : (h : History V) → Orderly h → (y o : ℕ) (all : Bool) → has_used writes h y o all ≡ true
       → y < next_action h
   has_used_begun (Opened n) w y o all e = absurd (false≢true e)
   has_used_begun (Began from ▹ h) w y o all e = let l = has_used_begun h w.1 y o all e in omega arith
-  has_used_begun (Committed s ▹ h) w y o all e = has_used_begun h w.3 y o all e
+  has_used_begun (Committed s ▹ h) w y o all e = has_used_begun h w.1 y o all e
   has_used_begun (Aborted z ▹ h) w y o all e = has_used_begun h w.1 y o all e
   has_used_begun (Accessed b o' v ▹ h) w y o all e =
-      ⊎_elim (λ k. subst (λ u. u < next_action h) k.0 (stands_begun h b w.0)) (λ k. has_used_begun h w.3 y o all k)
+      ⊎_elim (λ k. subst (λ u. u < next_action h) k.0 (stands_begun h b w.0.standing))
+      (λ k. has_used_begun h w.1 y o all k)
       (has_used_cases h b o' v y o all e)
 
-  -- each holder that was asked is an ancestor
+  -- where a lock is free for a, each owner of an access in k to the object is an ancestor of a
   pub may_tells : (h k : History V) (a o b x : ℕ) (all : Bool) → may_by_steps writes h a o all k ≡ true
       → has_used writes k b o all ≡ true → owner_by_steps h b ≡ Some x → is_ancestor h x a ≡ true
   may_tells h (Opened n) a o b x all m u e = absurd (false≢true u)
@@ -89,7 +93,7 @@ module _ {V : Type 0} (writes : V → Bool) where
       (λ w. may_tells h k a o b x all n.1 w e)
       (has_used_cases k d o' v b o all u)
 
-  -- and it is enough to ask each holder
+  -- where each owner of an access in k to the object is an ancestor of a, the lock is free for a
   pub may_from : (h k : History V) (a o : ℕ) (all : Bool)
       → ((b x : ℕ) → has_used writes k b o all ≡ true → owner_by_steps h b ≡ Some x → is_ancestor h x a ≡ true)
       → may_by_steps writes h a o all k ≡ true
@@ -116,6 +120,7 @@ module _ {V : Type 0} (writes : V → Bool) where
       asked None e u = refl
       asked (Some x) e u = each d x u e
 
+  -- of the owners of a write access and of any access to the object, one is an ancestor of the other
   abbrev pub Exclusive : History V → Type 0
   Exclusive h =
       (a b o x y : ℕ) → has_used writes h a o false ≡ true → has_used writes h b o true ≡ true
@@ -136,6 +141,7 @@ module _ {V : Type 0} (writes : V → Bool) where
   turned h x y (inl a) = inr a
   turned h x y (inr a) = inl a
 
+  -- a history in which each access got its lock is exclusive
   pub exclusion : (h : History V) → Orderly h → Guarded h → Exclusive h
   exclusion (Opened n) w g a b o x y ua ub ea eb = absurd (false≢true ua)
   exclusion (Began from ▹ h) w g a b o x y ua ub ea eb =
@@ -150,19 +156,20 @@ module _ {V : Type 0} (writes : V → Bool) where
       ⊎_elim (λ k. inl (ancestor_old h from x y (omega arith) k)) (λ k. inr (ancestor_old h from y x (omega arith) k))
       (exclusion h w.1 g a b o x y ua ub ea' eb')
   exclusion (Committed s ▹ h) w g a b o x y ua ub ea eb =
-      let f = parents_are_older h w.3 in let p = parent h s in
+      let f = parents_are_older h w.1 in let p = parent h s in
       let ih : (x y : ℕ) → owner_by_steps h a ≡ Some x → owner_by_steps h b ≡ Some y → Related h x y =
-      λ x y. exclusion h w.3 g a b o x y ua ub in
+      λ x y. exclusion h w.1 g a b o x y ua ub in
       ⊎_elim
       (λ k. ⊎_elim
       (λ m. inl (subst (λ q. is_ancestor h x q ≡ true) (k.1 ∙ sym m.1) (ancestor_self h x)))
       (λ m. subst (λ q. Related h q y) (sym k.1)
-      (handed_related h w.3 s x y w.0 w.1 (owner_begun h b y f m.0) m.1 (ih s y k.0 m.0)))
+      (handed_related h w.1 s x y w.0.not_base w.0.standing (owner_begun h b y f m.0) m.1 (ih s y k.0 m.0)))
       (handed_cases s p (owner_by_steps h b) y eb))
       (λ k. ⊎_elim
       (λ m. turned h y x
       (subst (λ q. Related h q x) (sym m.1)
-      (handed_related h w.3 s x x w.0 w.1 (owner_begun h a x f k.0) k.1 (turned h x s (ih x s k.0 m.0)))))
+      (handed_related h w.1 s x x w.0.not_base w.0.standing (owner_begun h a x f k.0) k.1
+      (turned h x s (ih x s k.0 m.0)))))
       (λ m. ih x y k.0 m.0)
       (handed_cases s p (owner_by_steps h b) y eb))
       (handed_cases s p (owner_by_steps h a) x ea)
@@ -171,10 +178,10 @@ module _ {V : Type 0} (writes : V → Bool) where
       (kept_cases (is_under h z) (owner_by_steps h b) y eb).0
   exclusion (Accessed d o' v ▹ h) w g a b o x y ua ub ea eb =
       ⊎_elim
-      (λ k. let xd = same_owner h d a x k.0 w.0 ea in
+      (λ k. let xd = same_owner h d a x k.0 w.0.standing ea in
       let wv : writes v ≡ true = k.2 in
       ⊎_elim
-      (λ m. let yd = same_owner h d b y m.0 w.0 eb in
+      (λ m. let yd = same_owner h d b y m.0 w.0.standing eb in
       inl (subst (λ q. is_ancestor h x q ≡ true) (xd ∙ sym yd) (ancestor_self h x)))
       (λ m. let u : has_used writes h b o' (writes v) ≡ true =
       subst (λ q. has_used writes h b q (writes v) ≡ true) (sym k.1)
@@ -182,10 +189,10 @@ module _ {V : Type 0} (writes : V → Bool) where
       inr (subst (λ q. is_ancestor h y q ≡ true) (sym xd) (may_tells h h d o' b y (writes v) g.0 u eb)))
       (has_used_cases h d o' v b o true ub))
       (λ k. ⊎_elim
-      (λ m. let yd = same_owner h d b y m.0 w.0 eb in
+      (λ m. let yd = same_owner h d b y m.0 w.0.standing eb in
       let u : has_used writes h a o' (writes v) ≡ true =
       subst (λ q. has_used writes h a q (writes v) ≡ true) (sym m.1) (has_used_all h a o (writes v) k) in
       inl (subst (λ q. is_ancestor h x q ≡ true) (sym yd) (may_tells h h d o' a x (writes v) g.0 u ea)))
-      (λ m. exclusion h w.3 g.1 a b o x y k m ea eb)
+      (λ m. exclusion h w.1 g.1 a b o x y k m ea eb)
       (has_used_cases h d o' v b o true ub))
       (has_used_cases h d o' v a o false ua)

@@ -52,6 +52,7 @@ at_kept lost x (Some y) =
     (cases_eq y x)
 
 module _ {V : Type 0} (writes : V → Bool) where
+  -- tests that agree on all who have an access to the object give the same
   pub used_by_agree : (t u : ℕ → Bool) (o : ℕ) (all : Bool) (k : History V)
       → ((b : ℕ) → has_used writes k b o all ≡ true → t b ≡ u b) → used_by writes t o all k ≡ used_by writes u o all k
   used_by_agree t u o all (Opened n) same = refl
@@ -90,7 +91,7 @@ module _ {V : Type 0} (writes : V → Bool) where
       let here = o' == o && (all || writes v) in
       ap (λ r. (here && (t b && c)) || r) (used_by_and t c o all k) ∙ and_apart here (t b) c (used_by writes t o all k)
 
-  -- one more step
+  -- a begin leaves the holders of each object
   pub holds_begin : (h : History V) (from : Origin) (o : ℕ) (all : Bool) (x : ℕ) → Orderly h
       → holds writes (Began from ▹ h) o all x ≡ holds writes h o all x
   holds_begin h from o all x w =
@@ -99,6 +100,7 @@ module _ {V : Type 0} (writes : V → Bool) where
       (λ b u. ⊎_elim (λ k. absurd (let l = has_used_begun writes h w b o all u in omega (arith, k.0)))
       (λ k. ap (λ q. is_exactly q x) k.1) (owner_cases h from b))
 
+  -- an access makes its action a holder of its object, and changes no other holder
   pub holds_access : (h : History V) (a o' : ℕ) (v : V) (o : ℕ) (all : Bool) (x : ℕ) → stands h a ≡ true
       → holds writes (Accessed a o' v ▹ h) o all x
       ≡ (((o' == o && (all || writes v)) && (a == x)) || holds writes h o all x)
@@ -106,6 +108,7 @@ module _ {V : Type 0} (writes : V → Bool) where
       ap (λ q. ((o' == o && (all || writes v)) && is_exactly q x) || holds writes h o all x)
       (at_some (owner_by_steps h a) a l)
 
+  -- after a commit the parent holds what it held or the action held
   pub holds_commit_parent : (h : History V) (s o : ℕ) (all : Bool) → parent h s ≢ s
       → holds writes (Committed s ▹ h) o all (parent h s)
       ≡ (holds writes h o all s || holds writes h o all (parent h s))
@@ -116,6 +119,7 @@ module _ {V : Type 0} (writes : V → Bool) where
       (λ b u. at_handed_parent s p (owner_by_steps h b) ne)
       ∙ used_by_or (λ b. is_exactly (owner_by_steps h b) s) (λ b. is_exactly (owner_by_steps h b) p) o all h
 
+  -- a commit leaves all holders but the action and its parent
   pub holds_commit_other : (h : History V) (s o : ℕ) (all : Bool) (x : ℕ) → x ≢ s → x ≢ parent h s
       → holds writes (Committed s ▹ h) o all x ≡ holds writes h o all x
   holds_commit_other h s o all x ns np =
@@ -123,6 +127,7 @@ module _ {V : Type 0} (writes : V → Bool) where
       (λ b. is_exactly (owner_by_steps h b) x) o all h
       (λ b u. at_handed_other s (parent h s) x (owner_by_steps h b) ns np)
 
+  -- after an abort hold those who held and don't stand under those aborted
   pub holds_abort : (h : History V) (z : List ℕ) (o : ℕ) (all : Bool) (x : ℕ)
       → holds writes (Aborted z ▹ h) o all x ≡ (holds writes h o all x && not (is_under h z x))
   holds_abort h z o all x =
@@ -131,7 +136,7 @@ module _ {V : Type 0} (writes : V → Bool) where
       (λ b u. at_kept (is_under h z) x (owner_by_steps h b))
       ∙ used_by_and (λ b. is_exactly (owner_by_steps h b) x) (not (is_under h z x)) o all h
 
-  -- a holder is the owner of a user
+  -- where a user of the object passes the test, here is one
   pub used_by_found : (t : ℕ → Bool) (o : ℕ) (all : Bool) (k : History V) → used_by writes t o all k ≡ true
       → (b : ℕ) × (has_used writes k b o all ≡ true) × (t b ≡ true)
   used_by_found t o all (Opened n) m = absurd (false≢true m)
@@ -147,6 +152,7 @@ module _ {V : Type 0} (writes : V → Bool) where
       (q.0, or_right (b == q.0 && here) (has_used writes k q.0 o all) q.1, q.2))
       (or_cases (here && t b) (used_by writes t o all k) m)
 
+  -- one user of the object that passes the test is enough
   pub used_by_from : (t : ℕ → Bool) (o : ℕ) (all : Bool) (k : History V) (b : ℕ) → has_used writes k b o all ≡ true
       → t b ≡ true → used_by writes t o all k ≡ true
   used_by_from t o all (Opened n) b u m = absurd (false≢true u)
@@ -161,12 +167,13 @@ module _ {V : Type 0} (writes : V → Bool) where
       (λ e. or_right (here && t d) (used_by writes t o all k) (used_by_from t o all k b e m))
       (has_used_cases writes k d o' v b o all u)
 
-  -- the locks ask each holder, and no one else
+  -- where a lock is free for a, each holder is an ancestor of a
   pub may_asks : (h : History V) (a o : ℕ) (all : Bool) → may_by_steps writes h a o all h ≡ true → (x : ℕ)
       → holds writes h o all x ≡ true → is_ancestor h x a ≡ true
   may_asks h a o all m x k = let q = used_by_found (λ b. is_exactly (owner_by_steps h b) x) o all h k in
       may_tells writes h h a o q.0 x all m q.1 (at_some (owner_by_steps h q.0) x q.2)
 
+  -- where each holder is an ancestor of a, the lock is free for a
   pub may_if : (h : History V) (a o : ℕ) (all : Bool)
       → ((x : ℕ) → holds writes h o all x ≡ true → is_ancestor h x a ≡ true) → may_by_steps writes h a o all h ≡ true
   may_if h a o all each =
@@ -174,7 +181,7 @@ module _ {V : Type 0} (writes : V → Bool) where
       (λ b x u e. each x
       (used_by_from (λ d. is_exactly (owner_by_steps h d) x) o all h b u (some_at (owner_by_steps h b) x e)))
 
-  -- of a write holder and any other, one is an ancestor of the other
+  -- of a write holder and any other holder, one is an ancestor of the other
   pub exclusive : (h : History V) → Orderly h → Guarded writes h → (o x y : ℕ) → holds writes h o true x ≡ true
       → holds writes h o false y ≡ true → (is_ancestor h x y || is_ancestor h y x) ≡ true
   exclusive h w g o x y hx hy =

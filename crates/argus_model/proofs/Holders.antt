@@ -23,15 +23,18 @@ use Rattle.argus_model.proofs.Owner.{base_above, is_held_by_is, owner_is, owner_
 use Rattle.argus_model.proofs.Standing.{Orderly, at_some, owner_begun, parents_are_older, stands_unfolded}
 
 module _ {V : Type 0} (kind : V → Bool) where
+  -- who has an access of this kind has a number past the folded ones
   pub has_used_unfolded : (h : History V) → Orderly h → (a o : ℕ) → has_used kind h a o false ≡ true → folded h < a
   has_used_unfolded (Opened n) w a o u = absurd (false≢true u)
   has_used_unfolded (Began from ▹ h) w a o u = has_used_unfolded h w.1 a o u
-  has_used_unfolded (Committed s ▹ h) w a o u = has_used_unfolded h w.3 a o u
+  has_used_unfolded (Committed s ▹ h) w a o u = has_used_unfolded h w.1 a o u
   has_used_unfolded (Aborted z ▹ h) w a o u = has_used_unfolded h w.1 a o u
   has_used_unfolded (Accessed d o' v ▹ h) w a o u =
-      ⊎_elim (λ k. subst (λ q. folded h < q) k.0 (stands_unfolded h d w.2 w.0)) (λ k. has_used_unfolded h w.3 a o k)
+      ⊎_elim (λ k. subst (λ q. folded h < q) k.0 (stands_unfolded h d w.0.not_base w.0.standing))
+      (λ k. has_used_unfolded h w.1 a o k)
       (has_used_cases kind h d o' v a o false u)
 
+  -- who has an access of this kind began since the opening
   pub has_used_begun_action : (h : History V) → Orderly h → (a o : ℕ) → has_used kind h a o false ≡ true
       → is_begun h a ≡ true
   has_used_begun_action h w a o u =
@@ -46,6 +49,7 @@ module _ {V : Type 0} (kind : V → Bool) where
       ap (λ r. (o' == o && (kind v && t a)) || r) (has_access_is t o k)
       ∙ and_split (o' == o) (kind v) (t a) (used_by kind t o false k)
 
+  -- who is a holder is one by steps, and the other way round
   pub is_holder_is : (h : History V) → Orderly h → (o x : ℕ) → x ≢ 0 → is_holder kind h o x ≡ holds kind h o false x
   is_holder_is h w o x n =
       has_access_is (λ a. is_held_by x (owner h a)) o h
@@ -53,6 +57,7 @@ module _ {V : Type 0} (kind : V → Bool) where
       (λ a u. ap (is_held_by x) (owner_is h w a (has_used_begun_action h w a o u))
       ∙ is_held_by_is x (owner_by_steps h a) n)
 
+  -- a holder's number is past the folded ones and before the next
   pub holds_known : (h : History V) → Orderly h → (o x : ℕ) → x ≢ 0 → holds kind h o false x ≡ true
       → (folded h < x) × (x < next_action h)
   holds_known h w o x n m =
@@ -60,7 +65,7 @@ module _ {V : Type 0} (kind : V → Bool) where
       let e = at_some (owner_by_steps h q.0) x q.2 in
       (owner_unfolded h w q.0 x e n, owner_begun h q.0 x (parents_are_older h w) e)
 
-  -- the list has each holder
+  -- the list of holders has each holder by steps, and no other
   pub contains_holders : (h : History V) → Orderly h → (o x : ℕ) → x ≢ 0
       → contains (holders kind h o) x ≡ holds kind h o false x
   contains_holders h w o x n =
@@ -71,6 +76,7 @@ module _ {V : Type 0} (kind : V → Bool) where
       (begun_contains h x k.0 k.1))
 
 module _ {V C A : Type 0} (meaning : Meaning V C A) where
+  -- an access of any kind is a read access or a write access
   pub used_by_kinds : (t : ℕ → Bool) (o : ℕ) (k : History V)
       → used_by meaning.writes t o true k ≡ (used_by (reads meaning) t o false k || used_by meaning.writes t o false k)
   used_by_kinds t o (Opened n) = refl
@@ -82,6 +88,7 @@ module _ {V C A : Type 0} (meaning : Meaning V C A) where
       ∙ kinds_apart (o' == o) (meaning.writes v) (t a) (used_by (reads meaning) t o false k)
       (used_by meaning.writes t o false k)
 
+  -- where all listed holders are ancestors of a, each holder by steps is one
   pub every_holder : (kind : V → Bool) (h : History V) → Orderly h → (a o : ℕ)
       → list_all (λ x. is_ancestor h x a) (holders kind h o) ≡ true → (x : ℕ) → holds kind h o false x ≡ true
       → is_ancestor h x a ≡ true
@@ -91,6 +98,7 @@ module _ {V C A : Type 0} (meaning : Meaning V C A) where
       (λ n. every_at (λ x. is_ancestor h x a) (holders kind h o) x e (contains_holders kind h w o x n ∙ m))
       (cases_eq x 0)
 
+  -- where each holder by steps is an ancestor of a, all listed holders are
   pub all_holders : (kind : V → Bool) (h : History V) → Orderly h → (a o : ℕ)
       → ((x : ℕ) → holds kind h o false x ≡ true → is_ancestor h x a ≡ true)
       → list_all (λ x. is_ancestor h x a) (holders kind h o) ≡ true
@@ -99,6 +107,7 @@ module _ {V C A : Type 0} (meaning : Meaning V C A) where
       (λ x m. let q = contains_filter (is_holder kind h o) (begun_actions h) x m in let l = contains_unfolded h x q.1 in
       each x (sym (is_holder_is kind h w o x (λ e. omega arith)) ∙ q.0))
 
+  -- the lock for reading is free where it is by steps
   pub may_read_is : (h : History V) → Orderly h → (a o : ℕ)
       → may_read meaning h a o ≡ may_by_steps meaning.writes h a o false h
   may_read_is h w a o =
@@ -106,6 +115,7 @@ module _ {V C A : Type 0} (meaning : Meaning V C A) where
       (λ e. may_if meaning.writes h a o false (every_holder meaning.writes h w a o e))
       (λ e. all_holders meaning.writes h w a o (may_asks meaning.writes h a o false e))
 
+  -- the lock for writing is free where it is by steps
   pub may_write_is : (h : History V) → Orderly h → (a o : ℕ)
       → may_write meaning h a o ≡ may_by_steps meaning.writes h a o true h
   may_write_is h w a o =
@@ -129,13 +139,14 @@ module _ {V C A : Type 0} (meaning : Meaning V C A) where
       (used_by_kinds (t x) o h
       ∙ or_right (holds (reads meaning) h o false x) (holds meaning.writes h o false x) m))))
 
--- what the lists have
+-- who is listed as a holder is one by steps
 pub listed : {V : Type 0} (kind : V → Bool) (h : History V) → Orderly h → (o x : ℕ)
     → contains (holders kind h o) x ≡ true → holds kind h o false x ≡ true
 listed kind h w o x m =
     let q = contains_filter (is_holder kind h o) (begun_actions h) x m in let l = contains_unfolded h x q.1 in
     sym (is_holder_is kind h w o x (λ e. omega arith)) ∙ q.0
 
+-- who is listed as a reader or a writer holds the object by an access of some kind
 pub same_kinds : {V C A : Type 0} (meaning : Meaning V C A) (h : History V) → Orderly h → (o x : ℕ)
     → contains (readers meaning h o ++ writers meaning h o) x ≡ true → holds meaning.writes h o true x ≡ true
 same_kinds meaning h w o x m =
@@ -144,5 +155,6 @@ same_kinds meaning h w o x m =
     ∙ ⊎_elim (λ k. or_left r v (listed (reads meaning) h w o x k)) (λ k. or_right r v (listed meaning.writes h w o x k))
     (joined_cases (readers meaning h o) (writers meaning h o) x m)
 
+-- holders are listed in increasing number
 pub holders_rising : {V : Type 0} (kind : V → Bool) (h : History V) (o : ℕ) → IsRising (holders kind h o)
 holders_rising kind h o = rising_filter (is_holder kind h o) (begun_actions h) (begun_rising h)

@@ -1,5 +1,5 @@
 -- A lawful history is lawful by the events' own forms.
-use Rattle.std.proofs.Common.{List, ap, cond, subst, sym, true, ℕ, ⊎_elim, ◌∙◌, ◌≡◌}
+use Rattle.std.proofs.Common.{List, ap, cond, false, subst, sym, true, ℕ, ⊎_elim, ◌∙◌, ◌≡◌}
 use Rattle.std.specs.List.{list_all}
 use Rattle.std.specs.Prelude.{◌==◌, ◌||◌}
 use Rattle.std.proofs.lemmas.Bool.{cases_Bool, eqb-true, or_cases}
@@ -10,8 +10,8 @@ use Rattle.argus_model.specs.HolderSteps.{may_by_steps}
 use Rattle.argus_model.specs.Holders.{may_read, may_write}
 use Rattle.argus_model.specs.Lawful.{Allowed, Lawful, may_access}
 use Rattle.argus_model.specs.Meaning.{Fits, Meaning}
-use Rattle.argus_model.specs.OwnerSteps.{AllStand, stands}
-use Rattle.argus_model.specs.Status.{is_live}
+use Rattle.argus_model.specs.OwnerSteps.{AllStand, StandsAlone, stands}
+use Rattle.argus_model.specs.Status.{has_live_child, is_live}
 use Rattle.argus_model.specs.WorkSteps.{LawfulSteps}
 use Rattle.argus_model.proofs.Holders.{may_read_is, may_write_is}
 use Rattle.argus_model.proofs.Live.{child_is, live_stands}
@@ -20,7 +20,7 @@ use Rattle.argus_model.proofs.Sees.{sees_is}
 use Rattle.argus_model.proofs.Serial.{base_stands, orderly}
 use Rattle.argus_model.proofs.Standing.{Orderly}
 
--- the parent of an action that may begin
+-- the parent of an action that may begin stands
 pub parent_stands : {V : Type 0} (h : History V) → Orderly h → (from : Origin)
     → (creator_of from == 0 || is_live h (creator_of from)) ≡ true → stands h (parent_of from) ≡ true
 parent_stands h w Top e = base_stands h w
@@ -29,9 +29,16 @@ parent_stands h w (Sub p) e =
     ⊎_elim (λ k. subst (λ u. stands h u ≡ true) (sym (eqb-true p 0 k)) (base_stands h w)) (λ k. (live_stands h w p k).1)
     (or_cases (p == 0) (is_live h p) e)
 
+-- live actions all stand, and none of them is the base
 pub all_stand : {V : Type 0} (h : History V) → Orderly h → (actions : List ℕ) → list_all (is_live h) actions ≡ true
     → AllStand h actions
 all_stand h w actions e = λ a i. live_stands h w a (every_at (is_live h) actions a e i)
+
+-- a live action with no live child stands alone
+stands_alone : {V : Type 0} (h : History V) → Orderly h → (a : ℕ) → is_live h a ≡ true → has_live_child h a ≡ false
+    → StandsAlone h a
+stands_alone h w a l n = let s = live_stands h w a l in
+    record { not_base = s.0; standing = s.1; childless = child_is h w a ∙ n }
 
 module _ {V C A : Type 0} (meaning : Meaning V C A) (opening : Opening C) where
   access_by_steps : (h : History V) → Orderly h → (a o : ℕ) (v : V)
@@ -44,28 +51,28 @@ module _ {V C A : Type 0} (meaning : Meaning V C A) (opening : Opening C) where
       ∙ ap (λ b. may_by_steps meaning.writes h a o b h) (sym k))
       (cases_Bool (meaning.writes v))
 
-  -- one more event
+  -- an allowed event after what is lawful by steps is lawful by steps
   pub step : (h : History V) (e : Event V) → LawfulSteps meaning opening.contents h → Allowed meaning opening h e
       → LawfulSteps meaning opening.contents (e ▹ h)
   step h (Began from) s q = (parent_stands h (orderly meaning opening.contents h s) from q, s)
   step h (Committed a) s q =
-      let w = orderly meaning opening.contents h s in let l = live_stands h w a q.0 in
-      (l.0, l.1, child_is h w a ∙ q.1, s)
+      (stands_alone h (orderly meaning opening.contents h s) a q.0 q.1, s)
   step h (Aborted actions) s q = (all_stand h (orderly meaning opening.contents h s) actions q, s)
   step h (Accessed a o v) s q =
-      let w = orderly meaning opening.contents h s in let l = live_stands h w a q.0 in (
-        l.1,
-        child_is h w a ∙ q.1,
-        sym (access_by_steps h w a o v)
-            ∙ q.2,
-        subst (λ c. Fits meaning v c) (sees_is meaning opening h w a o) q.3,
-        l.0,
+      let w = orderly meaning opening.contents h s in (
+        record {
+          alone = stands_alone h w a q.live q.childless;
+          lock = sym (access_by_steps h w a o v) ∙ q.lock;
+          answer = subst (λ c. Fits meaning v c) (sees_is meaning opening h w a o) q.answer;
+        },
         s,
       )
 
+  -- a lawful history is lawful by steps
   pub lawful_steps : (h : History V) → Lawful meaning opening h → LawfulSteps meaning opening.contents h
   lawful_steps (Opened n) l = tt
   lawful_steps (e ▹ h) l = step h e (lawful_steps h l.1) l.0
 
+  -- a lawful history is orderly
   pub lawful_orderly : (h : History V) → Lawful meaning opening h → Orderly h
   lawful_orderly h l = orderly meaning opening.contents h (lawful_steps h l)

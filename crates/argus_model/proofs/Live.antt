@@ -21,14 +21,17 @@ use Rattle.argus_model.proofs.Numbers.{joined_cases, joined_left, rising-more}
 use Rattle.argus_model.proofs.OwnerRules.{owner_self, stands_plain}
 use Rattle.argus_model.proofs.Standing.{Orderly, some_at, stands_unfolded}
 
+-- a begun action's number is past the folded ones and before the next
 pub is_begun_parts : {V : Type 0} (h : History V) (a : ℕ) → is_begun h a ≡ true → (folded h < a) × (a < next_action h)
 is_begun_parts h a k = let q = and_parts (nat_lt (folded h) a) (nat_lt a (next_action h)) k in
     (ltb-true (folded h) a q.0, ltb-true a (next_action h) q.1)
 
+-- a number past the folded ones and before the next is begun
 pub is_begun_from : {V : Type 0} (h : History V) (a : ℕ) → folded h < a → a < next_action h → is_begun h a ≡ true
 is_begun_from h a l m =
     and_from (nat_lt (folded h) a) (nat_lt a (next_action h)) (lt-ltb (folded h) a l) (lt-ltb a (next_action h) m)
 
+-- an action other than the base stands where it is live, and only there
 pub stands_is_live : {V : Type 0} (h : History V) → Orderly h → (a : ℕ) → a ≢ 0 → stands h a ≡ is_live h a
 stands_is_live h w a n =
     same_bool (stands h a) (is_live h a)
@@ -42,6 +45,7 @@ stands_is_live h w a n =
     some_at (owner_by_steps h a) a
     (owner_self h w a k.0 k.1 (not-true (is_doomed h a) r.1) (not-true (has_committed h a) r.0)))
 
+-- a live action stands, and is not the base
 pub live_stands : {V : Type 0} (h : History V) → Orderly h → (a : ℕ) → is_live h a ≡ true
     → (a ≢ 0) × (stands h a ≡ true)
 live_stands h w a l =
@@ -49,6 +53,7 @@ live_stands h w a l =
     let n : a ≢ 0 = λ e. let u = k.0 in omega arith in
     (n, stands_is_live h w a n ∙ l)
 
+-- each number past the folded ones and before the next is listed as begun
 pub begun_contains : {V : Type 0} (h : History V) (x : ℕ) → folded h < x → x < next_action h
     → contains (begun_actions h) x ≡ true
 begun_contains (Opened n) x l m = absurd (omega arith)
@@ -62,6 +67,7 @@ begun_contains (Committed a ▹ h) x l m = begun_contains h x l m
 begun_contains (Aborted a ▹ h) x l m = begun_contains h x l m
 begun_contains (Accessed a o v ▹ h) x l m = begun_contains h x l m
 
+-- who is listed as begun has a number before the next
 pub begun_below : {V : Type 0} (h : History V) (x : ℕ) → contains (begun_actions h) x ≡ true → x < next_action h
 begun_below (Opened n) x m = absurd (false≢true m)
 begun_below (Began from ▹ h) x m =
@@ -75,6 +81,7 @@ begun_below (Committed a ▹ h) x m = begun_below h x m
 begun_below (Aborted a ▹ h) x m = begun_below h x m
 begun_below (Accessed a o v ▹ h) x m = begun_below h x m
 
+-- who is listed as begun has a number past the folded ones
 pub contains_unfolded : {V : Type 0} (h : History V) (x : ℕ) → contains (begun_actions h) x ≡ true → folded h < x
 contains_unfolded (Opened n) x m = absurd (false≢true m)
 contains_unfolded (Began from ▹ h) x m =
@@ -85,6 +92,7 @@ contains_unfolded (Committed a ▹ h) x m = contains_unfolded h x m
 contains_unfolded (Aborted a ▹ h) x m = contains_unfolded h x m
 contains_unfolded (Accessed a o v ▹ h) x m = contains_unfolded h x m
 
+-- begun actions are listed in increasing number
 pub begun_rising : {V : Type 0} (h : History V) → IsRising (begun_actions h)
 begun_rising (Opened n) = tt
 begun_rising (Began from ▹ h) = rising-more (begun_actions h) (next_action h) (begun_rising h) (begun_below h)
@@ -120,6 +128,7 @@ children_in h (Committed a ▹ k) y = children_in h k y
 children_in h (Aborted a ▹ k) y = children_in h k y
 children_in h (Accessed a o v ▹ k) y = children_in h k y
 
+-- who has a child that stands has a live child, and the other way round
 pub child_is : {V : Type 0} (h : History V) → Orderly h → (y : ℕ) → standing_child h y h ≡ has_live_child h y
 child_is h w y =
     children_in h h y
@@ -128,7 +137,7 @@ child_is h w y =
     (λ x m. let f = contains_unfolded h x m in
     ap (λ b. b && (parent h x == y || creator h x == y)) (stands_is_live h w x (λ e. omega arith)))
 
--- who the siblings are
+-- the list of live siblings has each live sibling, and no other
 pub contains_siblings : {V : Type 0} (h : History V) (a x : ℕ)
     → contains (live_siblings h a) x ≡ (is_live h x && is_sibling h a x)
 contains_siblings h a x =
@@ -139,11 +148,13 @@ contains_siblings h a x =
     let k = is_begun_parts h x (and_parts (is_begun h x) (not (has_committed h x) && not (is_doomed h x)) l).0 in
     filter_contains p (begun_actions h) x m (begun_contains h x k.0 k.1))
 
+-- all who are listed as live siblings are live
 pub siblings_live : {V : Type 0} (h : History V) (a : ℕ) → list_all (is_live h) (live_siblings h a) ≡ true
 siblings_live h a =
     every_from (is_live h) (live_siblings h a)
     (λ x m. (and_parts (is_live h x) (is_sibling h a x) (sym (contains_siblings h a x) ∙ m)).0)
 
+-- the list of begun actions has each of them, and no other
 pub begun_listed : {V : Type 0} (h : History V) (a : ℕ) → contains (begun_actions h) a ≡ is_begun h a
 begun_listed h a =
     same_bool (contains (begun_actions h) a) (is_begun h a)

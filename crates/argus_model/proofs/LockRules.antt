@@ -27,12 +27,14 @@ module _ {V C A : Type 0} (meaning : Meaning V C A) where
       let q = used_by_found kind (λ b. is_exactly (owner_by_steps h b) x) o false h (listed kind h w o x m) in
       sym (stands_is_live h w x n) ∙ owner_stands h w q.0 x (at_some (owner_by_steps h q.0) x q.2)
 
+  -- who holds an object is live
   pub holders_live : (h : History V) → Orderly h → (o x : ℕ)
       → contains (readers meaning h o ++ writers meaning h o) x ≡ true → is_live h x ≡ true
   holders_live h w o x m =
       ⊎_elim (λ k. holder_lives h w (reads meaning) o x k) (λ k. holder_lives h w meaning.writes o x k)
       (joined_cases (readers meaning h o) (writers meaning h o) x m)
 
+  -- an action may read an object where each writer is its ancestor, and only there
   pub read_rule : (h : History V) (a o : ℕ)
       → (may_read meaning h a o ≡ true) ↔ ((x : ℕ) → contains (writers meaning h o) x ≡ true → is_ancestor h x a ≡ true)
   read_rule h a o = (
@@ -41,6 +43,7 @@ module _ {V C A : Type 0} (meaning : Meaning V C A) where
         every_from (λ x. is_ancestor h x a) (writers meaning h o) each,
   )
 
+  -- an action may write an object where each reader and writer is its ancestor, and only there
   pub write_rule : (h : History V) (a o : ℕ)
       → (may_write meaning h a o ≡ true) ↔
       ((x : ℕ) → contains (readers meaning h o ++ writers meaning h o) x ≡ true → is_ancestor h x a ≡ true)

@@ -18,19 +18,23 @@ use Rattle.argus_model.proofs.Numbers.{IsRising, contains_filter, contains_inser
 use Rattle.argus_model.proofs.Numbers.{rising_filter, rising_same}
 use Rattle.argus_model.proofs.Standing.{Orderly, at_some, handed_cases, parent_is, parents_are_older}
 
+-- a filtered list has what is on the list and passes the test
 pub contains_filtered : (p : ℕ → Bool) (xs : List ℕ) (x : ℕ) → contains (filter p xs) x ≡ (contains xs x && p x)
 contains_filtered p xs x =
     same_bool (contains (filter p xs) x) (contains xs x && p x)
     (λ m. let q = contains_filter p xs x m in and_from (contains xs x) (p x) q.1 q.0)
     (λ m. let q = and_parts (contains xs x) (p x) m in filter_contains p xs x q.1 q.0)
 
+-- the list without s has all that the list has but s
 pub contains_without : (s : ℕ) (xs : List ℕ) (x : ℕ) → contains (without s xs) x ≡ (contains xs x && not (x == s))
 contains_without s xs x = contains_filtered (λ y. not (y == s)) xs x
 
+-- the list without s doesn't have s
 pub without_own : (s : ℕ) (xs : List ℕ) → contains (without s xs) s ≡ false
 without_own s xs =
     contains_without s xs s ∙ ap (λ b. contains xs s && not b) (eq-eqb s s refl) ∙ and_none (contains xs s)
 
+-- of every other number the list without s says the same
 pub without_other : (s : ℕ) (xs : List ℕ) (x : ℕ) → x ≢ s → contains (without s xs) x ≡ contains xs x
 without_other s xs x n =
     contains_without s xs x ∙ ap (λ b. contains xs x && not b) (ne_eqb x s n) ∙ and_all (contains xs x)
@@ -56,11 +60,13 @@ without-IsRising s xs r = rising_filter (λ y. not (y == s)) xs r
 without_zero : (s : ℕ) (xs : List ℕ) → contains xs 0 ≡ false → contains (without s xs) 0 ≡ false
 without_zero s xs n = contains_without s xs 0 ∙ ap (λ b. b && not (0 == s)) n
 
+-- inherited holders are listed in increasing number
 pub inherited-IsRising : (s p : ℕ) (xs : List ℕ) → IsRising xs → IsRising (inherited s p xs)
 inherited-IsRising s p xs r =
     inherited_by IsRising s p xs (λ k e. without-IsRising s xs r)
     (λ k e. insert-IsRising p (without s xs) (without-IsRising s xs r)) (λ k. r)
 
+-- the base inherits no place among holders
 pub inherited_zero : (s p : ℕ) (xs : List ℕ) → contains xs 0 ≡ false → contains (inherited s p xs) 0 ≡ false
 inherited_zero s p xs n =
     inherited_by (λ ys. contains ys 0 ≡ false) s p xs
@@ -69,6 +75,7 @@ inherited_zero s p xs n =
     ∙ without_zero s xs n)
     (λ k. n)
 
+-- who has handed up what it holds is no holder
 pub inherited_own : (s p : ℕ) (xs : List ℕ) → p ≢ s → contains (inherited s p xs) s ≡ false
 inherited_own s p xs n =
     inherited_by (λ ys. contains ys s ≡ false) s p xs
@@ -77,6 +84,7 @@ inherited_own s p xs n =
     ∙ without_own s xs)
     (λ k. k)
 
+-- the parent is a holder where it or its child was one
 pub inherited_parent : (s p : ℕ) (xs : List ℕ) → p ≢ s → p ≢ 0
     → contains (inherited s p xs) p ≡ (contains xs s || contains xs p)
 inherited_parent s p xs n p0 =
@@ -86,6 +94,7 @@ inherited_parent s p xs n p0 =
     ∙ sym (ap (λ b. b || contains xs p) k))
     (λ k. sym (ap (λ b. b || contains xs p) k))
 
+-- all others are holders where they were
 pub inherited_other : (s p : ℕ) (xs : List ℕ) (x : ℕ) → x ≢ s → x ≢ p → contains (inherited s p xs) x ≡ contains xs x
 inherited_other s p xs x xs' xp =
     inherited_by (λ ys. contains ys x ≡ contains xs x) s p xs
@@ -95,6 +104,7 @@ inherited_other s p xs x xs' xp =
     (λ k. refl)
 
 module _ {V : Type 0} (kind : V → Bool) where
+  -- the base is no holder
   pub no_base_holder : (h : History V) (o : ℕ) → contains (holders kind h o) 0 ≡ false
   no_base_holder h o =
       false_from_ne_true (contains (holders kind h o) 0)
@@ -110,12 +120,14 @@ module _ {V : Type 0} (kind : V → Bool) where
       (λ x0. contains_holders kind g w o x x0 ∙ same x x0)
       (cases_eq x 0))
 
+  -- a begin leaves the holders of each object
   pub holders_after_begin : (h : History V) (from : Origin) → Orderly (Began from ▹ h) → (o : ℕ)
       → holders kind (Began from ▹ h) o ≡ holders kind h o
   holders_after_begin h from w o =
       holders_listed (Began from ▹ h) w o (holders kind h o) (holders_rising kind h o) (no_base_holder h o)
       (λ x n. holds_begin kind h from o false x w.1 ∙ sym (contains_holders kind h w.1 o x n))
 
+  -- an access of this kind adds its action to the holders of its object, and to no others
   pub holders_after_access : (h : History V) (a o' : ℕ) (v : V) → Orderly (Accessed a o' v ▹ h) → (o : ℕ)
       → holders kind (Accessed a o' v ▹ h) o ≡ cond (o' == o && kind v) (insert a (holders kind h o)) (holders kind h o)
   holders_after_access h a o' v w o =
@@ -124,16 +136,19 @@ module _ {V : Type 0} (kind : V → Bool) where
       let now = holds_access kind h a o' v o false in
       ⊎_elim
       (λ k. holders_listed g w o (insert a old) (insert-IsRising a old (holders_rising kind h o))
-      (contains_insert a old 0 ∙ ap (λ b. b || contains old 0) (ne_eqb 0 a (λ e. w.2 (sym e))) ∙ no_base_holder h o)
-      (λ x n. now x w.0 ∙ ap (λ b. b && (a == x) || holds kind h o false x) k
+      (contains_insert a old 0 ∙ ap (λ b. b || contains old 0) (ne_eqb 0 a (λ e. w.0.not_base (sym e)))
+      ∙ no_base_holder h o)
+      (λ x n. now x w.0.standing ∙ ap (λ b. b && (a == x) || holds kind h o false x) k
       ∙ ap (λ b. b || holds kind h o false x) (eqb_sym a x)
-      ∙ ap (λ b. (x == a) || b) (sym (contains_holders kind h w.3 o x n)) ∙ sym (contains_insert a old x))
+      ∙ ap (λ b. (x == a) || b) (sym (contains_holders kind h w.1 o x n)) ∙ sym (contains_insert a old x))
       ∙ sym (ap (λ b. cond b (insert a old) old) k))
       (λ k. holders_listed g w o old (holders_rising kind h o) (no_base_holder h o)
-      (λ x n. now x w.0 ∙ ap (λ b. b && (a == x) || holds kind h o false x) k ∙ sym (contains_holders kind h w.3 o x n))
+      (λ x n. now x w.0.standing ∙ ap (λ b. b && (a == x) || holds kind h o false x) k
+      ∙ sym (contains_holders kind h w.1 o x n))
       ∙ sym (ap (λ b. cond b (insert a old) old) k))
       (cases_Bool (o' == o && kind v))
 
+  -- an abort takes from the holders all who stand under those aborted
   pub holders_after_abort : (h : History V) (z : List ℕ) → Orderly (Aborted z ▹ h) → (o : ℕ)
       → holders kind (Aborted z ▹ h) o ≡ filter (λ x. not (is_under h z x)) (holders kind h o)
   holders_after_abort h z w o =
@@ -153,12 +168,13 @@ module _ {V : Type 0} (kind : V → Bool) where
       ⊎_elim (λ k. ne (sym k.1)) (λ k. k.1 refl)
       (handed_cases s (parent h s) (owner_by_steps h q.0) s (at_some (owner_by_steps g q.0) s q.2)))
 
+  -- a commit hands the action's place among the holders to its parent
   pub holders_after_commit : (h : History V) (s : ℕ) → Orderly (Committed s ▹ h) → (o : ℕ)
       → holders kind (Committed s ▹ h) o ≡ inherited s (parent h s) (holders kind h o)
   holders_after_commit h s w o =
       let p = parent h s in
       let old = holders kind h o in
-      let i = parent_is h (parents_are_older h w.3) s w.0 w.1 in
+      let i = parent_is h (parents_are_older h w.1) s w.0.not_base w.0.standing in
       let ps : p ≢ s = omega (arith, i.0) in
       holders_listed (Committed s ▹ h) w o (inherited s p old) (inherited-IsRising s p old (holders_rising kind h o))
       (inherited_zero s p old (no_base_holder h o))
@@ -168,10 +184,10 @@ module _ {V : Type 0} (kind : V → Bool) where
       (λ q. ⊎_elim
       (λ e. subst (λ y. y ≢ 0 → holds kind (Committed s ▹ h) o false y ≡ contains (inherited s p old) y) (sym e)
       (λ p0. holds_commit_parent kind h s o false ps
-      ∙ ap (λ b. b || holds kind h o false p) (sym (contains_holders kind h w.3 o s w.0))
-      ∙ ap (λ b. contains old s || b) (sym (contains_holders kind h w.3 o p p0))
+      ∙ ap (λ b. b || holds kind h o false p) (sym (contains_holders kind h w.1 o s w.0.not_base))
+      ∙ ap (λ b. contains old s || b) (sym (contains_holders kind h w.1 o p p0))
       ∙ sym (inherited_parent s p old ps p0)) n)
-      (λ e. holds_commit_other kind h s o false x q e ∙ sym (contains_holders kind h w.3 o x n)
+      (λ e. holds_commit_other kind h s o false x q e ∙ sym (contains_holders kind h w.1 o x n)
       ∙ sym (inherited_other s p old x q e))
       (cases_eq x p))
       (cases_eq x s))

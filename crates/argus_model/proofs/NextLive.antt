@@ -36,6 +36,7 @@ from_stands h g w u test same x =
     (λ n. sym (stands_is_live g u x n) ∙ same x ∙ ap (λ b. b && test x) (stands_is_live h w x n))
     (cases_eq x 0)
 
+-- after a begin are live the new action and who was live
 pub live_after_begin : {V : Type 0} (h : History V) (from : Origin) → Orderly (Began from ▹ h) → (x : ℕ)
     → is_live (Began from ▹ h) x ≡ ((x == next_action h) || is_live h x)
 live_after_begin h from w x =
@@ -53,19 +54,21 @@ live_after_begin h from w x =
     (cases_eq x (next_action h)))
     (cases_eq x 0)
 
+-- after a commit are live all who were, but for the action itself
 pub live_after_commit : {V : Type 0} (h : History V) (s : ℕ) → Orderly (Committed s ▹ h) → (x : ℕ)
     → is_live (Committed s ▹ h) x ≡ (is_live h x && not (x == s))
 live_after_commit h s w =
     let g = Committed s ▹ h in
-    from_stands h g w.3 w (λ x. not (x == s))
+    from_stands h g w.1 w (λ x. not (x == s))
     (λ x. same_bool (stands g x) (stands h x && not (x == s))
-    (λ k. let q = stands_commit h (parents_are_older h w.3) (stands_upward h w.3) s x w.0 w.1 k in
+    (λ k. let q = stands_commit h (parents_are_older h w.1) (stands_upward h w.1) s x w.0.not_base w.0.standing k in
     and_from (stands h x) (not (x == s)) q.0 (ap not (ne_eqb x s q.1)))
     (λ k. let q = and_parts (stands h x) (not (x == s)) k in
     some_at (owner_by_steps g x) x
     (handed_stays s (parent h s) (owner_by_steps h x) x (at_some (owner_by_steps h x) x q.0)
     (λ e. both_ways (x == s) (not-true (x == s) q.1) (eq-eqb x s e)))))
 
+-- after an abort are live all who were, but for those under the aborted ones
 pub live_after_abort : {V : Type 0} (h : History V) (z : List ℕ) → Orderly (Aborted z ▹ h) → (x : ℕ)
     → is_live (Aborted z ▹ h) x ≡ (is_live h x && not (is_under h z x))
 live_after_abort h z w =
@@ -78,7 +81,7 @@ live_after_abort h z w =
     (kept_stays (is_under h z) (owner_by_steps h x) x (at_some (owner_by_steps h x) x q.0)
     (not-true (is_under h z x) q.1))))
 
--- owners
+-- a begin leaves the owner of each begun action
 pub owner_after_begin : {V : Type 0} (h : History V) (from : Origin) → Orderly (Began from ▹ h) → (x : ℕ)
     → is_begun h x ≡ true → owner (Began from ▹ h) x ≡ owner h x
 owner_after_begin h from w x k =
@@ -87,9 +90,10 @@ owner_after_begin h from w x k =
     ∙ ap as_owner (⊎_elim (λ c. absurd (omega (arith, c.0, q.1))) (λ c. c.1) (owner_cases h from x))
     ∙ sym (owner_is h w.1 x k)
 
+-- an access leaves the owner of each begun action
 pub owner_after_access : {V : Type 0} (h : History V) (a o : ℕ) (v : V) → Orderly (Accessed a o v ▹ h) → (x : ℕ)
     → is_begun h x ≡ true → owner (Accessed a o v ▹ h) x ≡ owner h x
-owner_after_access h a o v w x k = owner_is (Accessed a o v ▹ h) w x k ∙ sym (owner_is h w.3 x k)
+owner_after_access h a o v w x k = owner_is (Accessed a o v ▹ h) w x k ∙ sym (owner_is h w.1 x k)
 
 handed_is : (s p : ℕ) → s ≢ 0 → (q : Option ℕ) → as_owner (handed_up s p q) ≡ passed_up s p (as_owner q)
 handed_is s p s0 None = refl
@@ -107,11 +111,12 @@ handed_is s p s0 (Some x) =
     (cases_eq x 0))
     (cases_eq x s)
 
+-- a commit passes what the action answers for to its parent
 pub owner_after_commit : {V : Type 0} (h : History V) (s : ℕ) → Orderly (Committed s ▹ h) → (x : ℕ)
     → is_begun h x ≡ true → owner (Committed s ▹ h) x ≡ passed_up s (parent h s) (owner h x)
 owner_after_commit h s w x k =
-    owner_is (Committed s ▹ h) w x k ∙ handed_is s (parent h s) w.0 (owner_by_steps h x)
-    ∙ ap (passed_up s (parent h s)) (sym (owner_is h w.3 x k))
+    owner_is (Committed s ▹ h) w x k ∙ handed_is s (parent h s) w.0.not_base (owner_by_steps h x)
+    ∙ ap (passed_up s (parent h s)) (sym (owner_is h w.1 x k))
 
 lost_is : (lost : ℕ → Bool) → lost 0 ≡ false → (q : Option ℕ)
     → as_owner (unless_lost lost q) ≡ unless_gone lost (as_owner q)
@@ -128,12 +133,14 @@ lost_is lost n (Some x) =
     (cases_Bool (lost x)))
     (cases_eq x 0)
 
+-- after an abort what was held by those under the aborted ones is gone
 pub owner_after_abort : {V : Type 0} (h : History V) (z : List ℕ) → Orderly (Aborted z ▹ h) → (x : ℕ)
     → is_begun h x ≡ true → owner (Aborted z ▹ h) x ≡ unless_gone (is_under h z) (owner h x)
 owner_after_abort h z w x k =
     owner_is (Aborted z ▹ h) w x k ∙ lost_is (is_under h z) (base_spared h z w) (owner_by_steps h x)
     ∙ ap (unless_gone (is_under h z)) (sym (owner_is h w.1 x k))
 
+-- a new action answers for itself
 pub new_owner : {V : Type 0} (h : History V) (from : Origin) → Orderly (Began from ▹ h)
     → owner (Began from ▹ h) (next_action h) ≡ Held (next_action h)
 new_owner h from w =
@@ -143,6 +150,7 @@ new_owner h from w =
     ∙ ap as_owner (at_some (owner_by_steps (Began from ▹ h) n) n (stands_new h from n refl))
     ∙ as_held n (λ e. omega arith)
 
+-- a new action's lineage is itself, then its parent's
 pub new_lineage : {V : Type 0} (h : History V) (from : Origin)
     → lineage (Began from ▹ h) (next_action h) ≡ next_action h ∷ lineage h (parent_of from)
 new_lineage h from = ⊎_elim (λ k. k.1) (λ k. absurd (k.0 refl)) (lineage_cases h from (next_action h))

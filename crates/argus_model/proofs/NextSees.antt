@@ -40,47 +40,55 @@ module _ {V C A : Type 0} (meaning : Meaning V C A) (opening : Opening C) where
       → sees meaning opening g 0 o ≡ sees meaning opening h 0 o → base meaning opening g o ≡ base meaning opening h o
   for_base g h v w o e = sym (sees_base g v o) ∙ e ∙ sees_base h w o
 
+  -- a new action sees what its parent sees
   pub sees_after_begin_new : (h : History V) (from : Origin) → Orderly (Began from ▹ h) → (o : ℕ)
       → sees meaning opening (Began from ▹ h) (next_action h) o ≡ sees meaning opening h (parent_of from) o
   sees_after_begin_new h from w o =
       both (Began from ▹ h) h w w.1 (next_action h) (parent_of from) o
       (seen_begin_new meaning opening.contents h from (next_action h) o w.1 refl)
 
+  -- a begin leaves what every other sees
   pub sees_after_begin : (h : History V) (from : Origin) → Orderly (Began from ▹ h) → (y o : ℕ) → y ≢ next_action h
       → sees meaning opening (Began from ▹ h) y o ≡ sees meaning opening h y o
   sees_after_begin h from w y o n =
       both (Began from ▹ h) h w w.1 y y o (seen_begin_old meaning opening.contents h from y o w.1 n)
 
+  -- a begin leaves what is there for good
   pub base_after_begin : (h : History V) (from : Origin) → Orderly (Began from ▹ h) → (o : ℕ)
       → base meaning opening (Began from ▹ h) o ≡ base meaning opening h o
   base_after_begin h from w o =
       for_base (Began from ▹ h) h w w.1 o (sees_after_begin h from w 0 o (let k = next_pos h in omega arith))
 
+  -- who accesses an object sees there what the access leaves, and in others what it saw
   pub sees_after_access_own : (h : History V) (a o : ℕ) (v : V) → Orderly (Accessed a o v ▹ h) → (i : ℕ)
       → sees meaning opening (Accessed a o v ▹ h) a i
       ≡ cond (o == i) (meaning.after v (sees meaning opening h a i)) (sees meaning opening h a i)
   sees_after_access_own h a o v w i =
       sees_is meaning opening (Accessed a o v ▹ h) w a i
-      ∙ seen_access_own meaning opening.contents h a o v i w.0
-      ∙ ap (λ c. cond (o == i) (meaning.after v c) c) (sym (sees_is meaning opening h w.3 a i))
+      ∙ seen_access_own meaning opening.contents h a o v i w.0.standing
+      ∙ ap (λ c. cond (o == i) (meaning.after v c) c) (sym (sees_is meaning opening h w.1 a i))
 
+  -- an access leaves what every other that stands sees
   pub sees_after_access_other : (h : History V) (a o : ℕ) (v : V) → Orderly (Accessed a o v ▹ h) → (y i : ℕ)
       → stands h y ≡ true → y ≢ a → sees meaning opening (Accessed a o v ▹ h) y i ≡ sees meaning opening h y i
   sees_after_access_other h a o v w y i l n =
-      both (Accessed a o v ▹ h) h w w.3 y y i
-      (seen_access_other meaning opening.contents h a o v y i w.0
-      (λ m. n (sym (alone h (parents_are_older h w.3) (stands_upward h w.3) a y l m w.1))))
+      both (Accessed a o v ▹ h) h w w.1 y y i
+      (seen_access_other meaning opening.contents h a o v y i w.0.standing
+      (λ m. n (sym (alone h (parents_are_older h w.1) (stands_upward h w.1) a y l m w.0.childless))))
 
+  -- an access leaves what is there for good
   pub base_after_access : (h : History V) (a o : ℕ) (v : V) → Orderly (Accessed a o v ▹ h) → (i : ℕ)
       → base meaning opening (Accessed a o v ▹ h) i ≡ base meaning opening h i
   base_after_access h a o v w i =
-      for_base (Accessed a o v ▹ h) h w w.3 i
-      (sees_after_access_other h a o v w 0 i (base_stands h w.3) (λ e. w.2 (sym e)))
+      for_base (Accessed a o v ▹ h) h w w.1 i
+      (sees_after_access_other h a o v w 0 i (base_stands h w.1) (λ e. w.0.not_base (sym e)))
 
+  -- an abort leaves what those see that still stand
   pub sees_after_abort : (h : History V) (z : List ℕ) → Orderly (Aborted z ▹ h) → (y o : ℕ)
       → stands (Aborted z ▹ h) y ≡ true → sees meaning opening (Aborted z ▹ h) y o ≡ sees meaning opening h y o
   sees_after_abort h z w y o l = both (Aborted z ▹ h) h w w.1 y y o (seen_abort meaning opening.contents h z y o w.1 l)
 
+  -- an abort leaves what is there for good
   pub base_after_abort : (h : History V) (z : List ℕ) → Orderly (Aborted z ▹ h) → (o : ℕ)
       → base meaning opening (Aborted z ▹ h) o ≡ base meaning opening h o
   base_after_abort h z w o =
@@ -92,17 +100,18 @@ module _ {V C A : Type 0} (meaning : Meaning V C A) (opening : Opening C) where
         → (a : ℕ) × (has_used meaning.writes h a o false ≡ true) × (owner_by_steps h a ≡ Some s)
     wrote k =
         let q = used_by_found meaning.writes (λ b. is_exactly (owner_by_steps h b) s) o false h
-        (listed meaning.writes h w.3 o s k) in
+        (listed meaning.writes h w.1 o s k) in
         (q.0, q.1, at_some (owner_by_steps h q.0) s q.2)
 
     wrote_nothing : contains (writers meaning h o) s ≡ false → (a : ℕ) → has_used meaning.writes h a o false ≡ true
         → owner_by_steps h a ≢ Some s
     wrote_nothing k a u e =
         both_ways (contains (writers meaning h o) s) k
-        (contains_holders meaning.writes h w.3 o s w.0
+        (contains_holders meaning.writes h w.1 o s w.0.not_base
         ∙ used_by_from meaning.writes (λ b. is_exactly (owner_by_steps h b) s) o false h a u
         (some_at (owner_by_steps h a) s e))
 
+    -- after a commit, who is under the parent sees as the action saw where it wrote, and else as before
     pub sees_after_commit : sees meaning opening (Committed s ▹ h) y o
         ≡ cond (contains (writers meaning h o) s && is_ancestor h (parent h s) y) (sees meaning opening h s o)
         (sees meaning opening h y o)
@@ -113,20 +122,21 @@ module _ {V C A : Type 0} (meaning : Meaning V C A) (opening : Opening C) where
         let at = λ (b : Bool). cond b (sees meaning opening h s o) (sees meaning opening h y o) in
         ⊎_elim
         (λ k. ⊎_elim
-        (λ a. both g h w w.3 y s o
-        (let q = wrote k in seen_as_s meaning opening.contents h s y w.3 gd w.0 w.1 w.2 ly ne a o q.0 q.1 q.2)
+        (λ a. both g h w w.1 y s o
+        (let q = wrote k in seen_as_s meaning opening.contents h s y w.1 gd w.0 ly ne a o q.0 q.1 q.2)
         ∙ sym (ap at (and_from wr up k a)))
-        (λ a. both g h w w.3 y y o (seen_aside meaning opening.contents h s y w.3 gd w.0 w.1 w.2 ly ne a o)
+        (λ a. both g h w w.1 y y o (seen_aside meaning opening.contents h s y w.1 gd w.0 ly ne a o)
         ∙ sym (ap at (and_right wr up a)))
         (cases_Bool up))
-        (λ k. both g h w w.3 y y o
+        (λ k. both g h w w.1 y y o
         (⊎_elim
-        (λ a. seen_same meaning opening.contents h s y w.3 gd w.0 w.1 w.2 ly ne a o (wrote_nothing k))
-        (λ a. seen_aside meaning opening.contents h s y w.3 gd w.0 w.1 w.2 ly ne a o)
+        (λ a. seen_same meaning opening.contents h s y w.1 gd w.0 ly ne a o (wrote_nothing k))
+        (λ a. seen_aside meaning opening.contents h s y w.1 gd w.0 ly ne a o)
         (cases_Bool up))
         ∙ sym (ap at (and_left wr up k)))
         (cases_Bool wr)
 
+  -- after a topaction's commit what it saw, where it wrote, is there for good; all else stays
   pub base_after_commit : (h : History V) (s : ℕ) → Orderly (Committed s ▹ h) → Guarded meaning.writes h → (o : ℕ)
       → base meaning opening (Committed s ▹ h) o
       ≡ cond (contains (writers meaning h o) s && parent h s == 0) (sees meaning opening h s o)
@@ -136,6 +146,6 @@ module _ {V C A : Type 0} (meaning : Meaning V C A) (opening : Opening C) where
       let above : is_ancestor h (parent h s) 0 ≡ (parent h s == 0) =
       ap (λ t. contains t (parent h s)) (lineage-base h) ∙ sym (or_none (parent h s == 0)) in
       sym (sees_base (Committed s ▹ h) w o)
-      ∙ sees_after_commit h s w gd 0 (base_stands h w.3) (λ e. w.0 (sym e)) o
+      ∙ sees_after_commit h s w gd 0 (base_stands h w.1) (λ e. w.0.not_base (sym e)) o
       ∙ ap (λ b. cond (wr && b) (sees meaning opening h s o) (sees meaning opening h 0 o)) above
-      ∙ ap (λ c. cond (wr && parent h s == 0) (sees meaning opening h s o) c) (sees_base h w.3 o)
+      ∙ ap (λ c. cond (wr && parent h s == 0) (sees meaning opening h s o) c) (sees_base h w.1 o)

@@ -15,19 +15,23 @@ abbrev pub IsRising : List ℕ → Type 0
 IsRising [] = Unit {0}
 IsRising (x ∷ xs) = ((y : ℕ) → contains xs y ≡ true → x < y) × IsRising xs
 
+-- a list has its first number
 pub contains_first : (x : ℕ) (ys : List ℕ) → contains (x ∷ ys) x ≡ true
 contains_first x ys = grind (arith, nat_tests)
 
+-- joined lists have what the second has
 pub joined : (xs ys : List ℕ) (x : ℕ) → contains ys x ≡ true → contains (xs ++ ys) x ≡ true
 joined [] ys x h = h
 joined (y ∷ xs) ys x h = let ih = joined xs ys x h in grind arith
 
+-- joined lists have what the first has
 pub joined_left : (xs ys : List ℕ) (x : ℕ) → contains xs x ≡ true → contains (xs ++ ys) x ≡ true
 joined_left [] ys x h = absurd (false≢true h)
 joined_left (y ∷ xs) ys x h =
     ⊎_elim (λ k. or_left (x == y) (contains (xs ++ ys) x) k)
     (λ k. or_right (x == y) (contains (xs ++ ys) x) (joined_left xs ys x k)) (or_cases (x == y) (contains xs x) h)
 
+-- where one of a list passes the test, here is one
 pub any_found : (t : ℕ → Bool) (zs : List ℕ) → list_any t zs ≡ true → (z : ℕ) × (contains zs z ≡ true) × (t z ≡ true)
 any_found t [] m = absurd (false≢true m)
 any_found t (z ∷ zs) m =
@@ -36,6 +40,7 @@ any_found t (z ∷ zs) m =
     (λ e. let w = any_found t zs e in (w.0, or_right (w.0 == z) (contains zs w.0) w.1, w.2))
     (or_cases (t z) (list_any t zs) m)
 
+-- one of a list that passes the test is enough
 pub any_from : (t : ℕ → Bool) (zs : List ℕ) (z : ℕ) → contains zs z ≡ true → t z ≡ true → list_any t zs ≡ true
 any_from t [] z m e = absurd (false≢true m)
 any_from t (y ∷ zs) z m e =
@@ -44,6 +49,7 @@ any_from t (y ∷ zs) z m e =
     (λ k. or_right (t y) (list_any t zs) (any_from t zs z k e))
     (or_cases (z == y) (contains zs z) m)
 
+-- tests that agree on each of a list agree on whether one passes
 pub any_agree : (t u : ℕ → Bool) (zs : List ℕ) → ((z : ℕ) → contains zs z ≡ true → t z ≡ u z)
     → list_any t zs ≡ list_any u zs
 any_agree t u [] same = refl
@@ -51,6 +57,7 @@ any_agree t u (z ∷ zs) same =
     ap (λ b. b || list_any t zs) (same z (contains_first z zs))
     ∙ ap (λ b. u z || b) (any_agree t u zs (λ y m. same y (or_right (y == z) (contains zs y) m)))
 
+-- what is on the filtered list passes the test and is on the list
 pub contains_filter : (p : ℕ → Bool) (xs : List ℕ) (x : ℕ) → contains (filter p xs) x ≡ true
     → (p x ≡ true) × (contains xs x ≡ true)
 contains_filter p [] x m = absurd (false≢true m)
@@ -66,6 +73,7 @@ contains_filter p (y ∷ xs) x m =
     (q.0, or_right (x == y) (contains xs x) q.1))
     (cases_Bool (p y))
 
+-- what passes the test and is on the list is on the filtered list
 pub filter_contains : (p : ℕ → Bool) (xs : List ℕ) (x : ℕ) → p x ≡ true → contains xs x ≡ true
     → contains (filter p xs) x ≡ true
 filter_contains p [] x e m = m
@@ -82,6 +90,7 @@ filter_contains p (y ∷ xs) x e m =
     (cases_Bool (p y)))
     (or_cases (x == y) (contains xs x) m)
 
+-- what joined lists have is on the first or on the second
 pub joined_cases : (xs ys : List ℕ) (x : ℕ) → contains (xs ++ ys) x ≡ true
     → (contains xs x ≡ true) ⊎ (contains ys x ≡ true)
 joined_cases [] ys x m = inr m
@@ -90,6 +99,7 @@ joined_cases (y ∷ xs) ys x m =
     (λ k. ⊎_elim (λ q. inl (or_right (x == y) (contains xs x) q)) (λ q. inr q) (joined_cases xs ys x k))
     (or_cases (x == y) (contains (xs ++ ys) x) m)
 
+-- where all of a list pass the test, each on it does
 pub every_at : (t : ℕ → Bool) (xs : List ℕ) (x : ℕ) → list_all t xs ≡ true → contains xs x ≡ true → t x ≡ true
 every_at t [] x e m = absurd (false≢true m)
 every_at t (y ∷ xs) x e m =
@@ -97,12 +107,14 @@ every_at t (y ∷ xs) x e m =
     ⊎_elim (λ k. subst (λ u. t u ≡ true) (sym (eqb-true x y k)) q.0) (λ k. every_at t xs x q.1 k)
     (or_cases (x == y) (contains xs x) m)
 
+-- where each on a list passes the test, all of it do
 pub every_from : (t : ℕ → Bool) (xs : List ℕ) → ((x : ℕ) → contains xs x ≡ true → t x ≡ true) → list_all t xs ≡ true
 every_from t [] each = refl
 every_from t (y ∷ xs) each =
     and_from (t y) (list_all t xs) (each y (or_left (y == y) (contains xs y) (eq-eqb y y refl)))
     (every_from t xs (λ x m. each x (or_right (x == y) (contains xs x) m)))
 
+-- after an insert the list has that number and what it had
 pub contains_insert : (o : ℕ) (xs : List ℕ) (x : ℕ) → contains (insert o xs) x ≡ ((x == o) || contains xs x)
 contains_insert o [] x = refl
 contains_insert o (y ∷ xs) x =
@@ -117,6 +129,7 @@ contains_insert o (y ∷ xs) x =
     (cases_Bool (nat_lt o y)))
     (cases_eq o y)
 
+-- a rising list rises after an insert, too
 pub insert-IsRising : (o : ℕ) (xs : List ℕ) → IsRising xs → IsRising (insert o xs)
 insert-IsRising o [] r = (λ y m. absurd (false≢true m), tt)
 insert-IsRising o (x ∷ xs) r =
@@ -141,7 +154,7 @@ insert-IsRising o (x ∷ xs) r =
     (cases_Bool (nat_lt o x))))
     (cases_eq o x)
 
--- a rising list is known by its members
+-- rising lists with the same members are the same
 pub rising_same : (xs ys : List ℕ) → IsRising xs → IsRising ys → ((x : ℕ) → contains xs x ≡ contains ys x) → xs ≡ ys
 rising_same [] [] r s same = refl
 rising_same [] (y ∷ ys) r s same = absurd (false≢true (same y ∙ contains_first y ys))
@@ -163,6 +176,7 @@ rising_same (x ∷ xs) (y ∷ ys) r s same =
     (cases_eq z x) in
     ap (λ u. u ∷ xs) e ∙ ap (λ u. y ∷ u) (rising_same xs ys r.1 s.1 rest)
 
+-- a rising list rises with a greater number at its end, too
 pub rising-more : (xs : List ℕ) (n : ℕ) → IsRising xs → ((x : ℕ) → contains xs x ≡ true → x < n)
     → IsRising (xs ++ n ∷ [])
 rising-more [] n r l = (λ y m. absurd (false≢true m), tt)
@@ -174,6 +188,7 @@ rising-more (x ∷ xs) n r l =
       rising-more xs n r.1 (λ y m. l y (or_right (y == x) (contains xs y) m)),
     )
 
+-- what is left of a rising list by a filter rises
 pub rising_filter : (p : ℕ → Bool) (xs : List ℕ) → IsRising xs → IsRising (filter p xs)
 rising_filter p [] r = tt
 rising_filter p (x ∷ xs) r =
@@ -195,12 +210,13 @@ increasing_more x y ys l rest = from
         let n : k + 1 < length (y ∷ ys) = omega (arith, m) in
         subst (λ n. slice_index (x ∷ y ∷ ys) (suc k) < slice_index (x ∷ y ∷ ys) n) (sym e) (rest k n)
 
+-- a rising list is strictly increasing, in the library's words
 pub increasing : (xs : List ℕ) → IsRising xs → IsStrictlyIncreasing xs
 increasing [] r = λ k l. absurd (omega (arith, l))
 increasing (x ∷ []) r = λ k l. absurd (omega (arith, l))
 increasing (x ∷ y ∷ ys) r = increasing_more x y ys (r.0 y (contains_first y ys)) (increasing (y ∷ ys) r.1)
 
--- no number stands twice where none is among those after it
+-- a number that a list doesn't have differs from each on it
 pub different : (x : ℕ) (xs : List ℕ) → contains xs x ≡ false → AllByRecursion (λ y. (x == y) ≡ false) xs
 different x [] n = tt
 different x (y ∷ ys) n = let q = or_parts (x == y) (contains ys x) n in (q.0, different x ys q.1)

@@ -19,6 +19,7 @@ use Rattle.argus_model.proofs.Serial.{base_stands, lineage-base}
 use Rattle.argus_model.proofs.Standing.{Orderly, at_some, handed_cases, kept_cases, owner_cases, parents_are_older}
 use Rattle.argus_model.proofs.Standing.{stands_begun, stands_unfolded}
 
+-- the parent of a begun subaction has a number past the folded ones
 pub parent_unfolded : {V : Type 0} (h : History V) → Orderly h → (a : ℕ) → folded h < a → a < next_action h
     → parent h a ≢ 0 → folded h < parent h a
 parent_unfolded (Opened m) w a l b n = absurd (omega arith)
@@ -27,10 +28,11 @@ parent_unfolded (Began from ▹ h) w a l b n =
     (λ k. subst (λ u. folded h < u) (sym k.1) (stands_unfolded h (parent_of from) (λ e. n (k.1 ∙ e)) w.0))
     (λ k. subst (λ u. folded h < u) (sym k.1) (parent_unfolded h w.1 a l (omega (arith, k.0)) (λ e. n (k.1 ∙ e))))
     (parent_cases h from a)
-parent_unfolded (Committed s ▹ h) w a l b n = parent_unfolded h w.3 a l b n
+parent_unfolded (Committed s ▹ h) w a l b n = parent_unfolded h w.1 a l b n
 parent_unfolded (Aborted z ▹ h) w a l b n = parent_unfolded h w.1 a l b n
-parent_unfolded (Accessed d o v ▹ h) w a l b n = parent_unfolded h w.3 a l b n
+parent_unfolded (Accessed d o v ▹ h) w a l b n = parent_unfolded h w.1 a l b n
 
+-- an owner other than the base has a number past the folded ones
 pub owner_unfolded : {V : Type 0} (h : History V) → Orderly h → (a x : ℕ) → owner_by_steps h a ≡ Some x → x ≢ 0
     → folded h < x
 owner_unfolded (Opened m) w a x e n =
@@ -43,12 +45,13 @@ owner_unfolded (Began from ▹ h) w a x e n =
 owner_unfolded (Committed s ▹ h) w a x e n =
     ⊎_elim
     (λ k. subst (λ u. folded h < u) (sym k.1)
-    (parent_unfolded h w.3 s (stands_unfolded h s w.0 w.1) (stands_begun h s w.1) (λ q. n (k.1 ∙ q))))
-    (λ k. owner_unfolded h w.3 a x k.0 n)
+    (parent_unfolded h w.1 s (stands_unfolded h s w.0.not_base w.0.standing) (stands_begun h s w.0.standing)
+    (λ q. n (k.1 ∙ q))))
+    (λ k. owner_unfolded h w.1 a x k.0 n)
     (handed_cases s (parent h s) (owner_by_steps h a) x e)
 owner_unfolded (Aborted z ▹ h) w a x e n =
     owner_unfolded h w.1 a x (kept_cases (is_under h z) (owner_by_steps h a) x e).0 n
-owner_unfolded (Accessed d o v ▹ h) w a x e n = owner_unfolded h w.3 a x e n
+owner_unfolded (Accessed d o v ▹ h) w a x e n = owner_unfolded h w.1 a x e n
 
 up_is : {V : Type 0} (h : History V) → Orderly h → (n a : ℕ) → a < n → (a ≢ 0 → folded h < a) → a < next_action h
     → owner_up h (lineage h a) ≡ as_owner (owner_by_steps h a)
@@ -76,12 +79,13 @@ up_is h w (suc n) a l u b =
     (cases_Bool (is_doomed h a)))
     (cases_eq a 0)
 
+-- the owner of a begun action is its owner by steps
 pub owner_is : {V : Type 0} (h : History V) → Orderly h → (a : ℕ) → is_begun h a ≡ true
     → owner h a ≡ as_owner (owner_by_steps h a)
 owner_is h w a k = let q = is_begun_parts h a k in
     ap (λ b. cond b (owner_up h (lineage h a)) Folded) k ∙ up_is h w (suc a) a (omega arith) (λ ne. q.0) q.1
 
--- the base is above all
+-- the base is an ancestor of all
 pub base_above : {V : Type 0} (h : History V) (y : ℕ) → is_ancestor h 0 y ≡ true
 base_above (Opened n) y =
     ⊎_elim (λ e. subst (λ u. contains (to_base u) 0 ≡ true) (sym e) refl)
@@ -97,6 +101,7 @@ base_above (Committed a ▹ h) y = base_above h y
 base_above (Aborted a ▹ h) y = base_above h y
 base_above (Accessed a o v ▹ h) y = base_above h y
 
+-- what has this owner counts for y where the owner is an ancestor of y
 pub counts_for_is : {V : Type 0} (h : History V) (y : ℕ) (q : Option ℕ)
     → counts_for h y (as_owner q) ≡ owner_passes (λ x. is_ancestor h x y) q
 counts_for_is h y None = refl
@@ -107,6 +112,7 @@ counts_for_is h y (Some x) =
     (λ ne. ap (λ b. counts_for h y (cond b Base (Held x))) (ne_eqb x 0 ne))
     (cases_eq x 0)
 
+-- what has this owner is there for good where the owner is an ancestor of the base
 pub is_base_is : {V : Type 0} (h : History V) (q : Option ℕ)
     → is_base (as_owner q) ≡ owner_passes (λ x. is_ancestor h x 0) q
 is_base_is h None = refl
@@ -118,6 +124,7 @@ is_base_is h (Some x) =
     ∙ sym (ap (λ t. contains t x) (lineage-base h) ∙ ap (λ b. b || false) (ne_eqb x 0 ne)))
     (cases_eq x 0)
 
+-- what has this owner is held by x where x is the owner
 pub is_held_by_is : (x : ℕ) (q : Option ℕ) → x ≢ 0 → is_held_by x (as_owner q) ≡ is_exactly q x
 is_held_by_is x None n = refl
 is_held_by_is x (Some y) n =

@@ -26,7 +26,7 @@ abbrev gone : Option ℕ → Bool
 gone None = true
 gone (Some x) = false
 
--- an owner is an ancestor
+-- an owner is an ancestor of what it answers for
 pub owner_ancestor : {V : Type 0} (h : History V) → Orderly h → (a x : ℕ) → owner_by_steps h a ≡ Some x
     → is_ancestor h x a ≡ true
 owner_ancestor (Opened n) w a x e =
@@ -39,13 +39,14 @@ owner_ancestor (Began from ▹ h) w a x e =
     (owner_cases h from a)
 owner_ancestor (Committed s ▹ h) w a x e =
     ⊎_elim
-    (λ k. ancestor_trans h x s a (parents_are_older h w.3) (owned_begun h a s k.0)
-    (subst (λ u. is_ancestor h u s ≡ true) (sym k.1) (parent_is h (parents_are_older h w.3) s w.0 w.1).1)
-    (owner_ancestor h w.3 a s k.0))
-    (λ k. owner_ancestor h w.3 a x k.0)
+    (λ k. ancestor_trans h x s a (parents_are_older h w.1) (owned_begun h a s k.0)
+    (subst (λ u. is_ancestor h u s ≡ true) (sym k.1)
+    (parent_is h (parents_are_older h w.1) s w.0.not_base w.0.standing).1)
+    (owner_ancestor h w.1 a s k.0))
+    (λ k. owner_ancestor h w.1 a x k.0)
     (handed_cases s (parent h s) (owner_by_steps h a) x e)
 owner_ancestor (Aborted z ▹ h) w a x e = owner_ancestor h w.1 a x (kept_cases (is_under h z) (owner_by_steps h a) x e).0
-owner_ancestor (Accessed b o v ▹ h) w a x e = owner_ancestor h w.3 a x e
+owner_ancestor (Accessed b o v ▹ h) w a x e = owner_ancestor h w.1 a x e
 
 -- a live ancestor is one of the owner
 ancestor_owner : {V : Type 0} (h : History V) → Orderly h → (a x z : ℕ) → owner_by_steps h a ≡ Some x
@@ -64,26 +65,26 @@ ancestor_owner (Began from ▹ h) w a x z e l m =
     ancestor_old h from z x (omega arith) (ancestor_owner h w.1 a x z e' l' m'))
     (owner_cases h from a)
 ancestor_owner (Committed s ▹ h) w a x z e l m =
-    let f = parents_are_older h w.3 in
-    let q = stands_commit h f (stands_upward h w.3) s z w.0 w.1 l in
+    let f = parents_are_older h w.1 in
+    let q = stands_commit h f (stands_upward h w.1) s z w.0.not_base w.0.standing l in
     ⊎_elim
     (λ k. subst (λ u. is_ancestor h z u ≡ true) (sym k.1)
-    (above_parent h f s z w.0 w.1 q.1 (ancestor_owner h w.3 a s z k.0 q.0 m)))
-    (λ k. ancestor_owner h w.3 a x z k.0 q.0 m)
+    (above_parent h f s z w.0.not_base w.0.standing q.1 (ancestor_owner h w.1 a s z k.0 q.0 m)))
+    (λ k. ancestor_owner h w.1 a x z k.0 q.0 m)
     (handed_cases s (parent h s) (owner_by_steps h a) x e)
 ancestor_owner (Aborted y ▹ h) w a x z e l m =
     ancestor_owner h w.1 a x z (kept_cases (is_under h y) (owner_by_steps h a) x e).0 (stands_abort h y z l).0 m
-ancestor_owner (Accessed b o v ▹ h) w a x z e l m = ancestor_owner h w.3 a x z e l m
+ancestor_owner (Accessed b o v ▹ h) w a x z e l m = ancestor_owner h w.1 a x z e l m
 
 aborted_agree : {V : Type 0} (t u : ℕ → Bool) (h : History V) → Orderly h → ((z : ℕ) → z < next_action h → t z ≡ u z)
     → was_aborted t h ≡ was_aborted u h
 aborted_agree t u (Opened n) w same = refl
 aborted_agree t u (Began from ▹ h) w same = aborted_agree t u h w.1 (λ z l. same z (omega arith))
-aborted_agree t u (Committed s ▹ h) w same = aborted_agree t u h w.3 same
+aborted_agree t u (Committed s ▹ h) w same = aborted_agree t u h w.1 same
 aborted_agree t u (Aborted zs ▹ h) w same =
     ap (λ b. b || was_aborted t h) (any_agree t u zs (λ z m. same z (stands_begun h z (w.0 z m).1)))
     ∙ ap (λ b. list_any u zs || b) (aborted_agree t u h w.1 same)
-aborted_agree t u (Accessed a o v ▹ h) w same = aborted_agree t u h w.3 same
+aborted_agree t u (Accessed a o v ▹ h) w same = aborted_agree t u h w.1 same
 
 gone-handed : (s p : ℕ) (o : Option ℕ) → gone (handed_up s p o) ≡ gone o
 gone-handed s p None = refl
@@ -119,16 +120,16 @@ doomed_gone (Began from ▹ h) w a u l =
     ∙ doomed_gone h w.1 a u (omega (arith, k.0))
     ∙ sym (ap (λ b. gone (cond b (Some a) (owner_by_steps h a))) (ne_eqb a (next_action h) k.0)))
     (lineage_cases h from a)
-doomed_gone (Committed s ▹ h) w a u l = doomed_gone h w.3 a u l ∙ sym (gone-handed s (parent h s) (owner_by_steps h a))
+doomed_gone (Committed s ▹ h) w a u l = doomed_gone h w.1 a u l ∙ sym (gone-handed s (parent h s) (owner_by_steps h a))
 doomed_gone (Aborted zs ▹ h) w a u l =
     ap (λ b. is_under h zs a || b) (doomed_gone h w.1 a u l)
     ∙ gone-kept (is_under h zs) (owner_by_steps h a) (is_under h zs a)
     (λ x e. any_agree (λ z. is_ancestor h z a) (λ z. is_ancestor h z x) zs
     (λ z i. same_bool (is_ancestor h z a) (is_ancestor h z x) (λ m. ancestor_owner h w.1 a x z e (w.0 z i).1 m)
     (λ m. ancestor_trans h z x a (parents_are_older h w.1) l m (owner_ancestor h w.1 a x e))))
-doomed_gone (Accessed b o v ▹ h) w a u l = doomed_gone h w.3 a u l
+doomed_gone (Accessed b o v ▹ h) w a u l = doomed_gone h w.1 a u l
 
--- what is owned by another has committed
+-- what has not committed has no owner but itself
 pub moved : {V : Type 0} (h : History V) → Orderly h → (a x : ℕ) → owner_by_steps h a ≡ Some x
     → has_committed h a ≡ false → x ≡ a
 moved (Opened m) w a x e n =
@@ -137,31 +138,35 @@ moved (Began from ▹ h) w a x e n =
     ⊎_elim (λ k. grind arith) (λ k. moved h w.1 a x (sym k.1 ∙ e) n) (owner_cases h from a)
 moved (Committed s ▹ h) w a x e n =
     let q = or_parts (s == a) (has_committed h a) n in
-    ⊎_elim (λ k. absurd (eqb-false s a q.0 (moved h w.3 a s k.0 q.1))) (λ k. moved h w.3 a x k.0 q.1)
+    ⊎_elim (λ k. absurd (eqb-false s a q.0 (moved h w.1 a s k.0 q.1))) (λ k. moved h w.1 a x k.0 q.1)
     (handed_cases s (parent h s) (owner_by_steps h a) x e)
 moved (Aborted z ▹ h) w a x e n = moved h w.1 a x (kept_cases (is_under h z) (owner_by_steps h a) x e).0 n
-moved (Accessed b o v ▹ h) w a x e n = moved h w.3 a x e n
+moved (Accessed b o v ▹ h) w a x e n = moved h w.1 a x e n
 
+-- who has committed is an action that has begun
 pub committed_begun : {V : Type 0} (h : History V) → Orderly h → (a : ℕ) → has_committed h a ≡ true
     → (0 < a) × (a < next_action h)
 committed_begun (Opened n) w a m = absurd (false≢true m)
 committed_begun (Began from ▹ h) w a m = let k = committed_begun h w.1 a m in (k.0, omega (arith, k.1))
 committed_begun (Committed s ▹ h) w a m =
-    ⊎_elim (λ k. let e = eqb-true s a k in let l = stands_begun h s w.1 in let n = w.0 in (omega arith, omega arith))
-    (λ k. committed_begun h w.3 a k) (or_cases (s == a) (has_committed h a) m)
+    ⊎_elim
+    (λ k. let e = eqb-true s a k in let l = stands_begun h s w.0.standing in let n = w.0.not_base in
+    (omega arith, omega arith))
+    (λ k. committed_begun h w.1 a k) (or_cases (s == a) (has_committed h a) m)
 committed_begun (Aborted z ▹ h) w a m = committed_begun h w.1 a m
-committed_begun (Accessed b o v ▹ h) w a m = committed_begun h w.3 a m
+committed_begun (Accessed b o v ▹ h) w a m = committed_begun h w.1 a m
 
+-- who has committed has a number past the folded ones
 pub committed_unfolded : {V : Type 0} (h : History V) → Orderly h → (a : ℕ) → has_committed h a ≡ true → folded h < a
 committed_unfolded (Opened n) w a m = absurd (false≢true m)
 committed_unfolded (Began from ▹ h) w a m = committed_unfolded h w.1 a m
 committed_unfolded (Committed s ▹ h) w a m =
     ⊎_elim
-    (λ k. subst (λ u. folded h < u) (eqb-true s a k) (stands_unfolded h s w.0 w.1))
-    (λ k. committed_unfolded h w.3 a k)
+    (λ k. subst (λ u. folded h < u) (eqb-true s a k) (stands_unfolded h s w.0.not_base w.0.standing))
+    (λ k. committed_unfolded h w.1 a k)
     (or_cases (s == a) (has_committed h a) m)
 committed_unfolded (Aborted z ▹ h) w a m = committed_unfolded h w.1 a m
-committed_unfolded (Accessed b o v ▹ h) w a m = committed_unfolded h w.3 a m
+committed_unfolded (Accessed b o v ▹ h) w a m = committed_unfolded h w.1 a m
 
 -- what has committed has its parent's owner
 passed_on : {V : Type 0} (h : History V) → Orderly h → (a : ℕ) → has_committed h a ≡ true
@@ -181,17 +186,17 @@ passed_on (Committed s ▹ h) w a m =
     let p = parent h s in
     ⊎_elim
     (λ k. let e = eqb-true s a k in
-    let i = parent_is h (parents_are_older h w.3) s w.0 w.1 in
-    let op = at_some (owner_by_steps h p) p (stands_upward h w.3 p s w.1 i.1) in
+    let i = parent_is h (parents_are_older h w.1) s w.0.not_base w.0.standing in
+    let op = at_some (owner_by_steps h p) p (stands_upward h w.1 p s w.0.standing i.1) in
     subst (λ u. handed_up s p (owner_by_steps h u) ≡ handed_up s p (owner_by_steps h (parent h u))) e
-    (handed_from s p (owner_by_steps h s) (at_some (owner_by_steps h s) s w.1)
+    (handed_from s p (owner_by_steps h s) (at_some (owner_by_steps h s) s w.0.standing)
     ∙ sym (handed_stays s p (owner_by_steps h p) p op (omega (arith, i.0)))))
-    (λ k. ap (handed_up s p) (passed_on h w.3 a k))
+    (λ k. ap (handed_up s p) (passed_on h w.1 a k))
     (or_cases (s == a) (has_committed h a) m)
 passed_on (Aborted z ▹ h) w a m = ap (unless_lost (is_under h z)) (passed_on h w.1 a m)
-passed_on (Accessed b o v ▹ h) w a m = passed_on h w.3 a m
+passed_on (Accessed b o v ▹ h) w a m = passed_on h w.1 a m
 
--- the owner by the words of its definition
+-- a doomed action has no owner
 pub owner_gone : {V : Type 0} (h : History V) → Orderly h → (a : ℕ) → folded h < a → a < next_action h
     → is_doomed h a ≡ true → owner_by_steps h a ≡ None
 owner_gone h w a u l d = none_of (owner_by_steps h a) (sym (doomed_gone h w a (λ k. u) l) ∙ d)
@@ -200,6 +205,7 @@ owner_gone h w a u l d = none_of (owner_by_steps h a) (sym (doomed_gone h w a (�
     none_of None e = refl
     none_of (Some x) e = absurd (false≢true e)
 
+-- an action that is neither doomed nor committed has itself as owner
 pub owner_self : {V : Type 0} (h : History V) → Orderly h → (a : ℕ) → folded h < a → a < next_action h
     → is_doomed h a ≡ false → has_committed h a ≡ false → owner_by_steps h a ≡ Some a
 owner_self h w a u l d n = some_of (owner_by_steps h a) refl (sym (doomed_gone h w a (λ k. u) l) ∙ d)
@@ -208,11 +214,12 @@ owner_self h w a u l d n = some_of (owner_by_steps h a) refl (sym (doomed_gone h
     some_of None e g = absurd (false≢true (sym g))
     some_of (Some x) e g = e ∙ ap Some (moved h w a x e n)
 
+-- who has committed has the owner of its parent
 pub owner_passed : {V : Type 0} (h : History V) → Orderly h → (a : ℕ) → has_committed h a ≡ true
     → owner_by_steps h a ≡ owner_by_steps h (parent h a)
 owner_passed h w a m = passed_on h w a m
 
--- what is live has begun, and is neither committed nor doomed
+-- what stands has begun, and is neither committed nor doomed
 pub stands_plain : {V : Type 0} (h : History V) → Orderly h → (a : ℕ) → stands h a ≡ true
     → (a < next_action h) × (has_committed h a ≡ false) × (is_doomed h a ≡ false)
 stands_plain h w a l =

@@ -47,11 +47,13 @@ module _ {V : Type 0} where
       ⊎_elim (λ q. work_on_record h x e q) (λ q. all_on_record h xs e q)
       (one_of-append (work h x) (all_of (work h) xs) e m)
 
+  -- each access of the serial order is on record
   pub serial_recorded : (h : History V) (later : List (Access V)) (e : Access V) (earlier : List (Access V))
       → serial_order h ≡ later ++ e ∷ earlier → IsOnRecord h e
   serial_recorded h later e earlier q =
       all_on_record h (committed_topactions h) e (subst (λ es. IsOneOf es e) (sym q) (one_there later e earlier))
 
+  -- each access of the serial order up to an action is on record
   pub serial_to_recorded : (h : History V) (a : ℕ) (later : List (Access V)) (e : Access V) (earlier : List (Access V))
       → serial_order_to h a ≡ later ++ e ∷ earlier → IsOnRecord h e
   serial_to_recorded h a later e earlier q =

@@ -39,11 +39,13 @@ stands_status h w a n l =
     status_known h a (is_begun_from h a (stands_unfolded h a n l) p.0) ∙ ap (λ d. over d (has_committed h a)) p.2
     ∙ ap (λ c. over false c) p.1
 
+-- what began last is live
 pub status_began_new : {V : Type 0} (h : History V) (from : Origin) (y : ℕ) → Orderly h
     → stands h (parent_of from) ≡ true → y ≡ next_action h → status (Began from ▹ h) y ≡ IsLive
 status_began_new h from y w lp e = let f = folded_next h in
     stands_status (Began from ▹ h) (lp, w) y (λ k. omega arith) (stands_new h from y e)
 
+-- a begin leaves the status of each begun action
 pub status_began_old : {V : Type 0} (h : History V) (from : Origin) (y : ℕ) → is_begun h y ≡ true
     → status (Began from ▹ h) y ≡ status h y
 status_began_old h from y k =
@@ -54,6 +56,7 @@ status_began_old h from y k =
     status_known (Began from ▹ h) y (is_begun_from (Began from ▹ h) y q.0 (omega (arith, q.1)))
     ∙ ap (λ b. over b (has_committed h y)) d ∙ sym (status_known h y k)
 
+-- who commits has then the status of a committed action
 pub status_commit_own : {V : Type 0} (h : History V) (s : ℕ) → Orderly h → s ≢ 0 → stands h s ≡ true
     → status (Committed s ▹ h) s ≡ IsCommitted
 status_commit_own h s w s0 l =
@@ -62,10 +65,12 @@ status_commit_own h s w s0 l =
     ∙ ap (λ d. over d ((s == s) || has_committed h s)) p.2
     ∙ ap (λ b. over false (b || has_committed h s)) (eq-eqb s s refl)
 
+-- a commit leaves the status of every other
 pub status_commit_other : {V : Type 0} (h : History V) (s y : ℕ) → y ≢ s → status (Committed s ▹ h) y ≡ status h y
 status_commit_other h s y n =
     ap (λ b. cond (is_begun h y) (over (is_doomed h y) (b || has_committed h y)) IsFolded) (ne_eqb s y (λ e. n (sym e)))
 
+-- an abort makes begun actions under the aborted ones aborted, and leaves every other's status
 pub status_abort : {V : Type 0} (h : History V) (zs : List ℕ) (y : ℕ) → is_begun h y ≡ true
     → status (Aborted zs ▹ h) y ≡ cond (is_under h zs y) IsAborted (status h y)
 status_abort h zs y k =
@@ -77,11 +82,12 @@ status_abort h zs y k =
     over_or true d c = refl
     over_or false d c = refl
 
--- rows
+-- marking leaves the number of rows
 pub length-mark : (n : ℕ) (which : ℕ → Bool) (s : Status) (rs : List Row) → length (mark n which s rs) ≡ length rs
 length-mark n which s [] = refl
 length-mark n which s (r ∷ rs) = ap suc (length-mark n which s rs)
 
+-- there is a row for each number past the folded ones and before the next
 pub rows_length : {V : Type 0} (h : History V) → folded h + length (rows h) + 1 ≡ next_action h
 rows_length (Opened n) = omega arith
 rows_length (Began from ▹ h) = let ih = rows_length h in omega arith
@@ -147,7 +153,7 @@ is_above_low (Aborted zs ▹ h) x y u =
     ∙ is_above_low h x y u
 is_above_low (Accessed a o v ▹ h) x y u = is_above_low h x y u
 
--- the rows' ancestors are those of the history
+-- the rows and the history give a begun action the same ancestors, but for the base
 pub is_above_is : {V : Type 0} (h : History V) → Orderly h → (x y : ℕ) → x ≢ 0 → is_begun h y ≡ true
     → is_above (folded h) (rows h) x y ≡ is_ancestor h x y
 is_above_is {V} (Opened n) w x y x0 k = let q = is_begun_parts {V = V} (Opened n) y k in
@@ -174,13 +180,13 @@ is_above_is (Began from ▹ h) w x y x0 k =
     ∙ sym (ap (λ l. contains l x) t.1))
     (lineage_cases h from y)
 is_above_is (Committed s ▹ h) w x y x0 k =
-    is_above-mark (folded h) (λ k. k == s) IsCommitted (rows h) x y ∙ is_above_is h w.3 x y x0 k
+    is_above-mark (folded h) (λ k. k == s) IsCommitted (rows h) x y ∙ is_above_is h w.1 x y x0 k
 is_above_is (Aborted zs ▹ h) w x y x0 k =
     is_above-mark (folded h) (λ k. list_any (λ z. is_above (folded h) (rows h) z k) zs) IsAborted (rows h) x y
     ∙ is_above_is h w.1 x y x0 k
-is_above_is (Accessed a o v ▹ h) w x y x0 k = is_above_is h w.3 x y x0 k
+is_above_is (Accessed a o v ▹ h) w x y x0 k = is_above_is h w.1 x y x0 k
 
--- and each row says what the history says
+-- the row of a begun action says what the history says of it
 pub row_is : {V : Type 0} (h : History V) → Orderly h → (a : ℕ) → is_begun h a ≡ true
     → row_at (folded h) (rows h) a ≡ Some (row_of h a)
 row_is {V} (Opened n) w a k = let q = is_begun_parts {V = V} (Opened n) a k in absurd (omega (arith, q.0, q.1))
@@ -205,11 +211,12 @@ row_is (Began from ▹ h) w a k =
 row_is (Committed s ▹ h) w a k =
     let made : Status → Option Row = λ t. Some (record { origin = origin h a; status = t }) in
     row_at-mark (folded h) (λ k. k == s) IsCommitted (rows h) a
-    ∙ ap (marked (a == s) IsCommitted) (row_is h w.3 a k)
+    ∙ ap (marked (a == s) IsCommitted) (row_is h w.1 a k)
     ∙ ⊎_elim
     (λ e. ap (λ b. Some (cond b (with_status IsCommitted (row_of h a)) (row_of h a))) (eq-eqb a s e)
     ∙ ap made (sym
-    (subst (λ u. status (Committed s ▹ h) u ≡ IsCommitted) (sym e) (status_commit_own h s w.3 w.0 w.1))))
+    (subst (λ u. status (Committed s ▹ h) u ≡ IsCommitted) (sym e)
+    (status_commit_own h s w.1 w.0.not_base w.0.standing))))
     (λ ne. ap (λ b. Some (cond b (with_status IsCommitted (row_of h a)) (row_of h a))) (ne_eqb a s ne)
     ∙ ap made (sym (status_commit_other h s a ne)))
     (cases_eq a s)
@@ -230,9 +237,9 @@ row_is (Aborted zs ▹ h) w a k =
         ≡ Some (record { origin = origin h a; status = cond b IsAborted (status h a) })
     pushed true made = refl
     pushed false made = refl
-row_is (Accessed d o v ▹ h) w a k = row_is h w.3 a k
+row_is (Accessed d o v ▹ h) w a k = row_is h w.1 a k
 
--- the origin says who is the parent and who the creator
+-- the origin says who is the parent
 pub parent_of_origin : {V : Type 0} (h : History V) (a : ℕ) → parent_of (origin h a) ≡ parent h a
 parent_of_origin (Opened n) a = refl
 parent_of_origin (Began from ▹ h) a =
@@ -245,6 +252,7 @@ parent_of_origin (Committed s ▹ h) a = parent_of_origin h a
 parent_of_origin (Aborted z ▹ h) a = parent_of_origin h a
 parent_of_origin (Accessed b o v ▹ h) a = parent_of_origin h a
 
+-- the origin says who is the creator
 pub creator_of_origin : {V : Type 0} (h : History V) (a : ℕ) → creator_of (origin h a) ≡ creator h a
 creator_of_origin (Opened n) a = refl
 creator_of_origin (Began from ▹ h) a =
@@ -299,6 +307,7 @@ under_listed n (r ∷ rs) f a each =
     unsome : (x y : Row) → Some x ≡ Some y → x ≡ y
     unsome x y e = ap (λ o. unwrap_or o x) e
 
+-- an action has the status of a live one where it is live, and only there
 pub live_status_is : {V : Type 0} (h : History V) (k : ℕ) → is_live_status (status h k) ≡ is_live h k
 live_status_is h k =
     ⊎_elim
@@ -315,7 +324,7 @@ live_status_is h k =
     by_tests false true = refl
     by_tests false false = refl
 
--- the rows' live children are those of the history
+-- who has a live child by the rows has one by the history, and the other way round
 pub has_live_row_is : {V : Type 0} (h : History V) → Orderly h → (a : ℕ) → has_live_row (rows h) a ≡ has_live_child h a
 has_live_row_is h w a =
     under_listed (folded h) (rows h) (row_of h) a
@@ -352,7 +361,7 @@ is_above_unbegun (Aborted zs ▹ h) x y u =
     ∙ is_above_unbegun h x y u
 is_above_unbegun (Accessed a o v ▹ h) x y u = is_above_unbegun h x y u
 
--- the base has no row
+-- by the rows the base is above none
 pub is_above_zero : (n : ℕ) (rs : List Row) (y : ℕ) → is_above n rs 0 y ≡ false
 is_above_zero n [] y = refl
 is_above_zero n (r ∷ rs) y =
@@ -382,6 +391,7 @@ ancestor_unfolded h w (suc n) x y l u b x0 m =
     (cases_eq p 0))
     (or_cases (x == y) (contains (lineage h p) x) (subst (λ k. contains k x ≡ true) t.1 m))
 
+-- an ancestor of a begun action, other than the base, is begun
 pub ancestor_begun : {V : Type 0} (h : History V) → Orderly h → (x y : ℕ) → is_begun h y ≡ true → x ≢ 0
     → is_ancestor h x y ≡ true → is_begun h x ≡ true
 ancestor_begun h w x y k x0 m =
@@ -389,6 +399,7 @@ ancestor_begun h w x y k x0 m =
     let l = ancestor_le h x y (parents_are_older h w) q.1 m in
     is_begun_from h x (ancestor_unfolded h w (suc y) x y (omega arith) q.0 q.1 x0 m) (omega (arith, q.1))
 
+-- the rows say of two begun actions whether one is an ancestor of the other, and of others no
 pub is_above_exactly : {V : Type 0} (h : History V) → Orderly h → (x y : ℕ)
     → is_above (folded h) (rows h) x y ≡ ((is_begun h x && is_begun h y) && is_ancestor h x y)
 is_above_exactly h w x y =

@@ -13,7 +13,7 @@ module _ {V C A : Type 0} (meaning : Meaning V C A) (contents : ℕ → C) where
   run-more s [] e o = refl
   run-more s (x ∷ es) e o = run-more (after_access meaning s x) es e o
 
-  -- what is left in the end is the content
+  -- a run leaves in each object what its accesses leave there
   pub run_content : (es : List (Access V)) (o : ℕ)
       → run meaning contents (reverse es) o ≡ content_after meaning contents o es
   run_content [] o = refl
@@ -26,6 +26,7 @@ module _ {V C A : Type 0} (meaning : Meaning V C A) (contents : ℕ → C) where
   runs-more s [] e r f = (f, tt)
   runs-more s (x ∷ es) e r f = (r.0, runs-more (after_access meaning s x) es e r.1 f)
 
+  -- accesses that replay give their answers again when they are run
   pub runs : (es : List (Access V)) → Replays meaning contents es → AnswersAgain meaning contents (reverse es)
   runs [] r = tt
   runs (e ∷ es) r =

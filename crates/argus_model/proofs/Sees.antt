@@ -65,6 +65,7 @@ module _ {V C A : Type 0} (meaning : Meaning V C A) (opening : Opening C) where
       first false (and_off (o' == o) (meaning.writes v) (kept b) n) ∙ ih ∙ skip (t b))
       (cases_Bool here)
 
+  -- an action sees what the accesses that count for it leave
   pub sees_is : (h : History V) → Orderly h → (y o : ℕ)
       → sees meaning opening h y o ≡ content_after meaning opening.contents o (visible_accesses h y)
   sees_is h w y o =
@@ -72,6 +73,7 @@ module _ {V C A : Type 0} (meaning : Meaning V C A) (opening : Opening C) where
       (λ a u. ap (counts_for h y) (owner_is h w a (has_used_begun_action meaning.writes h w a o u))
       ∙ counts_for_is h y (owner_by_steps h a))
 
+  -- there for good is what the accesses that count for the base leave
   pub base_is : (h : History V) → Orderly h → (o : ℕ)
       → base meaning opening h o ≡ content_after meaning opening.contents o (visible_accesses h 0)
   base_is h w o =
@@ -79,7 +81,7 @@ module _ {V C A : Type 0} (meaning : Meaning V C A) (opening : Opening C) where
       (λ a u. ap is_base (owner_is h w a (has_used_begun_action meaning.writes h w a o u))
       ∙ is_base_is h (owner_by_steps h a))
 
-  -- who stand under the same writers see the same
+  -- two actions see the same in an object where the same of its writers are ancestors of both
   pub sees_same : (h : History V) → Orderly h → (x y o : ℕ)
       → ((z : ℕ) → contains (writers meaning h o) z ≡ true → is_ancestor h z x ≡ is_ancestor h z y)
       → sees meaning opening h x o ≡ sees meaning opening h y o

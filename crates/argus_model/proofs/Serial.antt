@@ -10,9 +10,10 @@ use Rattle.argus_model.specs.History.{History, Opened, next_action, ◌▹◌}
 use Rattle.argus_model.specs.HolderSteps.{has_used}
 use Rattle.argus_model.specs.Meaning.{Fits, Meaning}
 use Rattle.argus_model.specs.Numbers.{contains}
-use Rattle.argus_model.specs.OwnerSteps.{handed_up, owner_by_steps, standing_child, stands, unless_lost}
+use Rattle.argus_model.specs.OwnerSteps.{StandsAlone, handed_up, owner_by_steps, stands, unless_lost}
 use Rattle.argus_model.specs.Work.{Access, all_of, content_after, serial_order_to, work}
-use Rattle.argus_model.specs.WorkSteps.{LawfulSteps, Replays, accesses_by, owner_passes, visible_accesses}
+use Rattle.argus_model.specs.WorkSteps.{LawfulAccess, LawfulSteps, Replays, accesses_by, owner_passes}
+use Rattle.argus_model.specs.WorkSteps.{visible_accesses}
 use Rattle.argus_model.proofs.Ancestors.{ParentsAreOlder, Split, ancestor_le, ancestor_self, ancestor_trans}
 use Rattle.argus_model.proofs.Ancestors.{lineage_cases, lineage_old, next_pos, parent_older, split_lineage, under_below}
 use Rattle.argus_model.proofs.Bools.{same_bool}
@@ -25,12 +26,13 @@ use Rattle.argus_model.proofs.Standing.{stands_begun, stands_commit, stands_old,
 use Rattle.argus_model.proofs.Work.{all_of-append, all_of_agree, find_writer, no_work, touches, touches-all_of}
 use Rattle.argus_model.proofs.Work.{touches_all, user_of}
 
--- the rest of a lineage: smaller numbers
+-- a lineage is y and then a rest of smaller numbers
 pub record Rest {V : Type 0} (h : History V) (y : ℕ) : Type 0 where
   pub rest : List ℕ
   pub is : lineage h y ≡ y ∷ rest
   pub less : (z : ℕ) → contains rest z ≡ true → z < y
 
+-- the lineage of the base is the base alone
 pub lineage-base : {V : Type 0} (h : History V) → lineage h 0 ≡ 0 ∷ []
 lineage-base (Opened n) = refl
 lineage-base (Began from ▹ h) = lineage_old h from 0 (let q = next_pos h in omega arith) ∙ lineage-base h
@@ -38,7 +40,7 @@ lineage-base (Committed s ▹ h) = lineage-base h
 lineage-base (Aborted z ▹ h) = lineage-base h
 lineage-base (Accessed a o v ▹ h) = lineage-base h
 
--- to the base there is its work alone
+-- the serial order up to the base is the work of the base
 pub serial_to-base : {V : Type 0} (h : History V) → serial_order_to h 0 ≡ work h 0
 serial_to-base h = ap (all_of (work h)) (lineage-base h) ∙ append-nil (work h 0)
 
@@ -59,13 +61,14 @@ rest_of h f y l =
     })
     (cases_eq y 0)
 
+-- the base stands
 pub base_stands : {V : Type 0} (h : History V) → Orderly h → stands h 0 ≡ true
 base_stands (Opened n) w = refl
 base_stands (Began from ▹ h) w = stands_old h from 0 (let q = next_pos h in omega arith) ∙ base_stands h w.1
 base_stands (Committed s ▹ h) w =
     some_at (owner_by_steps (Committed s ▹ h) 0) 0
-    (handed_stays s (parent h s) (owner_by_steps h 0) 0 (at_some (owner_by_steps h 0) 0 (base_stands h w.3))
-    (λ e. w.0 (sym e)))
+    (handed_stays s (parent h s) (owner_by_steps h 0) 0 (at_some (owner_by_steps h 0) 0 (base_stands h w.1))
+    (λ e. w.0.not_base (sym e)))
 base_stands (Aborted z ▹ h) w =
     let k : is_under h z 0 ≡ false =
     false_from_ne_true (is_under h z 0)
@@ -73,7 +76,7 @@ base_stands (Aborted z ▹ h) w =
     ancestor_le h u.0 0 (parents_are_older h w.1) (next_pos h) u.2 in (w.0 u.0 u.1).0 (omega arith)) in
     some_at (owner_by_steps (Aborted z ▹ h) 0) 0
     (kept_stays (is_under h z) (owner_by_steps h 0) 0 (at_some (owner_by_steps h 0) 0 (base_stands h w.1)) k)
-base_stands (Accessed a o v ▹ h) w = base_stands h w.3
+base_stands (Accessed a o v ▹ h) w = base_stands h w.1
 
 -- two tests of the owner agree where they agree at each owner
 owner_passes_agree : (t u : ℕ → Bool) (o : Option ℕ) → ((x : ℕ) → o ≡ Some x → t x ≡ u x)
@@ -100,21 +103,23 @@ owner_passes_kept t lost (Some x) a =
     (cases_Bool (lost x))
 
 module _ {V C A : Type 0} (meaning : Meaning V C A) (contents : ℕ → C) where
+  -- what is lawful by steps is orderly
   pub orderly : (h : History V) → LawfulSteps meaning contents h → Orderly h
   orderly (Opened n) w = tt
   orderly (Began from ▹ h) w = (w.0, orderly h w.1)
-  orderly (Committed s ▹ h) w = (w.0, w.1, w.2, orderly h w.3)
+  orderly (Committed s ▹ h) w = (w.0, orderly h w.1)
   orderly (Aborted z ▹ h) w = (w.0, orderly h w.1)
-  orderly (Accessed a o v ▹ h) w = (w.0, w.1, w.4, orderly h w.5)
+  orderly (Accessed a o v ▹ h) w = (w.0.alone, orderly h w.1)
 
+  -- in what is lawful by steps each access got its lock
   pub guarded : (h : History V) → LawfulSteps meaning contents h → Guarded meaning.writes h
   guarded (Opened n) w = tt
   guarded (Began from ▹ h) w = guarded h w.1
-  guarded (Committed s ▹ h) w = guarded h w.3
+  guarded (Committed s ▹ h) w = guarded h w.1
   guarded (Aborted z ▹ h) w = guarded h w.1
-  guarded (Accessed a o v ▹ h) w = (w.2, guarded h w.5)
+  guarded (Accessed a o v ▹ h) w = (w.0.lock, guarded h w.1)
 
-  -- the two invariants, at each live action
+  -- y sees what the serial order up to y leaves, and that order replays
   pub record Serial (h : History V) (y : ℕ) : Type 0 where
     pub sees : (o : ℕ)
         → content_after meaning contents o (serial_order_to h y)
@@ -133,7 +138,7 @@ module _ {V C A : Type 0} (meaning : Meaning V C A) (contents : ℕ → C) where
     replays = subst (λ es. Replays meaning contents es) (sym e) s.replays;
   }
 
-  -- what each live action sees, after one more step
+  -- an abort leaves what those see that still stand
   pub seen_abort : (h : History V) (z : List ℕ) (y o : ℕ) → Orderly h → stands (Aborted z ▹ h) y ≡ true
       → content_after meaning contents o (visible_accesses h y)
       ≡ content_after meaning contents o (visible_accesses (Aborted z ▹ h) y)
@@ -157,6 +162,7 @@ module _ {V C A : Type 0} (meaning : Meaning V C A) (contents : ℕ → C) where
       ⊎_elim (λ k. absurd (let l = has_used_begun meaning.writes h w a o false u in omega (arith, k.0))) (λ k. sym k.1)
       (owner_cases h from a)
 
+  -- a new action sees what its parent sees
   pub seen_begin_new : (h : History V) (from : Origin) (y o : ℕ) → Orderly h → y ≡ next_action h
       → content_after meaning contents o (visible_accesses h (parent_of from))
       ≡ content_after meaning contents o (visible_accesses (Began from ▹ h) y)
@@ -173,6 +179,7 @@ module _ {V C A : Type 0} (meaning : Meaning V C A) (contents : ℕ → C) where
       sym (ap (λ t. contains t x) t ∙ ap (λ b. b || contains (lineage h (parent_of from)) x) ne))
       ∙ ap (owner_passes (λ x. is_ancestor g x y)) (has_used_owner h from a o w u))
 
+  -- a begin leaves what every other sees
   pub seen_begin_old : (h : History V) (from : Origin) (y o : ℕ) → Orderly h → y ≢ next_action h
       → content_after meaning contents o (visible_accesses h y)
       ≡ content_after meaning contents o (visible_accesses (Began from ▹ h) y)
@@ -197,6 +204,7 @@ module _ {V C A : Type 0} (meaning : Meaning V C A) (contents : ℕ → C) where
       (ih y (sym (stands_old h from y k.0) ∙ l)))
       (lineage_cases h from y)
 
+  -- who accesses an object sees there what the access leaves, and in others what it saw
   pub seen_access_own : (h : History V) (a o : ℕ) (v : V) (i : ℕ) → stands h a ≡ true
       → content_after meaning contents i (visible_accesses (Accessed a o v ▹ h) a)
       ≡ cond (o == i) (meaning.after v (content_after meaning contents i (visible_accesses h a)))
@@ -207,6 +215,7 @@ module _ {V C A : Type 0} (meaning : Meaning V C A) (contents : ℕ → C) where
       (cond b (record { object = o; what = v } ∷ accesses_by t h) (accesses_by t h)))
       (ap (owner_passes (λ x. is_ancestor h x a)) (at_some (owner_by_steps h a) a la) ∙ ancestor_self h a)
 
+  -- an access leaves what those see that are not under its action
   pub seen_access_other : (h : History V) (a o : ℕ) (v : V) (y i : ℕ) → stands h a ≡ true
       → (is_ancestor h a y ≡ true → ⊥)
       → content_after meaning contents i (visible_accesses h y)
@@ -242,17 +251,17 @@ module _ {V C A : Type 0} (meaning : Meaning V C A) (contents : ℕ → C) where
             (subst (Fits meaning v) (sym (s.sees o)) q, s.replays);
       }
 
-  after_access : (h : History V) (a o : ℕ) (v : V) → Orderly h → stands h a ≡ true → standing_child h a h ≡ false
-      → Fits meaning v (content_after meaning contents o (visible_accesses h a)) → Serials h
+  after_access : (h : History V) (a o : ℕ) (v : V) → Orderly h → LawfulAccess meaning contents h a o v → Serials h
       → Serials (Accessed a o v ▹ h)
-  after_access h a o v w la n q ih y l =
+  after_access h a o v w now ih y l =
+      let la = now.alone.standing in
       let g = Accessed a o v ▹ h in
       let e : Access V = record { object = o; what = v } in
       ⊎_elim
-      (λ k. subst (λ u. Serial g u) k (access_here h a o v w la q ih))
+      (λ k. subst (λ u. Serial g u) k (access_here h a o v w la now.answer ih))
       (λ k.
       let not_above : is_ancestor h a y ≡ true → ⊥ =
-      λ m. k (alone h (parents_are_older h w) (stands_upward h w) a y l m n) in
+      λ m. k (alone h (parents_are_older h w) (stands_upward h w) a y l m now.alone.childless) in
       carried h g y y
       (all_of_agree (work g) (work h) (lineage h y)
       (λ z m. ap (λ b. cond b (e ∷ work h z) (work h z))
@@ -261,16 +270,17 @@ module _ {V C A : Type 0} (meaning : Meaning V C A) (contents : ℕ → C) where
       (ih y l))
       (cases_eq a y)
 
-  module _ (h : History V) (s y : ℕ) (w : Orderly h) (gd : Guarded meaning.writes h) (s0 : s ≢ 0)
-      (ls : stands h s ≡ true) (n : standing_child h s h ≡ false) (ly : stands h y ≡ true) (ne : y ≢ s) where
+  module _ (h : History V) (s y : ℕ) (w : Orderly h) (gd : Guarded meaning.writes h) (now : StandsAlone h s)
+      (ly : stands h y ≡ true) (ne : y ≢ s) where
     not_below : is_ancestor h s y ≡ true → ⊥
-    not_below m = ne (sym (alone h (parents_are_older h w) (stands_upward h w) s y ly m n))
+    not_below m = ne (sym (alone h (parents_are_older h w) (stands_upward h w) s y ly m now.childless))
 
     work_stays : (z : ℕ) → parent h s ≢ z → work (Committed s ▹ h) z ≡ work h z
     work_stays z k = ap (λ b. cond b (work h s ++ work h z) (work h z)) (ne_eqb (parent h s) z k)
 
     lineage_s : lineage h s ≡ s ∷ lineage h (parent h s)
-    lineage_s = (parent_older h s (parents_are_older h w) (omega arith) (stands_begun h s ls)).1
+    lineage_s =
+        (parent_older h s (parents_are_older h w) (omega (arith, now.not_base)) (stands_begun h s now.standing)).1
 
     serial_s : serial_order_to h s ≡ work h s ++ serial_order_to h (parent h s)
     serial_s = ap (all_of (work h)) lineage_s
@@ -295,7 +305,7 @@ module _ {V C A : Type 0} (meaning : Meaning V C A) (contents : ℕ → C) where
     spared o none =
         let k : touches meaning.writes (work h s) o false ≡ false =
         false_from_ne_true (touches meaning.writes (work h s) o false)
-        (λ m. let u = user_of meaning.writes h w s o false ls m in none u.action u.uses u.owned) in
+        (λ m. let u = user_of meaning.writes h w s o false now.standing m in none u.action u.uses u.owned) in
         sym (ap (content_after meaning contents o) serial_s
         ∙ content_past meaning contents o (work h s) (serial_order_to h (parent h s)) k)
 
@@ -336,12 +346,14 @@ module _ {V C A : Type 0} (meaning : Meaning V C A) (contents : ℕ → C) where
           let u = user_of meaning.writes h w z o true lz t.touch in
           let zs : z ≢ s = λ e. not_below (subst (λ q. is_ancestor h q y ≡ true) e az) in
           ⊎_elim
-          (λ k. zs (sym (alone h (parents_are_older h w) (stands_upward h w) s z lz k n)))
+          (λ k. zs (sym (alone h (parents_are_older h w) (stands_upward h w) s z lz k now.childless)))
           (λ k. let q =
           ancestor_le h z (parent h s) (parents_are_older h w) (parent_begun h s (parents_are_older h w))
-          (above_parent h (parents_are_older h w) s z s0 ls zs k) in let b = cut.above z t.among in omega arith)
+          (above_parent h (parents_are_older h w) s z now.not_base now.standing zs k) in
+          let b = cut.above z t.among in omega arith)
           (exclusion meaning.writes h w gd a u.action o s z ua u.uses ea u.owned))
 
+      -- after the commit of s, who is under its parent sees as before what s had not written
       pub seen_same : (o : ℕ) → ((a : ℕ) → has_used meaning.writes h a o false ≡ true → owner_by_steps h a ≢ Some s)
           → content_after meaning contents o (visible_accesses h y)
           ≡ content_after meaning contents o (visible_accesses (Committed s ▹ h) y)
@@ -351,6 +363,7 @@ module _ {V C A : Type 0} (meaning : Meaning V C A) (contents : ℕ → C) where
           (λ a u. owner_passes_handed (λ x. is_ancestor h x y) (λ x. is_ancestor h x y) s (parent h s)
           (owner_by_steps h a) (λ e. absurd (none a u e)) (λ x e k. refl))
 
+      -- after the commit of s, who is under its parent sees as s saw what s had written
       pub seen_as_s : (o a : ℕ) → has_used meaning.writes h a o false ≡ true → owner_by_steps h a ≡ Some s
           → content_after meaning contents o (visible_accesses h s)
           ≡ content_after meaning contents o (visible_accesses (Committed s ▹ h) y)
@@ -361,7 +374,7 @@ module _ {V C A : Type 0} (meaning : Meaning V C A) (contents : ℕ → C) where
           (λ b u. owner_passes_handed (λ x. is_ancestor h x s) (λ x. is_ancestor h x y) s p (owner_by_steps h b)
           (λ e. ancestor_self h s ∙ sym above)
           (λ x e k. same_bool (is_ancestor h x s) (is_ancestor h x y)
-          (λ m. ancestor_trans h x p y f yl (above_parent h f s x s0 ls k m) above)
+          (λ m. ancestor_trans h x p y f yl (above_parent h f s x now.not_base now.standing k m) above)
           (λ m. ⊎_elim (λ q. absurd (not_below (ancestor_trans h s x y f yl q m))) (λ q. q)
           (exclusion meaning.writes h w gd a b o s x ua (has_used_all meaning.writes h b o true u) ea e))))
 
@@ -369,7 +382,7 @@ module _ {V C A : Type 0} (meaning : Meaning V C A) (contents : ℕ → C) where
       commit_above ih = record {
         sees = λ o. ap (content_after meaning contents o) serial_after ∙ ⊎_elim
             (λ k. content_past meaning contents o between (serial_order_to h s)
-            (touches_all meaning.writes between o (apart o k.0 k.1 k.2)) ∙ (ih s ls).sees o
+            (touches_all meaning.writes between o (apart o k.0 k.1 k.2)) ∙ (ih s now.standing).sees o
             ∙ seen_as_s o k.0 k.1 k.2)
             (λ none. content_front meaning contents o between (serial_order_to h s) (serial_order_to h (parent h s))
             (sym (spared o none)) ∙ sym (ap (content_after meaning contents o) serial_before) ∙ (ih y ly).sees o
@@ -380,9 +393,10 @@ module _ {V C A : Type 0} (meaning : Meaning V C A) (contents : ℕ → C) where
             (λ o m. ⊎_elim (λ k. absurd (both_ways (touches meaning.writes between o true) (apart o k.0 k.1 k.2) m))
             (λ none. spared o none) (find_writer meaning.writes h h s o))
             (subst (λ es. Replays meaning contents es) serial_before (ih y ly).replays)
-            (ih s ls).replays);
+            (ih s now.standing).replays);
       }
 
+    -- after the commit of s, who is not under its parent sees as before
     pub seen_aside : is_ancestor h (parent h s) y ≡ false → (o : ℕ)
         → content_after meaning contents o (visible_accesses h y)
         ≡ content_after meaning contents o (visible_accesses (Committed s ▹ h) y)
@@ -402,24 +416,26 @@ module _ {V C A : Type 0} (meaning : Meaning V C A) (contents : ℕ → C) where
         (seen_aside off)
         (ih y ly)
 
-  after_commit : (h : History V) (s : ℕ) → Orderly h → Guarded meaning.writes h → s ≢ 0 → stands h s ≡ true
-      → standing_child h s h ≡ false → Serials h → Serials (Committed s ▹ h)
-  after_commit h s w g s0 ls n ih y l =
-      let k = stands_commit h (parents_are_older h w) (stands_upward h w) s y s0 ls l in
+  after_commit : (h : History V) (s : ℕ) → Orderly h → Guarded meaning.writes h → StandsAlone h s → Serials h
+      → Serials (Committed s ▹ h)
+  after_commit h s w g now ih y l =
+      let k = stands_commit h (parents_are_older h w) (stands_upward h w) s y now.not_base now.standing l in
       ⊎_elim
-      (λ m. commit_above h s y w g s0 ls n k.0 k.1 m ih)
-      (λ m. commit_aside h s y w g s0 ls n k.0 k.1 m ih)
+      (λ m. commit_above h s y w g now k.0 k.1 m ih)
+      (λ m. commit_aside h s y w g now k.0 k.1 m ih)
       (cases_Bool (is_ancestor h (parent h s) y))
 
+  -- whatever stands sees what the serial order up to it leaves, and that order replays
   pub serials : (h : History V) → LawfulSteps meaning contents h → Serials h
   serials (Opened n) w = λ y l.
       let b : y ≡ 0 = let o = at_some (owner_by_steps {V = V} (Opened n) y) y l in
       ⊎_elim (λ e. e) (λ ne. absurd (grind (arith, nat_tests))) (cases_eq y 0) in
       subst (λ u. Serial (Opened n) u) (sym b) (record { sees = λ o. refl; replays = tt })
   serials (Began from ▹ h) w = after_begin h from (orderly h w.1) w.0 (serials h w.1)
-  serials (Committed s ▹ h) w = after_commit h s (orderly h w.3) (guarded h w.3) w.0 w.1 w.2 (serials h w.3)
+  serials (Committed s ▹ h) w = after_commit h s (orderly h w.1) (guarded h w.1) w.0 (serials h w.1)
   serials (Aborted z ▹ h) w = after_abort h z (orderly h w.1) (serials h w.1)
-  serials (Accessed a o v ▹ h) w = after_access h a o v (orderly h w.5) w.0 w.1 w.3 (serials h w.5)
+  serials (Accessed a o v ▹ h) w = after_access h a o v (orderly h w.1) w.0 (serials h w.1)
 
+  -- the base sees what the serial order up to it leaves, and that order replays
   pub base_serial : (h : History V) → LawfulSteps meaning contents h → Serial h 0
   base_serial h w = serials h w 0 (base_stands h (orderly h w))

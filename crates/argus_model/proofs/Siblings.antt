@@ -17,16 +17,18 @@ use Rattle.argus_model.proofs.Live.{begun_rising, contains_siblings, is_begun_fr
 use Rattle.argus_model.proofs.Numbers.{any_found, any_from, increasing, rising_filter}
 use Rattle.argus_model.proofs.Theorems.{ancestor_live}
 
+-- a live action is begun
 pub live_begun : {V : Type 0} (h : History V) (a : ℕ) → is_live h a ≡ true → is_begun h a ≡ true
 live_begun h a l = (and_parts (is_begun h a) (not (has_committed h a) && not (is_doomed h a)) l).0
 
--- siblings are listed in increasing number
+-- live siblings are listed in increasing number
 pub siblings_increase : {V : Type 0} (h : History V) (a : ℕ) → IsStrictlyIncreasing (live_siblings h a)
 siblings_increase h a =
     increasing (live_siblings h a)
     (rising_filter (λ x. is_live h x && is_sibling h a x) (begun_actions h) (begun_rising h))
 
 module _ {V C A : Type 0} (meaning : Meaning V C A) (opening : Opening C) where
+  -- a creator is older than what it began
   pub creator_older : (h : History V) (a : ℕ) → Lawful meaning opening h → is_begun h a ≡ true → creator h a < a
   creator_older (Opened n) a l k = let q = is_begun_parts {V = V} (Opened n) a k in omega (arith, q.0)
   creator_older (Began from ▹ h) a l k =
@@ -45,6 +47,7 @@ module _ {V C A : Type 0} (meaning : Meaning V C A) (opening : Opening C) where
   creator_older (Aborted zs ▹ h) a l k = creator_older h a l.1 k
   creator_older (Accessed d o v ▹ h) a l k = creator_older h a l.1 k
 
+  -- a live action is under a live sibling of a where one of its lineage is a sibling of a
   pub under_siblings : (h : History V) (a x : ℕ) → Lawful meaning opening h → is_live h x ≡ true
       → is_under h (live_siblings h a) x ≡ list_any (is_sibling h a) (lineage h x)
   under_siblings h a x l k =

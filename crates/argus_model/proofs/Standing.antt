@@ -9,8 +9,8 @@ use Rattle.argus_model.specs.Ancestors.{is_ancestor, is_under, lineage, parent}
 use Rattle.argus_model.specs.Event.{Aborted, Accessed, Began, Committed, Origin, creator_of, parent_of}
 use Rattle.argus_model.specs.History.{History, Opened, folded, next_action, ◌▹◌}
 use Rattle.argus_model.specs.Numbers.{contains}
-use Rattle.argus_model.specs.OwnerSteps.{AllStand, handed_up, is_exactly, owner_by_steps, standing_child, stands}
-use Rattle.argus_model.specs.OwnerSteps.{unless_lost}
+use Rattle.argus_model.specs.OwnerSteps.{AllStand, StandsAlone, handed_up, is_exactly, owner_by_steps, standing_child}
+use Rattle.argus_model.specs.OwnerSteps.{stands, unless_lost}
 use Rattle.argus_model.proofs.Ancestors.{ParentsAreOlder, ancestor_new_is, ancestor_old_is, ancestor_self}
 use Rattle.argus_model.proofs.Ancestors.{child_on_path, folded_next, parent_cases, parent_older, under_below}
 
@@ -18,19 +18,20 @@ use Rattle.argus_model.proofs.Ancestors.{child_on_path, folded_next, parent_case
 abbrev pub Orderly : {V : Type 0} → History V → Type 0
 Orderly (Opened n) = Unit {0}
 Orderly (Began from ▹ older) = (stands older (parent_of from) ≡ true) × Orderly older
-Orderly (Committed s ▹ older) =
-    (s ≢ 0) × (stands older s ≡ true) × (standing_child older s older ≡ false) × Orderly older
+Orderly (Committed s ▹ older) = StandsAlone older s × Orderly older
 Orderly (Aborted zs ▹ older) = AllStand older zs × Orderly older
-Orderly (Accessed a o v ▹ older) =
-    (stands older a ≡ true) × (standing_child older a older ≡ false) × (a ≢ 0) × Orderly older
+Orderly (Accessed a o v ▹ older) = StandsAlone older a × Orderly older
 
+-- an owner that is exactly y is y
 pub at_some : (o : Option ℕ) (y : ℕ) → is_exactly o y ≡ true → o ≡ Some y
 at_some None y e = absurd (false≢true e)
 at_some (Some x) y e = ap Some (eqb-true x y e)
 
+-- the owner y is exactly y
 pub some_at : (o : Option ℕ) (y : ℕ) → o ≡ Some y → is_exactly o y ≡ true
 some_at o y e = rw e (eq-eqb y y refl)
 
+-- after s hands up to p, an owner is p in the place of s, or another that it was before
 pub handed_cases : (s p : ℕ) (o : Option ℕ) (x : ℕ) → handed_up s p o ≡ Some x
     → ((o ≡ Some s) × (x ≡ p)) ⊎ ((o ≡ Some x) × (x ≢ s))
 handed_cases s p None x e = grind arith
@@ -38,27 +39,32 @@ handed_cases s p (Some y) x e =
     ⊎_elim (λ k. inl (ap Some k, grind (arith, nat_tests)))
     (λ k. inr (grind (arith, nat_tests), grind (arith, nat_tests))) (cases_eq y s)
 
+-- after s hands up to p, what s answered for is p's
 pub handed_from : (s p : ℕ) (o : Option ℕ) → o ≡ Some s → handed_up s p o ≡ Some p
 handed_from s p o e = grind (arith, nat_tests)
 
+-- after s hands up to p, what another answered for is still that one's
 pub handed_stays : (s p : ℕ) (o : Option ℕ) (x : ℕ) → o ≡ Some x → x ≢ s → handed_up s p o ≡ Some x
 handed_stays s p o x e ne = grind (arith, nat_tests)
 
+-- an owner that is left was the owner before, and is not lost
 pub kept_cases : (lost : ℕ → Bool) (o : Option ℕ) (x : ℕ) → unless_lost lost o ≡ Some x
     → (o ≡ Some x) × (lost x ≡ false)
 kept_cases lost None x e = grind arith
 kept_cases lost (Some y) x e =
     ⊎_elim (λ k. absurd (grind arith)) (λ k. (grind arith, grind arith)) (cases_Bool (lost y))
 
+-- an owner that is not lost is left
 pub kept_stays : (lost : ℕ → Bool) (o : Option ℕ) (x : ℕ) → o ≡ Some x → lost x ≡ false → unless_lost lost o ≡ Some x
 kept_stays lost o x e n = grind arith
 
+-- what began last is its own owner; every other owner stays
 pub owner_cases : {V : Type 0} (h : History V) (from : Origin) (y : ℕ)
     → ((y ≡ next_action h) × (owner_by_steps (Began from ▹ h) y ≡ Some y))
     ⊎ ((y ≢ next_action h) × (owner_by_steps (Began from ▹ h) y ≡ owner_by_steps h y))
 owner_cases h from y = grind (arith, nat_tests)
 
--- only what has begun has an owner
+-- what has an owner has begun
 pub owned_begun : {V : Type 0} (h : History V) (y x : ℕ) → owner_by_steps h y ≡ Some x → y < next_action h
 owned_begun (Opened n) y x e = ⊎_elim (λ k. omega arith) (λ k. absurd (grind (arith, nat_tests))) (cases_eq y 0)
 owned_begun (Began from ▹ h) y x e =
@@ -70,7 +76,7 @@ owned_begun (Committed s ▹ h) y x e =
 owned_begun (Aborted z ▹ h) y x e = owned_begun h y x (kept_cases (is_under h z) (owner_by_steps h y) x e).0
 owned_begun (Accessed a o v ▹ h) y x e = owned_begun h y x e
 
--- what is folded has no owner
+-- what has an owner, but for the base, has a number past the folded ones
 pub owned_unfolded : {V : Type 0} (h : History V) (y x : ℕ) → y ≢ 0 → owner_by_steps h y ≡ Some x → folded h < y
 owned_unfolded (Opened n) y x ne e = absurd (grind (arith, nat_tests))
 owned_unfolded (Began from ▹ h) y x ne e =
@@ -82,20 +88,23 @@ owned_unfolded (Committed s ▹ h) y x ne e =
 owned_unfolded (Aborted z ▹ h) y x ne e = owned_unfolded h y x ne (kept_cases (is_under h z) (owner_by_steps h y) x e).0
 owned_unfolded (Accessed a o v ▹ h) y x ne e = owned_unfolded h y x ne e
 
+-- what stands, but for the base, has a number past the folded ones
 pub stands_unfolded : {V : Type 0} (h : History V) (y : ℕ) → y ≢ 0 → stands h y ≡ true → folded h < y
 stands_unfolded h y ne e = owned_unfolded h y y ne (at_some (owner_by_steps h y) y e)
 
+-- what stands has begun
 pub stands_begun : {V : Type 0} (h : History V) (y : ℕ) → stands h y ≡ true → y < next_action h
 stands_begun h y e = owned_begun h y y (at_some (owner_by_steps h y) y e)
 
+-- in an orderly history parents are older
 pub parents_are_older : {V : Type 0} (h : History V) → Orderly h → ParentsAreOlder h
 parents_are_older (Opened n) w = tt
 parents_are_older (Began from ▹ h) w = (stands_begun h (parent_of from) w.0, parents_are_older h w.1)
-parents_are_older (Committed s ▹ h) w = parents_are_older h w.3
+parents_are_older (Committed s ▹ h) w = parents_are_older h w.1
 parents_are_older (Aborted zs ▹ h) w = parents_are_older h w.1
-parents_are_older (Accessed a o v ▹ h) w = parents_are_older h w.3
+parents_are_older (Accessed a o v ▹ h) w = parents_are_older h w.1
 
--- an owner has begun
+-- a parent has begun
 pub parent_begun : {V : Type 0} (h : History V) (y : ℕ) → ParentsAreOlder h → parent h y < next_action h
 parent_begun (Opened n) y f = omega arith
 parent_begun (Began from ▹ h) y f = let ih = parent_begun h y f.1 in
@@ -105,6 +114,7 @@ parent_begun (Committed s ▹ h) y f = parent_begun h y f
 parent_begun (Aborted z ▹ h) y f = parent_begun h y f
 parent_begun (Accessed a o v ▹ h) y f = parent_begun h y f
 
+-- an owner has begun
 pub owner_begun : {V : Type 0} (h : History V) (y x : ℕ) → ParentsAreOlder h → owner_by_steps h y ≡ Some x
     → x < next_action h
 owner_begun (Opened n) y x f e =
@@ -118,7 +128,7 @@ owner_begun (Committed s ▹ h) y x f e =
 owner_begun (Aborted z ▹ h) y x f e = owner_begun h y x f (kept_cases (is_under h z) (owner_by_steps h y) x e).0
 owner_begun (Accessed a o v ▹ h) y x f e = owner_begun h y x f e
 
--- a live child that stands in k is found there
+-- a child that began in k and stands in h is found
 pub child_found : {V : Type 0} (h k : History V) (x y : ℕ) → folded k < y → y < next_action k → parent k y ≡ x
     → stands h y ≡ true → standing_child h x k ≡ true
 child_found h (Opened m) x y y0 l e n = absurd (omega arith)
@@ -136,11 +146,11 @@ child_found h (Committed s ▹ k) x y y0 l e n = child_found h k x y y0 l e n
 child_found h (Aborted z ▹ k) x y y0 l e n = child_found h k x y y0 l e n
 child_found h (Accessed a o v ▹ k) x y y0 l e n = child_found h k x y y0 l e n
 
--- ancestors of what is live are live, in h
+-- ancestors of what stands stand
 abbrev pub StandsUpward : {V : Type 0} → History V → Type 0
 StandsUpward h = (x y : ℕ) → stands h y ≡ true → is_ancestor h x y ≡ true → stands h x ≡ true
 
--- an action with no live child has nothing live below it
+-- where no child of x stands, nothing below x does
 pub alone : {V : Type 0} (h : History V) → ParentsAreOlder h → StandsUpward h → (x y : ℕ) → stands h y ≡ true
     → is_ancestor h x y ≡ true → standing_child h x h ≡ false → x ≡ y
 alone h f up x y l a n =
@@ -152,7 +162,7 @@ alone h f up x y l a n =
     w.started w.of lc)))
     (cases_eq x y)
 
--- s hands all that it has to its parent, which is live and another
+-- the parent of what stands is older, and an ancestor of it
 pub parent_is : {V : Type 0} (h : History V) → ParentsAreOlder h → (s : ℕ) → s ≢ 0 → stands h s ≡ true
     → (parent h s < s) × (is_ancestor h (parent h s) s ≡ true)
 parent_is h f s s0 l =
@@ -162,7 +172,7 @@ parent_is h f s s0 l =
           (or_right (parent h s == s) (contains (lineage h (parent h s)) (parent h s)) (ancestor_self h (parent h s))),
     )
 
--- what is live after a commit was live before it, and is not what committed
+-- what stands after a commit stood before it, and is not what committed
 pub stands_commit : {V : Type 0} (h : History V) → ParentsAreOlder h → StandsUpward h → (s y : ℕ) → s ≢ 0
     → stands h s ≡ true → stands (Committed s ▹ h) y ≡ true → (stands h y ≡ true) × (y ≢ s)
 stands_commit h f up s y s0 l e =
@@ -174,20 +184,24 @@ stands_commit h f up s y s0 l e =
     (λ k. (some_at (owner_by_steps h y) y k.0, k.1))
     (handed_cases s (parent h s) (owner_by_steps h y) y (at_some (owner_by_steps (Committed s ▹ h) y) y e))
 
+-- what stands after an abort stood before it, and is not under those aborted
 pub stands_abort : {V : Type 0} (h : History V) (z : List ℕ) (y : ℕ) → stands (Aborted z ▹ h) y ≡ true
     → (stands h y ≡ true) × (is_under h z y ≡ false)
 stands_abort h z y e = let k =
     kept_cases (is_under h z) (owner_by_steps h y) y (at_some (owner_by_steps (Aborted z ▹ h) y) y e) in
     (some_at (owner_by_steps h y) y k.0, k.1)
 
+-- a begin leaves whether any other stands
 pub stands_old : {V : Type 0} (h : History V) (from : Origin) (y : ℕ) → y ≢ next_action h
     → stands (Began from ▹ h) y ≡ stands h y
 stands_old h from y ne = grind (arith, nat_tests)
 
+-- what began last stands
 pub stands_new : {V : Type 0} (h : History V) (from : Origin) (y : ℕ) → y ≡ next_action h
     → stands (Began from ▹ h) y ≡ true
 stands_new h from y e = grind (arith, nat_tests)
 
+-- in an orderly history ancestors of what stands stand
 pub stands_upward : {V : Type 0} (h : History V) → Orderly h → StandsUpward h
 stands_upward {V} (Opened n) w x y l a =
     let b : y ≡ 0 = let o = at_some (owner_by_steps {V = V} (Opened n) y) y l in
@@ -203,10 +217,10 @@ stands_upward (Began from ▹ h) w x y l a =
     (cases_eq y (next_action h)))
     (cases_eq x (next_action h))
 stands_upward (Committed s ▹ h) w x y l a =
-    let f = parents_are_older h w.3 in let up : StandsUpward h = stands_upward h w.3 in
-    let k = stands_commit h f up s y w.0 w.1 l in
+    let f = parents_are_older h w.1 in let up : StandsUpward h = stands_upward h w.1 in
+    let k = stands_commit h f up s y w.0.not_base w.0.standing l in
     let ox = at_some (owner_by_steps h x) x (up x y k.0 a) in
-    let ne : x ≢ s = λ e. k.1 (sym (alone h f up s y k.0 (subst (λ u. is_ancestor h u y ≡ true) e a) w.2)) in
+    let ne : x ≢ s = λ e. k.1 (sym (alone h f up s y k.0 (subst (λ u. is_ancestor h u y ≡ true) e a) w.0.childless)) in
     some_at (owner_by_steps (Committed s ▹ h) x) x (handed_stays s (parent h s) (owner_by_steps h x) x ox ne)
 stands_upward (Aborted z ▹ h) w x y l a =
     let f = parents_are_older h w.1 in let up : StandsUpward h = stands_upward h w.1 in
@@ -216,4 +230,4 @@ stands_upward (Aborted z ▹ h) w x y l a =
     ⊎_elim (λ t. absurd (both_ways (is_under h z y) k.1 (under_below h z x y f (stands_begun h y k.0) t a)))
     (λ t. t) (cases_Bool (is_under h z x)) in
     some_at (owner_by_steps (Aborted z ▹ h) x) x (kept_stays (is_under h z) (owner_by_steps h x) x ox n)
-stands_upward (Accessed b o v ▹ h) w x y l a = stands_upward h w.3 x y l a
+stands_upward (Accessed b o v ▹ h) w x y l a = stands_upward h w.1 x y l a

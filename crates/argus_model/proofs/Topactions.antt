@@ -14,6 +14,7 @@ use Rattle.argus_model.proofs.OwnerRules.{stands_plain}
 use Rattle.argus_model.proofs.Standing.{Orderly, parent_is, parents_are_older}
 use Rattle.argus_model.proofs.Work.{all_of_agree, work_final}
 
+-- who is listed as a committed topaction has committed
 pub tops_committed : {V : Type 0} (h : History V) (z : ℕ) → contains (committed_topactions h) z ≡ true
     → has_committed h z ≡ true
 tops_committed (Opened n) z m = m
@@ -32,29 +33,32 @@ tops_committed (Committed s ▹ h) z m =
     (subst (λ b. contains (cond b (s ∷ committed_topactions h) (committed_topactions h)) z ≡ true) e m)))
     (cases_Bool (parent h s == 0))
 
+-- who is listed as a committed topaction doesn't stand
 pub tops_over : {V : Type 0} (h : History V) → Orderly h → (z : ℕ) → contains (committed_topactions h) z ≡ true
     → stands h z ≡ false
 tops_over h w z m =
     false_from_ne_true (stands h z) (λ l. both_ways (has_committed h z) (stands_plain h w z l).1 (tops_committed h z m))
 
+-- one more event leaves the work of the topactions that had committed
 pub tops_same : {V : Type 0} (h : History V) (e : Event V) → Orderly h → Orderly (e ▹ h)
     → all_of (work (e ▹ h)) (committed_topactions h) ≡ all_of (work h) (committed_topactions h)
 tops_same h e w w' =
     all_of_agree (work (e ▹ h)) (work h) (committed_topactions h) (λ z m. work_final h e w' z (tops_over h w z m))
 
+-- the work of the base is that of the committed topactions, the last to commit first
 pub serial_tops : {V : Type 0} (h : History V) → Orderly h → work h 0 ≡ all_of (work h) (committed_topactions h)
 serial_tops (Opened n) w = refl
 serial_tops (Began from ▹ h) w = serial_tops h w.1
 serial_tops (Aborted z ▹ h) w = serial_tops h w.1
 serial_tops (Accessed a o v ▹ h) w =
-    ap (λ q. cond q (record { object = o; what = v } ∷ work h 0) (work h 0)) (ne_eqb a 0 w.2)
-    ∙ serial_tops h w.3 ∙ sym (tops_same h (Accessed a o v) w.3 w)
+    ap (λ q. cond q (record { object = o; what = v } ∷ work h 0) (work h 0)) (ne_eqb a 0 w.0.not_base)
+    ∙ serial_tops h w.1 ∙ sym (tops_same h (Accessed a o v) w.1 w)
 serial_tops (Committed s ▹ h) w =
     let g = Committed s ▹ h in
-    let ps = parent_is h (parents_are_older h w.3) s w.0 w.1 in
+    let ps = parent_is h (parents_are_older h w.1) s w.0.not_base w.0.standing in
     let own : work g s ≡ work h s =
     ap (λ q. cond q (work h s ++ work h s) (work h s)) (ne_eqb (parent h s) s (omega (arith, ps.0))) in
-    let rest = serial_tops h w.3 ∙ sym (tops_same h (Committed s) w.3 w) in
+    let rest = serial_tops h w.1 ∙ sym (tops_same h (Committed s) w.1 w) in
     ⊎_elim
     (λ e. ap (λ q. cond q (work h s ++ work h 0) (work h 0)) e
     ∙ ap (λ es. work h s ++ es) rest ∙ ap (λ es. es ++ all_of (work g) (committed_topactions h)) (sym own)

@@ -21,35 +21,38 @@ pub no_work : {V : Type 0} (h : History V) → Orderly h → (y : ℕ) → next_
 no_work (Opened n) w y l = refl
 no_work (Began from ▹ h) w y l = no_work h w.1 y (omega arith)
 no_work (Committed s ▹ h) w y l =
-    let q = parent_begun h s (parents_are_older h w.3) in
+    let q = parent_begun h s (parents_are_older h w.1) in
     let n : parent h s == y ≡ false = ne_eqb (parent h s) y (λ e. omega arith) in
-    ap (λ b. cond b (work h s ++ work h y) (work h y)) n ∙ no_work h w.3 y l
+    ap (λ b. cond b (work h s ++ work h y) (work h y)) n ∙ no_work h w.1 y l
 no_work (Aborted z ▹ h) w y l = no_work h w.1 y l
 no_work (Accessed a o v ▹ h) w y l =
-    let q = stands_begun h a w.0 in
+    let q = stands_begun h a w.0.standing in
     let n : a == y ≡ false = ne_eqb a y (λ e. omega arith) in
-    ap (λ b. cond b (record { object = o; what = v } ∷ work h y) (work h y)) n ∙ no_work h w.3 y l
+    ap (λ b. cond b (record { object = o; what = v } ∷ work h y) (work h y)) n ∙ no_work h w.1 y l
 
--- the work of what is over stays
+-- the work of what doesn't stand stays as it is
 pub work_final : {V : Type 0} (h : History V) (e : Event V) → Orderly (e ▹ h) → (y : ℕ) → stands h y ≡ false
     → work (e ▹ h) y ≡ work h y
 work_final h (Began from) w y n = refl
 work_final h (Committed s) w y n =
-    let f = parents_are_older h w.3 in
+    let f = parents_are_older h w.1 in
     ap (λ b. cond b (work h s ++ work h y) (work h y))
     (ne_eqb (parent h s) y
     (λ e. both_ways (stands h y) n
-    (subst (λ u. stands h u ≡ true) e (stands_upward h w.3 (parent h s) s w.1 (parent_is h f s w.0 w.1).1))))
+    (subst (λ u. stands h u ≡ true) e (stands_upward h w.1 (parent h s) s w.0.standing
+    (parent_is h f s w.0.not_base w.0.standing).1))))
 work_final h (Aborted z) w y n = refl
 work_final h (Accessed a o v) w y n =
     ap (λ b. cond b (record { object = o; what = v } ∷ work h y) (work h y))
-    (ne_eqb a y (λ e. both_ways (stands h y) n (subst (λ u. stands h u ≡ true) e w.0)))
+    (ne_eqb a y (λ e. both_ways (stands h y) n (subst (λ u. stands h u ≡ true) e w.0.standing)))
 
+-- all of joined lists is all of the first, then all of the second
 pub all_of-append : {X : Type 0} (f : ℕ → List X) (ys zs : List ℕ) → all_of f (ys ++ zs) ≡ all_of f ys ++ all_of f zs
 all_of-append f [] zs = refl
 all_of-append f (y ∷ ys) zs =
     ap (λ u. f y ++ u) (all_of-append f ys zs) ∙ sym (append_assoc (f y) (all_of f ys) (all_of f zs))
 
+-- functions that agree on each of a list give the same of all
 pub all_of_agree : {X : Type 0} (f g : ℕ → List X) (ys : List ℕ) → ((y : ℕ) → contains ys y ≡ true → f y ≡ g y)
     → all_of f ys ≡ all_of g ys
 all_of_agree f g [] a = refl
@@ -63,6 +66,7 @@ module _ {V : Type 0} (writes : V → Bool) where
   touches [] o all = false
   touches (e ∷ es) o all = (e.object == o && (all || writes e.what)) || touches es o all
 
+  -- what joined lists touch, one of them does
   pub touches-append : (es fs : List (Access V)) (o : ℕ) (all : Bool) → touches (es ++ fs) o all ≡ true
       → (touches es o all ≡ true) ⊎ (touches fs o all ≡ true)
   touches-append [] fs o all m = inr m
@@ -73,6 +77,7 @@ module _ {V : Type 0} (writes : V → Bool) where
       (λ k. ⊎_elim (λ q. inl (or_right first (touches es o all) q)) (λ q. inr q) (touches-append es fs o all k))
       (or_cases first (touches (es ++ fs) o all) m)
 
+  -- accesses none of which is to the object don't write it
   pub touches_all : (es : List (Access V)) (o : ℕ) → touches es o true ≡ false → touches es o false ≡ false
   touches_all [] o n = refl
   touches_all (e ∷ es) o n =
@@ -82,11 +87,13 @@ module _ {V : Type 0} (writes : V → Bool) where
       (λ k. and_left (e.object == o) (false || writes e.what) k) (cases_Bool (e.object == o)))
       (touches_all es o q.1)
 
+  -- one of these numbers, for which the function gives an access to the object
   pub record Toucher (f : ℕ → List (Access V)) (ys : List ℕ) (o : ℕ) (all : Bool) : Type 0 where
     pub by : ℕ
     pub among : contains ys by ≡ true
     pub touch : touches (f by) o all ≡ true
 
+  -- where all that the function gives has an access to the object, what it gives of one number has
   pub touches-all_of : (f : ℕ → List (Access V)) (ys : List ℕ) (o : ℕ) (all : Bool) → touches (all_of f ys) o all ≡ true
       → Toucher f ys o all
   touches-all_of f [] o all m = absurd (false≢true m)
@@ -103,11 +110,12 @@ module _ {V : Type 0} (writes : V → Bool) where
     pub uses : has_used writes h action o all ≡ true
     pub owned : owner_by_steps h action ≡ Some y
 
+  -- who has used an object has used it after one more access, too
   pub has_used_more : (h : History V) (b o' : ℕ) (v : V) (y o : ℕ) (all : Bool) → has_used writes h y o all ≡ true
       → has_used writes (Accessed b o' v ▹ h) y o all ≡ true
   has_used_more h b o' v y o all u = or_right (b == y && (o' == o && (all || writes v))) (has_used writes h y o all) u
 
-  -- who has done something at an object holds it
+  -- what stands and has an access to the object in its work answers for who made it
   pub user_of : (h : History V) → Orderly h → (y o : ℕ) (all : Bool) → stands h y ≡ true
       → touches (work h y) o all ≡ true → User h y o all
   user_of (Opened n) w y o all l m = absurd (false≢true m)
@@ -124,10 +132,10 @@ module _ {V : Type 0} (writes : V → Bool) where
       })
       (cases_eq y (next_action h))
   user_of (Committed s ▹ h) w y o all l m =
-      let k = stands_commit h (parents_are_older h w.3) (stands_upward h w.3) s y w.0 w.1 l in
+      let k = stands_commit h (parents_are_older h w.1) (stands_upward h w.1) s y w.0.not_base w.0.standing l in
       let p = parent h s in
       let ih : touches (work h y) o all ≡ true → User (Committed s ▹ h) y o all =
-      λ q. let u = user_of h w.3 y o all k.0 q in
+      λ q. let u = user_of h w.1 y o all k.0 q in
       record {
         action = u.action;
         uses = u.uses;
@@ -135,7 +143,7 @@ module _ {V : Type 0} (writes : V → Bool) where
       } in
       ⊎_elim
       (λ e. ⊎_elim
-      (λ q. let u = user_of h w.3 s o all w.1 q in
+      (λ q. let u = user_of h w.1 s o all w.0.standing q in
       record {
         action = u.action;
         uses = u.uses;
@@ -155,7 +163,7 @@ module _ {V : Type 0} (writes : V → Bool) where
       }
   user_of (Accessed a o' v ▹ h) w y o all l m =
       let ih : touches (work h y) o all ≡ true → User (Accessed a o' v ▹ h) y o all =
-      λ q. let u = user_of h w.3 y o all l q in
+      λ q. let u = user_of h w.1 y o all l q in
       record { action = u.action; uses = has_used_more h a o' v u.action o all u.uses; owned = u.owned } in
       let here = o' == o && (all || writes v) in
       ⊎_elim
@@ -163,7 +171,7 @@ module _ {V : Type 0} (writes : V → Bool) where
       (λ q. record {
         action = a;
         uses = or_left (a == a && here) (has_used writes h a o all) (and_from (a == a) here (eq-eqb a a refl) q);
-        owned = at_some (owner_by_steps h a) a w.0 ∙ ap Some k;
+        owned = at_some (owner_by_steps h a) a w.0.standing ∙ ap Some k;
       })
       ih
       (or_cases here (touches (work h y) o all)

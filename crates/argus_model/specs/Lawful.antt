@@ -13,15 +13,21 @@ module _ {V C A : Type 0} (meaning : Meaning V C A) where
   abbrev pub may_access : History V → ℕ → ℕ → V → Bool
   may_access h a o v = if meaning.writes v then may_write meaning h a o else may_read meaning h a o
 
-  -- The event may come next. Who begins, commits, is aborted or accesses is live; who commits or
-  -- accesses has no live child; an access gets its lock, and is answered by what the action sees.
+  -- an access may come next: who makes it is live and has no live child, its lock is free, and its
+  -- answer is by what the action sees
+  pub record AllowedAccess (opening : Opening C) (h : History V) (a o : ℕ) (v : V) : Type 0 where
+    pub live : is_live h a ≡ true
+    pub childless : has_live_child h a ≡ false
+    pub lock : may_access h a o v ≡ true
+    pub answer : Fits meaning v (sees meaning opening h a o)
+
+  -- The event may come next. Who begins, commits or is aborted is live, and who commits has no live
+  -- child.
   abbrev pub Allowed : Opening C → History V → Event V → Type 0
   Allowed opening h (Began from) = (creator_of from == 0 || is_live h (creator_of from)) ≡ true
   Allowed opening h (Committed a) = (is_live h a ≡ true) × (has_live_child h a ≡ false)
   Allowed opening h (Aborted actions) = list_all (is_live h) actions ≡ true
-  Allowed opening h (Accessed a o v) =
-      (is_live h a ≡ true) × (has_live_child h a ≡ false)
-      × (may_access h a o v ≡ true) × Fits meaning v (sees meaning opening h a o)
+  Allowed opening h (Accessed a o v) = AllowedAccess opening h a o v
 
   -- the history goes on from this opening, and each of its events was allowed
   abbrev pub Lawful : Opening C → History V → Type 0

@@ -54,3 +54,9 @@ standing_child h a (Began from ▹ k) =
 standing_child h a (Committed b ▹ k) = standing_child h a k
 standing_child h a (Aborted bs ▹ k) = standing_child h a k
 standing_child h a (Accessed b o v ▹ k) = standing_child h a k
+
+-- an action that may commit or access: it stands, and none that it began does
+pub record StandsAlone {V : Type 0} (h : History V) (a : ℕ) : Type 0 where
+  pub not_base : a ≢ 0
+  pub standing : stands h a ≡ true
+  pub childless : standing_child h a h ≡ false

@@ -1,13 +1,13 @@
 -- A second form of what an action sees and of what is lawful, for proofs: lists of accesses, and
 -- the events' own forms.
 use Rattle.std.specs.Prelude.{Bool, List, None, Option, Some, [], false, if◌then◌else◌, true, ℕ}
-use Rattle.std.specs.Prelude.{◌∷◌, ◌≡◌, ◌≢◌}
+use Rattle.std.specs.Prelude.{◌∷◌, ◌≡◌}
 use Rattle.argus_model.specs.Ancestors.{is_ancestor}
 use Rattle.argus_model.specs.Event.{Aborted, Accessed, Began, Committed, parent_of}
 use Rattle.argus_model.specs.History.{History, Opened, ◌▹◌}
 use Rattle.argus_model.specs.HolderSteps.{may_by_steps}
 use Rattle.argus_model.specs.Meaning.{Fits, Meaning}
-use Rattle.argus_model.specs.OwnerSteps.{AllStand, owner_by_steps, standing_child, stands}
+use Rattle.argus_model.specs.OwnerSteps.{AllStand, StandsAlone, owner_by_steps, stands}
 use Rattle.argus_model.specs.Work.{Access, content_after}
 
 -- the accesses by the actions that pass the test, newest first
@@ -37,15 +37,16 @@ module _ {V C A : Type 0} (meaning : Meaning V C A) (contents : ℕ → C) where
   Replays (e ∷ older) =
       Fits meaning e.what (content_after meaning contents e.object older) × Replays older
 
+  -- an access may come next: its lock is free for a, and the answer is what a sees
+  pub record LawfulAccess (older : History V) (a o : ℕ) (v : V) : Type 0 where
+    pub alone : StandsAlone older a
+    pub lock : may_by_steps meaning.writes older a o (meaning.writes v) older ≡ true
+    pub answer : Fits meaning v (content_after meaning contents o (visible_accesses older a))
+
   -- each event was allowed by those before it
   abbrev pub LawfulSteps : History V → Type 0
   LawfulSteps (Opened n) = Unit {0}
   LawfulSteps (Began from ▹ older) = (stands older (parent_of from) ≡ true) × LawfulSteps older
-  LawfulSteps (Committed a ▹ older) =
-      (a ≢ 0) × (stands older a ≡ true) × (standing_child older a older ≡ false) × LawfulSteps older
+  LawfulSteps (Committed a ▹ older) = StandsAlone older a × LawfulSteps older
   LawfulSteps (Aborted actions ▹ older) = AllStand older actions × LawfulSteps older
-  LawfulSteps (Accessed a o v ▹ older) =
-      (stands older a ≡ true) × (standing_child older a older ≡ false)
-      × (may_by_steps meaning.writes older a o (meaning.writes v) older ≡ true)
-      × Fits meaning v (content_after meaning contents o (visible_accesses older a)) × (a ≢ 0)
-      × LawfulSteps older
+  LawfulSteps (Accessed a o v ▹ older) = LawfulAccess older a o v × LawfulSteps older

@@ -15,18 +15,22 @@ pub data Deed : Type 0 where
   -- puts a number in its place, and is answered with the one that it replaced
   Put : (number replaced : ℕ) → Deed
 
+-- whether it puts a number
 abbrev pub puts : Deed → Bool
 puts (Look seen) = false
 puts (Put number replaced) = true
 
+-- the number that it leaves
 abbrev pub number_after : Deed → ℕ → ℕ
 number_after (Look seen) c = c
 number_after (Put number replaced) c = number
 
+-- the number that it was answered with
 abbrev pub answer_given : Deed → ℕ
 answer_given (Look seen) = seen
 answer_given (Put number replaced) = replaced
 
+-- what puts no number leaves the one that it finds
 abbrev pub looks_keep : (v : Deed) → puts v ≡ false → (c : ℕ) → number_after v c ≡ c
 looks_keep (Look seen) n c = refl
 looks_keep (Put number replaced) n c = absurd (false≢true (sym n))
@@ -41,9 +45,11 @@ numbers = record {
   reads_keep = looks_keep;
 }
 
+-- a look at an object, and what was seen
 abbrev pub looked : ℕ → ℕ → Access Deed
 looked o seen = record { object = o; what = Look seen }
 
+-- a number put into an object, and the one that it replaced
 abbrev pub put : ℕ → ℕ → ℕ → Access Deed
 put o number replaced = record { object = o; what = Put number replaced }
 
@@ -60,11 +66,13 @@ abbrev pub pair_begins : History Deed
 pair_begins =
     followed_by (Opened 0) (Began Top ∷ Began (Sub 1) ∷ Began (Sub 1) ∷ Accessed 2 0 (Put 1 0) ∷ [])
 
+-- the first has committed, and the second goes to work
 abbrev pub pair_goes_on : History Deed
 pair_goes_on =
     followed_by pair_begins (Committed 2 ∷ Accessed 3 0 (Look 1) ∷ Accessed 3 0 (Put 5 1)
     ∷ Accessed 3 1 (Look 0) ∷ [])
 
+-- the second commits, and then the topaction
 abbrev pub pair_ends : History Deed
 pair_ends = followed_by pair_goes_on (Committed 3 ∷ Committed 1 ∷ [])
 
@@ -73,12 +81,14 @@ pair_ends = followed_by pair_goes_on (Committed 3 ∷ Committed 1 ∷ [])
 abbrev pub creator_works : History Deed
 creator_works = followed_by (Opened 0) (Began Top ∷ Began (Nested 1) ∷ Accessed 2 0 (Put 7 0) ∷ [])
 
+-- the first nested topaction commits, and after more work its creator is aborted
 abbrev pub creator_aborts : History Deed
 creator_aborts =
     followed_by creator_works
     (Committed 2 ∷ Began (Sub 1) ∷ Accessed 3 1 (Put 1 0) ∷ Began (Nested 3) ∷ Began (Sub 3)
     ∷ Committed 5 ∷ Aborted (1 ∷ []) ∷ [])
 
+-- the second nested topaction goes on, and commits
 abbrev pub creator_outlived : History Deed
 creator_outlived =
     followed_by creator_aborts (Accessed 4 1 (Look 0) ∷ Accessed 4 0 (Look 7) ∷ Committed 4 ∷ [])
@@ -91,9 +101,11 @@ siblings_work =
     (Began Top ∷ Began (Sub 3) ∷ Began (Sub 3) ∷ Began (Nested 3) ∷ Began (Sub 5) ∷ Began (Nested 5)
     ∷ Accessed 4 0 (Put 1 4) ∷ Accessed 7 1 (Look 0) ∷ Committed 4 ∷ Began (Sub 3) ∷ [])
 
+-- the live siblings are aborted in one step
 abbrev pub siblings_aborted : History Deed
 siblings_aborted = Aborted (live_siblings siblings_work 9) ▹ siblings_work
 
+-- the rest goes on, and the action and its parent commit
 abbrev pub siblings_end : History Deed
 siblings_end =
     followed_by siblings_aborted (Accessed 8 1 (Put 3 0) ∷ Committed 9 ∷ Committed 3 ∷ [])
@@ -105,6 +117,7 @@ turns_taken =
     (Began Top ∷ Accessed 3 0 (Look 4) ∷ Began Top ∷ Accessed 4 1 (Put 2 0) ∷ Accessed 3 0 (Put 6 4)
     ∷ [])
 
+-- the second commits, and then the first
 abbrev pub turns_end : History Deed
 turns_end = followed_by turns_taken (Committed 4 ∷ Accessed 3 1 (Look 2) ∷ Accessed 3 1 (Put 8 2)
     ∷ Committed 3 ∷ [])

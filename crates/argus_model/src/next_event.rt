@@ -6,8 +6,8 @@
 //! | live | a, too | the same | a no more | those under them no more |
 //! | owner | a of itself | the same | p in the place of a | gone where it is under them |
 //! | holders | the same | a, too | p in the place of a | without those under them |
-//! | seen by a live y | a sees as its parent | a sees what it left | as a saw it, where y is under p and a wrote | the same |
-//! | there for good | the same | the same | as a saw it, where p is the base and a wrote | the same |
+//! | a live y sees | a as its parent | a what it left | as a saw it, where a wrote, if under p | the same |
+//! | for good | the same | the same | as a saw it, where a wrote, if p is the base | the same |
 //! | serial order | the same | the same | with the work of a, where p is the base | the same |
 ghost use Rattle.std.specs.Prelude.{◌≡◌, ◌≢◌, ℕ, true, not, ◌&&◌, ◌||◌, ◌==◌, ◌∷◌, ◌++◌, List, []};
 ghost use Rattle.std.specs.Prelude.{filter, if◌then◌else◌};

@@ -5,7 +5,7 @@ use Rattle.std.specs.Prelude.{ℤ, pos, negsuc, codes}
 use Rattle.std.specs.Fmt.{decimal, signed_decimal}
 use Rattle.argus_contents.specs.Value.{PlainValue, PlainValues, null, bool, int, text, atomic, sequence, fields, choice}
 use Rattle.argus_contents.specs.Value.{none, more}
-use Rattle.argus_texts.specs.Languages.{IsNoDigit, NotDigit, ValueEnds, BeginsInt, IsClose, Values}
+use Rattle.argus_texts.specs.Languages.{IsNoDigit, NotDigit, ValueEnds, BeginsInt, BeginsNoScalar, IsClose, Values}
 use Rattle.argus_texts.specs.Spelling.{spelling, escaped, inside, behind, IsI64, Within, AllWithin}
 use Rattle.argus_texts.proofs.Lists.{tail_of, head_of}
 use Rattle.argus_texts.proofs.Digits.{some_decimal, first_digit, one_decimal, ints_clear}
@@ -92,51 +92,38 @@ some_form k d y w e =
     let g : [] ≡ f.0 ∷ (f.1 ++ y) = e ∙ ap (λ (x : List ℕ). x ++ y) f.2 in cc
 
 -- no value's form begins with the byte
-abbrev pub NoLead : ℕ → Type 0
-NoLead c = (c ≢ 110) × (c ≢ 116) × (c ≢ 102) × (BeginsInt c → ⊥) × (c ≢ 34) × (c ≢ 64) × (c ≢ 91) × (c ≢ 123) × (c ≢ 60)
+pub record NoLead (c : ℕ) : Type 0 where
+  pub no_scalar : BeginsNoScalar c
+  pub no_sequence : c ≢ 91
+  pub no_fields : c ≢ 123
+  pub no_choice : c ≢ 60
 
 pub no_lead : (d : PlainValue) (c : ℕ) → NoLead c → Lead d c → ⊥
-no_lead null c n l = n.0 l
-no_lead (bool true) c n l = n.1 l
-no_lead (bool false) c n l = n.2 l
-no_lead (int i) c n l = n.3 l
-no_lead (text t) c n l = n.4 l
-no_lead (atomic o) c n l = n.5 l
-no_lead (sequence vs) c n l = n.6 l
-no_lead (fields vs) c n l = n.7 l
-no_lead (choice t v) c n l = n.8 l
+no_lead null c n l = n.no_scalar.0 l
+no_lead (bool true) c n l = n.no_scalar.1 l
+no_lead (bool false) c n l = n.no_scalar.2 l
+no_lead (int i) c n l = n.no_scalar.5 l
+no_lead (text t) c n l = n.no_scalar.3 l
+no_lead (atomic o) c n l = n.no_scalar.4 l
+no_lead (sequence vs) c n l = n.no_sequence l
+no_lead (fields vs) c n l = n.no_fields l
+no_lead (choice t v) c n l = n.no_choice l
 
+-- a closing byte begins no value's form
 pub close_no_lead : (c : ℕ) → IsClose c → NoLead c
-close_no_lead c (inl h) = (
-  omega arith,
-  omega arith,
-  omega arith,
-  λ b. omega arith,
-  omega arith,
-  omega arith,
-  omega arith,
-  omega arith,
-  omega arith,
-)
-close_no_lead c (inr h) = (
-  omega arith,
-  omega arith,
-  omega arith,
-  λ b. omega arith,
-  omega arith,
-  omega arith,
-  omega arith,
-  omega arith,
-  omega arith,
-)
+close_no_lead c h = record {
+  no_scalar =
+      (omega (arith, h), omega (arith, h), omega (arith, h), omega (arith, h), omega (arith, h), λ b. omega (arith, h));
+  no_sequence = omega (arith, h);
+  no_fields = omega (arith, h);
+  no_choice = omega (arith, h);
+}
 
 pub close_no_digit : (c : ℕ) → IsClose c → IsNoDigit c
-close_no_digit c (inl h) = inr (omega arith)
-close_no_digit c (inr h) = inr (omega arith)
+close_no_digit c h = inr (omega (arith, h))
 
 pub close_no_comma : (c : ℕ) → IsClose c → 44 ≢ c
-close_no_comma c (inl h) = omega arith
-close_no_comma c (inr h) = omega arith
+close_no_comma c h = omega (arith, h)
 
 -- a value's form doesn't begin with a closing byte
 not_closing : (k close : ℕ) → IsClose close → (d : PlainValue) (x y : List ℕ) → Within k d → close ∷ x ≡ spelling d ++ y

@@ -1,6 +1,6 @@
 -- Where reading a value stops, from where a part of it does.
 use Rattle.std.proofs.Common.{◌≡◌, ◌≢◌, ℕ, ◌<◌, ◌≤◌, ◌-◌, ◌⊎◌, inl, inr, true, false, List, [], ◌∷◌, ◌++◌, length, refl}
-use Rattle.std.proofs.Common.{ap, subst, arith}
+use Rattle.std.proofs.Common.{ap, subst, sym, arith}
 use Rattle.std.specs.Prelude.{codes}
 use Rattle.argus_contents.specs.Value.{PlainValue, null, bool, int, text, atomic, sequence, fields, choice}
 use Rattle.argus_texts.specs.Language.{Starts, NoWay, Stops, First}
@@ -172,7 +172,8 @@ deep_lead k c (choice t v) b p q h w l = none_within v (subst (λ j. Within j v)
 
 other_by : (k c : ℕ) (e : PlainValue) → BeginsNoScalar c → c ≢ 91 → c ≢ 123 → (c ≢ 60) ⊎ (k ≡ 1) → Within k e → Lead e c
     → ⊥
-other_by k c e b p q (inl n) w l = no_lead e c (b.0, b.1, b.2, b.5, b.3, b.4, p, q, n) l
+other_by k c e b p q (inl n) w l =
+    no_lead e c (record { no_scalar = b; no_sequence = p; no_fields = q; no_choice = n }) l
 other_by k c e b p q (inr h) w l = deep_lead k c e b p q h w l
 
 other_lead : (k : ℕ) (e : PlainValue) (c : ℕ) → IsOther k c → Within k e → Lead e c → ⊥
@@ -182,6 +183,11 @@ other_way : (k : ℕ) (x : List ℕ) → First (IsOther k) x → NoWay (Values k
 other_way k [] o = λ s. some_form k s.thing s.rest s.reads.good s.reads.is
 other_way k (c ∷ u) o =
     λ more s. other_lead k s.thing c o s.reads.good (lead_of k s.thing c more s.rest s.reads.good s.reads.is)
+
+-- a first byte that begins no scalar and opens no compound of this depth begins no value of it
+pub first_other : (k c : ℕ) (x y : List ℕ) → y ≡ c ∷ x → First BeginsNoScalar y → c ≢ 91 → c ≢ 123 → (c ≢ 60) ⊎ (k ≡ 1)
+    → First (IsOther k) y
+first_other k c x y e b p q n = subst (First (IsOther k)) (sym e) (subst (First BeginsNoScalar) e b, p, q, n)
 
 pub other_stops : (k : ℕ) → 0 < k → (x : List ℕ) → First (IsOther k) x → Stops (Values k) x (length x)
 other_stops k p x o =

@@ -8,7 +8,8 @@ use Rattle.argus_contents.specs.Shape.{PlainShape}
 use Rattle.argus_contents.specs.Ty as ty
 use Rattle.argus_contents.specs.Value.{int}
 use Rattle.argus_contents.specs.declared.query.Query.TheVariants.{Field}
-use Rattle.argus_entries.specs.Call.{PlainCall, abort, abort_others, alter, ask, begin_nested, begin_sub, begin_top, commit, declare}
+use Rattle.argus_entries.specs.Call.{PlainCall, abort, abort_others, alter, ask, begin_nested}
+use Rattle.argus_entries.specs.Call.{begin_sub, begin_top, commit, declare}
 use Rattle.argus_entries.specs.Entry.{PlainEntry}
 use Rattle.argus_entries.specs.Reply.{PlainReply, answered, begun, object, refused}
 use Rattle.journal_tests.specs.declared.rows.Said.{Said}

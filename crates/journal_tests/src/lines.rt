@@ -36,7 +36,12 @@ fn of_a_journal(rt: HostRuntime) -> Result<(), Fail> {
     let lines = lines_of(heap, &journal)?;
     assert_eq!(rt;
         lines.as_str(),
-        "0 declare atomic_record[balance:int] -> o0\n1 begin_top -> a0\n2 alter a0 o0 create {5} -> done\n3 alter a0 o0 set_field 0 7 -> done\n4 ask a0 o0 field 0 -> val 7\n5 commit a0 -> done\n"
+        "0 declare atomic_record[balance:int] -> o0\n\
+         1 begin_top -> a0\n\
+         2 alter a0 o0 create {5} -> done\n\
+         3 alter a0 o0 set_field 0 7 -> done\n\
+         4 ask a0 o0 field 0 -> val 7\n\
+         5 commit a0 -> done\n"
     );
     assert!(rt; journal.get(6).is_none());
     Ok(())

@@ -4,15 +4,15 @@ use Rattle.std.specs.Prelude.{codes}
 use Rattle.std.proofs.lemmas.Result.{err_from_is_err_and, IfErr-weaker}
 use Rattle.argus_contents.specs.Value.{plain_value, plain_list}
 use Rattle.argus_texts.specs.Language.{First, Stops}
-use Rattle.argus_texts.specs.Languages.{BeginsInt, BeginsNoScalar, Choices, Ints, Insides, Numbers, Quoted, Values}
+use Rattle.argus_texts.specs.Languages.{BeginsInt, Choices, Ints, Insides, Numbers, Quoted, Values}
 use Rattle.argus_texts.specs.Languages.{Word}
 use Rattle.argus_texts.proofs.Choices.{tag_stops, colon_stops, part_stops, angle_stops}
 use Rattle.argus_texts.proofs.Exits.{passed}
 use Rattle.argus_texts.proofs.Items.{NoEnd, first_stops, comma_stops, no_end_stops, no_ascii_end, inside_stops}
 use Rattle.argus_texts.proofs.Items.{deep_stops, closes, goes_on, one_more}
 use Rattle.argus_texts.proofs.Stops.{stops_in, stops_among}
-use Rattle.argus_texts.proofs.Values.{IsOther, null_word, true_word, false_word, quote, at_sign, integer, bracket}
-use Rattle.argus_texts.proofs.Values.{brace, angle, other_stops, no_ascii_other}
+use Rattle.argus_texts.proofs.Values.{null_word, true_word, false_word, quote, at_sign, integer, bracket}
+use Rattle.argus_texts.proofs.Values.{brace, angle, first_other, other_stops, no_ascii_other}
 use Rattle.argus_texts.proofs.reading.+reading.Goals as goal
 
 pub choice-returns-in_err-tag-clause-stops : goal.choice-returns-in_err-tag-clause-stops
@@ -77,27 +77,15 @@ compound-returns-in_err-fields-clause-stops t c =
 
 pub compound-returns-then-first-ne60-clause-stops : goal.compound-returns-then-first-ne60-clause-stops
 compound-returns-then-first-ne60-clause-stops t c =
-    let e = c.in-Some.ensures.some.0 in
     other_stops c.args.levels c.requires.1.1.0 c.args.text.now
-    (subst (First (IsOther c.args.levels)) (sym e) (
-      subst (First BeginsNoScalar)
-          e c.requires.1.1.1,
-      c.if-first-eq91.false,
-      c.if-first-eq123.false,
-      inl c.if-first-ne60.true,
-    ))
+    (first_other c.args.levels _ _ c.args.text.now c.in-Some.ensures.some.0 c.requires.1.1.1 c.if-first-eq91.false
+    c.if-first-eq123.false (inl c.if-first-ne60.true))
 
 pub compound-returns-then-levels-eq1-clause-stops : goal.compound-returns-then-levels-eq1-clause-stops
 compound-returns-then-levels-eq1-clause-stops t c =
-    let e = c.in-Some.ensures.some.0 in
     other_stops c.args.levels c.requires.1.1.0 c.args.text.now
-    (subst (First (IsOther c.args.levels)) (sym e) (
-      subst (First BeginsNoScalar)
-          e c.requires.1.1.1,
-      c.if-first-eq91.false,
-      c.if-first-eq123.false,
-      inr c.if-levels-eq1.true,
-    ))
+    (first_other c.args.levels _ _ c.args.text.now c.in-Some.ensures.some.0 c.requires.1.1.1 c.if-first-eq91.false
+    c.if-first-eq123.false (inr c.if-levels-eq1.true))
 
 pub compound-returns-in_err-tag-clause-stops : goal.compound-returns-in_err-tag-clause-stops
 compound-returns-in_err-tag-clause-stops t c =
