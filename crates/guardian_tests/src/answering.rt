@@ -2,8 +2,8 @@
 
 use crate::question::Question;
 use crate::telling::{
-    tell_action, tell_base, tell_content, tell_flag, tell_number, tell_readers, tell_shape,
-    tell_versions, tell_word,
+    tell_action, tell_base, tell_content, tell_flag, tell_number, tell_object, tell_readers,
+    tell_shape, tell_versions, tell_word,
 };
 use argus_actions::ActionId;
 use argus_contents::{Content, ObjId};
@@ -11,7 +11,6 @@ use argus_entries::write_entry;
 use argus_guardian::Guardian;
 use argus_journal::{Owner, owner_of, replay_base, replay_for};
 use argus_memory::{Heap, OutOfMemory};
-use std::fmt::Write;
 
 /// Adds what the guardian answers, in the heap that may be refused memory.
 pub(crate) fn tell_answer(
@@ -33,13 +32,24 @@ pub(crate) fn tell_answer(
         Question::Owner(a) => tell_owner(guardian, a, out),
         Question::Replay(a, o) => tell_replay(guardian, heap, a, o, out),
         Question::ReplayBase(o) => tell_replay_base(guardian, heap, o, out),
-        Question::Length => tell_number(guardian.journal().journal().len(), out),
-        Question::FirstEntry => tell_number(guardian.journal().journal().first_entry(), out),
-        Question::FirstAction => {
-            tell_number(u64::from(guardian.journal().journal().first_action()), out)
-        }
+        Question::Length => tell_length(guardian, out),
+        Question::FirstEntry => tell_first_entry(guardian, out),
+        Question::FirstAction => tell_first_action(guardian, out),
         Question::Entry(at) => tell_entry(guardian, at, out),
     }
+}
+
+fn tell_length(guardian: &Guardian, out: &mut String<Heap>) -> Result<(), OutOfMemory> {
+    tell_number(guardian.journal().journal().len(), out)
+}
+
+fn tell_first_entry(guardian: &Guardian, out: &mut String<Heap>) -> Result<(), OutOfMemory> {
+    tell_number(guardian.journal().journal().first_entry(), out)
+}
+
+fn tell_first_action(guardian: &Guardian, out: &mut String<Heap>) -> Result<(), OutOfMemory> {
+    let first = guardian.journal().journal().first_action();
+    tell_number(u64::from(first), out)
 }
 
 fn tell_effect(
@@ -59,8 +69,7 @@ fn tell_contents(
     out: &mut String<Heap>,
 ) -> Result<(), OutOfMemory> {
     for (o, content) in contents {
-        let number = o.0;
-        write!(out, " o{number}")?;
+        tell_object(*o, out)?;
         tell_content(content, out)?;
     }
     Ok(())

@@ -13,10 +13,7 @@ pub(crate) fn question_of(word: &str, rest: &str) -> Result<Option<Question>, Ro
         "length" => Ok(Some(Question::Length)),
         "first_entry" => Ok(Some(Question::FirstEntry)),
         "first_action" => Ok(Some(Question::FirstAction)),
-        "entry" => match rest.parse::<u64>() {
-            Ok(at) => Ok(Some(Question::Entry(at))),
-            Err(_) => Err(RowFault::NotSpelled),
-        },
+        "entry" => Ok(Some(Question::Entry(rest.parse::<u64>()?))),
         "shape" | "base" | "readers" | "versions" | "replay_base" => {
             Ok(of_object(word, object(rest)?))
         }

@@ -1,7 +1,7 @@
 //! Rows that stand for many: `from 1 to 63: begin_sub a^ -> a%`.
 
+use crate::telling::tell_marked;
 use argus_memory::{Heap, OutOfMemory};
-use std::fmt::Write;
 
 /// Rows that a line stands for.
 ///
@@ -48,8 +48,8 @@ fn with_number(texts: Heap, row: &str, number: u32) -> Result<String<Heap>, OutO
     let mut out = String::new(texts);
     for letter in row.chars() {
         match letter {
-            '%' => write!(out, "{number}")?,
-            '^' => write!(out, "{}", number.saturating_sub(1))?,
+            '%' => tell_marked("", u64::from(number), &mut out)?,
+            '^' => tell_marked("", u64::from(number.saturating_sub(1)), &mut out)?,
             _ => out.push(letter)?,
         }
     }

@@ -39,7 +39,8 @@ fn main(rt: HostRuntime) -> Result<()> {
         let text = fs::read_to_string(&rt, name)?;
         tester.run_text(&rt, text.as_str())?;
     }
-    tester.tell_end(&rt)?;
+    tester.tell_refused(&rt)?;
+    tester.tell_counts(&rt)?;
     ensure!(tester.is_content(), "not all rows are answered as they say");
     Ok(())
 }

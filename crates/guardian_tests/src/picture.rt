@@ -16,12 +16,12 @@ pub(crate) fn picture(guardian: &Guardian, texts: Heap) -> Result<String<Heap>, 
     tell_number(journal.len(), &mut out)?;
     tell_entry(guardian, journal.len().saturating_sub(1), &mut out)?;
     for number in 0..guardian.objects() {
-        tell_object(guardian, ObjId(number), &mut out)?;
+        tell_all_of(guardian, ObjId(number), &mut out)?;
     }
     Ok(out)
 }
 
-fn tell_object(guardian: &Guardian, o: ObjId, out: &mut String<Heap>) -> Result<(), OutOfMemory> {
+fn tell_all_of(guardian: &Guardian, o: ObjId, out: &mut String<Heap>) -> Result<(), OutOfMemory> {
     tell_shape(guardian, o, out)?;
     tell_base(guardian, o, out)?;
     tell_readers(guardian, o, out)?;

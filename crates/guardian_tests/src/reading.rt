@@ -20,7 +20,7 @@ pub(crate) fn first_word<'a>(text: &'a str) -> (&'a str, &'a str) {
 // The number behind this letter.
 fn number(letter: &str, text: &str) -> Result<u32, RowFault> {
     match text.strip_prefix(letter) {
-        Some(digits) => digits.parse::<u32>().map_err(|_| RowFault::NotSpelled),
+        Some(digits) => Ok(digits.parse::<u32>()?),
         None => Err(RowFault::NotSpelled),
     }
 }
@@ -42,12 +42,12 @@ pub(crate) fn pair(text: &str) -> Result<(ActionId, ObjId), RowFault> {
 }
 
 fn place(text: &str) -> Result<i64, RowFault> {
-    text.parse::<i64>().map_err(|_| RowFault::NotSpelled)
+    Ok(text.parse::<i64>()?)
 }
 
 // A field, or a tag.
 fn part(text: &str) -> Result<u8, RowFault> {
-    text.parse::<u8>().map_err(|_| RowFault::NotSpelled)
+    Ok(text.parse::<u8>()?)
 }
 
 /// What the text before a row's arrow asks for.

@@ -3,23 +3,34 @@
 use argus_memory::OutOfMemory;
 use argus_texts::ReadError;
 use std::alloc::{AllocError, AllocFailed};
-use thiserror::Error;
+use std::num::ParseIntError;
 
 /// Why a row has no answer.
 ///
 /// ```text
 /// assert!(rt; matches!(row_of(heap, "begin"), Err(RowFault::NotSpelled)));
 /// ```
-#[derive(Debug, Drop, Error)]
+#[derive(Clone, Copy)]
 pub(crate) enum RowFault {
-    #[error("it is no row")]
+    /// What stands before the arrow is neither a call nor a question.
     NotSpelled,
-    #[error("out of memory")]
     OutOfMemory,
-    #[error("after a refused allocation something had changed")]
+    /// After a refused allocation the guardian wasn't as before.
     Changed,
-    #[error("out of memory whatever is allowed")]
+    /// However many allocations were allowed, one was refused.
     NeverAnswered,
+}
+
+impl RowFault {
+    /// What is told in place of an answer.
+    pub(crate) fn as_str(self) -> &'static str {
+        match self {
+            RowFault::NotSpelled => "it is no row",
+            RowFault::OutOfMemory => "out of memory",
+            RowFault::Changed => "a refused allocation has changed something",
+            RowFault::NeverAnswered => "out of memory, whatever is allowed",
+        }
+    }
 }
 
 impl From<OutOfMemory> for RowFault {
@@ -46,5 +57,11 @@ impl From<ReadError> for RowFault {
             ReadError::Fault(_) => RowFault::NotSpelled,
             ReadError::Memory => RowFault::OutOfMemory,
         }
+    }
+}
+
+impl From<ParseIntError> for RowFault {
+    fn from(_error: ParseIntError) -> RowFault {
+        RowFault::NotSpelled
     }
 }

@@ -6,7 +6,7 @@ use crate::question::Question;
 use crate::reading::row_of;
 use crate::row::Row;
 use crate::row_fault::RowFault;
-use argus_entries::{Call, write_entry};
+use argus_entries::{Call, Entry, Reply, write_entry};
 use argus_guardian::{CheckpointError, Guardian};
 use argus_memory::{Heap, OutOfMemory};
 
@@ -59,16 +59,18 @@ impl Subject {
         }
     }
 
-    // The line of the one entry that the call has added.
     fn line_of_call(&mut self, call: Call) -> Result<String<Heap>, OutOfMemory> {
         let at = self.guardian.journal().journal().len();
         let reply = self.guardian.call(call)?;
+        self.added_line(at, &reply)
+    }
+
+    // The line of the one entry that a call has added, which has to have this number and reply.
+    fn added_line(&self, at: u64, reply: &Reply) -> Result<String<Heap>, OutOfMemory> {
         let journal = self.guardian.journal().journal();
         match journal.get(at) {
-            Some(entry) if entry.reply == reply && journal.len() == at.saturating_add(1) => {
-                let mut line = String::new(self.texts);
-                write_entry(at, entry, &mut line)?;
-                without_number(self.texts, line.as_str())
+            Some(entry) if entry.reply == *reply && journal.len() == at.saturating_add(1) => {
+                entry_text(self.texts, entry)
             }
             Some(_) | None => Ok(String::from_str(self.texts, "another entry")?),
         }
@@ -97,9 +99,11 @@ impl Subject {
 }
 
 // An entry's line without the number before it.
-fn without_number(texts: Heap, line: &str) -> Result<String<Heap>, OutOfMemory> {
-    match line.split_once(' ') {
-        Some((_, rest)) => Ok(String::from_str(texts, rest)?),
-        None => Ok(String::new(texts)),
+fn entry_text(texts: Heap, entry: &Entry) -> Result<String<Heap>, OutOfMemory> {
+    let mut line = String::new(texts);
+    write_entry(0, entry, &mut line)?;
+    match line.as_str().strip_prefix("0 ") {
+        Some(text) => Ok(String::from_str(texts, text)?),
+        None => Ok(line),
     }
 }

@@ -14,15 +14,26 @@ pub(crate) fn tell_word(word: &str, out: &mut String<Heap>) -> Result<(), OutOfM
     Ok(())
 }
 
-pub(crate) fn tell_number(number: u64, out: &mut String<Heap>) -> Result<(), OutOfMemory> {
-    write!(out, " {number}")?;
+/// A number behind this mark.
+pub(crate) fn tell_marked(
+    mark: &str,
+    number: u64,
+    out: &mut String<Heap>,
+) -> Result<(), OutOfMemory> {
+    write!(out, "{mark}{number}")?;
     Ok(())
 }
 
+pub(crate) fn tell_number(number: u64, out: &mut String<Heap>) -> Result<(), OutOfMemory> {
+    tell_marked(" ", number, out)
+}
+
 pub(crate) fn tell_action(a: ActionId, out: &mut String<Heap>) -> Result<(), OutOfMemory> {
-    let number = a.0;
-    write!(out, " a{number}")?;
-    Ok(())
+    tell_marked(" a", u64::from(a.0), out)
+}
+
+pub(crate) fn tell_object(o: ObjId, out: &mut String<Heap>) -> Result<(), OutOfMemory> {
+    tell_marked(" o", u64::from(o.0), out)
 }
 
 pub(crate) fn tell_flag(is_so: bool, out: &mut String<Heap>) -> Result<(), OutOfMemory> {

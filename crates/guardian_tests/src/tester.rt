@@ -57,21 +57,16 @@ impl Tester {
 
     fn run_tests(&mut self, rt: &impl Print, before: &str, tests: &str) -> Result<()> {
         for block in tests.split("\n\n") {
-            if !block.is_empty() {
-                let (heading, rows) = block.split_once('\n').unwrap_or((block, ""));
-                self.run_block(rt, heading, before, rows)?;
-            }
+            self.run_block(rt, before, block)?;
         }
         Ok(())
     }
 
-    fn run_block(
-        &mut self,
-        rt: &impl Print,
-        heading: &str,
-        before: &str,
-        rows: &str,
-    ) -> Result<()> {
+    fn run_block(&mut self, rt: &impl Print, before: &str, block: &str) -> Result<()> {
+        let (heading, rows) = match block.split_once('\n') {
+            Some(parts) => parts,
+            None => (block, ""),
+        };
         if let Some(name) = heading.strip_prefix("test ") {
             let trial = Trial::new(self.ample(), Some(self.tight()));
             self.run_test(rt, trial, name, before, rows)
@@ -79,7 +74,7 @@ impl Tester {
             let trial = Trial::new(self.ample(), None);
             self.run_test(rt, trial, name, before, rows)
         } else {
-            self.pass_over(rt, heading)
+            self.pass_over(rt, block)
         }
     }
 
@@ -92,10 +87,10 @@ impl Tester {
     }
 
     // What is no test is to be a comment.
-    fn pass_over(&mut self, rt: &impl Print, heading: &str) -> Result<()> {
-        if !heading.starts_with('#') {
+    fn pass_over(&mut self, rt: &impl Print, block: &str) -> Result<()> {
+        if !block.is_empty() && !block.starts_with('#') {
             self.wrong = self.wrong.saturating_add(1);
-            println!(rt; "no heading of a test: {heading}")?;
+            println!(rt; "no test: {block}")?;
         }
         Ok(())
     }
@@ -153,12 +148,17 @@ impl Tester {
         Ok(())
     }
 
-    /// Tells which kinds of rows were refused memory, and how many tests there are.
-    pub(crate) fn tell_end(&self, rt: &impl Print) -> Result<()> {
-        println!(rt; "refused memory, and then answered as with it:")?;
+    /// Tells which kinds of rows were refused memory.
+    pub(crate) fn tell_refused(&self, rt: &impl Print) -> Result<()> {
+        rt.println("refused memory, and then answered as with it:")?;
         for word in self.refused.iter() {
-            println!(rt; "  {word}")?;
+            rt.println(word.as_str())?;
         }
+        Ok(())
+    }
+
+    /// Tells how many tests there are, and how many wrong answers.
+    pub(crate) fn tell_counts(&self, rt: &impl Print) -> Result<()> {
         println!(rt; "{} tests, {} wrong answers", self.tests, self.wrong)?;
         Ok(())
     }

@@ -74,20 +74,17 @@ impl Trial {
         answer: Result<String<Heap>, RowFault>,
     ) -> io::Result<()> {
         match answer {
-            Ok(line) if line.as_str() == row => Ok(()),
-            Ok(line) => self.tell_wrong(rt, row, line.as_str()),
-            Err(fault) => {
-                self.wrong = self.wrong.saturating_add(1);
-                let number = self.rows;
-                println!(rt; "row {number}: {fault}; wanted: {row}")
-            }
+            Ok(line) => self.compare_line(rt, row, line.as_str()),
+            Err(fault) => self.compare_line(rt, row, fault.as_str()),
         }
     }
 
-    fn tell_wrong(&mut self, rt: &impl Print, row: &str, line: &str) -> io::Result<()> {
+    fn compare_line(&mut self, rt: &impl Print, row: &str, told: &str) -> io::Result<()> {
+        if told == row {
+            return Ok(());
+        }
         self.wrong = self.wrong.saturating_add(1);
-        let number = self.rows;
-        println!(rt; "row {number}: told: {line}; wanted: {row}")
+        println!(rt; "row {}: {told}; wanted: {row}", self.rows)
     }
 }
 
