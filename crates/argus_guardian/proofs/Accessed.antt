@@ -90,7 +90,8 @@ module _ (R : Object → Object → Type 0) (s : Opening) (h : History PlainEntr
     own_list x q = moved.lists x ∙ ap (λ b. cond b (noted o (listed holdings a)) (listed holdings x)) (eq-eqb x.0 a.0 q)
 
     other_list : (x : ActionId) → x.0 ≢ a.0 → listed holdings' x ≡ listed holdings x
-    other_list x n = moved.lists x ∙ ap (λ b. cond b (noted o (listed holdings a)) (listed holdings x)) (ne_eqb x.0 a.0 n)
+    other_list x n = moved.lists x ∙ ap (λ b. cond b (noted o (listed holdings a)) (listed holdings x))
+        (ne_eqb x.0 a.0 n)
 
     held_now : (x : ActionId) (i : ℕ) → is_listed (listed holdings' x) i
         ≡ holds (Accessed (a.0 + 1) o.0 e ▹ h) (x.0 + 1) i
@@ -109,7 +110,8 @@ module _ (R : Object → Object → Type 0) (s : Opening) (h : History PlainEntr
               ∙ k.held x i
               ∙ or_none (holds h (x.0 + 1) i)
               ∙ ap (λ b. holds h (x.0 + 1) i || b) (sym (none_and (o.0 == i)))
-              ∙ ap (λ b. holds h (x.0 + 1) i || (o.0 == i && b)) (sym (ne_eqb (x.0 + 1) (a.0 + 1) (λ z. n (omega arith))))
+              ∙ ap (λ b. holds h (x.0 + 1) i || (o.0 == i && b))
+                  (sym (ne_eqb (x.0 + 1) (a.0 + 1) (λ z. n (omega arith))))
               ∙ sym (holds_now (x.0 + 1) i)
         ]
       where

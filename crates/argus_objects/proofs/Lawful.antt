@@ -214,9 +214,11 @@ module _ (t : Tree) (rs rs' : List ActionId) (vs vs' : List Version) (asc : is_a
         (subst (λ (xs : List ActionId). Lawful t xs (holders (newest_first vs'))) (sym e)
         (subst (λ (xs : List ActionId). Lawful t new xs) (sym f) law'))
 
-    pub kept_read : (a : ActionId) → all_above t a (holders (newest_first vs)) ≡ true → rs' ≡ with_reader a rs → vs' ≡ vs
+    pub kept_read : (a : ActionId) → all_above t a (holders (newest_first vs)) ≡ true → rs' ≡ with_reader a rs
+        → vs' ≡ vs
         → Kept t rs' vs'
-    kept_read a up e f = kept_by (with_reader a rs) (holders (newest_first vs)) e (ap (λ ws. holders (newest_first ws)) f)
+    kept_read a up e f = kept_by (with_reader a rs) (holders (newest_first vs)) e
+        (ap (λ ws. holders (newest_first ws)) f)
         (ascending_with a rs asc) (lawful_read t a rs (holders (newest_first vs)) before up)
 
     pub kept_write : (a : ActionId) (content : Option PlainContent)
@@ -248,4 +250,5 @@ module _ (t : Tree) (rs rs' : List ActionId) (vs vs' : List Version) (asc : is_a
         → OnOk r (newest_first vs' ≡ with_version a content (newest_first vs))
         → OnErr r (newest_first vs' ≡ newest_first vs) → Kept t rs' vs'
     kept_change (Ok answer) a content up e ok err = kept_write a content up e ok
-    kept_change (Err refused) a content up e ok err = kept_by rs (holders (newest_first vs)) e (ap holders err) asc before
+    kept_change (Err refused) a content up e ok err = kept_by rs (holders (newest_first vs)) e (ap holders err)
+        asc before
