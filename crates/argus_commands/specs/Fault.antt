@@ -33,6 +33,10 @@ pub record Position : Type 0 where
   pub bytes : ℕ
   pub levels : List Level
 
+-- the position behind so many lines and bytes, where this is open
+abbrev pub position_at : ℕ → ℕ → List Level → Position
+position_at lines bytes levels = record { lines = lines; bytes = bytes; levels = levels }
+
 -- what stands before the next line
 abbrev pub position_after : Position → List ℕ → Position
 position_after p line = record {
@@ -43,7 +47,7 @@ position_after p line = record {
 
 -- what stands behind all these lines
 abbrev pub position_behind : List (List ℕ) → Position
-position_behind lines = fold position_after (record { lines = 0; bytes = 0; levels = [] }) lines
+position_behind lines = fold position_after (position_at 0 0 []) lines
 
 -- the first word opens a block
 abbrev pub opens_block : List ℕ → Bool

@@ -2,10 +2,10 @@
 use Rattle.std.specs.Prelude.{ℕ, ◌+◌, Bool, true, false, not, if◌then◌else◌, List, [], ◌∷◌, drop}
 use Rattle.argus_commands.specs.Command.{Command}
 use Rattle.argus_commands.specs.Command as command
-use Rattle.argus_commands.specs.Stands.{in_arm, is_body, is_coenter, is_top, may_leave_all}
+use Rattle.argus_commands.specs.Stands.{in_arm, is_body, is_top, may_begin, may_leave_all}
 use Rattle.argus_commands.specs.Stands.{takes_arm}
-use Rattle.argus_commands.specs.declared.action_kind.ActionKind.TheVariants as kind
 use Rattle.argus_commands.specs.declared.level.Level.{Level}
+use Rattle.argus_commands.specs.declared.opening.Opening.TheVariants as opening
 use Rattle.argus_commands.specs.declared.place.Place.{Place}
 use Rattle.argus_commands.specs.declared.place.Place.TheVariants as place
 
@@ -58,9 +58,8 @@ abbrev pub may_follow : Command → List Level → Bool
 may_follow command.nothing ls = true
 may_follow command.bad ls = true
 may_follow (command.declare name shape) ls = is_top (place_of ls)
-may_follow (command.enter kind.Topaction) ls = not (is_coenter (place_of ls))
-may_follow (command.enter kind.Subaction) ls = is_body (place_of ls)
-may_follow command.coenter ls = not (is_coenter (place_of ls))
+may_follow (command.enter k) ls = may_begin (opening.Enter k) (place_of ls)
+may_follow command.coenter ls = may_begin opening.Coenter (place_of ls)
 may_follow (command.arm k) ls = takes_arm k (place_of (behind_arm ls))
 may_follow (command.test l name) ls = is_body (place_of ls)
 may_follow command.leave ls = is_body (place_of ls)

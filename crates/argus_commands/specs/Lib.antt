@@ -8,6 +8,8 @@ pub mod Numbered
 pub mod Objects
 pub mod Operation
 pub mod Part
+pub mod Parsed
+pub mod Reading
 pub mod Said
 pub mod Script
 pub mod Spelled

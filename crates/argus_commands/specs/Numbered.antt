@@ -55,3 +55,10 @@ one_or_none (Some s) = s ∷ []
 -- what a line tells of these objects
 abbrev pub told : PlainObjects → List ℕ → List Sentence
 told os line = one_or_none (numbered os (says (said_in line)))
+
+-- an operation with this number for the name of its field or tag
+abbrev pub with_number : ℕ → Operation (List ℕ) → Operation ℕ
+with_number n (of_any o) = of_any o
+with_number n (of_record name o) = of_record n o
+with_number n (of_array o) = of_array o
+with_number n (of_variant name o) = of_variant n o

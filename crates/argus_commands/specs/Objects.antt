@@ -1,6 +1,10 @@
 -- Declared objects, and how they are found by name.
-use Rattle.std.specs.Prelude.{ℕ, List, [], ◌++◌, position, slice_get, Option, refl}
-use Rattle.std.specs.List.{All}
+use denote.Ref.{Bor}
+use Rattle.std.specs.Prelude.{◌≡◌, ℕ, List, [], ◌++◌, length, slice_get, Option, refl}
+use Rattle.std.specs.BTreeMap.{BTreeMap, get_by}
+use Rattle.std.specs.Cmp.Lexicographic.{slice_cmp}
+use Rattle.std.specs.List.{All, position_from}
+use Rattle.std.specs.Ordering.{nat_cmp}
 use Rattle.std.specs.Str.{bytes_eq}
 use Rattle.std.specs.Coded.{Coded, code_by, coded×, coded_list, coded_ℕ}
 use Rattle.argus_contents.specs.Shape.{PlainShape}
@@ -29,7 +33,7 @@ with_more os more = record { names = os.names ++ more.names; shapes = os.shapes 
 
 -- the number of the object with this name, from 0
 abbrev pub number_of : List ℕ → PlainObjects → Option ℕ
-number_of name os = position (λ n. bytes_eq name n) os.names
+number_of name os = position_from (λ n. bytes_eq name n) 0 os.names
 
 -- the shape of the object with this number
 abbrev pub shape_at : PlainObjects → ℕ → Option PlainShape
@@ -38,3 +42,10 @@ shape_at os i = slice_get os.shapes i
 -- each object has a shape that can be made, which alone has its written form
 abbrev pub AllMakeable : PlainObjects → Type 0
 AllMakeable os = All IsMakeable os.shapes
+
+-- the map finds each name's number, and each name has a shape
+pub record IsIndexed (names : List (List ℕ)) (shapes : List PlainShape)
+    (numbers : BTreeMap (Bor (List ℕ)) ℕ) : Type 0 where
+  pub found : (name : List ℕ) → get_by (λ k. slice_cmp nat_cmp name k.now) numbers
+      ≡ position_from (λ n. bytes_eq name n) 0 names
+  pub shaped : length shapes ≡ length names
