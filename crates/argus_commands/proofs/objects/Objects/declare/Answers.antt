@@ -1,0 +1,22 @@
+use Rattle.std.proofs.Common.{◌≡◌, ◌∙◌, ap, subst, ◌∷◌, [], ◌++◌, length, Some, rules}
+use Rattle.std.specs.BTreeMap.{UpdatesBy}
+use Rattle.std.specs.Cmp.Lexicographic.{slice_cmp}
+use Rattle.std.specs.Ordering.{nat_cmp}
+use Rattle.argus_commands.specs.Objects.{number_of}
+use Rattle.argus_commands.proofs.Naming.{indexed-more}
+use Rattle.argus_commands.proofs.objects.Objects.declare.Goals as goal
+
+pub invariant_of-self-2 : goal.invariant_of-self-2
+invariant_of-self-2 c =
+    let text = c.args.text.now in
+    let old = c.self.inside in
+    let count : c.len.result ≡ length old.names.items = search rules in
+    indexed-more old.names.items c.push_reserved.new.self.items old.shapes.items c.push_reserved-2.new.self.items
+    old.numbers c.insert.new.self text c.args.shape
+    c.self.invariant
+    (ap (number_of text) c.self.view_is ∙ c.requires.new)
+    (subst (λ n. UpdatesBy (λ x y. slice_cmp nat_cmp x.now y.now) (λ k. slice_cmp nat_cmp text k.now) old.numbers
+    c.insert.new.self (Some n)) count c.in_ok-insert.ensures.updates)
+    (c.push_reserved.ensures.items ∙ ap (λ ns. ns ++ c.args.name ∷ []) c.reserve.ensures.items
+    ∙ ap (λ n. old.names.items ++ n ∷ []) c.requires.named)
+    (c.push_reserved-2.ensures.items ∙ ap (λ ss. ss ++ c.args.shape ∷ []) c.reserve-2.ensures.items)

@@ -1,0 +1,16 @@
+pub mod Command
+pub mod Fault
+pub mod Fields
+pub mod Int
+pub mod Levels
+pub mod Lines
+pub mod Numbered
+pub mod Objects
+pub mod Operation
+pub mod Part
+pub mod Parsed
+pub mod Reading
+pub mod Said
+pub mod Script
+pub mod Spelled
+pub mod Stands

@@ -1,0 +1,9 @@
+//! `AnyOperation`: an operation on any object.
+
+/// An operation on any object. A content stands as it does in the line.
+#[derive(Clone, Copy)]
+pub(crate) enum AnyOperation<'a> {
+    Create(&'a str),
+    Read,
+    Touch,
+}

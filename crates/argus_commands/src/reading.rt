@@ -1,0 +1,289 @@
+//! `Reading`: a script that is being read, line by line.
+
+ghost use Rattle.std.specs.Prelude.{◌≡◌, true, false, ◌+◌, ◌<◌, [], ◌∷◌, ◌++◌, drop, length, map};
+ghost use Rattle.std.specs.Prelude.{IfErr, IfOk, OnOk};
+ghost use Rattle.argus_contents.specs.Name.{is_name};
+ghost use Rattle.argus_contents.specs.declared.limits.TheConstants.{MAX_OBJECTS};
+ghost use Rattle.argus_texts.specs.ShapeSpelling.{IsMakeable, IsShapeText, shape_spelling};
+ghost use Rattle.argus_commands.specs.declared.line_error.LineError.TheVariants as LineError;
+ghost use Rattle.argus_commands.specs.declared.limits.TheConstants.{MAX_OPEN_BLOCKS};
+ghost use Rattle.argus_commands.specs.declared.opening.Opening.TheVariants as Opening;
+ghost use Rattle.argus_commands.specs.Levels.{behind_arm, depth_of, is_arm, place_of, with_arm};
+ghost use Rattle.argus_commands.specs.Levels.{levels_after, may_follow, with_block};
+ghost use Rattle.argus_commands.specs.Objects.{AllMakeable, no_objects};
+ghost use Rattle.argus_commands.specs.Command as command;
+ghost use Rattle.argus_commands.specs.Fault.{HasWordFault, WordsAreFine};
+ghost use Rattle.argus_commands.specs.Numbered.{numbered, one_or_none};
+ghost use Rattle.argus_commands.specs.Part.{plain_step};
+ghost use Rattle.argus_commands.specs.Reading.{IsSound, closing_at, is_arm_line, levels_of};
+ghost use Rattle.argus_commands.specs.Reading.{OnKind, StandsInAction, lines_so_far};
+ghost use Rattle.argus_commands.specs.Said.{said, said_operation};
+ghost use Rattle.argus_commands.specs.Spelled.{begin, lines_of_part};
+ghost use Rattle.argus_commands.specs.Spelled as sentence;
+ghost use Rattle.argus_commands.specs.Stands.{Stands, in_arm, is_coenter, is_top, may_begin};
+ghost use Rattle.argus_commands.specs.Stands.{is_body, place_in, takes_arm};
+
+use crate::action_kind::ActionKind;
+use crate::fault_kind::FaultKind;
+use crate::level::Level;
+use crate::line::Line;
+use crate::line_error::LineError;
+use crate::lock::Lock;
+use crate::numbering::number_in;
+use crate::objects::Objects;
+use crate::open_block::OpenBlock;
+use crate::opening::Opening;
+use crate::operation::Operation;
+use crate::place::Place;
+use crate::step::Step;
+use crate::step_making::access_step;
+use argus_contents::{Name, NameError, Shape};
+use argus_memory::{Heap, OutOfMemory};
+use argus_texts::read_shape;
+use std::mem;
+
+/// A script that is being read: its objects so far, what is open, and the steps in the innermost.
+#[derive(Drop)]
+pub(crate) struct Reading<'a> {
+    pub objects: Objects<'a>,
+    pub blocks: Vec<OpenBlock, Heap>,
+    pub steps: Vec<Step, Heap>,
+}
+
+impl<'a> Reading<'a> {
+    /// Nothing is read yet.
+    pub(crate) fn new(heap: Heap) -> Reading<'a>
+        ensures objects { result.objects ≡ no_objects }
+        ensures none_open { result.blocks.items ≡ [] }
+        ensures no_steps { result.steps.items ≡ [] }
+    {
+        Reading {
+            objects: Objects::new(heap),
+            blocks: Vec::new(heap),
+            steps: Vec::new(heap),
+        }
+    }
+
+    /// Where the next line stands.
+    pub(crate) fn place(&self) -> Place
+        ensures { result ≡ place_of (levels_of self.now.blocks.items) }
+    {
+        match self.blocks.last() {
+            Some(block) => block.level.place,
+            None => Place::Top,
+        }
+    }
+
+    /// How many blocks are open.
+    pub(crate) fn depth(&self) -> u32
+        ensures { result ≡ depth_of (levels_of self.now.blocks.items) }
+    {
+        match self.blocks.last() {
+            Some(block) => block.level.depth,
+            None => 0,
+        }
+    }
+
+    /// One more step, which may stand here.
+    pub(crate) fn push(&mut self, step: Step) -> Result<(), LineError>
+        requires sound { IsSound self.old.blocks.items self.old.steps.items }
+        requires stands { Stands (place_of (levels_of self.old.blocks.items)) (plain_step step) }
+        ensures fault { IfErr result (λ e. e ≡ LineError.OutOfMemory) }
+        ensures objects { self.new.objects ≡ self.old.objects }
+        ensures blocks { self.new.blocks ≡ self.old.blocks }
+        ensures lines { OnOk result (lines_so_far self.new.blocks.items self.new.steps.items
+            ≡ lines_so_far self.old.blocks.items self.old.steps.items
+            ++ lines_of_part (plain_step step)) }
+        ensures sound { OnOk result (IsSound self.new.blocks.items self.new.steps.items) }
+    {
+        self.steps.push(step)?;
+        Ok(())
+    }
+
+    /// A block or an arm begins, which may stand here.
+    pub(crate) fn begin(
+        &mut self,
+        heap: Heap,
+        opening: Opening,
+        level: Level,
+    ) -> Result<(), LineError>
+        requires sound { IsSound self.old.blocks.items self.old.steps.items }
+        requires may { may_begin opening (place_of (levels_of self.old.blocks.items)) ≡ true }
+        requires place { level.place
+            ≡ place_in opening (place_of (levels_of self.old.blocks.items)) }
+        requires arm { is_arm level.place ≡ is_arm_line opening }
+        ensures fault { IfErr result (λ e. e ≡ LineError.OutOfMemory) }
+        ensures objects { self.new.objects ≡ self.old.objects }
+        ensures levels { OnOk result (levels_of self.new.blocks.items
+            ≡ level ∷ levels_of self.old.blocks.items) }
+        ensures lines { OnOk result (lines_so_far self.new.blocks.items self.new.steps.items
+            ≡ lines_so_far self.old.blocks.items self.old.steps.items
+            ++ begin opening ∷ []) }
+        ensures sound { OnOk result (IsSound self.new.blocks.items self.new.steps.items) }
+    {
+        self.blocks.reserve(1)?;
+        let before = mem::replace(&mut self.steps, Vec::new(heap));
+        self.blocks.push_reserved(OpenBlock {
+            opening,
+            level,
+            before,
+        });
+        Ok(())
+    }
+
+    /// The innermost block or arm ends.
+    pub(crate) fn close(&mut self) -> Result<(), LineError>
+        requires sound { IsSound self.old.blocks.items self.old.steps.items }
+        requires within { is_top (place_of (levels_of self.old.blocks.items)) ≡ false }
+        ensures fault { IfErr result (λ e. e ≡ LineError.OutOfMemory) }
+        ensures objects { self.new.objects ≡ self.old.objects }
+        ensures levels { OnOk result (levels_of self.new.blocks.items
+            ≡ drop 1 (levels_of self.old.blocks.items)) }
+        ensures lines { OnOk result (lines_so_far self.new.blocks.items self.new.steps.items
+            ≡ lines_so_far self.old.blocks.items self.old.steps.items
+            ++ closing_at (place_of (levels_of self.old.blocks.items))) }
+        ensures sound { OnOk result (IsSound self.new.blocks.items self.new.steps.items) }
+        ensures outer { OnOk result (is_arm (place_of (levels_of self.old.blocks.items)) ≡ true
+            → is_coenter (place_of (levels_of self.new.blocks.items)) ≡ true) }
+    {
+        let Some(block) = self.blocks.pop() else {
+            return Ok(());
+        };
+        let OpenBlock {
+            opening,
+            level: _,
+            before,
+        } = block;
+        let steps = mem::replace(&mut self.steps, before);
+        self.steps.push(Step::Block(opening, steps))?;
+        Ok(())
+    }
+
+    /// The arm that is innermost ends, if one is.
+    pub(crate) fn end_arm(&mut self) -> Result<(), LineError>
+        requires { IsSound self.old.blocks.items self.old.steps.items }
+        ensures fault { IfErr result (λ e. e ≡ LineError.OutOfMemory) }
+        ensures objects { self.new.objects ≡ self.old.objects }
+        ensures levels { OnOk result (levels_of self.new.blocks.items
+            ≡ behind_arm (levels_of self.old.blocks.items)) }
+        ensures lines { OnOk result (lines_so_far self.new.blocks.items self.new.steps.items
+            ≡ lines_so_far self.old.blocks.items self.old.steps.items) }
+        ensures sound { OnOk result (IsSound self.new.blocks.items self.new.steps.items) }
+        ensures closed { OnOk result (is_arm (place_of (levels_of self.new.blocks.items)) ≡ false) }
+        ensures within { OnOk result (is_top (place_of (levels_of self.old.blocks.items)) ≡ false
+            → is_top (place_of (levels_of self.new.blocks.items)) ≡ false) }
+    {
+        match self.place() {
+            Place::Arm(_) => self.close(),
+            Place::Top | Place::Body(_) | Place::Coenter(_) => Ok(()),
+        }
+    }
+
+    /// The innermost block ends.
+    pub(crate) fn end(&mut self) -> Result<(), LineError>
+        requires sound { IsSound self.old.blocks.items self.old.steps.items }
+        requires within { is_top (place_of (levels_of self.old.blocks.items)) ≡ false }
+        ensures fault { IfErr result (λ e. e ≡ LineError.OutOfMemory) }
+        ensures objects { self.new.objects ≡ self.old.objects }
+        ensures levels { OnOk result (levels_of self.new.blocks.items
+            ≡ drop 1 (behind_arm (levels_of self.old.blocks.items))) }
+        ensures lines { OnOk result (lines_so_far self.new.blocks.items self.new.steps.items
+            ≡ lines_so_far self.old.blocks.items self.old.steps.items ++ sentence.«end» ∷ []) }
+        ensures sound { OnOk result (IsSound self.new.blocks.items self.new.steps.items) }
+    {
+        self.end_arm()?;
+        self.close()
+    }
+
+    /// The next arm of a coenter begins.
+    pub(crate) fn begin_arm(&mut self, heap: Heap, kind: ActionKind) -> Result<(), LineError>
+        requires sound { IsSound self.old.blocks.items self.old.steps.items }
+        requires may { takes_arm kind (place_of (behind_arm (levels_of self.old.blocks.items)))
+            ≡ true }
+        ensures fault { IfErr result (λ e. e ≡ LineError.OutOfMemory) }
+        ensures objects { self.new.objects ≡ self.old.objects }
+        ensures levels { OnOk result (levels_of self.new.blocks.items
+            ≡ with_arm (behind_arm (levels_of self.old.blocks.items))) }
+        ensures lines { OnOk result (lines_so_far self.new.blocks.items self.new.steps.items
+            ≡ lines_so_far self.old.blocks.items self.old.steps.items
+            ++ begin (Opening.Arm kind) ∷ []) }
+        ensures sound { OnOk result (IsSound self.new.blocks.items self.new.steps.items) }
+    {
+        self.end_arm()?;
+        let Some(coenter) = self.blocks.last() else {
+            return Ok(());
+        };
+        let level = arm_of(coenter.level);
+        self.begin(heap, Opening::Arm(kind), level)
+    }
+
+    /// A block begins at the line with this number.
+    pub(crate) fn begin_block(
+        &mut self,
+        heap: Heap,
+        opening: Opening,
+        number: u32,
+    ) -> Result<(), LineError>
+        requires sound { IsSound self.old.blocks.items self.old.steps.items }
+        requires block { is_arm_line opening ≡ false }
+        requires may { may_begin opening (place_of (levels_of self.old.blocks.items)) ≡ true }
+        requires room { depth_of (levels_of self.old.blocks.items) < MAX_OPEN_BLOCKS }
+        ensures fault { IfErr result (λ e. e ≡ LineError.OutOfMemory) }
+        ensures objects { self.new.objects ≡ self.old.objects }
+        ensures levels { OnOk result (levels_of self.new.blocks.items
+            ≡ with_block (place_in opening (place_of (levels_of self.old.blocks.items))) number
+            (levels_of self.old.blocks.items)) }
+        ensures lines { OnOk result (lines_so_far self.new.blocks.items self.new.steps.items
+            ≡ lines_so_far self.old.blocks.items self.old.steps.items ++ begin opening ∷ []) }
+        ensures sound { OnOk result (IsSound self.new.blocks.items self.new.steps.items) }
+    {
+        let level = Level {
+            place: self.place().within(opening),
+            line: number,
+            depth: self.depth() + 1,
+        };
+        self.begin(heap, opening, level)
+    }
+}
+
+impl<'a> Reading<'a> {
+    /// Whether a line that says this may stand here; the innermost arm ends before a further arm.
+    pub(crate) fn may_follow(&self, line: &Line<'a>) -> bool
+        requires { IsSound self.now.blocks.items self.now.steps.items }
+        ensures { result ≡ may_follow (said line.now) (levels_of self.now.blocks.items) }
+    {
+        let place = self.place();
+        match line {
+            Line::Nothing | Line::Bad => true,
+            Line::Declare(_, _) => place.is_top(),
+            Line::Enter(ActionKind::Topaction) | Line::Coenter => !place.is_coenter(),
+            Line::Enter(ActionKind::Subaction) | Line::If(_, _) => place.is_body(),
+            Line::Leave | Line::AbortLeave | Line::Access(_, _) => place.is_body(),
+            Line::LeaveAll => place.may_leave_all(),
+            Line::Arm(kind) => self.place_behind_arm().takes_arm(*kind),
+            Line::End => !place.is_top(),
+        }
+    }
+
+    /// Where a line stands behind the innermost arm: in that arm's coenter.
+    fn place_behind_arm(&self) -> Place
+        requires { IsSound self.now.blocks.items self.now.steps.items }
+        ensures { result ≡ place_of (behind_arm (levels_of self.now.blocks.items)) }
+    {
+        let place = self.place();
+        match place {
+            Place::Arm(in_action) => Place::Coenter(in_action),
+            Place::Top | Place::Body(_) | Place::Coenter(_) => place,
+        }
+    }
+}
+
+/// The level of an arm of a coenter.
+fn arm_of(coenter: Level) -> Level
+    ensures { result ≡ record coenter { place = in_arm coenter.place } }
+{
+    Level {
+        place: coenter.place.in_arm(),
+        ..coenter
+    }
+}
