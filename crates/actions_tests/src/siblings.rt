@@ -4,8 +4,9 @@ use argus_actions::{ActionId, ActionRefusal, ActionTree, Status};
 use argus_memory::Heap;
 use std::test::Fail;
 
-// A committed topaction a0; a topaction a1 with the subactions a2 and a3 and the nested topaction a4; under a3 a
-// subaction a5 and a nested topaction a6; a2 has committed; then a subaction a7 of a1.
+// A committed topaction a0; a topaction a1 with the subactions a2 and a3 and the nested topaction
+// a4; under a3 a subaction a5 and a nested topaction a6; a2 has committed; then a subaction a7 of
+// a1.
 fn siblings(heap: Heap) -> Result<ActionTree, Fail> {
     let mut tree = ActionTree::new(heap);
     let opening = tree.begin_top()?;

@@ -1,5 +1,5 @@
-//! What no clause says: that calls with ample memory succeed, that each refusal comes in its place, and that a refused
-//! allocation changes nothing.
+//! What no clause says: that calls with ample memory succeed, that each refusal comes in its place,
+//! and that a refused allocation changes nothing.
 
 use argus_actions::{ActionError, ActionId, ActionRefusal, ActionTree, Status};
 use argus_memory::{Budget, Heap, Limited};
@@ -86,7 +86,8 @@ fn a_million_actions_are_the_most(rt: HostRuntime) -> Result<(), Fail> {
     Ok(())
 }
 
-// A topaction a0 with a subaction a1, and under this a nested topaction a2, which has a subaction a3.
+// A topaction a0 with a subaction a1, and under this a nested topaction a2, which has a subaction
+// a3.
 fn family(heap: Heap) -> Result<ActionTree, Fail> {
     let mut tree = ActionTree::new(heap);
     let top = tree.begin_top()?;
@@ -188,8 +189,8 @@ fn begin(tree: &mut ActionTree, kind: Kind) -> Result<ActionId, ActionError> {
     }
 }
 
-// Begins 1,000 actions under a topaction, each first with no memory and, where that was refused, again with memory.
-// Answers how often it was refused.
+// Begins 1,000 actions under a topaction, each first with no memory and, where that was refused,
+// again with memory. Answers how often it was refused.
 fn refusals(rt: &impl Abort, inner: Global, kind: Kind) -> Result<u32, Fail> {
     let budget = Budget::new(inner)?;
     let mut tree = ActionTree::new(Limited::with_budget(inner, budget));

@@ -12,6 +12,7 @@ use Rattle.argus_actions.specs.Row.{Row, at_parent, under_of, is_sub_of, comes_f
 use Rattle.argus_actions.specs.Rows.{AreInStep, depth_at, newest_below, newest_child_below}
 use Rattle.argus_actions.specs.Tree.{Tree, row_of}
 
+-- the row that a node keeps
 abbrev pub shown : Node → Row
 shown node = record { origin = node.origin; status = node.status }
 
@@ -98,12 +99,12 @@ fresh origin older child depth =
       depth = depth;
     }
 
--- the links of an action that is begun next, to the one that was begun before it under the same
--- parent, and under the same parent or creator
+-- the link from an action that is begun now to the newest one of the same parent
 abbrev pub older_sub_link : ℕ → List Row → Origin → ℕ
 older_sub_link folded rows origin =
     link_to (at_parent None origin (λ p. newest_below folded rows p (folded + length rows)))
 
+-- the link from an action that is begun now to the newest one of the same parent or creator
 abbrev pub older_child_link : ℕ → List Row → Origin → ℕ
 older_child_link folded rows origin = link_to (option_and_then
     (λ under. newest_child_below folded rows under (folded + length rows)) (under_of origin))

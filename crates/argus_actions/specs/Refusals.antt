@@ -23,26 +23,32 @@ unless_live (Some Committed) = Some Over
 unless_live (Some Aborted) = Some Over
 unless_live (Some Folded) = Some Over
 
+-- this refusal, where the test holds
 abbrev pub refused_if : Bool → ActionRefusal → Option ActionRefusal
 refused_if test refusal = if test then Some refusal else None
 
+-- why no topaction may begin
 abbrev pub begin_top_refusal : Tree → Option ActionRefusal
 begin_top_refusal tree = refused_if (nat_le MAX_ACTIONS (next tree)) TooMany
 
+-- why no subaction of this action may begin
 abbrev pub begin_sub_refusal : Tree → ℕ → Option ActionRefusal
 begin_sub_refusal tree parent =
     option_or (unless_live (status_of tree parent))
     (option_or (refused_if (nat_le MAX_ACTION_DEPTH (depth_at tree.folded tree.rows parent))
     TooDeep) (begin_top_refusal tree))
 
+-- why no nested topaction of this action may begin
 abbrev pub begin_nested_refusal : Tree → ℕ → Option ActionRefusal
 begin_nested_refusal tree creator =
     option_or (unless_live (status_of tree creator)) (begin_top_refusal tree)
 
+-- why the action may not commit
 abbrev pub commit_refusal : Tree → ℕ → Option ActionRefusal
 commit_refusal tree a =
     option_or (unless_live (status_of tree a)) (refused_if (has_live_child tree a) ChildrenLive)
 
+-- why the action may not be aborted
 abbrev pub abort_refusal : Tree → ℕ → Option ActionRefusal
 abort_refusal tree a = unless_live (status_of tree a)
 

@@ -32,6 +32,7 @@ is_sub_of a origin = at_parent false origin (λ parent. parent == a)
 abbrev pub comes_from : ℕ → Origin → Bool
 comes_from a origin = option_map_or (λ under. under == a) (under_of origin) false
 
+-- the action goes on
 abbrev pub is_live : Status → Bool
 is_live Live = true
 is_live Committed = false
@@ -49,5 +50,6 @@ may_follow Aborted Committed = false
 may_follow Aborted Folded = false
 may_follow Folded sub = false
 
+-- the row with this status
 abbrev pub with_status : Status → Row → Row
 with_status status row = record { origin = row.origin; status = status }

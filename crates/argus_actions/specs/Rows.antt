@@ -61,6 +61,7 @@ newest_child_below folded rows a bound = newest_where (comes_from a) folded rows
 abbrev pub under_at : ℕ → List Row → ℕ → Option ℕ
 under_at folded rows a = option_and_then (λ row. under_of row.origin) (numbered folded rows a)
 
+-- the action of this number is live
 abbrev pub is_live_at : ℕ → List Row → ℕ → Bool
 is_live_at folded rows a = option_map_or (λ row. is_live row.status) (numbered folded rows a) false
 
@@ -82,6 +83,7 @@ abbrev pub is_sibling_of : ℕ → List Row → ℕ → ℕ → Bool
 is_sibling_of folded rows a x = not (x == a) && option_map_or
     (λ under. is_child_of folded rows under x) (under_at folded rows a) false
 
+-- x is live, and a sibling of a
 abbrev pub is_live_sibling_of : ℕ → List Row → ℕ → ℕ → Bool
 is_live_sibling_of folded rows a x = is_live_at folded rows x && is_sibling_of folded rows a x
 

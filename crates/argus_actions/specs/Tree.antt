@@ -23,6 +23,7 @@ pub record Tree : Type 0 where
 abbrev pub next : Tree → ℕ
 next tree = tree.folded + length tree.rows
 
+-- the row of the action with this number, where it has one
 abbrev pub row_of : Tree → ℕ → Option Row
 row_of tree a = numbered tree.folded tree.rows a
 
@@ -37,6 +38,7 @@ parent_in Top = None
 parent_in (Sub parent) = Some (record { 0 = parent })
 parent_in (Nested creator) = None
 
+-- the parent of the action with this number, if any
 abbrev pub parent_of : Tree → ℕ → Option ActionId
 parent_of tree a = option_and_then (λ row. parent_in row.origin) (row_of tree a)
 
@@ -46,6 +48,7 @@ creator_in Top = None
 creator_in (Sub parent) = None
 creator_in (Nested creator) = Some (record { 0 = creator })
 
+-- the creator of the action with this number, if any
 abbrev pub creator_of : Tree → ℕ → Option ActionId
 creator_of tree a = option_and_then (λ row. creator_in row.origin) (row_of tree a)
 

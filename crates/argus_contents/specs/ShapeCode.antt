@@ -7,25 +7,30 @@ use Rattle.argus_contents.specs.Ty.{PlainTy, PlainFields}
 use Rattle.argus_contents.specs.Ty as ty
 use Rattle.argus_contents.specs.Shape.{PlainShape, rec, arr, var}
 
+-- the first part of what is stored
 abbrev pub first : Gv → Gv
 first gnil = gnil
 first (gnum n) = gnil
 first (gcons a b) = a
 
+-- the second part of what is stored
 abbrev pub second : Gv → Gv
 second gnil = gnil
 second (gnum n) = gnil
 second (gcons a b) = b
 
+-- bytes as they are stored
 abbrev pub bytes_code : List ℕ → Gv
 bytes_code [] = gnil
 bytes_code (b ∷ bs) = gcons (gnum b) (bytes_code bs)
 
+-- the bytes that are stored so
 abbrev pub bytes_at : Gv → List ℕ
 bytes_at gnil = []
 bytes_at (gnum n) = []
 bytes_at (gcons a b) = num a ∷ bytes_at b
 
+-- what was stored is read again
 pub bytes_back : (bs : List ℕ) → bytes_at (bytes_code bs) ≡ bs
 bytes_back [] = refl
 bytes_back (b ∷ bs) = ap (λ rest. b ∷ rest) (bytes_back bs)
@@ -41,6 +46,7 @@ abbrev mutual
   ty_code (ty.fields fs) = gcons (gnum 6) (fields_code fs)
   ty_code (ty.choice fs) = gcons (gnum 7) (fields_code fs)
 
+  -- named types as they are stored
   pub fields_code : PlainFields → Gv
   fields_code ty.none = gnil
   fields_code (ty.more name t fs) = gcons (gcons (bytes_code name) (ty_code t)) (fields_code fs)
@@ -64,6 +70,7 @@ seen (gcons a b) = (
 )
 
 mutual
+  -- what was stored is read again
   pub ty_back : (t : PlainTy) → (seen (ty_code t)).0 ≡ t
   ty_back ty.null = refl
   ty_back ty.bool = refl
@@ -74,6 +81,7 @@ mutual
   ty_back (ty.fields fs) = ap ty.fields (fields_back fs)
   ty_back (ty.choice fs) = ap ty.choice (fields_back fs)
 
+  -- what was stored is read again, of named types
   pub fields_back : (fs : PlainFields) → (seen (fields_code fs)).2 ≡ fs
   fields_back ty.none = refl
   fields_back (ty.more name t fs) =
@@ -81,23 +89,28 @@ mutual
       ∙ (ap (λ x. ty.more name x (seen (fields_code fs)).2) (ty_back t)
       ∙ ap (ty.more name t) (fields_back fs))
 
+-- a shape as it is stored: its kind, and its parts
 abbrev pub shape_code : PlainShape → Gv
 shape_code (rec fs) = gcons (gnum 0) (fields_code fs)
 shape_code (arr t) = gcons (gnum 1) (ty_code t)
 shape_code (var fs) = gcons (gnum 2) (fields_code fs)
 
+-- the shape that is stored so
 abbrev pub shape_at : Gv → PlainShape
 shape_at g =
     if num (first g) == 0 then rec (seen (second g)).2 else
     (if num (first g) == 1 then arr (seen (second g)).0 else var (seen (second g)).2)
 
+-- what was stored is read again
 pub shape_back : (s : PlainShape) → shape_at (shape_code s) ≡ s
 shape_back (rec fs) = ap rec (fields_back fs)
 shape_back (arr t) = ap arr (ty_back t)
 shape_back (var fs) = ap var (fields_back fs)
 
+-- two shapes that are stored alike are equal
 pub shape_injective : (r s : PlainShape) → shape_code r ≡ shape_code s → r ≡ s
 shape_injective r s e = sym (shape_back r) ∙ (ap shape_at e ∙ shape_back s)
 
+-- so shapes can be stored
 abbrev pub shape_coded : Coded PlainShape
 shape_coded = record { code = shape_code; inj = shape_injective }

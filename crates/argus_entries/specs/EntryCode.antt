@@ -17,6 +17,7 @@ use Rattle.argus_entries.specs.declared.refusal.Refusal.TheVariants.{Conflict, I
 use Rattle.argus_entries.specs.declared.refusal.Refusal.TheVariants.{NoObject, NoSiblings, Over}
 use Rattle.argus_entries.specs.declared.refusal.Refusal.TheVariants.{Suspended, TooDeep, TooMany}
 
+-- a refusal as it is stored: its number
 abbrev pub refusal_number : Refusal → ℕ
 refusal_number NoAction = 1
 refusal_number Over = 2
@@ -28,6 +29,7 @@ refusal_number TooDeep = 7
 refusal_number TooMany = 8
 refusal_number NoSiblings = 9
 
+-- the refusal that is stored so
 abbrev pub refusal_from : ℕ → Refusal
 refusal_from n =
     if n == 1 then NoAction else (if n == 2 then Over else
@@ -35,6 +37,7 @@ refusal_from n =
     (if n == 5 then IllTyped else (if n == 6 then Conflict else
     (if n == 7 then TooDeep else (if n == 8 then TooMany else NoSiblings)))))))
 
+-- what was stored is read again
 pub refusal_back : (r : Refusal) → refusal_from (refusal_number r) ≡ r
 refusal_back NoAction = refl
 refusal_back Over = refl
@@ -46,6 +49,7 @@ refusal_back TooDeep = refl
 refusal_back TooMany = refl
 refusal_back NoSiblings = refl
 
+-- so refusals can be stored
 abbrev pub refusal_coded : Coded Refusal
 refusal_coded = code_by ℕ coded_ℕ refusal_number refusal_from refusal_back
 
@@ -53,22 +57,26 @@ refusal_coded = code_by ℕ coded_ℕ refusal_number refusal_from refusal_back
 abbrev pub ReplyParts : Type 0
 ReplyParts = ℕ × (ℕ × (PlainAnswer × Refusal))
 
+-- a reply as it is stored: its kind, and its parts
 abbrev pub reply_parts : PlainReply → ReplyParts
 reply_parts (object o) = (0, (o, (done, NoAction)))
 reply_parts (begun a) = (1, (a, (done, NoAction)))
 reply_parts (answered a) = (2, (0, (a, NoAction)))
 reply_parts (refused r) = (3, (0, (done, r)))
 
+-- the reply that is stored so
 abbrev pub reply_from : ReplyParts → PlainReply
 reply_from p = if p.0 == 0 then object p.1.0 else
     (if p.0 == 1 then begun p.1.0 else (if p.0 == 2 then answered p.1.1.0 else refused p.1.1.1))
 
+-- what was stored is read again
 pub reply_back : (r : PlainReply) → reply_from (reply_parts r) ≡ r
 reply_back (object o) = refl
 reply_back (begun a) = refl
 reply_back (answered a) = refl
 reply_back (refused r) = refl
 
+-- so replies can be stored
 abbrev pub reply_coded : Coded PlainReply
 reply_coded = code_by ReplyParts (coded× coded_ℕ
     (coded× coded_ℕ (coded× answer_coded refusal_coded))) reply_parts reply_from reply_back
@@ -77,6 +85,7 @@ reply_coded = code_by ReplyParts (coded× coded_ℕ
 abbrev pub CallParts : Type 0
 CallParts = ℕ × ((ℕ × ℕ) × (Option PlainShape × (Query × PlainChange)))
 
+-- a call as it is stored: its kind, and its parts
 abbrev pub call_parts : PlainCall → CallParts
 call_parts (declare s) = (0, ((0, 0), (Some s, (Whole, touch))))
 call_parts begin_top = (1, ((0, 0), (None, (Whole, touch))))
@@ -90,10 +99,12 @@ call_parts (alter a o c) = (8, ((a, o), (None, (Whole, c))))
 call_parts (test_read a o) = (9, ((a, o), (None, (Whole, touch))))
 call_parts (test_write a o) = (10, ((a, o), (None, (Whole, touch))))
 
+-- the declaration that is stored so
 abbrev pub declare_from : Option PlainShape → PlainCall
 declare_from None = begin_top
 declare_from (Some s) = declare s
 
+-- the call that is stored so
 abbrev pub call_from : CallParts → PlainCall
 call_from p =
     if p.0 == 0 then declare_from p.1.1.0 else (if p.0 == 1 then begin_top else
@@ -105,6 +116,7 @@ call_from p =
     (if p.0 == 9 then test_read p.1.0.0 p.1.0.1 else
     test_write p.1.0.0 p.1.0.1)))))))))
 
+-- what was stored is read again
 pub call_back : (c : PlainCall) → call_from (call_parts c) ≡ c
 call_back (declare s) = refl
 call_back begin_top = refl
@@ -118,12 +130,14 @@ call_back (alter a o c) = refl
 call_back (test_read a o) = refl
 call_back (test_write a o) = refl
 
+-- so calls can be stored
 abbrev pub call_coded : Coded PlainCall
 call_coded =
     code_by CallParts (coded× coded_ℕ (coded× (coded× coded_ℕ coded_ℕ)
     (coded× (coded_option shape_coded) (coded× query_coded change_coded))))
     call_parts call_from call_back
 
+-- so entries can be stored
 abbrev pub entry_coded : Coded PlainEntry
 entry_coded =
     code_by (PlainCall × PlainReply) (coded× call_coded reply_coded) (λ e. (e.call, e.reply))

@@ -23,6 +23,7 @@ use Rattle.argus_entries.specs.declared.refusal.Refusal.TheVariants.{Suspended, 
 abbrev pub place_spelling : List ℕ → ℕ → ℕ → List ℕ
 place_spelling word a o = word ++ decimal a ++ codes " o" ++ decimal o
 
+-- a call: its word, and what it hands in
 abbrev pub call_spelling : PlainCall → List ℕ
 call_spelling (declare shape) = codes "declare " ++ shape_spelling shape
 call_spelling begin_top = codes "begin_top"
@@ -38,6 +39,7 @@ call_spelling (alter a o change) =
 call_spelling (test_read a o) = place_spelling (codes "test_read a") a o
 call_spelling (test_write a o) = place_spelling (codes "test_write a") a o
 
+-- a signal, by its name
 abbrev pub signal_spelling : Signal → List ℕ
 signal_spelling Absent = codes "signal absent"
 signal_spelling Exists = codes "signal exists"
@@ -46,6 +48,7 @@ signal_spelling WrongTag = codes "signal wrong_tag"
 signal_spelling NegativeSize = codes "signal negative_size"
 signal_spelling Limits = codes "signal limits"
 
+-- what an operation answers
 abbrev pub answer_spelling : PlainAnswer → List ℕ
 answer_spelling done = codes "done"
 answer_spelling (val v) = codes "val " ++ spelling v
@@ -67,6 +70,7 @@ refusal_name TooDeep = codes "TooDeep"
 refusal_name TooMany = codes "TooMany"
 refusal_name NoSiblings = codes "NoSiblings"
 
+-- a reply: a number that was given, an answer, or why the call was refused
 abbrev pub reply_spelling : PlainReply → List ℕ
 reply_spelling (object o) = codes "o" ++ decimal o
 reply_spelling (begun a) = codes "a" ++ decimal a

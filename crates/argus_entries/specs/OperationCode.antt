@@ -16,9 +16,11 @@ use Rattle.argus_contents.specs.declared.signal.Signal.{Signal}
 use Rattle.argus_contents.specs.declared.signal.Signal.TheVariants.{Absent, Bounds, Exists, Limits}
 use Rattle.argus_contents.specs.declared.signal.Signal.TheVariants.{NegativeSize, WrongTag}
 
+-- two values that are stored alike are equal
 pub value_injective : (v w : PlainValue) → value_code v ≡ value_code w → v ≡ w
 value_injective v w e = sym (value_back v) ∙ (ap (λ g. (seen g).0) e ∙ value_back w)
 
+-- so values can be stored
 abbrev pub value_coded : Coded PlainValue
 value_coded = record { code = value_code; inj = value_injective }
 
@@ -35,6 +37,7 @@ query_parts Top = (7, (0, pos 0))
 query_parts (IsTag t) = (8, (t, pos 0))
 query_parts (TagValue t) = (9, (t, pos 0))
 
+-- the query that is stored so
 abbrev pub query_from : ℕ × (ℕ × ℤ) → Query
 query_from p =
     if p.0 == 0 then Whole else (if p.0 == 1 then Field p.1.0 else
@@ -43,6 +46,7 @@ query_from p =
     (if p.0 == 6 then Bottom else (if p.0 == 7 then Top else
     (if p.0 == 8 then IsTag p.1.0 else TagValue p.1.0))))))))
 
+-- what was stored is read again
 pub query_back : (q : Query) → query_from (query_parts q) ≡ q
 query_back Whole = refl
 query_back (Field i) = refl
@@ -55,6 +59,7 @@ query_back Top = refl
 query_back (IsTag t) = refl
 query_back (TagValue t) = refl
 
+-- so queries can be stored
 abbrev pub query_coded : Coded Query
 query_coded = code_by (ℕ × (ℕ × ℤ)) (coded× coded_ℕ (coded× coded_ℕ coded_ℤ))
     query_parts query_from query_back
@@ -63,6 +68,7 @@ query_coded = code_by (ℕ × (ℕ × ℤ)) (coded× coded_ℕ (coded× coded_�
 abbrev pub ChangeParts : Type 0
 ChangeParts = ℕ × (ℕ × ((ℤ × ℤ) × (Option PlainContent × PlainValue)))
 
+-- a change as it is stored: its kind, and its parts
 abbrev pub change_parts : PlainChange → ChangeParts
 change_parts (create c) = (0, (0, ((pos 0, pos 0), (Some c, null))))
 change_parts (set_field i v) = (1, (i, ((pos 0, pos 0), (None, v))))
@@ -76,10 +82,12 @@ change_parts (trim i n) = (8, (0, ((i, n), (None, null))))
 change_parts (change_tag t v) = (9, (t, ((pos 0, pos 0), (None, v))))
 change_parts touch = (10, (0, ((pos 0, pos 0), (None, null))))
 
+-- the creation that is stored so
 abbrev pub create_from : Option PlainContent → PlainChange
 create_from None = touch
 create_from (Some c) = create c
 
+-- the change that is stored so
 abbrev pub change_from : ChangeParts → PlainChange
 change_from p =
     if p.0 == 0 then create_from p.1.1.1.0 else (if p.0 == 1 then set_field p.1.0 p.1.1.1.1 else
@@ -89,6 +97,7 @@ change_from p =
     (if p.0 == 8 then trim p.1.1.0.0 p.1.1.0.1 else
     (if p.0 == 9 then change_tag p.1.0 p.1.1.1.1 else touch)))))))))
 
+-- what was stored is read again
 pub change_back : (c : PlainChange) → change_from (change_parts c) ≡ c
 change_back (create c) = refl
 change_back (set_field i v) = refl
@@ -102,12 +111,14 @@ change_back (trim i n) = refl
 change_back (change_tag t v) = refl
 change_back touch = refl
 
+-- so changes can be stored
 abbrev pub change_coded : Coded PlainChange
 change_coded =
     code_by ChangeParts (coded× coded_ℕ (coded× coded_ℕ
     (coded× (coded× coded_ℤ coded_ℤ) (coded× (coded_option content_coded) value_coded))))
     change_parts change_from change_back
 
+-- a signal as it is stored: its number
 abbrev pub signal_number : Signal → ℕ
 signal_number Absent = 0
 signal_number Exists = 1
@@ -116,12 +127,14 @@ signal_number WrongTag = 3
 signal_number NegativeSize = 4
 signal_number Limits = 5
 
+-- the signal that is stored so
 abbrev pub signal_from : ℕ → Signal
 signal_from n =
     if n == 0 then Absent else (if n == 1 then Exists else
     (if n == 2 then Bounds else (if n == 3 then WrongTag else
     (if n == 4 then NegativeSize else Limits))))
 
+-- what was stored is read again
 pub signal_back : (s : Signal) → signal_from (signal_number s) ≡ s
 signal_back Absent = refl
 signal_back Exists = refl
@@ -130,6 +143,7 @@ signal_back WrongTag = refl
 signal_back NegativeSize = refl
 signal_back Limits = refl
 
+-- so signals can be stored
 abbrev pub signal_coded : Coded Signal
 signal_coded = code_by ℕ coded_ℕ signal_number signal_from signal_back
 
@@ -137,6 +151,7 @@ signal_coded = code_by ℕ coded_ℕ signal_number signal_from signal_back
 abbrev pub AnswerParts : Type 0
 AnswerParts = ℕ × (ℤ × (Bool × (PlainValue × (Option PlainContent × Signal))))
 
+-- an answer as it is stored: its kind, and its parts
 abbrev pub answer_parts : PlainAnswer → AnswerParts
 answer_parts done = (0, (pos 0, (false, (null, (None, Absent)))))
 answer_parts (val v) = (1, (pos 0, (false, (v, (None, Absent)))))
@@ -145,16 +160,19 @@ answer_parts (flag b) = (3, (pos 0, (b, (null, (None, Absent)))))
 answer_parts (body c) = (4, (pos 0, (false, (null, (Some c, Absent)))))
 answer_parts (signal s) = (5, (pos 0, (false, (null, (None, s)))))
 
+-- the whole content that is stored so, as an answer
 abbrev pub body_from : Option PlainContent → PlainAnswer
 body_from None = done
 body_from (Some c) = body c
 
+-- the answer that is stored so
 abbrev pub answer_from : AnswerParts → PlainAnswer
 answer_from p =
     if p.0 == 0 then done else (if p.0 == 1 then val p.1.1.1.0 else (if p.0 == 2 then num p.1.0 else
     (if p.0 == 3 then flag p.1.1.0 else (if p.0 == 4 then body_from p.1.1.1.1.0 else
     signal p.1.1.1.1.1))))
 
+-- what was stored is read again
 pub answer_back : (a : PlainAnswer) → answer_from (answer_parts a) ≡ a
 answer_back done = refl
 answer_back (val v) = refl
@@ -163,6 +181,7 @@ answer_back (flag b) = refl
 answer_back (body c) = refl
 answer_back (signal s) = refl
 
+-- so answers can be stored
 abbrev pub answer_coded : Coded PlainAnswer
 answer_coded =
     code_by AnswerParts (coded× coded_ℕ (coded× coded_ℤ

@@ -20,6 +20,7 @@ pub record Said : Type 0 where
   pub opening : Opening
   pub entries : List PlainEntry
 
+-- openings are stored as objects and two numbers
 abbrev pub opening_coded : Coded Opening
 opening_coded =
     code_by (List (PlainShape × Option PlainContent) × (ℕ × ℕ))
@@ -27,6 +28,7 @@ opening_coded =
     (λ s. (s.objects, (s.first_action, s.first_entry)))
     (λ p. record { objects = p.0; first_action = p.1.0; first_entry = p.1.1 }) (λ _. refl)
 
+-- what a journal says is stored as its opening and its entries
 abbrev pub said_coded : Coded Said
 said_coded =
     code_by (Opening × List PlainEntry) (coded× opening_coded (coded_list entry_coded))

@@ -69,6 +69,7 @@ calls_keep (abort_others a) n c = refl
 calls_keep (ask a o query) n c = refl
 calls_keep (test_read a o) n c = refl
 
+-- an entry that is no write leaves what it finds
 abbrev pub entry_keeps : (e : PlainEntry) → is_write e.call ≡ false → (c : Option PlainContent)
     → left_by e.call c ≡ c
 entry_keeps e n c = calls_keep e.call n c

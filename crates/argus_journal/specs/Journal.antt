@@ -36,6 +36,7 @@ entries_of j = newest_first j.entries.items
 abbrev pub IsLegal : Journal → Type 0
 IsLegal j = Legal (opening_of j) (entries_of j)
 
+-- that a journal is legal says no more than that
 pub IsLegal-prop : (j : Journal) → IsProp (IsLegal j)
 IsLegal-prop j = Legal-prop (opening_of j) (entries_of j)
 

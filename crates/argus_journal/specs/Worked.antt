@@ -42,9 +42,11 @@ held a = Some (Held (record { 0 = a }))
 abbrev pub number_shape : PlainShape
 number_shape = shape.rec (ty.more (codes "n") ty.int ty.none)
 
+-- a record that holds this integer
 abbrev pub holding : ℕ → PlainContent
 holding n = rec (value.int (pos n) ∷ [])
 
+-- the change of that record to this integer
 abbrev pub set_to : ℕ → PlainChange
 set_to n = set_field 0 (value.int (pos n))
 
@@ -84,6 +86,7 @@ signal_holds =
     declare (shape.arr ty.int) ∷ begin_top ∷ alter 1 2
     (create (arr (pos 1) [])) ∷ commit 1 ∷ begin_top ∷ alter 2 2 remh ∷ []
 
+-- the one that got the signal is aborted, and then the other adds an item
 abbrev pub signal_ends : List PlainCall
 signal_ends =
     begin_top ∷ alter 3 2 (addh (value.int (pos 5))) ∷ abort 2 ∷ alter 3 2
@@ -97,9 +100,11 @@ tag_changes =
     ∷ begin_top ∷ alter 1 2 (create (var 0 (value.int (pos 5)))) ∷ ask 1 2 (TagValue 1)
     ∷ ask 1 2 (IsTag 1) ∷ []
 
+-- the topaction commits; the next one is refused a tag with another tag's value
 abbrev pub tag_refused : List PlainCall
 tag_refused = commit 1 ∷ begin_top ∷ alter 2 2 (change_tag 1 (value.int (pos 7))) ∷ []
 
+-- then it changes the tag, and looks
 abbrev pub tag_changed : List PlainCall
 tag_changed = alter 2 2 (change_tag 1 (value.text (codes "no"))) ∷ ask 2 2 Whole ∷ []
 

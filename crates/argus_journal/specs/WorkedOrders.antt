@@ -70,5 +70,6 @@ the_last_action =
 abbrev pub the_last_chain : List PlainCall
 the_last_chain = begin_top ∷ chain (MAX_ACTIONS - MAX_ACTION_DEPTH) 63
 
+-- a subaction and a nested topaction of the action with the highest number
 abbrev pub under_the_deepest : List PlainCall
 under_the_deepest = begin_sub (MAX_ACTIONS - 1) ∷ begin_nested (MAX_ACTIONS - 1) ∷ []

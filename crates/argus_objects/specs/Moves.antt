@@ -9,9 +9,11 @@ use Rattle.argus_contents.specs.Change.{PlainChange, Outcome, outcome}
 use Rattle.argus_objects.specs.Object.{Object, PlainVersion}
 use Rattle.argus_objects.specs.Rules.{seen_by}
 
+-- a is one of these readers
 abbrev pub is_reader : ActionId → List ActionId → Bool
 is_reader a readers = list_any (λ x. x.0 == a.0) readers
 
+-- a has one of these versions
 abbrev pub has_version : ActionId → List PlainVersion → Bool
 has_version a versions = list_any (λ v. v.holder.0 == a.0) versions
 
@@ -21,6 +23,7 @@ with_reader a [] = a ∷ []
 with_reader a (x ∷ xs) =
     if nat_lt a.0 x.0 then a ∷ x ∷ xs else (if x.0 == a.0 then x ∷ xs else x ∷ with_reader a xs)
 
+-- these readers without a
 abbrev pub without_reader : ActionId → List ActionId → List ActionId
 without_reader a readers = filter (λ x. not (x.0 == a.0)) readers
 
@@ -34,6 +37,7 @@ abbrev pub version_of : ActionId → List PlainVersion → Option (Option PlainC
 version_of a [] = None
 version_of a (v ∷ older) = if v.holder.0 == a.0 then Some v.content else version_of a older
 
+-- these versions without that of a
 abbrev pub without_version : ActionId → List PlainVersion → List PlainVersion
 without_version a versions = filter (λ v. not (v.holder.0 == a.0)) versions
 
@@ -64,10 +68,11 @@ versions_discarded tree a versions = filter (λ v. not (is_ancestor tree a.0 v.h
 abbrev pub is_under_any : Tree → List ActionId → ActionId → Bool
 is_under_any tree actions x = list_any (λ a. is_ancestor tree a.0 x.0) actions
 
--- the readers, and the versions, that none of these actions takes along where each is aborted
+-- the readers that stand under none of these actions, which are aborted
 abbrev pub readers_left : Tree → List ActionId → List ActionId → List ActionId
 readers_left tree actions readers = filter (λ x. not (is_under_any tree actions x)) readers
 
+-- the versions whose holders stand under none of these actions
 abbrev pub versions_left : Tree → List ActionId → List PlainVersion → List PlainVersion
 versions_left tree actions versions =
     filter (λ v. not (is_under_any tree actions v.holder)) versions

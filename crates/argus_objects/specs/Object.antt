@@ -41,14 +41,17 @@ pub record SameLocks (old new : Object) : Type 0 where
   pub readers : new.readers ≡ old.readers
   pub versions : new.versions ≡ old.versions
 
+-- actions are stored as their numbers
 abbrev pub action_coded : Coded ActionId
 action_coded = code_by ℕ coded_ℕ (λ a. a.0) (λ n. record { 0 = n }) (λ _. refl)
 
+-- a version is stored as its holder and its content
 abbrev pub version_coded : Coded PlainVersion
 version_coded =
     code_by (ActionId × Option PlainContent) (coded× action_coded (coded_option content_coded))
     (λ v. (v.holder, v.content)) (λ p. record { holder = p.0; content = p.1 }) (λ _. refl)
 
+-- an object is stored as its base, readers, versions and room
 abbrev pub object_coded : Coded Object
 object_coded =
     code_by (Option PlainContent × (List ActionId × (List PlainVersion × ℕ)))

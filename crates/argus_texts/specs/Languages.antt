@@ -11,6 +11,7 @@ use Rattle.argus_texts.specs.Language.{Language, First}
 use Rattle.argus_texts.specs.Bytes.{at_sign, close_brace, close_bracket, colon, greater_than}
 use Rattle.argus_texts.specs.Bytes.{hyphen, letter_f, letter_n, letter_t, open_bracket, quote}
 
+-- the byte is no decimal digit
 abbrev pub IsNoDigit : ℕ → Type 0
 IsNoDigit c = (c < 48) ⊎ (57 < c)
 

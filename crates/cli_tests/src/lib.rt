@@ -1,5 +1,5 @@
-//! Worked rows of scripts: what a run lists, which line is refused, what a command line asks for, and
-//! each read, write and allocation failing in turn.
+//! Worked rows of scripts: what a run lists, which line is refused, what a command line asks for,
+//! and each read, write and allocation failing in turn.
 #![tactic(auto)]
 
 #[cfg(test)]

@@ -7,7 +7,8 @@ use std::io;
 use std::io::{ErrorKind, Read, Write};
 use std::test::Fail;
 
-// Gives a few bytes a read, and fails once so many reads were made. It counts the reads behind that.
+// Gives a few bytes a read, and fails once so many reads were made. It counts the reads behind
+// that.
 #[derive(Drop)]
 struct Failing<'a> {
     rest: &'a [u8],

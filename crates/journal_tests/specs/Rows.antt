@@ -21,6 +21,7 @@ use Rattle.journal_tests.specs.declared.rows.Step.TheVariants as step
 abbrev pub account : PlainShape
 account = shape.rec (ty.more (codes "balance") ty.int ty.none)
 
+-- the call of a step
 abbrev pub step_call : Step → PlainCall
 step_call step.Declare = declare account
 step_call step.BeginTop = begin_top
@@ -33,6 +34,7 @@ step_call (step.Create a o n) = alter a o (create (rec (int (pos n) ∷ [])))
 step_call (step.Set a o n) = alter a o (set_field 0 (int (pos n)))
 step_call (step.Get a o) = ask a o (Field 0)
 
+-- the reply that a row says
 abbrev pub said_reply : Said → PlainReply
 said_reply (said.Object o) = object o
 said_reply (said.Begun a) = begun a
@@ -40,6 +42,7 @@ said_reply said.Done = answered done
 said_reply (said.Number n) = answered (val (int (pos n)))
 said_reply (said.Refused why) = refused why
 
+-- the entry of a row
 abbrev pub row_entry : Step × Said → PlainEntry
 row_entry row = record { call = step_call row.0; reply = said_reply row.1 }
 

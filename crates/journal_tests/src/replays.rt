@@ -1,5 +1,5 @@
-//! Owners and contents of journals worked out. That each reply is the right one is a condition of the
-//! makers of these journals, so it is proved.
+//! Owners and contents of journals worked out. That each reply is the right one is a condition of
+//! the makers of these journals, so it is proved.
 
 use crate::kept::{owner_in, say};
 use crate::rows::{Said, Step, journal_of, prepared_then};
@@ -166,8 +166,8 @@ fn a_nested_topaction_outlives_its_creator(rt: HostRuntime) -> Result<(), Fail> 
     Ok(())
 }
 
-// Subactions 2 and 3 of topaction 1 and its nested topaction 4; 5 and the nested topaction 6 are begun
-// by 3. 2 commits, and 7, which is begun last, ends its siblings.
+// Subactions 2 and 3 of topaction 1 and its nested topaction 4; 5 and the nested topaction 6 are
+// begun by 3. 2 commits, and 7, which is begun last, ends its siblings.
 #[test]
 fn siblings_are_ended(rt: HostRuntime) -> Result<(), Fail> {
     let heap = Heap::new(rt.alloc())?;

@@ -1,4 +1,5 @@
-//! An entry and a journal go to another thread, and come back: the entry as a copy, the journal itself.
+//! An entry and a journal go to another thread, and come back: the entry as a copy, the journal
+//! itself.
 
 use argus_actions::ActionId;
 use argus_contents::{Answer, Change, ObjId, Value};

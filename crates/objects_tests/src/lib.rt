@@ -1,4 +1,5 @@
-//! Worked examples of a cell and of holdings, and each of their allocations refused in turn. No code of its own.
+//! Worked examples of a cell and of holdings, and each of their allocations refused in turn. No
+//! code of its own.
 #![tactic(auto)]
 
 #[cfg(test)]

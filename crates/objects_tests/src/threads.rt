@@ -1,4 +1,5 @@
-//! A cell and the lists of locks go to another thread and come back, and a cell is looked at from there.
+//! A cell and the lists of locks go to another thread and come back, and a cell is looked at from
+//! there.
 
 use argus_actions::{ActionId, ActionTree};
 use argus_contents::{Content, ObjId, Value};
