@@ -264,8 +264,10 @@ one-deed (part.ask x q) (part.ask y r) h k e = λ j. part.ask (access-number x y
     (one-query q r (access-operation x y (query_words q) (query_words r) e) j)
 one-deed (part.alter x c) (part.alter y d) h k e = λ j. part.alter (access-number x y _ _ e j)
     (one-change c d h k (access-operation x y (change_words c) (change_words d) e) j)
-one-deed (part.ask x q) (part.alter y d) h k e = absurd (apart q d (access-operation x y (query_words q) (change_words d) e))
-one-deed (part.alter x c) (part.ask y r) h k e = absurd (apart r c (access-operation y x (query_words r) (change_words c) (sym e)))
+one-deed (part.ask x q) (part.alter y d) h k e =
+    absurd (apart q d (access-operation x y (query_words q) (change_words d) e))
+one-deed (part.alter x c) (part.ask y r) h k e =
+    absurd (apart r c (access-operation y x (query_words r) (change_words c) (sym e)))
 one-deed part.declare d h k e = absurd (cc)
 one-deed part.leave d h k e = absurd (cc)
 one-deed part.abort_leave d h k e = absurd (cc)

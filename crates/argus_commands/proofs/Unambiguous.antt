@@ -135,8 +135,8 @@ opened-out o xs ps r = ap (λ t. line.begin o ∷ t) (regrouped (lines_of_parts 
     regrouped a b c d = simp append_assoc
 
 -- Lines of steps at a place, and an end behind them, tell the steps and what is behind.
-pub one-spelled : (ps qs : Parts) (p : Place) (r s : List Sentence) → AllStand p ps → AllStand p qs → Ends p r → Ends p s
-    → lines_of_parts ps ++ r ≡ lines_of_parts qs ++ s → (ps ≡ qs) × (r ≡ s)
+pub one-spelled : (ps qs : Parts) (p : Place) (r s : List Sentence) → AllStand p ps → AllStand p qs → Ends p r
+    → Ends p s → lines_of_parts ps ++ r ≡ lines_of_parts qs ++ s → (ps ≡ qs) × (r ≡ s)
 one-spelled part.none part.none p r s h k f g e = (refl, e)
 one-spelled part.none (part.more y qs) p r s h k f g e =
     absurd (begins-step p y (lines_of_parts qs ++ s) k.0
