@@ -90,7 +90,8 @@ module _ (lines : List (List ℕ)) (i : ℕ) (line : List ℕ) (old new : PlainO
   added = record { names = name_declared (says (said_in line)); shapes = drop (length old.shapes) new.shapes }
 
   shapes : new.shapes ≡ old.shapes ++ drop (length old.shapes) new.shapes
-  shapes = sym (take-append-drop (length old.shapes) new.shapes) ∙ ap (λ t. t ++ drop (length old.shapes) new.shapes) kept
+  shapes = sym (take-append-drop (length old.shapes) new.shapes)
+      ∙ ap (λ t. t ++ drop (length old.shapes) new.shapes) kept
 
   extended : (more : PlainObjects) → with_more new more ≡ with_more old (with_more added more)
   unfolding added
@@ -120,7 +121,8 @@ fine-more lines i line objects p here declared e fine before =
       fine = subst (λ q. IsFine q objects line) (sym e) fine;
     })
 
-pub first-fault : (lines : List (List ℕ)) (i : ℕ) (line : List ℕ) (objects : PlainObjects) (p : Position) (k : FaultKind)
+pub first-fault : (lines : List (List ℕ)) (i : ℕ) (line : List ℕ) (objects : PlainObjects) (p : Position)
+    (k : FaultKind)
     → slice_get lines i ≡ Some line
     → Declares (take i lines) objects → position_behind (take i lines) ≡ p → HasFault p objects line k
     → FineBefore lines i

@@ -1,4 +1,5 @@
 pub mod Cutting
+pub mod Deeds
 pub mod Ends
 pub mod Faults
 pub mod Growing
@@ -6,3 +7,4 @@ pub mod Naming
 pub mod Numbers
 pub mod Rooms
 pub mod Starts
+pub mod Unambiguous

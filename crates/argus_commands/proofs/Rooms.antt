@@ -52,7 +52,8 @@ left false b e = e
 
 module _ (verb rest : List ℕ) where
   declares : bytes_eq verb (codes "declare") ≡ true → Follows verb (declaring rest)
-  declares e = either (Follows verb) (is_name (word rest) && is_word (others rest)) (c.declare (word rest) (others rest)) bad
+  declares e = either (Follows verb) (is_name (word rest) && is_word (others rest))
+      (c.declare (word rest) (others rest)) bad
       (λ h. (e, left (is_name (word rest)) (is_word (others rest)) h)) tt
 
   enters : opens_block verb ≡ true → Follows verb (entering rest)

@@ -8,7 +8,8 @@ use Rattle.argus_commands.specs.declared.open_block.OpenBlock.{OpenBlock}
 use Rattle.argus_commands.specs.declared.step.Step.{Step}
 use Rattle.argus_commands.proofs.Faults.{ToldOf}
 
-pub start-position : (n : ℕ) (blocks : List OpenBlock) → blocks ≡ [] → position_at 0 0 [] ≡ position_at 0 (n - n) (levels_of blocks)
+pub start-position : (n : ℕ) (blocks : List OpenBlock) → blocks ≡ []
+    → position_at 0 0 [] ≡ position_at 0 (n - n) (levels_of blocks)
 start-position n blocks e = λ j. record { lines = 0; bytes = zero-less j; levels = ap levels_of (sym e) j }
   where
     zero-less : 0 ≡ n - n

@@ -1,4 +1,4 @@
--- The ints of a line: `0`, or digits without a zero in front, behind a sign where they are negative.
+-- The ints of a line: `0`, or digits without a zero in front; a sign before what is negative.
 use Rattle.std.specs.Prelude.{ℕ, ℤ, pos, negsuc, ◌+◌, ◌-◌, ◌*◌, ◌==◌, nat_lt, nat_le, Bool, ◌&&◌}
 use Rattle.std.specs.Prelude.{if◌then◌else◌, List, [], ◌∷◌, Option, Some, None}
 use Rattle.std.specs.Option.{option_and_then}

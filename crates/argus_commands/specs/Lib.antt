@@ -2,6 +2,7 @@ pub mod Command
 pub mod Fault
 pub mod Fields
 pub mod Int
+pub mod Laws
 pub mod Levels
 pub mod Lines
 pub mod Numbered

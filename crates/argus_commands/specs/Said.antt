@@ -16,7 +16,7 @@ use Rattle.argus_commands.specs.declared.operation.Operation.TheVariants as by
 use Rattle.argus_commands.specs.declared.record_operation.RecordOperation as on_field
 use Rattle.argus_commands.specs.declared.record_operation.RecordOperation.TheVariants as on_record
 use Rattle.argus_commands.specs.declared.variant_operation.VariantOperation as on_tag
-use Rattle.argus_commands.specs.declared.variant_operation.VariantOperation.TheVariants as on_variant
+use Rattle.argus_commands.specs.declared.variant_operation.VariantOperation.TheVariants as by_tag
 
 -- what an operation on any object says
 abbrev pub said_of_any : any.AnyOperation → AnyOperation
@@ -47,9 +47,9 @@ said_of_array (on_array.Trim from count) = plain.trim from count
 
 -- what an operation on a variant says
 abbrev pub said_of_variant : on_tag.VariantOperation → VariantOperation
-said_of_variant on_variant.IsTag = plain.is_tag
-said_of_variant on_variant.TagValue = plain.tag_value
-said_of_variant (on_variant.ChangeTag text) = plain.change_tag text.now
+said_of_variant by_tag.IsTag = plain.is_tag
+said_of_variant by_tag.TagValue = plain.tag_value
+said_of_variant (by_tag.ChangeTag text) = plain.change_tag text.now
 
 -- what an operation says
 abbrev pub said_operation : operation.Operation → Operation (List ℕ)

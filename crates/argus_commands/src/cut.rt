@@ -1,7 +1,8 @@
 //! Cutting a script into lines, and a line's ends off.
 
 ghost use Rattle.std.specs.Prelude.{◌≡◌, ◌∷◌, ◌<◌, ◌≤◌, length, take, drop};
-ghost use Rattle.argus_commands.specs.Lines.{before_blanks, behind_blanks, ended, is_blank, lines_of};
+ghost use Rattle.argus_commands.specs.Lines.{before_blanks, behind_blanks, ended, is_blank};
+ghost use Rattle.argus_commands.specs.Lines.{lines_of};
 ghost use Rattle.argus_commands.specs.Lines.{without_last};
 
 /// The length of the first line, its line feed counted.

@@ -7,13 +7,13 @@ use thiserror::Error;
 /// | Kind | When |
 /// |---|---|
 /// | `TooLong` | a limit of [`limits`](crate::limits) is passed, at this line |
-/// | `BadWord` | the line isn't UTF-8, is no command, lacks a word or has too many, or a name's form is wrong |
+/// | `BadWord` | the line isn't UTF-8 or no command, lacks a word or has too many, or a name or an int is none |
 /// | `Misplaced` | the line may not stand there |
 /// | `NameTwice` | the object is declared already |
-/// | `UnknownName` | no such object is declared, or the record has no such field |
-/// | `BadType` | the shape is no written form, or the object is no record |
+/// | `UnknownName` | no such object is declared, or it has no such field or tag |
+/// | `BadType` | the shape is no written form, or the access is not of the object's kind |
 /// | `BadValue` | the value or the content is no written form |
-/// | `Unclosed` | no line is faulty, and a block is open at the end; the line is the one that opened it |
+/// | `Unclosed` | no line is faulty, and blocks are open at the end; the line opened the innermost |
 ///
 /// ```text
 /// fault.kind == FaultKind::Misplaced          // `end` where no block is open

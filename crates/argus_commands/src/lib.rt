@@ -10,6 +10,7 @@ mod cut;
 mod fault_kind;
 mod fields;
 mod int;
+mod laws;
 mod level;
 pub mod limits;
 mod line;
@@ -37,6 +38,7 @@ mod words;
 
 pub use action_kind::ActionKind;
 pub use fault_kind::FaultKind;
+pub use laws::lines_spell_one_script;
 pub use lock::Lock;
 pub use opening::Opening;
 pub use parse_error::ParseError;

@@ -8,5 +8,6 @@ returns-clause-makeable c =
     let old = c.args.self.now.objects in
     let new = c.push.new.self.objects in
     on-ok c.push.result (AllMakeable old → AllMakeable new)
-    (makeable-more old new c.in_ok-made.made (ap (λ o. o.shapes) c.push.ensures.objects ∙ c.in_ok-declare.ensures.shapes)
+    (makeable-more old new c.in_ok-made.made (ap (λ o. o.shapes) c.push.ensures.objects
+    ∙ c.in_ok-declare.ensures.shapes)
     c.in_ok-made.ensures.makeable)
