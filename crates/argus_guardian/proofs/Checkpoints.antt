@@ -12,11 +12,11 @@ use Rattle.argus_contents.specs.Shape.{PlainShape}
 use Rattle.argus_contents.specs.declared.limits.TheConstants.{MAX_ACTIONS}
 use Rattle.argus_entries.specs.Entry.{PlainEntry}
 use Rattle.argus_guardian.specs.Checkpoint.{is_quiet, opened_objects}
-use Rattle.argus_guardian.specs.Keeping.{IsKept}
-use Rattle.argus_guardian.specs.Moving.{is_listed}
-use Rattle.argus_guardian.specs.declared.atomic_object.AtomicObject.{AtomicObject}
-use Rattle.argus_guardian.proofs.Begun.{kept_orderly}
-use Rattle.argus_guardian.proofs.Ends.{some_object}
+use Rattle.argus_steps.specs.Keeping.{IsKept}
+use Rattle.argus_steps.specs.Moving.{is_listed}
+use Rattle.argus_steps.specs.declared.atomic_object.AtomicObject.{AtomicObject}
+use Rattle.argus_steps.proofs.Begun.{kept_orderly}
+use Rattle.argus_steps.proofs.Ends.{some_object}
 use Rattle.argus_journal.specs.Entries.{entries}
 use Rattle.argus_journal.specs.Events.{event_of, history, with_event}
 use Rattle.argus_journal.specs.Folding.{fold, next_entry_number}

@@ -19,10 +19,10 @@ use Rattle.argus_contents.specs.Shape as shape
 use Rattle.argus_contents.specs.Ty as ty
 use Rattle.argus_contents.specs.declared.obj_id.ObjId.{ObjId}
 use Rattle.argus_entries.specs.Entry.{PlainEntry}
-use Rattle.argus_guardian.specs.Keeping.{IsKept}
+use Rattle.argus_steps.specs.Keeping.{IsKept}
 use Rattle.argus_guardian.specs.Leaving.{version_in, written_in}
-use Rattle.argus_guardian.specs.Moving.{is_listed}
-use Rattle.argus_guardian.specs.declared.atomic_object.AtomicObject.{AtomicObject}
+use Rattle.argus_steps.specs.Moving.{is_listed}
+use Rattle.argus_steps.specs.declared.atomic_object.AtomicObject.{AtomicObject}
 use Rattle.argus_journal.specs.Entries.{entries}
 use Rattle.argus_journal.specs.Events.{history}
 use Rattle.argus_journal.specs.Opening.{Opening, opened}

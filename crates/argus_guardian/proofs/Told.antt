@@ -9,10 +9,10 @@ use Rattle.argus_contents.specs.Answer.{flag}
 use Rattle.argus_entries.specs.Entry.{PlainEntry}
 use Rattle.argus_entries.specs.Reply.{PlainReply, answered, refused}
 use Rattle.argus_entries.specs.declared.refusal.Refusal.{Refusal}
-use Rattle.argus_guardian.specs.Keeping.{IsKept}
+use Rattle.argus_steps.specs.Keeping.{IsKept}
 use Rattle.argus_guardian.specs.Telling.{version_told, where_declared}
-use Rattle.argus_guardian.specs.declared.atomic_object.AtomicObject.{AtomicObject}
-use Rattle.argus_guardian.proofs.Accesses.{count}
+use Rattle.argus_steps.specs.declared.atomic_object.AtomicObject.{AtomicObject}
+use Rattle.argus_steps.proofs.Accesses.{count}
 use Rattle.argus_journal.specs.Events.{history}
 use Rattle.argus_journal.specs.Opening.{Opening}
 use Rattle.argus_laws.specs.CellWords as laws

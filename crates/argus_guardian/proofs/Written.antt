@@ -9,7 +9,7 @@ use Rattle.argus_contents.specs.Content.{PlainContent, plain_option}
 use Rattle.argus_contents.specs.declared.content.Content.{Content}
 use Rattle.argus_contents.specs.declared.obj_id.ObjId.{ObjId}
 use Rattle.argus_guardian.specs.Leaving.{effect_told, version_in, written_in}
-use Rattle.argus_guardian.specs.declared.atomic_object.AtomicObject.{AtomicObject}
+use Rattle.argus_steps.specs.declared.atomic_object.AtomicObject.{AtomicObject}
 use Rattle.argus_objects.specs.Moves.{has_version, version_of}
 use Rattle.argus_objects.specs.Object.{PlainVersion}
 use Rattle.std.specs.Prelude.{slice_index_or}

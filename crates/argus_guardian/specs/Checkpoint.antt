@@ -3,8 +3,8 @@ use Rattle.std.specs.List.{list_any}
 use Rattle.std.specs.Prelude.{Bool, List, Option, [], map, not}
 use Rattle.argus_contents.specs.Content.{PlainContent}
 use Rattle.argus_contents.specs.Shape.{PlainShape}
-use Rattle.argus_guardian.specs.Step.{Said}
-use Rattle.argus_guardian.specs.declared.atomic_object.AtomicObject.{AtomicObject}
+use Rattle.argus_steps.specs.Step.{Said}
+use Rattle.argus_steps.specs.declared.atomic_object.AtomicObject.{AtomicObject}
 use Rattle.argus_journal.specs.Events.{history}
 use Rattle.argus_journal.specs.Folding.{fold}
 use Rattle.argus_model.specs.History.{begun_actions}

@@ -1,10 +1,3 @@
-pub mod Accessing
 pub mod Checkpoint
-pub mod Keeping
 pub mod Leaving
-pub mod Moving
-pub mod Parts
-pub mod Prepared
-pub mod Step
-pub mod Sweeping
 pub mod Telling

@@ -6,7 +6,7 @@ use Rattle.argus_contents.specs.Content.{PlainContent, plain_option}
 use Rattle.argus_contents.specs.Shape.{PlainShape}
 use Rattle.argus_contents.specs.declared.content.Content.{Content}
 use Rattle.argus_contents.specs.declared.shape.Shape.{Shape}
-use Rattle.argus_guardian.specs.Step.{Said}
+use Rattle.argus_steps.specs.Step.{Said}
 use Rattle.argus_journal.specs.Objects.{declared}
 use Rattle.argus_objects.specs.declared.version.Version.{Version}
 

@@ -3,7 +3,7 @@
 ghost use Rattle.std.specs.Prelude.{◌≡◌, IfOk, OnErr, OnOk};
 ghost use Rattle.argus_entries.specs.Call.{plain_call};
 ghost use Rattle.argus_entries.specs.Reply.{plain_reply};
-ghost use Rattle.argus_guardian.specs.Step.{after, reply_to};
+ghost use Rattle.argus_steps.specs.Step.{after, reply_to};
 
 use crate::guardian::Guardian;
 use argus_entries::{Call, Reply};

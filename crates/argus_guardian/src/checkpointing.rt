@@ -6,7 +6,7 @@ ghost use Rattle.std.specs.Result.{result_err};
 ghost use Rattle.argus_actions.specs.Rows.{is_live_at};
 ghost use Rattle.argus_actions.specs.Tree.{next};
 ghost use Rattle.argus_guardian.specs.Checkpoint.{after_checkpoint, is_quiet, opened_objects};
-ghost use Rattle.argus_guardian.specs.Parts.{Keeps, said_of};
+ghost use Rattle.argus_steps.specs.Parts.{Keeps, said_of};
 ghost use Rattle.argus_guardian.specs.declared.checkpoint_error.CheckpointError.TheVariants.{Busy};
 ghost use Rattle.argus_guardian.specs.declared.checkpoint_error.CheckpointError.TheVariants.{Full};
 ghost use Rattle.argus_journal.specs.Folding.{next_entry_number};
@@ -15,16 +15,14 @@ ghost use Rattle.argus_journal.specs.Opening.{plain_object};
 ghost use Rattle.argus_journal.specs.Words.{base_of};
 ghost use Rattle.argus_journal.specs.declared.limits.TheConstants.{MAX_FIRST_ENTRY};
 
-use crate::atomic_object::AtomicObject;
 use crate::checkpoint_error::CheckpointError;
-use crate::discarding::is_live;
 use crate::guardian::Guardian;
-use crate::parts::Parts;
 use argus_actions::{ActionId, ActionTree};
 use argus_contents::{Content, Shape};
 use argus_journal::limits::MAX_FIRST_ENTRY;
 use argus_memory::{Heap, OutOfMemory};
 use argus_objects::Holdings;
+use argus_steps::{AtomicObject, Parts, is_live};
 
 /// Whether an action is live, of those from this number on.
 fn is_busy(tree: &ActionTree, first: u32) -> bool

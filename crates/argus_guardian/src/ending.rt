@@ -1,76 +1,15 @@
 //! How actions end.
 
 ghost use Rattle.std.specs.Prelude.{◌≡◌, IfOk, OnErr, OnOk};
-ghost use Rattle.argus_entries.specs.Call.{abort, abort_others, commit, plain_call};
+ghost use Rattle.argus_entries.specs.Call.{abort, abort_others, commit};
 ghost use Rattle.argus_entries.specs.Reply.{plain_reply};
-ghost use Rattle.argus_guardian.specs.Parts.{Keeps, said_of};
-ghost use Rattle.argus_guardian.specs.Prepared.{IsReady};
-ghost use Rattle.argus_guardian.specs.Step.{after, reply_to};
+ghost use Rattle.argus_steps.specs.Step.{after, reply_to};
 
 use crate::guardian::Guardian;
-use crate::making::make;
-use crate::parts::Parts;
-use crate::prepared::Prepared;
-use crate::preparing::{done, prepare_refused};
-use crate::refusing::refusal_of;
-use crate::step::Step;
 use argus_actions::ActionId;
-use argus_entries::{Call, Reply};
+use argus_entries::Reply;
 use argus_memory::OutOfMemory;
-
-/// Prepares a commit.
-pub(crate) fn prepare_commit(parts: &mut Parts, a: ActionId) -> Result<Prepared, OutOfMemory>
-    requires { Keeps parts.old }
-    ensures kept { Keeps parts.new }
-    ensures said { said_of parts.new ≡ said_of parts.old }
-    ensures ready { IfOk result (λ prepared. IsReady parts.new prepared) }
-    ensures call { IfOk result (λ prepared. plain_call prepared.entry.call ≡ commit a.0) }
-{
-    match parts.tree.commit_refusal(a) {
-        Some(refusal) => return prepare_refused(parts, Call::Commit(a), refusal_of(refusal)),
-        None => {}
-    }
-    parts.journal.reserve()?;
-    match parts.tree.parent(a) {
-        Some(parent) => {
-            parts.holdings.reserve_pass(a, parent)?;
-            Ok(done(Step::Inherit(a, parent), Call::Commit(a)))
-        }
-        None => Ok(done(Step::Settle(a), Call::Commit(a))),
-    }
-}
-
-/// Prepares an abort.
-pub(crate) fn prepare_abort(parts: &mut Parts, a: ActionId) -> Result<Prepared, OutOfMemory>
-    requires { Keeps parts.old }
-    ensures kept { Keeps parts.new }
-    ensures said { said_of parts.new ≡ said_of parts.old }
-    ensures ready { IfOk result (λ prepared. IsReady parts.new prepared) }
-    ensures call { IfOk result (λ prepared. plain_call prepared.entry.call ≡ abort a.0) }
-{
-    match parts.tree.abort_refusal(a) {
-        Some(refusal) => return prepare_refused(parts, Call::Abort(a), refusal_of(refusal)),
-        None => {}
-    }
-    parts.journal.reserve()?;
-    Ok(done(Step::Abort(a), Call::Abort(a)))
-}
-
-/// Prepares an abort of all live siblings.
-pub(crate) fn prepare_abort_others(parts: &mut Parts, a: ActionId) -> Result<Prepared, OutOfMemory>
-    requires { Keeps parts.old }
-    ensures kept { Keeps parts.new }
-    ensures said { said_of parts.new ≡ said_of parts.old }
-    ensures ready { IfOk result (λ prepared. IsReady parts.new prepared) }
-    ensures call { IfOk result (λ prepared. plain_call prepared.entry.call ≡ abort_others a.0) }
-{
-    match parts.tree.abort_others_refusal(a) {
-        Some(refusal) => return prepare_refused(parts, Call::AbortOthers(a), refusal_of(refusal)),
-        None => {}
-    }
-    parts.journal.reserve()?;
-    Ok(done(Step::AbortOthers(a), Call::AbortOthers(a)))
-}
+use argus_steps::{make, prepare_abort, prepare_abort_others, prepare_commit};
 
 impl Guardian {
     /// Commits an action: a subaction hands its locks and versions to its parent, a topaction makes

@@ -4,11 +4,11 @@ ghost use Rattle.std.specs.Prelude.{◌≡◌, []};
 ghost use Rattle.argus_journal.specs.LegalJournal.{entries_in, opening_in};
 ghost use Rattle.argus_journal.specs.Opening.{empty};
 
-use crate::parts::Parts;
 use argus_actions::ActionTree;
 use argus_journal::LegalJournal;
 use argus_memory::Heap;
 use argus_objects::Holdings;
+use argus_steps::Parts;
 use std::marker::Model;
 
 /// A guardian: atomic objects, the actions that use them, and the journal of all calls.
@@ -31,8 +31,8 @@ pub struct Guardian {
 }
 
 impl Model for Guardian {
-    ghost use Rattle.argus_guardian.specs.Parts.{Keeps, said_of};
-    ghost use Rattle.argus_guardian.specs.Step.{Said, said_coded};
+    ghost use Rattle.argus_steps.specs.Parts.{Keeps, said_of};
+    ghost use Rattle.argus_steps.specs.Step.{Said, said_coded};
 
     ghost Value = { Said };
 

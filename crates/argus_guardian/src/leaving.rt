@@ -5,18 +5,17 @@ ghost use Rattle.std.specs.Prelude.{◌≡◌, ◌<◌, ◌++◌, ◌∷◌, [],
 ghost use Rattle.std.specs.Prelude.{if◌then◌else◌, length, map};
 ghost use Rattle.argus_contents.specs.Content.{plain_option};
 ghost use Rattle.argus_guardian.specs.Leaving.{effect_if_live, effect_told, version_in, written_in};
-ghost use Rattle.argus_guardian.specs.Moving.{AreThere};
-ghost use Rattle.argus_guardian.specs.declared.atomic_object.AtomicObject.{AtomicObject};
+ghost use Rattle.argus_steps.specs.Moving.{AreThere};
+ghost use Rattle.argus_steps.specs.declared.atomic_object.AtomicObject.{AtomicObject};
 ghost use Rattle.argus_objects.specs.Moves.{has_version, version_of};
 ghost use Rattle.argus_objects.specs.Object.{newest_first};
 
-use crate::atomic_object::AtomicObject;
-use crate::discarding::is_live;
 use crate::guardian::Guardian;
 use argus_actions::ActionId;
 use argus_contents::{Content, ObjId};
 use argus_memory::{Heap, OutOfMemory};
 use argus_objects::Version;
+use argus_steps::{AtomicObject, is_live};
 
 impl Guardian {
     /// What a live action would leave for good if it committed now, as a topaction or by all its

@@ -2,29 +2,17 @@
 #![tactic(auto)]
 
 mod accessing;
-mod answering;
-mod atomic_object;
 mod beginning;
 mod calling;
 mod checkpoint_error;
 mod checkpointing;
 mod declaring;
-mod discarding;
 mod ending;
-mod granting;
 mod guardian;
 mod laws;
 mod leaving;
-mod making;
-mod moving;
-mod parts;
-mod prepared;
-mod preparing;
-mod refusing;
-mod step;
 mod telling;
 mod testing;
-mod writing;
 
 pub use checkpoint_error::CheckpointError;
 pub use guardian::Guardian;

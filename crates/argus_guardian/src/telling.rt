@@ -4,20 +4,19 @@ ghost use Rattle.std.specs.Prelude.{◌≡◌, ◌↔◌, true, IsTrue};
 ghost use Rattle.argus_contents.specs.Answer.{flag};
 ghost use Rattle.argus_entries.specs.Call.{test_read, test_write};
 ghost use Rattle.argus_entries.specs.Reply.{answered};
-ghost use Rattle.argus_guardian.specs.Step.{reply_to};
+ghost use Rattle.argus_steps.specs.Step.{reply_to};
 ghost use Rattle.argus_guardian.specs.Telling.{actions_told, content_told, shape_told};
 ghost use Rattle.argus_guardian.specs.Telling.{stack_told, where_declared};
 ghost use Rattle.argus_journal.specs.Objects.{declared, shape_of};
 ghost use Rattle.argus_journal.specs.Opening.{fits_shape};
 ghost use Rattle.argus_journal.specs.Words.{base_of, readers_of, versions_of};
 
-use crate::answering::{is_readable, is_writable};
 use crate::guardian::Guardian;
-use crate::refusing::test_refusal;
 use argus_actions::ActionId;
 use argus_contents::{Content, ObjId, Shape};
 use argus_laws::cell_laws;
 use argus_objects::Version;
+use argus_steps::{is_readable, is_writable, test_refusal};
 
 impl Guardian {
     /// How many objects are declared; they are numbered from 0.

@@ -1,94 +1,16 @@
 //! How actions test locks.
 
-ghost use Rattle.std.specs.Prelude.{◌≡◌, ◌<◌, true, IfOk, OnErr, OnOk};
-ghost use Rattle.argus_contents.specs.Answer.{flag};
-ghost use Rattle.argus_entries.specs.Call.{plain_call, test_read, test_write};
-ghost use Rattle.argus_entries.specs.Reply.{answered, plain_reply};
-ghost use Rattle.argus_guardian.specs.Parts.{Keeps, said_of};
-ghost use Rattle.argus_guardian.specs.Prepared.{HasRoom, IsReady};
-ghost use Rattle.argus_guardian.specs.Step.{after, reply_to};
-ghost use Rattle.argus_journal.specs.LegalJournal.{room_in};
+ghost use Rattle.std.specs.Prelude.{◌≡◌, ◌<◌, IfOk, OnErr, OnOk};
+ghost use Rattle.argus_entries.specs.Call.{test_read, test_write};
+ghost use Rattle.argus_entries.specs.Reply.{plain_reply};
+ghost use Rattle.argus_steps.specs.Step.{after, reply_to};
 
-use crate::answering::{change_outcome, is_readable, is_writable};
-use crate::granting::reserve_access;
 use crate::guardian::Guardian;
-use crate::making::make;
-use crate::parts::Parts;
-use crate::prepared::Prepared;
-use crate::preparing::{flagged, prepare_refused};
-use crate::refusing::test_refusal;
-use crate::step::Step;
-use crate::writing::test_write_at_once;
 use argus_actions::ActionId;
-use argus_contents::{Change, ObjId};
-use argus_entries::{Call, Reply};
+use argus_contents::ObjId;
+use argus_entries::Reply;
 use argus_memory::OutOfMemory;
-
-/// Prepares a test of a read lock.
-pub(crate) fn prepare_test_read(
-    parts: &mut Parts,
-    a: ActionId,
-    o: ObjId,
-) -> Result<Prepared, OutOfMemory>
-    requires { Keeps parts.old }
-    ensures kept { Keeps parts.new }
-    ensures said { said_of parts.new ≡ said_of parts.old }
-    ensures ready { IfOk result (λ prepared. IsReady parts.new prepared) }
-    ensures call { IfOk result (λ prepared. plain_call prepared.entry.call
-        ≡ test_read a.0 o.0) }
-{
-    match test_refusal(parts.objects.as_slice(), &parts.tree, a, o) {
-        Some(why) => return prepare_refused(parts, Call::TestRead(a, o), why),
-        None => {}
-    }
-    if !is_readable(parts.objects.as_slice(), &parts.tree, a, o) {
-        parts.journal.reserve()?;
-        return Ok(flagged(Step::Nothing, Call::TestRead(a, o), false));
-    }
-    reserve_access(parts, a, o)?;
-    Ok(flagged(Step::Read(a, o), Call::TestRead(a, o), true))
-}
-
-/// Prepares a test of a write lock.
-pub(crate) fn prepare_test_write(
-    parts: &mut Parts,
-    a: ActionId,
-    o: ObjId,
-) -> Result<Prepared, OutOfMemory>
-    requires { Keeps parts.old }
-    ensures kept { Keeps parts.new }
-    ensures said { said_of parts.new ≡ said_of parts.old }
-    ensures ready { IfOk result (λ prepared. IsReady parts.new prepared) }
-    ensures call { IfOk result (λ prepared. plain_call prepared.entry.call
-        ≡ test_write a.0 o.0) }
-{
-    match test_refusal(parts.objects.as_slice(), &parts.tree, a, o) {
-        Some(why) => return prepare_refused(parts, Call::TestWrite(a, o), why),
-        None => {}
-    }
-    if !is_writable(parts.objects.as_slice(), &parts.tree, a, o) {
-        parts.journal.reserve()?;
-        return Ok(flagged(Step::Nothing, Call::TestWrite(a, o), false));
-    }
-    reserve_access(parts, a, o)?;
-    touched(parts, a, o)
-}
-
-// The step of a granted test for writing, with what the action sees.
-fn touched(parts: &Parts, a: ActionId, o: ObjId) -> Result<Prepared, OutOfMemory>
-    requires kept { Keeps parts.now }
-    requires right { reply_to (said_of parts.now) (test_write a.0 o.0) ≡ answered (flag true) }
-    requires place { 0 < room_in parts.now.journal }
-    requires room { HasRoom parts.now.objects.items parts.now.holdings a o }
-    ensures ready { IfOk result (λ prepared. IsReady parts.now prepared) }
-    ensures call { IfOk result (λ prepared. plain_call prepared.entry.call
-        ≡ test_write a.0 o.0) }
-{
-    let objects = parts.objects.as_slice();
-    let touch = Change::Touch;
-    let (content, _) = change_outcome(parts.heap, objects, &parts.tree, a, o, &touch)?;
-    Ok(flagged(Step::Write(a, o, content), Call::TestWrite(a, o), true))
-}
+use argus_steps::{make, prepare_test_read, test_write_at_once};
 
 impl Guardian {
     /// Whether the action may have the object's read lock; where it may, it has it then.

@@ -3,7 +3,7 @@ use Rattle.std.proofs.lemmas.List.{get_or_default, take_all}
 use Rattle.std.specs.Option.{unwrap_or}
 use Rattle.std.specs.Prelude.{None}
 use Rattle.argus_guardian.specs.Leaving.{version_in}
-use Rattle.argus_guardian.specs.declared.atomic_object.AtomicObject.{AtomicObject}
+use Rattle.argus_steps.specs.declared.atomic_object.AtomicObject.{AtomicObject}
 use Rattle.argus_guardian.proofs.Written.{copied_more}
 use Rattle.argus_guardian.proofs.leaving.contents_of.Goals as goal
 use Rattle.argus_objects.specs.Moves.{version_of}

@@ -1,8 +1,8 @@
 use Rattle.std.proofs.Common.{[], ap, cond, get_or, sym, take, ◌++◌, ◌∙◌, ◌∷◌}
 use Rattle.std.proofs.lemmas.List.{get_or_default}
 use Rattle.argus_guardian.specs.Leaving.{written_in}
-use Rattle.argus_guardian.specs.declared.atomic_object.AtomicObject.{AtomicObject}
-use Rattle.argus_guardian.proofs.Changes.{listed_at}
+use Rattle.argus_steps.specs.declared.atomic_object.AtomicObject.{AtomicObject}
+use Rattle.argus_steps.proofs.Changes.{listed_at}
 use Rattle.argus_guardian.proofs.Written.{written_more}
 use Rattle.argus_guardian.proofs.leaving.written_numbers.Goals as goal
 use Rattle.argus_objects.specs.Moves.{has_version}

@@ -1,7 +1,7 @@
 -- What was found so far.
 use Rattle.std.proofs.Common.{take, ◌≡◌}
 use Rattle.argus_guardian.specs.Leaving.{written_in}
-use Rattle.argus_guardian.specs.declared.atomic_object.AtomicObject.{AtomicObject}
+use Rattle.argus_steps.specs.declared.atomic_object.AtomicObject.{AtomicObject}
 use Rattle.argus_guardian.proofs.leaving.written_numbers.Given as goal
 
 abbrev pub invariant-loop-o : goal.invariant-loop-o

@@ -1,7 +1,7 @@
 use Rattle.std.proofs.Common.{sym, ◌∙◌}
 use Rattle.argus_entries.specs.Call.{test_read}
 use Rattle.argus_guardian.proofs.Told.{granted_where, not_granted}
-use Rattle.argus_guardian.proofs.Tests.{test_read_refused, test_read_right}
+use Rattle.argus_steps.proofs.Tests.{test_read_refused, test_read_right}
 use Rattle.argus_guardian.proofs.guardian.Guardian.can_read.Goals as goal
 use Rattle.argus_journal.specs.Answers.{answer}
 use Rattle.argus_journal.specs.LegalJournal.{entries_in, opening_in}

@@ -1,7 +1,7 @@
 use Rattle.std.proofs.Common.{sym, ◌∙◌}
 use Rattle.argus_entries.specs.Call.{test_write}
 use Rattle.argus_guardian.proofs.Told.{granted_where, not_granted}
-use Rattle.argus_guardian.proofs.WriteTests.{test_write_refused, test_write_right}
+use Rattle.argus_steps.proofs.WriteTests.{test_write_refused, test_write_right}
 use Rattle.argus_guardian.proofs.guardian.Guardian.can_write.Goals as goal
 use Rattle.argus_journal.specs.Answers.{answer}
 use Rattle.argus_journal.specs.LegalJournal.{entries_in, opening_in}

@@ -1,8 +1,8 @@
 use Rattle.std.proofs.Common.{None, Some, ap, cond, subst, sym, ◌∙◌}
 use Rattle.std.specs.List.Sorted.{IsPermutation}
 use Rattle.argus_guardian.specs.Leaving.{effect_of}
-use Rattle.argus_guardian.specs.Step.{Said}
-use Rattle.argus_guardian.proofs.Begun.{kept_orderly}
+use Rattle.argus_steps.specs.Step.{Said}
+use Rattle.argus_steps.proofs.Begun.{kept_orderly}
 use Rattle.argus_guardian.proofs.Effects.{all_there, any_object, effect_is}
 use Rattle.argus_guardian.proofs.guardian.Guardian.effect.Goals as goal
 use Rattle.argus_journal.specs.Events.{history}

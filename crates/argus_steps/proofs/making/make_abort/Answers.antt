@@ -1,0 +1,39 @@
+use Rattle.std.proofs.Common.{arith, length, subst, sym, ◌∷◌, ◌≡◌}
+use Rattle.std.proofs.lemmas.List.{with_items_is}
+use Rattle.argus_entries.specs.Entry.{PlainEntry}
+use Rattle.argus_steps.specs.Keeping.{IsKept}
+use Rattle.argus_steps.proofs.Ends.{abort_stands, kept_abort}
+use Rattle.argus_steps.proofs.PartsEnds.{parts_cover}
+use Rattle.argus_steps.proofs.making.make_abort.Goals as goal
+use Rattle.argus_journal.specs.Events.{history}
+use Rattle.argus_journal.specs.LegalJournal.{entries_in, opening_in}
+
+pub discard_under-requires-clause-begun : goal.discard_under-requires-clause-begun
+discard_under-requires-clause-begun c =
+    let p = c.args.parts.now in
+    let s = opening_in p.journal in
+    let j = entries_in p.journal in
+    let r = c.requires in
+    (abort_stands p.tree p.objects.items p.holdings s j r.kept c.args.a r.step.free).low
+
+pub discard_under-requires-clause-covered : goal.discard_under-requires-clause-covered
+discard_under-requires-clause-covered c =
+    let p = c.args.parts.now in
+    let s = opening_in p.journal in
+    let j = entries_in p.journal in
+    rw (c.as_mut_slice.ensures.value)
+    (parts_cover s (history s j) p.tree p.objects.items p.holdings c.requires.kept.parts)
+
+pub returns-clause-kept : goal.returns-clause-kept
+returns-clause-kept c =
+    let p = c.args.parts.now in
+    let s = opening_in p.journal in
+    let j = entries_in p.journal in
+    let r = c.requires in
+    let new = c.discard_under.new.objects in
+    let held = c.discard_under.new.holdings in
+    let fits : length new ≡ p.objects.len = omega arith in
+    rw (with_items_is p.objects new fits, c.push.ensures.entries, c.push.ensures.opening)
+    (subst (λ (e : PlainEntry). IsKept c.abort_live.new.self new held s (e ∷ j)) (sym r.step.told)
+    (kept_abort p.tree c.abort_live.new.self p.objects.items new p.holdings held s j c.args.a r.kept r.step.free
+    c.abort_live.ensures (rw (c.as_mut_slice.ensures.value) at c.discard_under.ensures)))

@@ -1,0 +1,31 @@
+use Rattle.std.proofs.Common.{arith, length, subst, sym, ◌∷◌, ◌≡◌}
+use Rattle.std.proofs.lemmas.List.{with_items_is}
+use Rattle.argus_entries.specs.Entry.{PlainEntry}
+use Rattle.argus_steps.specs.Keeping.{IsKept}
+use Rattle.argus_steps.proofs.Ends.{kept_others}
+use Rattle.argus_steps.proofs.PartsEnds.{parts_cover}
+use Rattle.argus_steps.proofs.making.make_abort_others.Goals as goal
+use Rattle.argus_journal.specs.Events.{history}
+use Rattle.argus_journal.specs.LegalJournal.{entries_in, opening_in}
+
+pub discard_others-requires-clause-covered : goal.discard_others-requires-clause-covered
+discard_others-requires-clause-covered c =
+    let p = c.args.parts.now in
+    let s = opening_in p.journal in
+    let j = entries_in p.journal in
+    rw (c.as_mut_slice.ensures.value)
+    (parts_cover s (history s j) p.tree p.objects.items p.holdings c.requires.kept.parts)
+
+pub returns-clause-kept : goal.returns-clause-kept
+returns-clause-kept c =
+    let p = c.args.parts.now in
+    let s = opening_in p.journal in
+    let j = entries_in p.journal in
+    let r = c.requires in
+    let new = c.discard_others.new.objects in
+    let held = c.discard_others.new.holdings in
+    let fits : length new ≡ p.objects.len = omega arith in
+    rw (with_items_is p.objects new fits, c.push.ensures.entries, c.push.ensures.opening)
+    (subst (λ (e : PlainEntry). IsKept c.abort_others_ready.new.self new held s (e ∷ j)) (sym r.step.told)
+    (kept_others p.tree c.abort_others_ready.new.self p.objects.items new p.holdings held s j c.args.a r.kept
+    r.step.free c.abort_others_ready.ensures (rw (c.as_mut_slice.ensures.value) at c.discard_others.ensures)))

@@ -1,0 +1,21 @@
+use Rattle.std.proofs.Common.{arith, length, refl, subst, sym, ◌∷◌, ◌≡◌}
+use Rattle.std.proofs.lemmas.List.{with_items_is}
+use Rattle.argus_entries.specs.Entry.{PlainEntry}
+use Rattle.argus_steps.specs.Keeping.{IsKept}
+use Rattle.argus_steps.proofs.Ends.{kept_top}
+use Rattle.argus_steps.proofs.making.make_settle.Goals as goal
+use Rattle.argus_journal.specs.LegalJournal.{entries_in, opening_in}
+
+pub returns-clause-kept : goal.returns-clause-kept
+returns-clause-kept c =
+    let p = c.args.parts.now in
+    let s = opening_in p.journal in
+    let j = entries_in p.journal in
+    let r = c.requires in
+    let new = c.settle_all.new.objects in
+    let fits : length new ≡ p.objects.len = omega arith in
+    rw (with_items_is p.objects new fits, c.push.ensures.entries, c.push.ensures.opening)
+    (subst (λ (e : PlainEntry). IsKept c.commit_ready.new.self new c.clear.new.self s (e ∷ j)) (sym r.step.told)
+    (kept_top p.tree c.commit_ready.new.self p.objects.items new p.holdings p.holdings c.clear.new.self s j c.args.a
+    r.kept (λ x. refl) r.step.free c.commit_ready.ensures r.top
+    (rw (c.of.ensures.list, c.as_mut_slice.ensures.value) at c.settle_all.ensures) c.clear.ensures))

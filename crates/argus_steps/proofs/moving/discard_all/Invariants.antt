@@ -1,0 +1,8 @@
+use Rattle.std.proofs.Common.{take}
+use Rattle.argus_steps.specs.Moving.{AreChanged, IsEnded}
+use Rattle.argus_actions.specs.Tree.{is_ancestor}
+use Rattle.argus_steps.proofs.moving.discard_all.Given as goal
+
+abbrev pub invariant-loop-o : goal.invariant-loop-o
+invariant-loop-o l =
+    AreChanged (IsEnded l.tree (is_ancestor l.tree l.top.0)) (take l.o-index l.listed) l.initial.objects l.objects

@@ -1,0 +1,152 @@
+-- What has to be at hand for a prepared call.
+use Rattle.std.specs.Prelude.{Bool, List, None, Option, Some, [], false}
+use Rattle.std.specs.Prelude.{length, slice_index_or, true, vec_capacity, vec_len, ◌+◌, ◌<◌, ◌≡◌}
+use Rattle.std.specs.Prelude.{◌≤◌}
+use Rattle.argus_actions.specs.Refusals.{abort_others_refusal, abort_refusal, commit_refusal}
+use Rattle.argus_actions.specs.Refusals.{begin_nested_refusal, begin_sub_refusal, begin_top_refusal}
+use Rattle.argus_actions.specs.Tree.{Tree, next, parent_of}
+use Rattle.argus_actions.specs.declared.action_id.ActionId.{ActionId}
+use Rattle.argus_actions.specs.declared.action_refusal.ActionRefusal.{ActionRefusal}
+use Rattle.argus_contents.specs.Answer.{done}
+use Rattle.argus_contents.specs.Content.{plain_option}
+use Rattle.argus_contents.specs.Shape.{PlainShape}
+use Rattle.argus_contents.specs.declared.content.Content.{Content}
+use Rattle.argus_contents.specs.declared.limits.TheConstants.{MAX_OBJECTS}
+use Rattle.argus_contents.specs.declared.obj_id.ObjId.{ObjId}
+use Rattle.argus_contents.specs.declared.answer.Answer.TheVariants.{Done, Flag}
+use Rattle.argus_entries.specs.Call.{PlainCall, abort, abort_others}
+use Rattle.argus_entries.specs.Call.{begin_nested, begin_sub, begin_top, commit, declare}
+use Rattle.argus_entries.specs.Entry.{PlainEntry, plain_entry}
+use Rattle.argus_entries.specs.Reply.{answered, begun, object, plain_reply}
+use Rattle.argus_entries.specs.declared.call.Call.{Call}
+use Rattle.argus_entries.specs.declared.reply.Reply.TheVariants.{Answered}
+use Rattle.argus_steps.specs.Accessing.{seen_at}
+use Rattle.argus_steps.specs.Parts.{said_of}
+use Rattle.argus_steps.specs.Step.{entry_with, reply_to}
+use Rattle.argus_steps.specs.declared.atomic_object.AtomicObject.{AtomicObject}
+use Rattle.argus_steps.specs.declared.parts.Parts.{Parts}
+use Rattle.argus_steps.specs.declared.prepared.Prepared.{Prepared}
+use Rattle.argus_steps.specs.declared.step.Step.{Step}
+use Rattle.argus_steps.specs.declared.step.Step.TheVariants as step
+use Rattle.argus_journal.specs.Entries.{is_write, left_by}
+use Rattle.argus_journal.specs.Events.{happens}
+use Rattle.argus_journal.specs.LegalJournal.{entries_in, opening_in, room_in}
+use Rattle.argus_journal.specs.Objects.{declared_by}
+use Rattle.argus_model.specs.Event.{Accessed}
+use Rattle.argus_objects.specs.Holdings.{listed, room_of}
+use Rattle.argus_objects.specs.Object.{Object}
+use Rattle.argus_objects.specs.Rules.{may_read, may_write}
+use Rattle.argus_objects.specs.declared.holdings.Holdings.{Holdings}
+
+-- the journal has room for the entry, whose reply is the answer
+pub record HasPlace (parts : Parts) (e : PlainEntry) : Type 0 where
+  pub room : 0 < room_in parts.journal
+  pub right : e.reply ≡ reply_to (said_of parts) e.call
+
+-- the entry says that nothing happened, and declares nothing
+pub record TellsNothing (parts : Parts) (e : PlainEntry) : Type 0 where
+  pub event : happens (opening_in parts.journal) e (entries_in parts.journal) ≡ None
+  pub object : declared_by e.call e.reply ≡ []
+
+-- one more object may be declared, its list has room for it, and the entry has its number
+pub record CanDeclare (parts : Parts) (e : PlainEntry) (shape : PlainShape) : Type 0 where
+  pub room : vec_len parts.objects < vec_capacity parts.objects
+  pub few : length parts.objects.items < MAX_OBJECTS
+  pub told : e ≡ entry_with (declare shape) (object (length parts.objects.items))
+
+-- this call begins an action: the tree has room and doesn't refuse it, and the entry has its number
+pub record CanBegin (tree : Tree) (e : PlainEntry) (call : PlainCall)
+    (refusal : Option ActionRefusal) : Type 0 where
+  pub room : 0 < tree.room
+  pub free : refusal ≡ None
+  pub told : e ≡ entry_with call (begun (next tree))
+
+-- this call ends actions: the tree doesn't refuse it, and the entry says that it is done
+pub record CanEnd (e : PlainEntry) (call : PlainCall)
+    (refusal : Option ActionRefusal) : Type 0 where
+  pub free : refusal ≡ None
+  pub told : e ≡ entry_with call (answered done)
+
+-- a has this parent, whose list has room for all objects of a's list
+pub record CanPass (tree : Tree) (holdings : Holdings) (a p : ActionId) : Type 0 where
+  pub parent : parent_of tree a.0 ≡ Some p
+  pub room : length (listed holdings a) ≤ room_of holdings p
+
+-- the object's cell has room for one more grant, and the action's list for one more object
+pub record HasRoom (objects : List AtomicObject) (holdings : Holdings)
+    (a : ActionId) (o : ObjId) : Type 0 where
+  pub cell : (d : AtomicObject) → 0 < (slice_index_or objects o.0 d).cell.room
+  pub list : 0 < room_of holdings a
+
+-- the action may act, the object is there, and its lock is free
+pub record IsFree (tree : Tree) (objects : List AtomicObject) (a : ActionId) (o : ObjId)
+    (free : Object → Bool) : Type 0 where
+  pub accepted : commit_refusal tree a.0 ≡ None
+  pub low : o.0 < length objects
+  pub opens : (d : AtomicObject) → free (slice_index_or objects o.0 d).cell ≡ true
+
+-- the entry is an access of a at o, which needs a write lock or not
+pub record TellsAccess (parts : Parts) (e : PlainEntry) (a : ActionId) (o : ObjId)
+    (writes : Bool) : Type 0 where
+  pub event : happens (opening_in parts.journal) e (entries_in parts.journal)
+      ≡ Some (Accessed (a.0 + 1) o.0 e)
+  pub object : declared_by e.call e.reply ≡ []
+  pub write : is_write e.call ≡ writes
+
+-- a is granted the lock of o that passes the test
+pub record CanAccess (parts : Parts) (e : PlainEntry) (a : ActionId) (o : ObjId) (writes : Bool)
+    (opens : Object → Bool) : Type 0 where
+  pub free : IsFree parts.tree parts.objects.items a o opens
+  pub room : HasRoom parts.objects.items parts.holdings a o
+  pub told : TellsAccess parts e a o writes
+
+-- the call leaves this of what a sees in the object
+abbrev pub IsLeft : Parts → PlainEntry → ActionId → ObjId → Option Content → Type 0
+IsLeft parts e a o content =
+    (d : AtomicObject) → plain_option content
+    ≡ left_by e.call (seen_at parts.tree a parts.objects.items o.0 d)
+
+-- what the step needs is there, and the entry tells of it
+abbrev pub CanStep : Parts → PlainEntry → Step → Type 0
+CanStep parts e step.Nothing = TellsNothing parts e
+CanStep parts e (step.Declare shape) = CanDeclare parts e shape
+CanStep parts e step.BeginTop =
+    CanBegin parts.tree e begin_top (begin_top_refusal parts.tree)
+CanStep parts e (step.BeginSub parent) =
+    CanBegin parts.tree e (begin_sub parent.0) (begin_sub_refusal parts.tree parent.0)
+CanStep parts e (step.BeginNested creator) =
+    CanBegin parts.tree e (begin_nested creator.0) (begin_nested_refusal parts.tree creator.0)
+CanStep parts e (step.Inherit a parent) =
+    CanEnd e (commit a.0) (commit_refusal parts.tree a.0)
+    × CanPass parts.tree parts.holdings a parent
+CanStep parts e (step.Settle a) =
+    CanEnd e (commit a.0) (commit_refusal parts.tree a.0) × (parent_of parts.tree a.0 ≡ None)
+CanStep parts e (step.Abort a) = CanEnd e (abort a.0) (abort_refusal parts.tree a.0)
+CanStep parts e (step.AbortOthers a) =
+    CanEnd e (abort_others a.0) (abort_others_refusal parts.tree a.0)
+CanStep parts e (step.Read a o) =
+    CanAccess parts e a o false (λ cell. may_read parts.tree cell a)
+CanStep parts e (step.Write a o content) =
+    CanAccess parts e a o true (λ cell. may_write parts.tree cell a) × IsLeft parts e a o content
+
+-- all is at hand: a place for the entry, the same reply to give back, and what the step needs
+pub record IsReady (parts : Parts) (prepared : Prepared) : Type 0 where
+  pub place : HasPlace parts (plain_entry prepared.entry)
+  pub same : plain_reply prepared.reply ≡ (plain_entry prepared.entry).reply
+  pub step : CanStep parts (plain_entry prepared.entry) prepared.step
+
+-- the step of this call, which is answered `Done`
+abbrev pub done_with : Step → Call → Prepared
+done_with step call = record {
+  step = step;
+  entry = record { call = call; reply = Answered Done };
+  reply = Answered Done;
+}
+
+-- the step of this test, which is answered this truth
+abbrev pub flagged_with : Step → Call → Bool → Prepared
+flagged_with step call truth = record {
+  step = step;
+  entry = record { call = call; reply = Answered (Flag truth) };
+  reply = Answered (Flag truth);
+}

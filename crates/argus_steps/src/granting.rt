@@ -1,0 +1,112 @@
+//! How a granted access takes its lock: first all that can run out is had, then the lock is taken.
+
+ghost use Rattle.std.specs.Prelude.{◌≡◌, ◌<◌, length, None, OnErr, OnOk, slice_index_or, true};
+ghost use Rattle.argus_actions.specs.Refusals.{commit_refusal};
+ghost use Rattle.argus_contents.specs.Change.{plain_change};
+ghost use Rattle.argus_contents.specs.Content.{KeepsLimits, plain_option};
+ghost use Rattle.argus_steps.specs.Accessing.{IsAccessed, IsAltered, IsAsBefore, seen_at};
+ghost use Rattle.argus_steps.specs.Moving.{AreLawful, IsRead, IsWritten};
+ghost use Rattle.argus_steps.specs.Parts.{Keeps, said_of};
+ghost use Rattle.argus_steps.specs.Prepared.{HasRoom, IsFree};
+ghost use Rattle.argus_steps.specs.declared.atomic_object.AtomicObject.{AtomicObject};
+ghost use Rattle.argus_journal.specs.LegalJournal.{room_in};
+ghost use Rattle.argus_objects.specs.Rules.{may_read, may_write};
+
+use crate::atomic_object::AtomicObject;
+use crate::parts::Parts;
+use argus_actions::{ActionId, ActionTree};
+use argus_contents::{Change, Content, ObjId};
+use argus_memory::OutOfMemory;
+use argus_objects::Holdings;
+
+/// Makes room for one more grant of the object, and for the object on the action's list.
+pub(crate) fn reserve_grant(
+    objects: &mut [AtomicObject],
+    holdings: &mut Holdings,
+    a: ActionId,
+    o: ObjId,
+) -> Result<(), OutOfMemory>
+    requires { o.0 < length objects.old }
+    ensures same { IsAsBefore o objects.old objects.new holdings.old holdings.new }
+    ensures ok { OnOk result (HasRoom objects.new holdings.new a o) }
+{
+    holdings.reserve(a)?;
+    let object = &mut objects[o.0 as usize];
+    object.cell.reserve_grant()?;
+    Ok(())
+}
+
+/// Makes room for all that a granted access of the object needs.
+pub(crate) fn reserve_access(parts: &mut Parts, a: ActionId, o: ObjId) -> Result<(), OutOfMemory>
+    requires kept { Keeps parts.old }
+    requires low { o.0 < length parts.old.objects.items }
+    ensures kept { Keeps parts.new }
+    ensures said { said_of parts.new ≡ said_of parts.old }
+    ensures place { OnOk result (0 < room_in parts.new.journal) }
+    ensures room { OnOk result (HasRoom parts.new.objects.items parts.new.holdings a o) }
+{
+    parts.journal.reserve()?;
+    reserve_grant(parts.objects.as_mut_slice(), &mut parts.holdings, a, o)
+}
+
+/// Makes an action a reader of the object, which is noted on its list.
+pub(crate) fn grant_read(
+    objects: &mut [AtomicObject],
+    holdings: &mut Holdings,
+    tree: &ActionTree,
+    a: ActionId,
+    o: ObjId,
+)
+    requires lawful { AreLawful tree.now objects.old }
+    requires free { IsFree tree.now objects.old a o (λ cell. may_read tree.now cell a) }
+    requires room { HasRoom objects.old holdings.old a o }
+    ensures { IsAccessed (IsRead tree.now a) a o objects.old objects.new holdings.old holdings.new }
+{
+    let object = &mut objects[o.0 as usize];
+    object.cell.grant_read(tree, a);
+    holdings.note(a, o);
+}
+
+/// Makes this the content of an action's version of the object, which is noted on its list.
+pub(crate) fn grant_write(
+    objects: &mut [AtomicObject],
+    holdings: &mut Holdings,
+    tree: &ActionTree,
+    a: ActionId,
+    o: ObjId,
+    content: Option<Content>,
+)
+    requires lawful { AreLawful tree.now objects.old }
+    requires free { IsFree tree.now objects.old a o (λ cell. may_write tree.now cell a) }
+    requires room { HasRoom objects.old holdings.old a o }
+    ensures { IsAccessed (IsWritten tree.now a (plain_option content)) a o
+        objects.old objects.new holdings.old holdings.new }
+{
+    let object = &mut objects[o.0 as usize];
+    object.cell.grant_write(tree, a, content);
+    holdings.note(a, o);
+}
+
+/// Makes a change in an action's version of the object, which is noted on its list: in place where
+/// the action has a version, otherwise on a copy.
+pub(crate) fn grant_change(
+    objects: &mut [AtomicObject],
+    holdings: &mut Holdings,
+    tree: &ActionTree,
+    a: ActionId,
+    o: ObjId,
+    change: Change,
+) -> Result<(), OutOfMemory>
+    requires lawful { AreLawful tree.now objects.old }
+    requires free { IsFree tree.now objects.old a o (λ cell. may_write tree.now cell a) }
+    requires limits { (d : AtomicObject) → KeepsLimits (seen_at tree.now a objects.old o.0 d) }
+    ensures ok { OnOk result (IsAccessed (IsAltered tree.now a (plain_change change)) a o
+        objects.old objects.new holdings.old holdings.new) }
+    ensures err { OnErr result (IsAsBefore o objects.old objects.new holdings.old holdings.new) }
+{
+    holdings.reserve(a)?;
+    let object = &mut objects[o.0 as usize];
+    object.cell.grant_change(tree, a, change)?;
+    holdings.note(a, o);
+    Ok(())
+}
