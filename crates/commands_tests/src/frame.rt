@@ -9,11 +9,12 @@ use argus_memory::Heap;
 // Said of a script, or of a line, that has no step.
 const NOTHING: &str = "nothing";
 
-/// What the scripts of a test have in common: its lines with `|`, and those with `=`, which are what
-/// has to come of them.
+/// What the scripts of a test have in common: its lines with `|`, and those with `=`, which are
+/// what has to come of them.
 ///
 /// ```text
-/// let frame = Frame::new("| declare x atomic_array[int]\n| LINE\n= declare o0 x atomic_array[int]\n");
+/// let frame = Frame::new("| enter topaction\n| LINE\n| end\n= enter topaction\n=   STEP\n");
+/// let row = row_of("abort leave -> abort leave");
 /// ```
 #[derive(Clone, Copy)]
 pub(crate) struct Frame<'a> {
@@ -28,7 +29,7 @@ impl<'a> Frame<'a> {
 
     /// The script, with the row's line at `LINE`.
     pub(crate) fn script(&self, texts: Heap, row: Row<'_>) -> Result<Vec<u8, Heap>, RowFault> {
-        self.see_place("LINE", row.line)?;
+        self.check_place("LINE", row.line)?;
         let mut out = Vec::new(texts);
         for line in self.lines.lines() {
             if let Some(text) = behind_mark("|", line) {
@@ -46,7 +47,7 @@ impl<'a> Frame<'a> {
             spell_line(row.answer, &mut out)?;
             return Ok(out);
         }
-        self.see_place("STEP", row.answer)?;
+        self.check_place("STEP", row.answer)?;
         for line in self.lines.lines() {
             if let Some(text) = behind_mark("=", line) {
                 spell_wanted(texts, text, row, &mut out)?;
@@ -56,7 +57,7 @@ impl<'a> Frame<'a> {
     }
 
     // What a row says is to have a place.
-    fn see_place(&self, place: &str, text: &str) -> Result<(), RowFault> {
+    fn check_place(&self, place: &str, text: &str) -> Result<(), RowFault> {
         if text.is_empty() || self.lines.contains(place) {
             Ok(())
         } else {

@@ -14,7 +14,7 @@ use std::io::Print;
 ///
 /// ```text
 /// let mut tester = Tester::new(rt.alloc())?;
-/// tester.run_text(&rt, "test no command\n| foo\n= line 1: BadWord\n")?;   // `no command: 1 scripts`
+/// tester.run_text(&rt, "test no word\n| foo\n= line 1: BadWord\n")?;    // `no word: 1 scripts`
 /// ```
 #[derive(Drop)]
 pub(crate) struct Tester {
@@ -101,8 +101,8 @@ impl Tester {
         self.wrong = self.wrong.saturating_add(trial.wrong);
     }
 
-    /// Tells how many tests there are, in how many scripts each allocation was refused, and how many
-    /// answers were wrong.
+    /// Tells how many tests there are, in how many scripts each allocation was refused, and how
+    /// many answers were wrong.
     pub(crate) fn tell_counts(&self, rt: &impl Print) -> io::Result<()> {
         println!(rt;
             "refused memory, and then answered as with it: {} scripts",

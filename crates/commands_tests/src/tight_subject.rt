@@ -29,8 +29,8 @@ impl TightSubject {
         TightSubject { subject, budget }
     }
 
-    /// Refuses the first allocation, then the second, and so on to the last, and then allows just so
-    /// many. Each refusal has to be answered as want of memory.
+    /// Refuses the first allocation, then the second, and so on to the last, and then allows just
+    /// so many. Each refusal has to be answered as want of memory.
     pub(crate) fn answer(&self, script: &[u8]) -> Result<TightAnswer, RowFault> {
         let taken = self.allocations(script);
         for allowed in 0..taken {
