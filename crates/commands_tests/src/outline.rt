@@ -1,0 +1,40 @@
+//! `Outline`: the lines that tell a script.
+
+use argus_memory::{Heap, OutOfMemory};
+
+/// The lines that tell a script, so far.
+///
+/// ```text
+/// let mut outline = Outline::new(texts);
+/// outline.add_line(1, "leave")?;                  // `  leave`
+/// ```
+#[derive(Drop)]
+pub(crate) struct Outline {
+    pub(crate) text: String<Heap>,
+    /// How many declarations are told.
+    pub(crate) declared: usize,
+}
+
+impl Outline {
+    /// No line yet.
+    pub(crate) fn new(texts: Heap) -> Outline {
+        Outline {
+            text: String::new(texts),
+            declared: 0,
+        }
+    }
+
+    /// Two spaces for each block or arm around the line.
+    pub(crate) fn indent(&mut self, depth: u32) -> Result<(), OutOfMemory> {
+        for _ in 0..depth {
+            self.text.push_str("  ")?;
+        }
+        Ok(())
+    }
+
+    /// The end of a line.
+    pub(crate) fn end_line(&mut self) -> Result<(), OutOfMemory> {
+        self.text.push('\n')?;
+        Ok(())
+    }
+}
