@@ -1,0 +1,5 @@
+pub mod Comes
+pub mod Played
+pub mod Replies
+pub mod Running
+pub mod Within
