@@ -1,17 +1,16 @@
 -- Where a run stops before its end, its state is a beginning of what the run comes to.
-use Rattle.std.proofs.Common.{rules, Vec, ◌≡◌, ℕ, suc, Bool, true, ◌<◌, List, [], ◌∷◌, ◌++◌, length, get_or, drop, Option, Some, None, Result, Ok, Err, OnErr, sym, ◌∙◌, ap, drop-cons}
+use Rattle.std.proofs.Common.{◌≡◌, ℕ, suc, Bool, true, ◌<◌, List, ◌∷◌, ◌++◌, length, get_or, drop, Option, None, Result, Ok, Err, OnErr, sym, ◌∙◌, ap, drop-cons}
 use Rattle.argus_actions.specs.declared.action_id.ActionId.{ActionId}
-use Rattle.argus_commands.specs.Part.{Part, Parts, block, more, none, plain_step, plain_steps}
-use Rattle.argus_commands.specs.declared.opening.Opening.{Opening}
+use Rattle.argus_commands.specs.Part.{more, plain_step, plain_steps}
 use Rattle.argus_commands.specs.declared.step.Step.{Step}
 use Rattle.argus_contents.specs.Shape.{PlainShape}
 use Rattle.argus_contents.specs.declared.obj_id.ObjId.{ObjId}
 use Rattle.argus_entries.specs.Call.{PlainCall}
 use Rattle.argus_entries.specs.Reply.{PlainReply}
-use Rattle.argus_runs.specs.Comes.{Comes, comes, stops, ◌>>=◌}
+use Rattle.argus_runs.specs.Comes.{Comes, comes}
 use Rattle.argus_runs.specs.Running.{begin_all, begin_arm, run_arm, run_arms, run_part, run_parts, run_top, run_tops, with_front}
 use Rattle.argus_runs.specs.Within.{Within}
-use Rattle.argus_runs.proofs.Growth.{Growing, Hand, arms_grow, begin_all_grows, begin_on, begin_on_grows, go_on, go_on_grows, parts_grow, tops_grow, within_then}
+use Rattle.argus_runs.proofs.Growth.{Growing, Hand, arms_grow, begin_on, begin_on_grows, go_on, go_on_grows, parts_grow, tops_grow, within_then}
 
 pub on_err : {S X A E : Type 0} (r : Result A E) (k a : Bool) (begins : S → S → Type 0) (s : S) (m : Comes S X)
     → (k ≡ true → a ≡ true → Within begins s m) → OnErr r (k ≡ true → a ≡ true → Within begins s m)

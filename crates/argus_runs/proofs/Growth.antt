@@ -1,10 +1,9 @@
 -- Where each call adds to the state, the run does.
-use Rattle.std.proofs.Common.{◌≡◌, ℕ, Bool, true, false, List, [], ◌∷◌, ◌++◌, Option, Some, None, length, slice_get}
+use Rattle.std.proofs.Common.{◌≡◌, Bool, true, false, List, [], ◌∷◌, ◌++◌, Option, Some, None, length, slice_get}
 use Rattle.argus_actions.specs.declared.action_id.ActionId.{ActionId}
 use Rattle.argus_commands.specs.Part.{Deed, Part, Parts, block, deed, more, none}
 use Rattle.argus_commands.specs.Part as part
 use Rattle.argus_commands.specs.declared.action_kind.ActionKind.{ActionKind}
-use Rattle.argus_commands.specs.declared.opening.Opening.{Opening}
 use Rattle.argus_commands.specs.declared.opening.Opening.TheVariants as opening
 use Rattle.argus_contents.specs.Shape.{PlainShape}
 use Rattle.argus_contents.specs.declared.obj_id.ObjId.{ObjId}
@@ -15,8 +14,8 @@ use Rattle.argus_journal.specs.Events.{says_yes}
 use Rattle.argus_runs.specs.Comes.{Comes, comes, stops, ◌>>=◌}
 use Rattle.argus_runs.specs.Replies.{begin_call, begun_by, flow_after, goes_on, is_over, named, object_of, test_call}
 use Rattle.argus_runs.specs.Running.{access, after_commit, after_others, begin_all, begin_arm, begin_one, commit_block}
-use Rattle.argus_runs.specs.Running.{declare_next, finish, give_up, run_arms, run_body, run_deed, run_handed, run_part}
-use Rattle.argus_runs.specs.Running.{run_parts, run_script, run_top, run_tops, then_on}
+use Rattle.argus_runs.specs.Running.{finish, give_up, run_arms, run_deed, run_handed, run_part}
+use Rattle.argus_runs.specs.Running.{run_parts, run_top, run_tops, then_on}
 use Rattle.argus_runs.specs.Within.{Within}
 use Rattle.argus_runs.specs.declared.flow.Flow.{Flow}
 use Rattle.argus_runs.specs.declared.flow.Flow.TheVariants as flow

@@ -1,4 +1,6 @@
+pub mod Adding
 pub mod Comes
+pub mod Laws
 pub mod Played
 pub mod Replies
 pub mod Running

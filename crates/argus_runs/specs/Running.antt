@@ -1,12 +1,11 @@
 -- The run of a script: which call comes next, after the replies so far.
-use Rattle.std.specs.Prelude.{Bool, List, None, Option, Some, false, length, slice_get, true, ℕ}
+use Rattle.std.specs.Prelude.{List, None, Option, Some, false, length, slice_get, true}
 use Rattle.std.specs.Prelude.{[], ◌++◌, ◌∷◌}
 use Rattle.argus_actions.specs.declared.action_id.ActionId.{ActionId}
 use Rattle.argus_commands.specs.Part.{Deed, Part, Parts, block, deed, more, none}
 use Rattle.argus_commands.specs.Part as part
 use Rattle.argus_commands.specs.Script.{PlainScript}
 use Rattle.argus_commands.specs.declared.action_kind.ActionKind.{ActionKind}
-use Rattle.argus_commands.specs.declared.opening.Opening.{Opening}
 use Rattle.argus_commands.specs.declared.opening.Opening.TheVariants as opening
 use Rattle.argus_contents.specs.Shape.{PlainShape}
 use Rattle.argus_contents.specs.declared.obj_id.ObjId.{ObjId}
@@ -14,7 +13,7 @@ use Rattle.argus_entries.specs.Call.{PlainCall, abort, abort_others, alter, ask,
 use Rattle.argus_entries.specs.Reply.{PlainReply, answered, begun, object, refused}
 use Rattle.argus_entries.specs.declared.refusal.Refusal.{Refusal}
 use Rattle.argus_journal.specs.Events.{says_yes}
-use Rattle.argus_runs.specs.Comes.{Comes, comes, stops, ◌>>=◌}
+use Rattle.argus_runs.specs.Comes.{Comes, comes, ◌>>=◌}
 use Rattle.argus_runs.specs.Replies.{begin_call, begun_by, flow_after, goes_on, is_over, named}
 use Rattle.argus_runs.specs.Replies.{object_of, test_call}
 use Rattle.argus_runs.specs.declared.flow.Flow.{Flow}

@@ -1,4 +1,3 @@
-use Rattle.std.proofs.Common.{true, ◌≡◌}
 use Rattle.argus_commands.specs.Part.{plain_steps}
 use Rattle.argus_runs.specs.Running.{begin_all}
 use Rattle.argus_runs.proofs.Early.{begins_early, on_err}

@@ -1,4 +1,3 @@
-use Rattle.std.proofs.Common.{true, ◌≡◌}
 use Rattle.argus_commands.specs.Script.{plain_script}
 use Rattle.argus_runs.specs.Running.{run_script}
 use Rattle.argus_runs.proofs.Early.{on_err, tops_early}

@@ -1,6 +1,5 @@
-use Rattle.std.proofs.Common.{Some, get_or, true, ◌≡◌}
-use Rattle.argus_actions.specs.declared.action_id.ActionId.{ActionId}
-use Rattle.argus_commands.specs.Part.{block, plain_step, plain_steps}
+use Rattle.std.proofs.Common.{Some}
+use Rattle.argus_commands.specs.Part.{block, plain_steps}
 use Rattle.argus_commands.specs.declared.opening.Opening.TheVariants as opening
 use Rattle.argus_runs.specs.Replies.{named, test_call}
 use Rattle.argus_runs.specs.Running.{begin_all, begin_one, run_arms, run_handed, run_part, run_parts}
