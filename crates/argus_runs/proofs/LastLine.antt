@@ -1,0 +1,48 @@
+-- The line of the entry that was just made.
+use Rattle.std.proofs.Common.{List, None, Option, Some, [], ap, arith, false, get_or, length, nat_lt, slice_get, subst, sym}
+use Rattle.std.proofs.Common.{take, ℕ, ◌+◌, ◌-◌, ◌<◌, ◌∙◌, ◌∷◌, ◌≡◌}
+use Rattle.std.proofs.lemmas.List.{append-nil, get_or-reverse, length-reverse}
+use Rattle.std.proofs.lemmas.Option.{slice_get-get_or}
+use Rattle.std.specs.Io.KnownBytes.{Appends}
+use Rattle.std.specs.Prelude.{if◌then◌else◌, reverse}
+use Rattle.argus_entries.specs.Call.{PlainCall}
+use Rattle.argus_entries.specs.Entry.{PlainEntry}
+use Rattle.argus_guardian.specs.Step.{Said, after, entry_of}
+use Rattle.argus_runs.specs.Lines.{Lacking, Written, line_at, line_if, line_of, next_number}
+
+newest : (e : PlainEntry) (older : List PlainEntry) → slice_get (reverse (e ∷ older)) (length older) ≡ Some e
+newest e older =
+    let n = length older in
+    let inside : n < length (e ∷ older) = omega arith in
+    let within : n < length (reverse (e ∷ older)) = rw (length-reverse (e ∷ older)) inside in
+    let first : length (e ∷ older) - 1 - n ≡ 0 = omega arith in
+    slice_get-get_or (reverse (e ∷ older)) n e within
+    ∙ ap Some (get_or-reverse (e ∷ older) n e inside ∙ ap (λ k. get_or (e ∷ older) k e) first)
+
+found : (first : ℕ) (e : PlainEntry) (older : List PlainEntry)
+    → (if nat_lt (first + length older) first then None
+    else slice_get (reverse (e ∷ older)) ((first + length older) - first)) ≡ Some e
+found first e older =
+    let past : nat_lt (first + length older) first ≡ false = grind arith in
+    let at : (first + length older) - first ≡ length older = omega arith in
+    rw past (ap (λ k. slice_get (reverse (e ∷ older)) k) at ∙ newest e older)
+
+last-line : (j : Said) (c : PlainCall) → line_at (after j c) (next_number j) ≡ line_of (next_number j) (entry_of j c)
+last-line j c = ap (line_if (next_number j)) (found j.opening.first_entry (entry_of j c) j.entries)
+
+line_made : (j k : Said) (c : PlainCall) (at : ℕ) → k ≡ after j c → at ≡ next_number j
+    → line_at k at ≡ line_of (next_number j) (entry_of j c)
+line_made j k c at e d = ap (λ x. line_at x at) e ∙ ap (λ x. line_at (after j c) x) d ∙ last-line j c
+
+pub written_one : (j k : Said) (c : PlainCall) (at : ℕ) (t u : Option (List ℕ)) → k ≡ after j c
+    → at ≡ next_number j → Appends t u (line_at k at) → Written j t k u
+written_one j k c at t u e d p =
+    let P : List ℕ → Type 0 = λ x. Appends t u x in
+    (entry_of j c ∷ [], e, subst P (line_made j k c at e d ∙ sym (append-nil (line_of (next_number j) (entry_of j c)))) p)
+
+pub lacking_one : (j k : Said) (c : PlainCall) (at n : ℕ) (t u : Option (List ℕ)) → k ≡ after j c
+    → at ≡ next_number j → Appends t u (take n (line_at k at)) → Lacking j t k u
+lacking_one j k c at n t u e d p =
+    let P : List ℕ → Type 0 = λ x. Appends t u (take n x) in
+    let z : next_number j ≡ next_number j + 0 = omega arith in
+    ([], entry_of j c, n, e, subst P (line_made j k c at e d ∙ ap (λ m. line_of m (entry_of j c)) z) p)

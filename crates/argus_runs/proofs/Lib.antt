@@ -1,0 +1,4 @@
+pub mod Early
+pub mod Growth
+pub mod LastLine
+pub mod Plays

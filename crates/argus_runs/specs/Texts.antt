@@ -1,0 +1,85 @@
+-- What a run writes, in two parts.
+use Rattle.std.proofs.Common.{Bool, List, None, Option, Some, [], ap, append_assoc, arith, false, length, length-append}
+use Rattle.std.proofs.Common.{refl, subst, sym, take, true, ℕ, ◌+◌, ◌++◌, ◌∙◌, ◌∷◌, ◌≡◌}
+use Rattle.std.proofs.lemmas.List.{append-nil}
+use Rattle.std.specs.Io.KnownBytes.{Appends}
+use Rattle.argus_entries.specs.Entry.{PlainEntry}
+use Rattle.argus_guardian.specs.Step.{Said}
+use Rattle.argus_runs.specs.Adding.{extended_more}
+use Rattle.argus_runs.specs.Lines.{KeepsText, Lacking, Written, line_of, lines, next_number}
+use Rattle.argus_runs.specs.Within.{extended, with_entry}
+
+appends_nothing : (a : Option (List ℕ)) → Appends a a []
+appends_nothing None = tt
+appends_nothing (Some x) = sym (append-nil x)
+
+appends_on : (a b c : Option (List ℕ)) (xs ys zs : List ℕ) → zs ≡ xs ++ ys → Appends a b xs
+    → Appends b c ys → Appends a c zs
+appends_on None b c xs ys zs e p q = tt
+appends_on (Some x) None c xs ys zs e p q = absurd p
+appends_on (Some x) (Some y) None xs ys zs e p q = absurd q
+appends_on (Some x) (Some y) (Some z) xs ys zs e p q =
+    q ∙ ap (λ t. t ++ ys) p ∙ append_assoc x xs ys ∙ ap (λ t. x ++ t) (sym e)
+
+lines-append : (k : ℕ) (xs ys : List PlainEntry)
+    → lines k (xs ++ ys) ≡ lines k xs ++ lines (k + length xs) ys
+lines-append k [] ys = ap (λ n. lines n ys) (let h : k ≡ k + 0 = omega arith in h)
+lines-append k (x ∷ xs) ys = ap (λ t. line_of k x ++ t) (lines-append (k + 1) xs ys)
+    ∙ ap (λ n. line_of k x ++ (lines (k + 1) xs ++ lines n ys))
+    (let h : (k + 1) + length xs ≡ k + length (x ∷ xs) = omega arith in h)
+    ∙ sym (append_assoc (line_of k x) (lines (k + 1) xs) (lines (k + length (x ∷ xs)) ys))
+
+next-extended : (j : Said) (made : List PlainEntry)
+    → next_number (extended j made) ≡ next_number j + length made
+next-extended j [] = omega arith
+next-extended j (e ∷ es) = omega (arith, next-extended (with_entry j e) es)
+
+written_same : (j : Said) (t : Option (List ℕ)) → Written j t j t
+written_same j t = ([], refl, appends_nothing t)
+
+written_on : (j k l : Said) (t u v : Option (List ℕ)) → Written j t k u → Written k u l v
+    → Written j t l v
+written_on j k l t u v (m, e, p) (n, f, q) = (
+  m ++ n,
+  f ∙ ap (λ x. extended x n) e ∙ sym (extended_more j m n),
+  appends_on t u v (lines (next_number j) m) (lines (next_number k) n) (lines (next_number j) (m ++ n))
+      (lines-append (next_number j) m n
+      ∙ ap (λ x. lines (next_number j) m ++ lines x n) (sym (ap next_number e ∙ next-extended j m))) p q,
+)
+
+lacking_on : (j k l : Said) (t u v : Option (List ℕ)) → Written j t k u → Lacking k u l v
+    → Lacking j t l v
+lacking_on j k l t u v (m, e, p) (n, last, i, f, q) =
+    let h : next_number k ≡ next_number j + length m = ap next_number e ∙ next-extended j m in (
+      m ++ n,
+      last,
+      i,
+      f ∙ ap (λ x. extended x (n ++ last ∷ [])) e ∙ sym (extended_more j m (n ++ last ∷ []))
+          ∙ ap (λ x. extended j x) (sym (append_assoc m n (last ∷ []))),
+      appends_on t u v (lines (next_number j) m)
+          (lines (next_number k) n ++ take i (line_of (next_number k + length n) last))
+          (lines (next_number j) (m ++ n) ++ take i (line_of (next_number j + length (m ++ n)) last))
+          (ap (λ x. x ++ take i (line_of (next_number j + length (m ++ n)) last))
+          (lines-append (next_number j) m n ∙ ap (λ x. lines (next_number j) m ++ lines x n) (sym h))
+          ∙ append_assoc (lines (next_number j) m) (lines (next_number k) n)
+          (take i (line_of (next_number j + length (m ++ n)) last))
+          ∙ ap (λ x. lines (next_number j) m ++ (lines (next_number k) n ++ take i (line_of x last)))
+          (let g : next_number j + length (m ++ n) ≡ next_number k + length n = omega (arith, h, length-append m n) in g))
+          p q,
+    )
+
+pub keeps_same : (f : Bool) (j : Said) (t : Option (List ℕ)) → KeepsText f j t f j t
+keeps_same false j t = written_same j t
+keeps_same true j t = (refl, refl, refl)
+
+pub keeps_on : (f g h : Bool) (j k l : Said) (t u v : Option (List ℕ)) → KeepsText f j t g k u
+    → KeepsText g k u h l v → KeepsText f j t h l v
+keeps_on false false false j k l t u v p q = written_on j k l t u v p q
+keeps_on false false true j k l t u v p q = lacking_on j k l t u v p q
+keeps_on false true false j k l t u v p (a, b, c) = cc
+keeps_on false true true j k l t u v p (a, b, c) =
+    let P : Said → Type 0 = λ x. Lacking j t x v in
+    let Q : Option (List ℕ) → Type 0 = λ x. Lacking j t k x in
+    subst P (sym b) (subst Q (sym c) p)
+keeps_on true false h j k l t u v (a, b, c) q = cc
+keeps_on true true h j k l t u v (a, b, c) (d, e, f) = (d, e ∙ b, f ∙ c)

@@ -1,0 +1,32 @@
+//! The numbers of objects for which the names of a script stand.
+
+ghost use Rattle.std.specs.Prelude.{◌≡◌};
+ghost use Rattle.argus_entries.specs.Reply.{plain_reply};
+ghost use Rattle.argus_runs.specs.Replies.{named, object_of, undeclared};
+
+use argus_contents::ObjId;
+use argus_contents::limits::MAX_OBJECTS;
+use argus_entries::Reply;
+
+// The number that no object has.
+const UNDECLARED: ObjId = ObjId(MAX_OBJECTS);
+
+// The object that the script numbers x, where its names stand for these numbers.
+pub(crate) fn object_at(numbers: &[ObjId], x: u32) -> ObjId
+    ensures { result.0 ≡ named numbers.now x }
+{
+    match numbers.get(x as usize) {
+        Some(number) => *number,
+        None => UNDECLARED,
+    }
+}
+
+// The number for which a name stands whose declaration got this reply.
+pub(crate) fn object_of(reply: &Reply) -> ObjId
+    ensures { result ≡ object_of (plain_reply reply.now) }
+{
+    match reply {
+        Reply::Object(number) => *number,
+        Reply::Begun(_) | Reply::Answered(_) | Reply::Refused(_) => UNDECLARED,
+    }
+}

@@ -1,0 +1,96 @@
+//! The run of a whole script.
+
+ghost use Rattle.std.specs.Prelude.{IfOk, OnErr, true, ◌≡◌};
+ghost use Rattle.argus_commands.specs.Part.{plain_step};
+ghost use Rattle.argus_commands.specs.Script.{plain_script};
+ghost use Rattle.argus_runs.specs.Comes.{comes};
+ghost use Rattle.argus_runs.specs.Running.{declare_next, run_script, run_top};
+ghost use Rattle.argus_runs.specs.Within.{Within};
+
+use crate::caller::Caller;
+use crate::numbers::object_of;
+use crate::stepping::run_step;
+use crate::stopped::Stopped;
+use argus_commands::{Script, Step};
+use argus_contents::{ObjId, Shape};
+use argus_entries::Call;
+use argus_memory::Heap;
+
+/// Runs a whole script, and answers for which numbers of objects its names stand, in the order of
+/// their declarations: 65,535, which no object has, where a declaration was refused.
+///
+/// Its clauses are those of `run_steps`.
+pub fn run_script<C: Caller>(
+    heap: Heap,
+    caller: &mut C,
+    script: &Script,
+) -> Result<Vec<ObjId, Heap>, Stopped>
+    requires ready { C.ready caller.old }
+    ensures ready { C.ready caller.new }
+    ensures kept { C.keeps caller.old caller.new }
+    ensures told { IfOk result (λ numbers. C.known ≡ true → run_script C.State C.reply C.hand
+        (plain_script script.now) (C.state caller.old)
+        ≡ comes numbers.items (C.state caller.new)) }
+    ensures early { OnErr result (C.known ≡ true → C.adds ≡ true → Within C.begins
+        (C.state caller.new) (run_script C.State C.reply C.hand (plain_script script.now)
+        (C.state caller.old))) }
+{
+    let mut numbers = Vec::new(heap);
+    for step in script.steps() {
+        run_at_top(heap, caller, script.shapes(), &mut numbers, step)?;
+    }
+    Ok(numbers)
+}
+
+fn run_at_top<C: Caller>(
+    heap: Heap,
+    caller: &mut C,
+    shapes: &[Shape],
+    numbers: &mut Vec<ObjId, Heap>,
+    step: &Step,
+) -> Result<(), Stopped>
+    requires ready { C.ready caller.old }
+    ensures ready { C.ready caller.new }
+    ensures kept { C.keeps caller.old caller.new }
+    ensures told { IfOk result (λ _. C.known ≡ true → run_top C.State C.reply C.hand shapes.now
+        numbers.old.items (plain_step step.now) (C.state caller.old)
+        ≡ comes numbers.new.items (C.state caller.new)) }
+    ensures early { OnErr result (C.known ≡ true → C.adds ≡ true → Within C.begins
+        (C.state caller.new) (run_top C.State C.reply C.hand shapes.now numbers.old.items
+        (plain_step step.now) (C.state caller.old))) }
+{
+    match step {
+        Step::Declare => declare(heap, caller, shapes, numbers),
+        Step::Block(_, _) => {
+            run_step(heap, caller, numbers.as_slice(), step, None)?;
+            Ok(())
+        }
+        Step::Ask(_, _) | Step::Alter(_, _) | Step::Leave | Step::AbortLeave | Step::LeaveAll => Ok(
+            (),
+        ),
+    }
+}
+
+fn declare<C: Caller>(
+    heap: Heap,
+    caller: &mut C,
+    shapes: &[Shape],
+    numbers: &mut Vec<ObjId, Heap>,
+) -> Result<(), Stopped>
+    requires ready { C.ready caller.old }
+    ensures ready { C.ready caller.new }
+    ensures kept { C.keeps caller.old caller.new }
+    ensures told { IfOk result (λ _. C.known ≡ true → declare_next C.State C.reply C.hand shapes.now
+        numbers.old.items (C.state caller.old)
+        ≡ comes numbers.new.items (C.state caller.new)) }
+    ensures early { OnErr result (C.known ≡ true → C.adds ≡ true → Within C.begins
+        (C.state caller.new) (declare_next C.State C.reply C.hand shapes.now numbers.old.items
+        (C.state caller.old))) }
+{
+    let Some(shape) = shapes.get(numbers.len()) else {
+        return Ok(());
+    };
+    let reply = caller.call(Call::Declare(shape.duplicate(heap)?))?;
+    numbers.push(object_of(&reply))?;
+    Ok(())
+}

@@ -1,0 +1,168 @@
+//! `run_serial`: a script, run on a guardian, with the line of each call written.
+
+ghost use Rattle.std.specs.Prelude.{IfErr, OnErr, OnOk, false, true, ◌≡◌};
+ghost use Rattle.argus_commands.specs.Script.{plain_script};
+ghost use Rattle.argus_runs.specs.Lines.{Written, WrittenAlmost};
+ghost use Rattle.argus_runs.specs.Played.{IsPlay, play};
+ghost use Rattle.argus_runs.specs.Within.{Begins, Within};
+ghost use Rattle.argus_runs.specs.declared.run_fault.RunFault.TheVariants.{Write};
+ghost use Rattle.argus_streams.specs.Watched.{has_failed, inner_of};
+
+use crate::given::run_given;
+use crate::run_fault::RunFault;
+use crate::serial::Serial;
+use argus_commands::Script;
+use argus_guardian::Guardian;
+use argus_memory::Heap;
+use argus_streams::Watched;
+use core::mem::{replace, replace_with};
+use std::io::Write;
+
+/// Runs a script on the guardian, the arms of a coenter one after another, and writes the line of
+/// each call that it makes, with a line feed. Nothing is tried again after a failure.
+///
+/// On Ok the journal is the one that the script's run leaves after the journal before (`played`),
+/// and what was written is the lines of the entries made (`written`). After a fault the journal is
+/// a beginning of that one (`early`), and what was written are the lines of the entries made, but
+/// that the last one may lack its end, or all of it (`cut`).
+///
+/// | Error | When |
+/// |---|---|
+/// | `Memory` | memory is wanting, for a call, for its line or for the run |
+/// | `Write` | the writer failed or took nothing, and only then |
+///
+/// The writer may not have failed before.
+///
+/// ```text
+/// let script = parse(heap, b"declare x atomic_record[n:int]\n")?;
+/// let mut guardian = Guardian::new(heap);
+/// let mut writer = Watched::new(rt.stdout());
+/// run_serial(heap, &mut guardian, &script, &mut writer)?;
+/// // 0 declare atomic_record[n:int] -> o0
+/// ```
+pub fn run_serial<W: Write + Drop>(
+    heap: Heap,
+    guardian: &mut Guardian,
+    script: &Script,
+    writer: &mut Watched<W>,
+) -> Result<(), RunFault>
+    requires { has_failed writer.old ≡ false }
+    ensures played { OnOk result (IsPlay guardian.old (plain_script script.now) guardian.new) }
+    ensures written { OnOk result (Written guardian.old (W.contents (inner_of writer.old))
+        guardian.new (W.contents (inner_of writer.new))) }
+    ensures early { OnErr result (Within Begins guardian.new
+        (play (plain_script script.now) guardian.old)) }
+    ensures cut { OnErr result (WrittenAlmost guardian.old (W.contents (inner_of writer.old))
+        guardian.new (W.contents (inner_of writer.new))) }
+    ensures failed { IfErr result (λ e. e ≡ Write → has_failed writer.new ≡ true) }
+{
+    let owned = replace(guardian, Guardian::new(heap));
+    let (owned, result) = run_lent(heap, owned, script, writer);
+    *guardian = owned;
+    result
+}
+
+// The same, with the guardian handed over and given back.
+fn run_lent<W: Write + Drop>(
+    heap: Heap,
+    guardian: Guardian,
+    script: &Script,
+    writer: &mut Watched<W>,
+) -> (Guardian, Result<(), RunFault>)
+    requires { has_failed writer.old ≡ false }
+    ensures played { OnOk result.1 (IsPlay guardian (plain_script script.now) result.0) }
+    ensures written { OnOk result.1 (Written guardian (W.contents (inner_of writer.old))
+        result.0 (W.contents (inner_of writer.new))) }
+    ensures early { OnErr result.1 (Within Begins result.0
+        (play (plain_script script.now) guardian)) }
+    ensures cut { OnErr result.1 (WrittenAlmost guardian (W.contents (inner_of writer.old))
+        result.0 (W.contents (inner_of writer.new))) }
+    ensures failed { IfErr result.1 (λ e. e ≡ Write → has_failed writer.new ≡ true) }
+{
+    replace_with(
+        writer,
+        (heap, (guardian, script)),
+        |writer, rest|
+            requires { has_failed writer ≡ false }
+        {
+            let (heap, (guardian, script)) = rest;
+            let (guardian, (writer, result)) = run_owned(heap, guardian, script, writer);
+            (writer, (guardian, result))
+        },
+    )
+}
+
+// The same, with the writer too.
+fn run_owned<W: Write + Drop>(
+    heap: Heap,
+    guardian: Guardian,
+    script: &Script,
+    writer: Watched<W>,
+) -> (Guardian, (Watched<W>, Result<(), RunFault>))
+    requires { has_failed writer ≡ false }
+    ensures played { OnOk result.1.1 (IsPlay guardian (plain_script script.now) result.0) }
+    ensures written { OnOk result.1.1 (Written guardian (W.contents (inner_of writer))
+        result.0 (W.contents (inner_of result.1.0))) }
+    ensures early { OnErr result.1.1 (Within Begins result.0
+        (play (plain_script script.now) guardian)) }
+    ensures cut { OnErr result.1.1 (WrittenAlmost guardian (W.contents (inner_of writer))
+        result.0 (W.contents (inner_of result.1.0))) }
+    ensures failed { IfErr result.1.1 (λ e. e ≡ Write → has_failed result.1.0 ≡ true) }
+{
+    let mut serial = Serial {
+        guardian,
+        writer,
+        line: String::new(heap),
+        cut: false,
+    };
+    let result = run_whole(heap, &mut serial, script);
+    let Serial {
+        guardian,
+        writer,
+        line: _,
+        cut: _,
+    } = serial;
+    (guardian, (writer, result))
+}
+
+fn run_whole<W: Write + Drop>(
+    heap: Heap,
+    serial: &mut Serial<W>,
+    script: &Script,
+) -> Result<(), RunFault>
+    requires fine { has_failed serial.old.writer ≡ false }
+    requires whole { serial.old.cut ≡ false }
+    ensures played { OnOk result (IsPlay serial.old.guardian (plain_script script.now)
+        serial.new.guardian) }
+    ensures written { OnOk result (Written serial.old.guardian
+        (W.contents (inner_of serial.old.writer)) serial.new.guardian
+        (W.contents (inner_of serial.new.writer))) }
+    ensures early { OnErr result (Within Begins serial.new.guardian
+        (play (plain_script script.now) serial.old.guardian)) }
+    ensures cut { OnErr result (WrittenAlmost serial.old.guardian
+        (W.contents (inner_of serial.old.writer)) serial.new.guardian
+        (W.contents (inner_of serial.new.writer))) }
+    ensures failed { IfErr result (λ e. e ≡ Write → has_failed serial.new.writer ≡ true) }
+{
+    match run_given(serial, script, &heap) {
+        Err(_) => Err(fault_of(&serial.writer)),
+        Ok(_) => {
+            if serial.cut {
+                Err(fault_of(&serial.writer))
+            } else {
+                Ok(())
+            }
+        }
+    }
+}
+
+// Why a run with this writer came to a stop.
+fn fault_of<W: Write + Drop>(writer: &Watched<W>) -> RunFault
+    ensures { result ≡ Write → has_failed writer.now ≡ true }
+{
+    if writer.has_failed() {
+        RunFault::Write
+    } else {
+        RunFault::Memory
+    }
+}

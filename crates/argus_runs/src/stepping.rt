@@ -1,0 +1,261 @@
+//! The run of steps, one after another, and of the blocks among them.
+
+ghost use Rattle.std.specs.Prelude.{IfOk, OnErr, Some, length, true, ◌≡◌};
+ghost use Rattle.argus_commands.specs.Part.{block, plain_step, plain_steps};
+ghost use Rattle.argus_commands.specs.declared.opening.Opening.TheVariants as opening;
+ghost use Rattle.argus_runs.specs.Comes.{comes};
+ghost use Rattle.argus_runs.specs.Running.{run_arm, run_arms, run_body, run_part, run_parts};
+ghost use Rattle.argus_runs.specs.Within.{Within};
+
+use crate::accessing::{call_to_test, flow_of, is_yes, run_alter, run_ask};
+use crate::beginning::{begin, begin_arms};
+use crate::caller::Caller;
+use crate::ending::finish_block;
+use crate::flow::Flow;
+use crate::numbers::object_at;
+use crate::stopped::Stopped;
+use argus_actions::ActionId;
+use argus_commands::{ActionKind, Lock, Opening, Step};
+use argus_contents::ObjId;
+use argus_memory::Heap;
+
+/// Runs steps of an action, or at top level, until one ends the block. `numbers` are the objects
+/// for which the script's names stand; a number past them stands for no object.
+///
+/// `told`: what the run comes to, and the state after it, are what the definition gives. `early`:
+/// where it stops before its end, the state is a beginning of what the run comes to. `kept`: what
+/// the caller's calls keep, the run keeps.
+#[cycle(run)]
+pub fn run_steps<C: Caller>(
+    heap: Heap,
+    caller: &mut C,
+    numbers: &[ObjId],
+    steps: &[Step],
+    within: Option<ActionId>,
+) -> Result<Flow, Stopped>
+    requires ready { C.ready caller.old }
+    ensures ready { C.ready caller.new }
+    ensures kept { C.keeps caller.old caller.new }
+    ensures told { IfOk result (λ f. C.known ≡ true → run_parts C.State C.reply C.hand numbers.now
+        (plain_steps steps.now) within (C.state caller.old) ≡ comes f (C.state caller.new)) }
+    ensures early { OnErr result (C.known ≡ true → C.adds ≡ true → Within C.begins
+        (C.state caller.new) (run_parts C.State C.reply C.hand numbers.now (plain_steps steps.now)
+        within (C.state caller.old))) }
+{
+    for step in steps {
+        let flow = run_step(heap, caller, numbers, step, within)?;
+        if !flow.goes_on() {
+            return Ok(flow);
+        }
+    }
+    Ok(Flow::On)
+}
+
+#[cycle(run)]
+pub(crate) fn run_step<C: Caller>(
+    heap: Heap,
+    caller: &mut C,
+    numbers: &[ObjId],
+    step: &Step,
+    within: Option<ActionId>,
+) -> Result<Flow, Stopped>
+    requires ready { C.ready caller.old }
+    ensures ready { C.ready caller.new }
+    ensures kept { C.keeps caller.old caller.new }
+    ensures told { IfOk result (λ f. C.known ≡ true → run_part C.State C.reply C.hand numbers.now
+        (plain_step step.now) within (C.state caller.old) ≡ comes f (C.state caller.new)) }
+    ensures early { OnErr result (C.known ≡ true → C.adds ≡ true → Within C.begins
+        (C.state caller.new) (run_part C.State C.reply C.hand numbers.now (plain_step step.now)
+        within (C.state caller.old))) }
+{
+    match step {
+        Step::Declare => Ok(Flow::On),
+        Step::Ask(x, query) => run_ask(caller, numbers, *x, *query, within),
+        Step::Alter(x, change) => run_alter(heap, caller, numbers, *x, change, within),
+        Step::Leave => Ok(Flow::Leave),
+        Step::AbortLeave => Ok(Flow::AbortLeave),
+        Step::LeaveAll => Ok(Flow::LeaveAll),
+        Step::Block(opening, body) => run_block(heap, caller, numbers, *opening, body, within),
+    }
+}
+
+#[cycle(run)]
+fn run_block<C: Caller>(
+    heap: Heap,
+    caller: &mut C,
+    numbers: &[ObjId],
+    opening: Opening,
+    body: &[Step],
+    within: Option<ActionId>,
+) -> Result<Flow, Stopped>
+    requires ready { C.ready caller.old }
+    ensures ready { C.ready caller.new }
+    ensures kept { C.keeps caller.old caller.new }
+    ensures told { IfOk result (λ f. C.known ≡ true → run_part C.State C.reply C.hand numbers.now
+        (block opening (plain_steps body.now)) within (C.state caller.old)
+        ≡ comes f (C.state caller.new)) }
+    ensures early { OnErr result (C.known ≡ true → C.adds ≡ true → Within C.begins
+        (C.state caller.new) (run_part C.State C.reply C.hand numbers.now
+        (block opening (plain_steps body.now)) within (C.state caller.old))) }
+{
+    match opening {
+        Opening::Enter(kind) => run_entered(heap, caller, numbers, kind, body, within),
+        Opening::If(lock, x) => match within {
+            None => Ok(Flow::On),
+            Some(action) => run_if(heap, caller, numbers, lock, x, body, action),
+        },
+        Opening::Coenter => run_coenter(heap, caller, numbers, body, within),
+        Opening::Arm(_) => match within {
+            None => Ok(Flow::On),
+            Some(action) => run_body(heap, caller, numbers, body, action),
+        },
+    }
+}
+
+#[cycle(run)]
+fn run_entered<C: Caller>(
+    heap: Heap,
+    caller: &mut C,
+    numbers: &[ObjId],
+    kind: ActionKind,
+    body: &[Step],
+    within: Option<ActionId>,
+) -> Result<Flow, Stopped>
+    requires ready { C.ready caller.old }
+    ensures ready { C.ready caller.new }
+    ensures kept { C.keeps caller.old caller.new }
+    ensures told { IfOk result (λ f. C.known ≡ true → run_part C.State C.reply C.hand numbers.now
+        (block (opening.Enter kind) (plain_steps body.now)) within (C.state caller.old)
+        ≡ comes f (C.state caller.new)) }
+    ensures early { OnErr result (C.known ≡ true → C.adds ≡ true → Within C.begins
+        (C.state caller.new) (run_part C.State C.reply C.hand numbers.now
+        (block (opening.Enter kind) (plain_steps body.now)) within (C.state caller.old))) }
+{
+    match begin(caller, kind, within)? {
+        None => Ok(Flow::On),
+        Some(action) => run_body(heap, caller, numbers, body, action),
+    }
+}
+
+// The steps of an action, and its end.
+#[cycle(run)]
+fn run_body<C: Caller>(
+    heap: Heap,
+    caller: &mut C,
+    numbers: &[ObjId],
+    body: &[Step],
+    action: ActionId,
+) -> Result<Flow, Stopped>
+    requires ready { C.ready caller.old }
+    ensures ready { C.ready caller.new }
+    ensures kept { C.keeps caller.old caller.new }
+    ensures told { IfOk result (λ f. C.known ≡ true → run_body C.State C.reply C.hand numbers.now
+        (plain_steps body.now) action (C.state caller.old) ≡ comes f (C.state caller.new)) }
+    ensures early { OnErr result (C.known ≡ true → C.adds ≡ true → Within C.begins
+        (C.state caller.new) (run_body C.State C.reply C.hand numbers.now (plain_steps body.now)
+        action (C.state caller.old))) }
+{
+    let flow = run_steps(heap, caller, numbers, body, Some(action))?;
+    finish_block(caller, action, flow)
+}
+
+#[cycle(run)]
+fn run_if<C: Caller>(
+    heap: Heap,
+    caller: &mut C,
+    numbers: &[ObjId],
+    lock: Lock,
+    x: u32,
+    body: &[Step],
+    action: ActionId,
+) -> Result<Flow, Stopped>
+    requires ready { C.ready caller.old }
+    ensures ready { C.ready caller.new }
+    ensures kept { C.keeps caller.old caller.new }
+    ensures told { IfOk result (λ f. C.known ≡ true → run_part C.State C.reply C.hand numbers.now
+        (block (opening.If lock x) (plain_steps body.now)) (Some action) (C.state caller.old)
+        ≡ comes f (C.state caller.new)) }
+    ensures early { OnErr result (C.known ≡ true → C.adds ≡ true → Within C.begins
+        (C.state caller.new) (run_part C.State C.reply C.hand numbers.now
+        (block (opening.If lock x) (plain_steps body.now)) (Some action)
+        (C.state caller.old))) }
+{
+    let reply = caller.call(call_to_test(lock, action, object_at(numbers, x)))?;
+    if is_yes(&reply) {
+        return run_steps(heap, caller, numbers, body, Some(action));
+    }
+    Ok(flow_of(&reply))
+}
+
+#[cycle(run)]
+fn run_coenter<C: Caller>(
+    heap: Heap,
+    caller: &mut C,
+    numbers: &[ObjId],
+    arms: &[Step],
+    within: Option<ActionId>,
+) -> Result<Flow, Stopped>
+    requires ready { C.ready caller.old }
+    ensures ready { C.ready caller.new }
+    ensures kept { C.keeps caller.old caller.new }
+    ensures told { IfOk result (λ f. C.known ≡ true → run_part C.State C.reply C.hand numbers.now
+        (block opening.Coenter (plain_steps arms.now)) within (C.state caller.old)
+        ≡ comes f (C.state caller.new)) }
+    ensures early { OnErr result (C.known ≡ true → C.adds ≡ true → Within C.begins
+        (C.state caller.new) (run_part C.State C.reply C.hand numbers.now
+        (block opening.Coenter (plain_steps arms.now)) within (C.state caller.old))) }
+{
+    let begun = begin_arms(heap, caller, arms, within)?;
+    if caller.arms(heap, numbers, arms, begun.as_slice())? {
+        return Ok(Flow::On);
+    }
+    run_begun(heap, caller, numbers, arms, begun.as_slice())
+}
+
+// The arms that were begun, one after another.
+#[cycle(run)]
+fn run_begun<C: Caller>(
+    heap: Heap,
+    caller: &mut C,
+    numbers: &[ObjId],
+    arms: &[Step],
+    begun: &[Option<ActionId>],
+) -> Result<Flow, Stopped>
+    requires len { length begun.now ≡ length arms.now }
+    requires ready { C.ready caller.old }
+    ensures ready { C.ready caller.new }
+    ensures kept { C.keeps caller.old caller.new }
+    ensures told { IfOk result (λ f. C.known ≡ true → run_arms C.State C.reply C.hand numbers.now
+        (plain_steps arms.now) begun.now (C.state caller.old) ≡ comes f (C.state caller.new)) }
+    ensures early { OnErr result (C.known ≡ true → C.adds ≡ true → Within C.begins
+        (C.state caller.new) (run_arms C.State C.reply C.hand numbers.now (plain_steps arms.now)
+        begun.now (C.state caller.old))) }
+{
+    for i in 0..arms.len() {
+        run_if_begun(heap, caller, numbers, &arms[i], begun[i])?;
+    }
+    Ok(Flow::On)
+}
+
+#[cycle(run)]
+fn run_if_begun<C: Caller>(
+    heap: Heap,
+    caller: &mut C,
+    numbers: &[ObjId],
+    arm: &Step,
+    begun: Option<ActionId>,
+) -> Result<Flow, Stopped>
+    requires ready { C.ready caller.old }
+    ensures ready { C.ready caller.new }
+    ensures kept { C.keeps caller.old caller.new }
+    ensures told { IfOk result (λ f. C.known ≡ true → run_arm C.State C.reply C.hand numbers.now
+        (plain_step arm.now) begun (C.state caller.old) ≡ comes f (C.state caller.new)) }
+    ensures early { OnErr result (C.known ≡ true → C.adds ≡ true → Within C.begins
+        (C.state caller.new) (run_arm C.State C.reply C.hand numbers.now (plain_step arm.now)
+        begun (C.state caller.old))) }
+{
+    match begun {
+        None => Ok(Flow::On),
+        Some(_) => run_step(heap, caller, numbers, arm, begun),
+    }
+}

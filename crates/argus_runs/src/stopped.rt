@@ -1,0 +1,27 @@
+//! `Stopped`: a run came to a stop before its end.
+
+use argus_memory::OutOfMemory;
+use std::alloc::AllocFailed;
+
+/// The run came to a stop before its end: memory is wanting, or whoever makes its calls can't go on.
+///
+/// ```text
+/// match run_steps(heap, &mut caller, &[], steps, None) {
+///     Ok(flow) => ..,
+///     Err(Stopped) => ..,             // some of the calls were made
+/// }
+/// ```
+#[derive(Clone, Copy, Debug, PartialEq, Eq)]
+pub struct Stopped;
+
+impl From<OutOfMemory> for Stopped {
+    fn from(_refused: OutOfMemory) -> Stopped {
+        Stopped
+    }
+}
+
+impl<T: Drop> From<AllocFailed<T>> for Stopped {
+    fn from(_refused: AllocFailed<T>) -> Stopped {
+        Stopped
+    }
+}

@@ -1,0 +1,17 @@
+use Rattle.std.proofs.Common.{length-drop, arith}
+use Rattle.std.proofs.lemmas.List.{take_rest}
+use Rattle.argus_streams.proofs.Bytes.{appends_more}
+use Rattle.argus_streams.specs.Watched.{inner_of}
+use Rattle.argus_streams.proofs.output.write_whole.Goals as goal
+
+pub loop-at-preserved : goal.loop-at-preserved
+loop-at-preserved g c =
+    let some = rw (take_rest c.args.bytes.now c.loop-at.at) at c.in-Some.ensures.some in
+    record {
+      within = omega (arith, some.1, length-drop c.loop-at.at c.args.bytes.now);
+      fine = c.in-Some.ensures.fine;
+      written = appends_more (g.W.Write.contents (inner_of c.args.writer.now))
+          (g.W.Write.contents (inner_of c.loop-at.writer))
+          (g.W.Write.contents (inner_of c.write_once.new.self))
+          c.args.bytes.now c.loop-at.at c.in-Some.n c.loop-at.invariant.written some.2;
+    }
