@@ -7,7 +7,7 @@ use Rattle.std.specs.Io.KnownBytes.{Appends}
 use Rattle.std.specs.Prelude.{if◌then◌else◌, reverse}
 use Rattle.argus_entries.specs.Call.{PlainCall}
 use Rattle.argus_entries.specs.Entry.{PlainEntry}
-use Rattle.argus_guardian.specs.Step.{Said, after, entry_of}
+use Rattle.argus_steps.specs.Step.{Said, after, entry_of}
 use Rattle.argus_runs.specs.Lines.{Lacking, Written, line_at, line_if, line_of, next_number}
 
 newest : (e : PlainEntry) (older : List PlainEntry) → slice_get (reverse (e ∷ older)) (length older) ≡ Some e

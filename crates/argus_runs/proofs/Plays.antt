@@ -13,7 +13,7 @@ use Rattle.argus_entries.specs.Decided.{call_decided}
 use Rattle.argus_entries.specs.Entry.{PlainEntry}
 use Rattle.argus_entries.specs.Reply.{PlainReply, answered, begun, object, refused}
 use Rattle.argus_entries.specs.declared.refusal.Refusal.{Refusal}
-use Rattle.argus_guardian.specs.Step.{Said, entry_of}
+use Rattle.argus_steps.specs.Step.{Said, entry_of}
 use Rattle.argus_journal.specs.Events.{says_yes}
 use Rattle.argus_runs.specs.Adding.{asked_grows, begins_on, begins_same, extended_more}
 use Rattle.argus_runs.specs.Comes.{Comes, comes, stops, ◌>>=◌}

@@ -2,7 +2,7 @@
 use Rattle.std.proofs.Common.{List, [], refl, ◌++◌, ◌∙◌, ◌∷◌, ◌≡◌, ap, sym}
 use Rattle.argus_entries.specs.Call.{PlainCall}
 use Rattle.argus_entries.specs.Entry.{PlainEntry}
-use Rattle.argus_guardian.specs.Step.{Said, entry_of}
+use Rattle.argus_steps.specs.Step.{Said, entry_of}
 use Rattle.argus_runs.specs.Played.{asked}
 use Rattle.argus_runs.specs.Within.{Begins, Within, extended, with_entry}
 

@@ -2,7 +2,7 @@
 use Rattle.std.specs.Prelude.{List, ◌≡◌}
 use Rattle.argus_commands.specs.Script.{PlainScript}
 use Rattle.argus_entries.specs.Entry.{PlainEntry}
-use Rattle.argus_guardian.specs.Step.{Said}
+use Rattle.argus_steps.specs.Step.{Said}
 use Rattle.argus_runs.specs.Played.{IsPlay, Tells}
 use Rattle.argus_runs.specs.Within.{extended}
 

@@ -4,7 +4,7 @@ use Rattle.std.specs.Prelude.{[], ◌++◌, ◌∷◌}
 use Rattle.std.specs.Io.KnownBytes.{Appends}
 use Rattle.argus_entries.specs.Entry.{PlainEntry}
 use Rattle.argus_entries.specs.EntrySpelling.{entry_spelling}
-use Rattle.argus_guardian.specs.Step.{Said}
+use Rattle.argus_steps.specs.Step.{Said}
 use Rattle.argus_journal.specs.Folding.{next_entry_number}
 use Rattle.argus_journal.specs.Journal.{entry_at}
 use Rattle.argus_runs.specs.Within.{extended}

@@ -6,7 +6,7 @@ use Rattle.argus_entries.specs.Call.{PlainCall}
 use Rattle.argus_entries.specs.Entry.{PlainEntry}
 use Rattle.argus_entries.specs.Reply.{PlainReply}
 use Rattle.argus_entries.specs.Same.{same_call}
-use Rattle.argus_guardian.specs.Step.{Said, after, reply_to}
+use Rattle.argus_steps.specs.Step.{Said, after, reply_to}
 use Rattle.argus_runs.specs.Comes.{Comes, comes, stops}
 use Rattle.argus_runs.specs.Running.{run_script}
 

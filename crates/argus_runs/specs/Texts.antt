@@ -4,7 +4,7 @@ use Rattle.std.proofs.Common.{refl, subst, sym, take, true, ℕ, ◌+◌, ◌++�
 use Rattle.std.proofs.lemmas.List.{append-nil}
 use Rattle.std.specs.Io.KnownBytes.{Appends}
 use Rattle.argus_entries.specs.Entry.{PlainEntry}
-use Rattle.argus_guardian.specs.Step.{Said}
+use Rattle.argus_steps.specs.Step.{Said}
 use Rattle.argus_runs.specs.Adding.{extended_more}
 use Rattle.argus_runs.specs.Lines.{KeepsText, Lacking, Written, line_of, lines, next_number}
 use Rattle.argus_runs.specs.Within.{extended, with_entry}

@@ -1,7 +1,7 @@
 -- What stands at a run's middle.
 use Rattle.std.specs.Prelude.{List, ◌≡◌, [], ◌∷◌}
 use Rattle.argus_entries.specs.Entry.{PlainEntry}
-use Rattle.argus_guardian.specs.Step.{Said}
+use Rattle.argus_steps.specs.Step.{Said}
 use Rattle.argus_runs.specs.Comes.{Comes, comes, stops}
 
 -- the journal with one more entry

@@ -33,7 +33,7 @@ pub(crate) struct Serial<W: Write + Drop> {
 
 impl<W: Write + Drop> Caller for Serial<W> {
     ghost use Rattle.std.specs.Prelude.{None, false, refl, true, ◌≡◌};
-    ghost use Rattle.argus_guardian.specs.Step.{Said};
+    ghost use Rattle.argus_steps.specs.Step.{Said};
     ghost use Rattle.argus_runs.specs.Adding.{asked_grows, begins_on, begins_same};
     ghost use Rattle.argus_runs.specs.Lines.{KeepsText};
     ghost use Rattle.argus_runs.specs.Played.{asked};
