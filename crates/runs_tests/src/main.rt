@@ -1,0 +1,120 @@
+//! Scripts, run: for each test of data/scripts.rows the lines that its run writes are compared, the
+//! run is made with each allocation refused in turn, and with a writer that is full after each byte.
+#![tactic(auto)]
+
+ghost use Rattle.std.specs.Prelude.{◌≡◌, false};
+ghost use Rattle.argus_streams.specs.Watched.{has_failed};
+
+mod full;
+mod row;
+
+use anyhow::{Result, ensure};
+use argus_commands::parse;
+use argus_guardian::Guardian;
+use argus_memory::{Budget, Heap, Limited};
+use argus_runs::{RunFault, run_serial};
+use argus_streams::Watched;
+use full::Full;
+use row::Row;
+use std::fs;
+use std::io::Write;
+
+// More allocations than any run here makes.
+const MANY: u64 = 2_000;
+
+fn main(rt: HostRuntime) -> Result<()> {
+    let heap = Heap::new(rt.alloc())?;
+    let budget = Budget::new(rt.alloc())?;
+    let tight = Limited::with_budget(rt.alloc(), budget);
+    let text = fs::read_to_string(&rt, "scripts.rows")?;
+    for block in text.as_str().split("\n\n") {
+        if let Some(row) = Row::of_block(block) {
+            check_lines(heap, row)?;
+            let refused = check_memory(heap, tight, budget, row)?;
+            check_writer(heap, row)?;
+            ensure!(refused > 3, "too few allocations are refused");
+            println!(rt; "{}: {} lines", row.name, row.lines.lines().count())?;
+        }
+    }
+    Ok(())
+}
+
+// Runs the row's script on an empty guardian.
+fn run_row<W: Write + Drop>(
+    heap: Heap,
+    tight: Heap,
+    row: Row<'_>,
+    writer: &mut Watched<W>,
+) -> Result<Option<RunFault>>
+    requires { has_failed writer.old ≡ false }
+{
+    let script = parse(heap, row.script.as_bytes())?;
+    let mut guardian = Guardian::new(tight);
+    Ok(run_serial(tight, &mut guardian, &script, writer).err())
+}
+
+fn check_lines(heap: Heap, row: Row<'_>) -> Result<()> {
+    let mut writer = Watched::new(Vec::new(heap));
+    let fault = run_row(heap, heap, row, &mut writer)?;
+    ensure!(fault.is_none(), "a run failed");
+    ensure!(
+        writer.get_ref().starts_with(row.lines.as_bytes()),
+        "other lines are written"
+    );
+    let more = writer.get_ref().len().saturating_sub(row.lines.len());
+    ensure!(more <= 1, "more lines are written");
+    Ok(())
+}
+
+// How many allocations were refused in turn.
+fn check_memory(heap: Heap, tight: Heap, budget: Budget, row: Row<'_>) -> Result<u64> {
+    for n in 0..MANY {
+        let mut writer = Watched::new(Vec::new(heap));
+        budget.allow(n);
+        let fault = run_row(heap, tight, row, &mut writer)?;
+        budget.lift();
+        ensure!(
+            is_front(writer.get_ref().as_slice(), row.lines),
+            "other lines are written"
+        );
+        match fault {
+            None => return Ok(n),
+            Some(RunFault::Memory) => {}
+            Some(RunFault::Write) => ensure!(false, "no write failed"),
+        }
+    }
+    Ok(MANY)
+}
+
+fn check_writer(heap: Heap, row: Row<'_>) -> Result<()> {
+    for room in 0..row.lines.len() {
+        let mut writer = Watched::new(Full {
+            taken: Vec::new(heap),
+            room,
+            fails: room % 2 == 0,
+            writes_behind: 0,
+        });
+        let fault = run_row(heap, heap, row, &mut writer)?;
+        ensure!(
+            fault == Some(RunFault::Write),
+            "the writer's fault isn't told"
+        );
+        ensure!(writer.has_failed(), "the writer has failed");
+        ensure!(
+            writer.get_ref().writes_behind == 1,
+            "a write was tried again"
+        );
+        ensure!(writer.get_ref().taken.len() == room, "bytes are lacking");
+        ensure!(
+            is_front(writer.get_ref().taken.as_slice(), row.lines),
+            "other bytes"
+        );
+    }
+    Ok(())
+}
+
+// Whether the bytes are the front of the lines. The row lacks the last line feed.
+fn is_front(bytes: &[u8], lines: &str) -> bool {
+    let all = lines.as_bytes();
+    all.starts_with(bytes) || bytes.starts_with(all)
+}
