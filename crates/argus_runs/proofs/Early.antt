@@ -1,5 +1,6 @@
 -- Where a run stops before its end, its state is a beginning of what the run comes to.
-use Rattle.std.proofs.Common.{◌≡◌, ℕ, suc, Bool, true, ◌<◌, List, ◌∷◌, ◌++◌, length, get_or, drop, Option, None, Result, Ok, Err, OnErr, sym, ◌∙◌, ap, drop-cons}
+use Rattle.std.proofs.Common.{◌≡◌, ℕ, suc, Bool, true, ◌<◌, List, ◌∷◌, ◌++◌, length, get_or, drop, Option, None, Result}
+use Rattle.std.proofs.Common.{Ok, Err, OnErr, sym, ◌∙◌, ap, drop-cons}
 use Rattle.argus_actions.specs.declared.action_id.ActionId.{ActionId}
 use Rattle.argus_commands.specs.Part.{more, plain_step, plain_steps}
 use Rattle.argus_commands.specs.declared.step.Step.{Step}
@@ -8,9 +9,11 @@ use Rattle.argus_contents.specs.declared.obj_id.ObjId.{ObjId}
 use Rattle.argus_entries.specs.Call.{PlainCall}
 use Rattle.argus_entries.specs.Reply.{PlainReply}
 use Rattle.argus_runs.specs.Comes.{Comes, comes}
-use Rattle.argus_runs.specs.Running.{begin_all, begin_arm, run_arm, run_arms, run_part, run_parts, run_top, run_tops, with_front}
+use Rattle.argus_runs.specs.Running.{begin_all, begin_arm, run_arm, run_arms, run_part, run_parts, run_top, run_tops}
+use Rattle.argus_runs.specs.Running.{with_front}
 use Rattle.argus_runs.specs.Within.{Within}
-use Rattle.argus_runs.proofs.Growth.{Growing, Hand, arms_grow, begin_on, begin_on_grows, go_on, go_on_grows, parts_grow, tops_grow, within_then}
+use Rattle.argus_runs.proofs.Growth.{Growing, Hand, arms_grow, begin_on, begin_on_grows, go_on, go_on_grows, parts_grow}
+use Rattle.argus_runs.proofs.Growth.{tops_grow, within_then}
 
 pub on_err : {S X A E : Type 0} (r : Result A E) (k a : Bool) (begins : S → S → Type 0) (s : S) (m : Comes S X)
     → (k ≡ true → a ≡ true → Within begins s m) → OnErr r (k ≡ true → a ≡ true → Within begins s m)
@@ -22,36 +25,49 @@ item xs i x b e = drop-cons xs i x b ∙ ap (λ y. y ∷ drop (suc i) xs) (sym e
 
 module _ (S : Type 0) (begins : S → S → Type 0) (reply : PlainCall → S → Comes S PlainReply) (hand : Hand S)
     (l : Growing S begins reply hand) where
-  pub begins_early : (arms : List Step) (i : ℕ) (x : Step) (fs : List (Option ActionId)) (w : Option ActionId) (s u t : S)
+  pub begins_early : (arms : List Step) (i : ℕ) (x : Step) (fs : List (Option ActionId)) (w : Option ActionId) (s u t :
+      S)
       → i < length arms → x ≡ get_or arms i x
-      → begin_all S reply hand (plain_steps arms) w s ≡ with_front S reply hand fs (begin_all S reply hand (plain_steps (drop i arms)) w u)
-      → Within begins t (begin_arm S reply hand (plain_step x) w u) → Within begins t (begin_all S reply hand (plain_steps arms) w s)
+      → begin_all S reply hand (plain_steps arms) w s ≡ with_front S reply hand fs (begin_all S reply hand (plain_steps
+      (drop i arms)) w u)
+      → Within begins t (begin_arm S reply hand (plain_step x) w u)
+      → Within begins t (begin_all S reply hand (plain_steps arms) w s)
   begins_early arms i x fs w s u t b e p q = let ps = plain_steps (drop (suc i) arms) in rw p (rw (item arms i x b e)
-      (within_then S begins reply hand l t (begin_all S reply hand (more (plain_step x) ps) w u) (λ bs v. comes (fs ++ bs) v)
-      (within_then S begins reply hand l t (begin_arm S reply hand (plain_step x) w u) (begin_on S begins reply hand l ps w) q (begin_on_grows S begins reply hand l ps w))
+      (within_then S begins reply hand l t (begin_all S reply hand (more (plain_step x) ps) w u) (λ bs v. comes (fs ++
+      bs) v)
+      (within_then S begins reply hand l t (begin_arm S reply hand (plain_step x) w u) (begin_on S begins reply hand l
+      ps w) q (begin_on_grows S begins reply hand l ps w))
       (λ bs v. l.same v)))
 
   pub steps_early : (ns : List ObjId) (steps : List Step) (i : ℕ) (x : Step) (w : Option ActionId) (s u t : S)
       → i < length steps → x ≡ get_or steps i x
       → run_parts S reply hand ns (plain_steps steps) w s ≡ run_parts S reply hand ns (plain_steps (drop i steps)) w u
-      → Within begins t (run_part S reply hand ns (plain_step x) w u) → Within begins t (run_parts S reply hand ns (plain_steps steps) w s)
+      → Within begins t (run_part S reply hand ns (plain_step x) w u)
+      → Within begins t (run_parts S reply hand ns (plain_steps steps) w s)
   steps_early ns steps i x w s u t b e p q = let ps = plain_steps (drop (suc i) steps) in rw p (rw (item steps i x b e)
-      (within_then S begins reply hand l t (run_part S reply hand ns (plain_step x) w u) (go_on S begins reply hand l ns ps w) q
+      (within_then S begins reply hand l t (run_part S reply hand ns (plain_step x) w u) (go_on S begins reply hand l
+      ns ps w) q
       (go_on_grows S begins reply hand l ns ps w (parts_grow S begins reply hand l ns ps))))
 
-  pub tops_early : (shapes : List PlainShape) (ns : List ObjId) (steps : List Step) (i : ℕ) (x : Step) (m : Comes S (List ObjId)) (u t : S)
+  pub tops_early : (shapes : List PlainShape) (ns : List ObjId) (steps : List Step) (i : ℕ) (x : Step) (m : Comes S
+      (List ObjId)) (u t : S)
       → i < length steps → x ≡ get_or steps i x → m ≡ run_tops S reply hand shapes ns (plain_steps (drop i steps)) u
       → Within begins t (run_top S reply hand shapes ns (plain_step x) u) → Within begins t m
-  tops_early shapes ns steps i x m u t b e p q = let ps = plain_steps (drop (suc i) steps) in rw p (rw (item steps i x b e)
-      (within_then S begins reply hand l t (run_top S reply hand shapes ns (plain_step x) u) (λ now v. run_tops S reply hand shapes now ps v) q
+  tops_early shapes ns steps i x m u t b e p q = let ps = plain_steps (drop (suc i) steps) in rw p (rw (item steps i x
+      b e)
+      (within_then S begins reply hand l t (run_top S reply hand shapes ns (plain_step x) u) (λ now v. run_tops S reply
+      hand shapes now ps v) q
       (λ now v. tops_grow S begins reply hand l shapes now ps v)))
 
   pub arms_early : (ns : List ObjId) (arms : List Step) (bs : List (Option ActionId)) (i : ℕ) (x : Step) (s u t : S)
       → i < length arms → length bs ≡ length arms → x ≡ get_or arms i x
-      → run_arms S reply hand ns (plain_steps arms) bs s ≡ run_arms S reply hand ns (plain_steps (drop i arms)) (drop i bs) u
-      → Within begins t (run_arm S reply hand ns (plain_step x) (get_or bs i None) u) → Within begins t (run_arms S reply hand ns (plain_steps arms) bs s)
+      → run_arms S reply hand ns (plain_steps arms) bs s ≡ run_arms S reply hand ns (plain_steps (drop i arms)) (drop i
+      bs) u
+      → Within begins t (run_arm S reply hand ns (plain_step x) (get_or bs i None) u)
+      → Within begins t (run_arms S reply hand ns (plain_steps arms) bs s)
   arms_early ns arms bs i x s u t less len e p q = let ps = plain_steps (drop (suc i) arms) in
       let m : i < length bs = rw len less in
       rw p (rw (item arms i x less e) (rw (drop-cons bs i None m)
-      (within_then S begins reply hand l t (run_arm S reply hand ns (plain_step x) (get_or bs i None) u) (λ y v. run_arms S reply hand ns ps (drop (suc i) bs) v) q
+      (within_then S begins reply hand l t (run_arm S reply hand ns (plain_step x) (get_or bs i None) u) (λ y v.
+      run_arms S reply hand ns ps (drop (suc i) bs) v) q
       (λ y v. arms_grow S begins reply hand l ns ps (drop (suc i) bs) v))))

@@ -61,7 +61,8 @@ module _ (S : Type 0) (begins : S → S → Type 0) (reply : PlainCall → S →
   after_commit_grows a (answered x) s = l.same s
 
   commit_grows : (a : ActionId) (s : S) → Within begins s (commit_block S reply hand a s)
-  commit_grows a s = within_then s (reply (commit a.0) s) (after_commit S reply hand a) (l.grows (commit a.0) s) (after_commit_grows a)
+  commit_grows a s = within_then s (reply (commit a.0) s) (after_commit S reply hand a) (l.grows (commit a.0) s)
+      (after_commit_grows a)
 
   after_others_grows : (a : ActionId) (r : PlainReply) (s : S) → Within begins s (after_others S reply hand a r s)
   after_others_grows a (refused r) s = give_up_grows a r s
@@ -74,12 +75,14 @@ module _ (S : Type 0) (begins : S → S → Type 0) (reply : PlainCall → S →
   finish_grows a flow.Leave s = commit_grows a s
   finish_grows a flow.AbortLeave s = then_on_grows (abort a.0) s
   finish_grows a flow.LeaveAll s =
-      within_then s (reply (abort_others a.0) s) (after_others S reply hand a) (l.grows (abort_others a.0) s) (after_others_grows a)
+      within_then s (reply (abort_others a.0) s) (after_others S reply hand a) (l.grows (abort_others a.0) s)
+      (after_others_grows a)
   finish_grows a (flow.Refused r) s = give_up_grows a r s
 
   begin_one_grows : (k : ActionKind) (w : Option ActionId) (s : S) → Within begins s (begin_one S reply hand k w s)
   begin_one_grows k w s =
-      within_then s (reply (begin_call k w) s) (λ r t. comes (begun_by r) t) (l.grows (begin_call k w) s) (λ r t. l.same t)
+      within_then s (reply (begin_call k w) s) (λ r t. comes (begun_by r) t) (l.grows (begin_call k w) s) (λ r t.
+      l.same t)
 
   begin_arm_grows : (p : Part) (w : Option ActionId) (s : S) → Within begins s (begin_arm S reply hand p w s)
   begin_arm_grows (deed d) w s = l.same s
@@ -94,20 +97,24 @@ module _ (S : Type 0) (begins : S → S → Type 0) (reply : PlainCall → S →
 
   begin_on_by : (ps : Parts) (w : Option ActionId) → ((t : S) → Within begins t (begin_all S reply hand ps w t))
       → (b : Option ActionId) (t : S) → Within begins t (begin_on ps w b t)
-  begin_on_by ps w h b t = within_then t (begin_all S reply hand ps w t) (λ bs u. comes (b ∷ bs) u) (h t) (λ bs u. l.same u)
+  begin_on_by ps w h b t = within_then t (begin_all S reply hand ps w t) (λ bs u. comes (b ∷ bs) u) (h t) (λ bs u.
+      l.same u)
 
   pub begin_all_grows : (ps : Parts) (w : Option ActionId) (s : S) → Within begins s (begin_all S reply hand ps w s)
   begin_all_grows none w s = l.same s
   begin_all_grows (more p ps) w s =
-      within_then s (begin_arm S reply hand p w s) (begin_on ps w) (begin_arm_grows p w s) (begin_on_by ps w (begin_all_grows ps w))
+      within_then s (begin_arm S reply hand p w s) (begin_on ps w) (begin_arm_grows p w s) (begin_on_by ps w
+      (begin_all_grows ps w))
 
-  pub begin_on_grows : (ps : Parts) (w : Option ActionId) (b : Option ActionId) (t : S) → Within begins t (begin_on ps w b t)
+  pub begin_on_grows : (ps : Parts) (w : Option ActionId) (b : Option ActionId) (t : S)
+      → Within begins t (begin_on ps w b t)
   begin_on_grows ps w b t = begin_on_by ps w (begin_all_grows ps w) b t
 
   access_grows : (call : PlainCall) (s : S) → Within begins s (access S reply hand call s)
   access_grows call s = within_then s (reply call s) (λ r t. comes (flow_after r) t) (l.grows call s) (λ r t. l.same t)
 
-  pub deed_grows : (ns : List ObjId) (d : Deed) (w : Option ActionId) (s : S) → Within begins s (run_deed S reply hand ns d w s)
+  pub deed_grows : (ns : List ObjId) (d : Deed) (w : Option ActionId) (s : S)
+      → Within begins s (run_deed S reply hand ns d w s)
   deed_grows ns part.declare w s = l.same s
   deed_grows ns (part.ask x q) None s = l.same s
   deed_grows ns (part.ask x q) (Some a) s = access_grows (ask a.0 (named ns x) q) s
@@ -122,10 +129,18 @@ module _ (S : Type 0) (begins : S → S → Type 0) (reply : PlainCall → S →
   go_on ns ps w x t = elim (goes_on x) [ true ↦ run_parts S reply hand ns ps w t | false ↦ comes x t ]
 
   abbrev pub enter_on : List ObjId → Parts → Option ActionId → S → Comes S Flow
-  enter_on ns ps b t = elim b [ None ↦ comes flow.On t | Some a ↦ run_parts S reply hand ns ps (Some a) t >>= finish S reply hand a ]
+  enter_on ns ps b t = elim b [
+    | None ↦ comes flow.On t
+    | Some a ↦ run_parts S reply hand ns ps (Some a) t >>= finish S
+        reply hand a
+  ]
 
   abbrev pub test_on : List ObjId → Parts → ActionId → PlainReply → S → Comes S Flow
-  test_on ns ps a r t = elim (says_yes r) [ true ↦ run_parts S reply hand ns ps (Some a) t | false ↦ comes (flow_after r) t ]
+  test_on ns ps a r t = elim (says_yes r) [
+    | true ↦ run_parts S reply hand ns ps (Some a) t
+    | false ↦ comes (flow_after
+        r) t
+  ]
 
   abbrev Whole : List ObjId → Parts → Type 0
   Whole ns ps = (w : Option ActionId) (t : S) → Within begins t (run_parts S reply hand ns ps w t)
@@ -135,14 +150,18 @@ module _ (S : Type 0) (begins : S → S → Type 0) (reply : PlainCall → S →
   go_on_by true ns ps w x t h = h w t
   go_on_by false ns ps w x t h = l.same t
 
-  pub go_on_grows : (ns : List ObjId) (ps : Parts) (w : Option ActionId) → Whole ns ps → (x : Flow) (t : S) → Within begins t (go_on ns ps w x t)
+  pub go_on_grows : (ns : List ObjId) (ps : Parts) (w : Option ActionId) → Whole ns ps → (x : Flow) (t : S)
+      → Within begins t (go_on ns ps w x t)
   go_on_grows ns ps w h x t = go_on_by (goes_on x) ns ps w x t h
 
-  pub enter_on_grows : (ns : List ObjId) (ps : Parts) → Whole ns ps → (b : Option ActionId) (t : S) → Within begins t (enter_on ns ps b t)
+  pub enter_on_grows : (ns : List ObjId) (ps : Parts) → Whole ns ps → (b : Option ActionId) (t : S)
+      → Within begins t (enter_on ns ps b t)
   enter_on_grows ns ps h None t = l.same t
-  enter_on_grows ns ps h (Some a) t = within_then t (run_parts S reply hand ns ps (Some a) t) (finish S reply hand a) (h (Some a) t) (finish_grows a)
+  enter_on_grows ns ps h (Some a) t = within_then t (run_parts S reply hand ns ps (Some a) t) (finish S reply hand a)
+      (h (Some a) t) (finish_grows a)
 
-  pub test_on_grows : (ns : List ObjId) (ps : Parts) (a : ActionId) → Whole ns ps → (r : PlainReply) (t : S) → Within begins t (test_on ns ps a r t)
+  pub test_on_grows : (ns : List ObjId) (ps : Parts) (a : ActionId) → Whole ns ps → (r : PlainReply) (t : S)
+      → Within begins t (test_on ns ps a r t)
   test_on_grows ns ps a h r t = go_on_by (says_yes r) ns ps (Some a) (flow_after r) t h
 
   unhanded : (h : Hand S) (ns : List ObjId) (arms : Parts) (bs : List (Option ActionId)) (s : S) → h ≡ None
@@ -152,32 +171,41 @@ module _ (S : Type 0) (begins : S → S → Type 0) (reply : PlainCall → S →
   unhanded (Some g) ns arms bs s e p = cc
 
   mutual
-    pub parts_grow : (ns : List ObjId) (ps : Parts) (w : Option ActionId) (s : S) → Within begins s (run_parts S reply hand ns ps w s)
+    pub parts_grow : (ns : List ObjId) (ps : Parts) (w : Option ActionId) (s : S)
+        → Within begins s (run_parts S reply hand ns ps w s)
     parts_grow ns none w s = l.same s
-    parts_grow ns (more p ps) w s = within_then s (run_part S reply hand ns p w s) (go_on ns ps w) (part_grows ns p w s) (go_on_grows ns ps w (parts_grow ns ps))
+    parts_grow ns (more p ps) w s = within_then s (run_part S reply hand ns p w s) (go_on ns ps w) (part_grows ns p w
+        s) (go_on_grows ns ps w (parts_grow ns ps))
 
-    pub part_grows : (ns : List ObjId) (p : Part) (w : Option ActionId) (s : S) → Within begins s (run_part S reply hand ns p w s)
+    pub part_grows : (ns : List ObjId) (p : Part) (w : Option ActionId) (s : S)
+        → Within begins s (run_part S reply hand ns p w s)
     part_grows ns (deed d) w s = deed_grows ns d w s
     part_grows ns (block (opening.Enter k) ps) w s =
-        within_then s (begin_one S reply hand k w s) (enter_on ns ps) (begin_one_grows k w s) (enter_on_grows ns ps (parts_grow ns ps))
+        within_then s (begin_one S reply hand k w s) (enter_on ns ps) (begin_one_grows k w s) (enter_on_grows ns ps
+        (parts_grow ns ps))
     part_grows ns (block (opening.If o x) ps) None s = l.same s
     part_grows ns (block (opening.If o x) ps) (Some a) s =
-        within_then s (reply (test_call o a (named ns x)) s) (test_on ns ps a) (l.grows (test_call o a (named ns x)) s) (test_on_grows ns ps a (parts_grow ns ps))
+        within_then s (reply (test_call o a (named ns x)) s) (test_on ns ps a) (l.grows (test_call o a (named ns x)) s)
+        (test_on_grows ns ps a (parts_grow ns ps))
     part_grows ns (block opening.Coenter arms) w s =
         within_then s (begin_all S reply hand arms w s) (run_handed S reply hand ns arms) (begin_all_grows arms w s)
         (λ bs t. unhanded hand ns arms bs t l.plain (arms_grow ns arms bs t))
     part_grows ns (block (opening.Arm k) ps) None s = l.same s
     part_grows ns (block (opening.Arm k) ps) (Some a) s =
-        within_then s (run_parts S reply hand ns ps (Some a) s) (finish S reply hand a) (parts_grow ns ps (Some a) s) (finish_grows a)
+        within_then s (run_parts S reply hand ns ps (Some a) s) (finish S reply hand a) (parts_grow ns ps (Some a) s)
+        (finish_grows a)
 
-    pub arms_grow : (ns : List ObjId) (ps : Parts) (bs : List (Option ActionId)) (s : S) → Within begins s (run_arms S reply hand ns ps bs s)
+    pub arms_grow : (ns : List ObjId) (ps : Parts) (bs : List (Option ActionId)) (s : S)
+        → Within begins s (run_arms S reply hand ns ps bs s)
     arms_grow ns none bs s = l.same s
     arms_grow ns (more p ps) [] s = l.same s
     arms_grow ns (more p ps) (None ∷ bs) s = arms_grow ns ps bs s
     arms_grow ns (more p ps) (Some a ∷ bs) s =
-        within_then s (run_part S reply hand ns p (Some a) s) (λ x t. run_arms S reply hand ns ps bs t) (part_grows ns p (Some a) s) (λ x t. arms_grow ns ps bs t)
+        within_then s (run_part S reply hand ns p (Some a) s) (λ x t. run_arms S reply hand ns ps bs t) (part_grows ns
+        p (Some a) s) (λ x t. arms_grow ns ps bs t)
 
-  pub handed_grows : (ns : List ObjId) (ps : Parts) (bs : List (Option ActionId)) (s : S) → Within begins s (run_handed S reply hand ns ps bs s)
+  pub handed_grows : (ns : List ObjId) (ps : Parts) (bs : List (Option ActionId)) (s : S)
+      → Within begins s (run_handed S reply hand ns ps bs s)
   handed_grows ns ps bs s = unhanded hand ns ps bs s l.plain (arms_grow ns ps bs s)
 
   -- what follows the look for the shape of the next object
@@ -190,9 +218,11 @@ module _ (S : Type 0) (begins : S → S → Type 0) (reply : PlainCall → S →
   pub declare_on_grows : (ns : List ObjId) (found : Option PlainShape) (s : S) → Within begins s (declare_on ns found s)
   declare_on_grows ns None s = l.same s
   declare_on_grows ns (Some shape) s =
-      within_then s (reply (declare shape) s) (λ r t. comes (ns ++ object_of r ∷ []) t) (l.grows (declare shape) s) (λ r t. l.same t)
+      within_then s (reply (declare shape) s) (λ r t. comes (ns ++ object_of r ∷ []) t) (l.grows (declare shape) s) (λ
+      r t. l.same t)
 
-  pub top_grows : (shapes : List PlainShape) (ns : List ObjId) (p : Part) (s : S) → Within begins s (run_top S reply hand shapes ns p s)
+  pub top_grows : (shapes : List PlainShape) (ns : List ObjId) (p : Part) (s : S)
+      → Within begins s (run_top S reply hand shapes ns p s)
   top_grows shapes ns (deed part.declare) s = declare_on_grows ns (slice_get shapes (length ns)) s
   top_grows shapes ns (deed (part.ask x q)) s = l.same s
   top_grows shapes ns (deed (part.alter x c)) s = l.same s
@@ -200,9 +230,12 @@ module _ (S : Type 0) (begins : S → S → Type 0) (reply : PlainCall → S →
   top_grows shapes ns (deed part.abort_leave) s = l.same s
   top_grows shapes ns (deed part.leave_all) s = l.same s
   top_grows shapes ns (block o ps) s =
-      within_then s (run_part S reply hand ns (block o ps) None s) (λ x t. comes ns t) (part_grows ns (block o ps) None s) (λ x t. l.same t)
+      within_then s (run_part S reply hand ns (block o ps) None s) (λ x t. comes ns t) (part_grows ns (block o ps) None
+      s) (λ x t. l.same t)
 
-  pub tops_grow : (shapes : List PlainShape) (ns : List ObjId) (ps : Parts) (s : S) → Within begins s (run_tops S reply hand shapes ns ps s)
+  pub tops_grow : (shapes : List PlainShape) (ns : List ObjId) (ps : Parts) (s : S)
+      → Within begins s (run_tops S reply hand shapes ns ps s)
   tops_grow shapes ns none s = l.same s
   tops_grow shapes ns (more p ps) s =
-      within_then s (run_top S reply hand shapes ns p s) (λ now t. run_tops S reply hand shapes now ps t) (top_grows shapes ns p s) (λ now t. tops_grow shapes now ps t)
+      within_then s (run_top S reply hand shapes ns p s) (λ now t. run_tops S reply hand shapes now ps t) (top_grows
+      shapes ns p s) (λ now t. tops_grow shapes now ps t)

@@ -1,5 +1,6 @@
 -- The line of the entry that was just made.
-use Rattle.std.proofs.Common.{List, None, Option, Some, [], ap, arith, false, get_or, length, nat_lt, slice_get, subst, sym}
+use Rattle.std.proofs.Common.{List, None, Option, Some, [], ap, arith, false, get_or, length, nat_lt, slice_get, subst}
+use Rattle.std.proofs.Common.{sym}
 use Rattle.std.proofs.Common.{take, ℕ, ◌+◌, ◌-◌, ◌<◌, ◌∙◌, ◌∷◌, ◌≡◌}
 use Rattle.std.proofs.lemmas.List.{append-nil, get_or-reverse, length-reverse}
 use Rattle.std.proofs.lemmas.Option.{slice_get-get_or}
@@ -37,8 +38,12 @@ line_made j k c at e d = ap (λ x. line_at x at) e ∙ ap (λ x. line_at (after 
 pub written_one : (j k : Said) (c : PlainCall) (at : ℕ) (t u : Option (List ℕ)) → k ≡ after j c
     → at ≡ next_number j → Appends t u (line_at k at) → Written j t k u
 written_one j k c at t u e d p =
-    let P : List ℕ → Type 0 = λ x. Appends t u x in
-    (entry_of j c ∷ [], e, subst P (line_made j k c at e d ∙ sym (append-nil (line_of (next_number j) (entry_of j c)))) p)
+    let P : List ℕ → Type 0 = λ x. Appends t u x in (
+      entry_of j c ∷ [],
+      e,
+      subst P (line_made j k c at e d ∙ sym (append-nil (line_of (next_number j) (entry_of j c))))
+          p,
+    )
 
 pub lacking_one : (j k : Said) (c : PlainCall) (at n : ℕ) (t u : Option (List ℕ)) → k ≡ after j c
     → at ≡ next_number j → Appends t u (take n (line_at k at)) → Lacking j t k u

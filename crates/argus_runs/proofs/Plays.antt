@@ -1,5 +1,6 @@
 -- The journal that a run leaves is the journal before it and entries that tell the run.
-use Rattle.std.proofs.Common.{◌≡◌, Bool, true, false, List, [], ◌∷◌, ◌++◌, Option, Some, None, sym, ◌∙◌, ap, append_assoc, refl}
+use Rattle.std.proofs.Common.{◌≡◌, Bool, true, false, List, [], ◌∷◌, ◌++◌, Option, Some, None, sym, ◌∙◌, ap}
+use Rattle.std.proofs.Common.{append_assoc, refl}
 use Rattle.std.proofs.Common.{cond, length, slice_get}
 use Rattle.std.proofs.lemmas.List.{append-nil}
 use Rattle.argus_actions.specs.declared.action_id.ActionId.{ActionId}
@@ -21,7 +22,8 @@ use Rattle.argus_runs.specs.Laws.{PlaysTell, RunsEnd}
 use Rattle.argus_runs.specs.Played.{asked, play, told}
 use Rattle.argus_runs.specs.Replies.{begin_call, begun_by, flow_after, goes_on, is_over, named, object_of, test_call}
 use Rattle.argus_runs.specs.Running.{after_commit, after_others, begin_all, begin_arm, begin_one, commit_block}
-use Rattle.argus_runs.specs.Running.{finish, give_up, run_arms, run_deed, run_part, run_parts, run_top, run_tops, then_on}
+use Rattle.argus_runs.specs.Running.{finish, give_up, run_arms, run_deed, run_part, run_parts, run_top, run_tops}
+use Rattle.argus_runs.specs.Running.{then_on}
 use Rattle.argus_runs.specs.Within.{Begins, Within, extended}
 use Rattle.argus_runs.specs.declared.flow.Flow.{Flow}
 use Rattle.argus_runs.specs.declared.flow.Flow.TheVariants as flow
@@ -159,7 +161,8 @@ enter_same : (ns : List ObjId) (ps : Parts) → Whole ns ps → (b : Option Acti
     → Same j (enter_on Said asked ns ps b j) (enter_on Es told ns ps b)
 enter_same ns ps h None j = same_now flow.On j (λ s. comes flow.On s) (λ rest. refl)
 enter_same ns ps h (Some a) j = same_then j (run_parts Said asked None ns ps (Some a) j)
-    (run_parts Es told None ns ps (Some a)) (finish Said asked None a) (finish Es told None a) (h (Some a) j) (finish_same a)
+    (run_parts Es told None ns ps (Some a)) (finish Said asked None a) (finish Es told None a) (h (Some a) j)
+    (finish_same a)
 
 mutual
   parts_same : (ns : List ObjId) (ps : Parts) (w : Option ActionId) (j : Said)
@@ -249,6 +252,13 @@ ends begins j stops p = absurd p
 
 pub runs-end : RunsEnd
 runs-end j script =
-    let l : Growing Said Begins asked None = record { plain = refl; same = begins_same; on = begins_on; grows = asked_grows } in
-    let t = ends Begins j (play script j) (tops_grow Said Begins asked None l script.objects.shapes [] script.parts j) in
+    let l : Growing Said Begins asked None = record {
+      plain = refl;
+      same = begins_same;
+      on = begins_on;
+      grows =
+          asked_grows;
+    } in
+    let t = ends Begins j (play script j) (tops_grow Said Begins asked None l script.objects.shapes [] script.parts j)
+    in
     (t.0, (t.1, t.2))

@@ -1,5 +1,6 @@
 -- The lines of entries, and what a run writes.
-use Rattle.std.specs.Prelude.{Bool, List, None, Option, Some, false, length, take, true, ℕ, ◌+◌, ◌≡◌}
+use Rattle.std.specs.Prelude.{Bool, List, None, Option, Some, false, length, take, true, ℕ, ◌+◌}
+use Rattle.std.specs.Prelude.{◌≡◌}
 use Rattle.std.specs.Prelude.{[], ◌++◌, ◌∷◌}
 use Rattle.std.specs.Io.KnownBytes.{Appends}
 use Rattle.argus_entries.specs.Entry.{PlainEntry}

@@ -1,5 +1,6 @@
 -- What a run writes, in two parts.
-use Rattle.std.proofs.Common.{Bool, List, None, Option, Some, [], ap, append_assoc, arith, false, length, length-append}
+use Rattle.std.proofs.Common.{Bool, List, None, Option, Some, [], ap, append_assoc, arith, false}
+use Rattle.std.proofs.Common.{length, length-append}
 use Rattle.std.proofs.Common.{refl, subst, sym, take, true, ℕ, ◌+◌, ◌++◌, ◌∙◌, ◌∷◌, ◌≡◌}
 use Rattle.std.proofs.lemmas.List.{append-nil}
 use Rattle.std.specs.Io.KnownBytes.{Appends}
@@ -42,9 +43,11 @@ written_on : (j k l : Said) (t u v : Option (List ℕ)) → Written j t k u → 
 written_on j k l t u v (m, e, p) (n, f, q) = (
   m ++ n,
   f ∙ ap (λ x. extended x n) e ∙ sym (extended_more j m n),
-  appends_on t u v (lines (next_number j) m) (lines (next_number k) n) (lines (next_number j) (m ++ n))
+  appends_on t u v (lines (next_number j) m) (lines (next_number k) n) (lines (next_number j) (m ++
+      n))
       (lines-append (next_number j) m n
-      ∙ ap (λ x. lines (next_number j) m ++ lines x n) (sym (ap next_number e ∙ next-extended j m))) p q,
+      ∙ ap (λ x. lines (next_number j) m ++ lines x n) (sym (ap next_number e ∙ next-extended j
+      m))) p q,
 )
 
 lacking_on : (j k l : Said) (t u v : Option (List ℕ)) → Written j t k u → Lacking k u l v
@@ -58,13 +61,20 @@ lacking_on j k l t u v (m, e, p) (n, last, i, f, q) =
           ∙ ap (λ x. extended j x) (sym (append_assoc m n (last ∷ []))),
       appends_on t u v (lines (next_number j) m)
           (lines (next_number k) n ++ take i (line_of (next_number k + length n) last))
-          (lines (next_number j) (m ++ n) ++ take i (line_of (next_number j + length (m ++ n)) last))
+          (lines (next_number j) (m ++ n) ++ take i (line_of (next_number j + length (m ++ n))
+          last))
           (ap (λ x. x ++ take i (line_of (next_number j + length (m ++ n)) last))
-          (lines-append (next_number j) m n ∙ ap (λ x. lines (next_number j) m ++ lines x n) (sym h))
+          (lines-append (next_number j) m n ∙ ap (λ x. lines (next_number j) m ++ lines x n) (sym
+          h))
           ∙ append_assoc (lines (next_number j) m) (lines (next_number k) n)
           (take i (line_of (next_number j + length (m ++ n)) last))
-          ∙ ap (λ x. lines (next_number j) m ++ (lines (next_number k) n ++ take i (line_of x last)))
-          (let g : next_number j + length (m ++ n) ≡ next_number k + length n = omega (arith, h, length-append m n) in g))
+          ∙ ap (λ x. lines (next_number j) m ++ (lines (next_number k) n ++ take i (line_of x
+          last)))
+          (let g : next_number j + length (m ++ n) ≡ next_number k + length n = omega (
+            arith,
+            h,
+            length-append m n,
+          ) in g))
           p q,
     )
 

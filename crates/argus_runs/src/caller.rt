@@ -80,9 +80,10 @@ pub trait Caller {
         ensures ready { ready self.new }
         ensures kept { keeps self.old self.new }
         ensures told { IfOk result (λ did. known ≡ true →
-            run_handed State reply hand numbers.now (plain_steps arms.now) begun.now (state self.old)
-            ≡ cond did (comes On (state self.new)) (run_arms State reply hand numbers.now
-            (plain_steps arms.now) begun.now (state self.new))) }
+            run_handed State reply hand numbers.now (plain_steps arms.now) begun.now
+            (state self.old) ≡ cond did (comes On (state self.new))
+            (run_arms State reply hand numbers.now (plain_steps arms.now) begun.now
+            (state self.new))) }
         ensures early { OnErr result (adds ≡ true → state self.new ≡ state self.old) };
 
     ghost plain: { adds ≡ true → hand ≡ None };

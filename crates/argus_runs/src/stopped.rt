@@ -3,7 +3,8 @@
 use argus_memory::OutOfMemory;
 use std::alloc::AllocFailed;
 
-/// The run came to a stop before its end: memory is wanting, or whoever makes its calls can't go on.
+/// The run came to a stop before its end: memory is wanting, or whoever makes its calls can't go
+/// on.
 ///
 /// ```text
 /// match run_steps(heap, &mut caller, &[], steps, None) {

@@ -16,7 +16,8 @@ returns-in_err-action-clause-early g c =
       on = g.met.C.Caller.begins_on adds;
       grows = g.met.C.Caller.grows adds;
     } in
-    begins_early g.C.Caller.State g.C.Caller.begins g.C.Caller.reply g.C.Caller.hand l c.args.arms.now c.loop-arm.arm-index c.arm-item.result
+    begins_early g.C.Caller.State g.C.Caller.begins g.C.Caller.reply g.C.Caller.hand l c.args.arms.now
+    c.loop-arm.arm-index c.arm-item.result
     c.loop-arm.begun.items c.args.within s (g.C.Caller.state c.loop-arm.caller) t
     c.loop-arm-test.true c.arm-item.is (c.loop-arm.invariant.2 known) (c.in_err-action.ensures.early known adds))
 
@@ -32,7 +33,8 @@ returns-in_err-push-clause-early g c =
       on = g.met.C.Caller.begins_on adds;
       grows = g.met.C.Caller.grows adds;
     } in
-    begins_early g.C.Caller.State g.C.Caller.begins g.C.Caller.reply g.C.Caller.hand l c.args.arms.now c.loop-arm.arm-index c.arm-item.result
+    begins_early g.C.Caller.State g.C.Caller.begins g.C.Caller.reply g.C.Caller.hand l c.args.arms.now
+    c.loop-arm.arm-index c.arm-item.result
     c.loop-arm.begun.items c.args.within s (g.C.Caller.state c.loop-arm.caller) t
     c.loop-arm-test.true c.arm-item.is (c.loop-arm.invariant.2 known)
     (rw (c.in_ok-action.ensures.told known) (l.same t)))

@@ -17,7 +17,8 @@ returns-in_err-run_at_top-clause-early g c =
       on = g.met.C.Caller.begins_on adds;
       grows = g.met.C.Caller.grows adds;
     } in
-    tops_early g.C.Caller.State g.C.Caller.begins g.C.Caller.reply g.C.Caller.hand l script.objects.shapes c.loop-step.numbers.items
+    tops_early g.C.Caller.State g.C.Caller.begins g.C.Caller.reply g.C.Caller.hand l script.objects.shapes
+    c.loop-step.numbers.items
     c.steps-step-items.result.now c.loop-step.step-index c.step-item.result m (g.C.Caller.state c.loop-step.caller) u
     c.loop-step-test.true c.step-item.is (c.loop-step.invariant.1 known)
     (rw c.shapes.ensures at (c.in_err-run_at_top.ensures.early known adds)))

@@ -4,7 +4,8 @@ use Rattle.argus_commands.specs.declared.opening.Opening.TheVariants as opening
 use Rattle.argus_runs.specs.Replies.{named, test_call}
 use Rattle.argus_runs.specs.Running.{begin_all, begin_one, run_arms, run_handed, run_part, run_parts}
 use Rattle.argus_runs.proofs.Early.{arms_early, on_err, steps_early}
-use Rattle.argus_runs.proofs.Growth.{Growing, enter_on, enter_on_grows, handed_grows, parts_grow, test_on, test_on_grows, within_then}
+use Rattle.argus_runs.proofs.Growth.{Growing, enter_on, enter_on_grows, handed_grows, parts_grow, test_on}
+use Rattle.argus_runs.proofs.Growth.{test_on_grows, within_then}
 use Rattle.argus_runs.proofs.stepping.+run.Goals as goal
 
 pub run_begun-returns-in_err-run_if_begun-clause-early :
@@ -12,7 +13,8 @@ pub run_begun-returns-in_err-run_if_begun-clause-early :
 run_begun-returns-in_err-run_if_begun-clause-early g t c =
     let s = g.C.Caller.state c.args.caller.now in let u = g.C.Caller.state c.run_if_begun.new.caller in
     on_err c.from_residual.result g.C.Caller.known g.C.Caller.adds g.C.Caller.begins u
-    (run_arms g.C.Caller.State g.C.Caller.reply g.C.Caller.hand c.args.numbers.now (plain_steps c.args.arms.now) c.args.begun.now s)
+    (run_arms g.C.Caller.State g.C.Caller.reply g.C.Caller.hand c.args.numbers.now (plain_steps c.args.arms.now)
+    c.args.begun.now s)
     (λ known adds.
     let l : Growing g.C.Caller.State g.C.Caller.begins g.C.Caller.reply g.C.Caller.hand = record {
       plain = g.met.C.Caller.plain adds;
@@ -20,7 +22,8 @@ run_begun-returns-in_err-run_if_begun-clause-early g t c =
       on = g.met.C.Caller.begins_on adds;
       grows = g.met.C.Caller.grows adds;
     } in
-    arms_early g.C.Caller.State g.C.Caller.begins g.C.Caller.reply g.C.Caller.hand l c.args.numbers.now c.args.arms.now c.args.begun.now c.loop-i.i
+    arms_early g.C.Caller.State g.C.Caller.begins g.C.Caller.reply g.C.Caller.hand l c.args.numbers.now c.args.arms.now
+    c.args.begun.now c.loop-i.i
     c.index-arms-i.result s (g.C.Caller.state c.loop-i.caller) u c.loop-i-test.true c.requires.len c.index-arms-i.is
     (c.loop-i.invariant.1 known) (c.in_err-run_if_begun.ensures.early known adds))
 
@@ -29,7 +32,8 @@ pub run_steps-returns-in_err-flow-clause-early :
 run_steps-returns-in_err-flow-clause-early g t c =
     let s = g.C.Caller.state c.args.caller.now in let u = g.C.Caller.state c.run_step.new.caller in
     on_err c.from_residual.result g.C.Caller.known g.C.Caller.adds g.C.Caller.begins u
-    (run_parts g.C.Caller.State g.C.Caller.reply g.C.Caller.hand c.args.numbers.now (plain_steps c.args.steps.now) c.args.within s)
+    (run_parts g.C.Caller.State g.C.Caller.reply g.C.Caller.hand c.args.numbers.now (plain_steps c.args.steps.now)
+    c.args.within s)
     (λ known adds.
     let l : Growing g.C.Caller.State g.C.Caller.begins g.C.Caller.reply g.C.Caller.hand = record {
       plain = g.met.C.Caller.plain adds;
@@ -37,7 +41,8 @@ run_steps-returns-in_err-flow-clause-early g t c =
       on = g.met.C.Caller.begins_on adds;
       grows = g.met.C.Caller.grows adds;
     } in
-    steps_early g.C.Caller.State g.C.Caller.begins g.C.Caller.reply g.C.Caller.hand l c.args.numbers.now c.args.steps.now c.loop-step.step-index c.step-item.result c.args.within s
+    steps_early g.C.Caller.State g.C.Caller.begins g.C.Caller.reply g.C.Caller.hand l c.args.numbers.now
+    c.args.steps.now c.loop-step.step-index c.step-item.result c.args.within s
     (g.C.Caller.state c.loop-step.caller) u c.loop-step-test.true c.step-item.is
     (c.loop-step.invariant.1 known) (c.in_err-flow.ensures.early known adds))
 
@@ -46,7 +51,8 @@ pub run_coenter-returns-in_err-begun-clause-early :
 run_coenter-returns-in_err-begun-clause-early g t c =
     let s = g.C.Caller.state c.args.caller.now in let u = g.C.Caller.state c.begin_arms.new.caller in
     on_err c.from_residual.result g.C.Caller.known g.C.Caller.adds g.C.Caller.begins u
-    (run_part g.C.Caller.State g.C.Caller.reply g.C.Caller.hand c.args.numbers.now (block opening.Coenter (plain_steps c.args.arms.now)) c.args.within s)
+    (run_part g.C.Caller.State g.C.Caller.reply g.C.Caller.hand c.args.numbers.now (block opening.Coenter (plain_steps
+    c.args.arms.now)) c.args.within s)
     (λ known adds.
     let l : Growing g.C.Caller.State g.C.Caller.begins g.C.Caller.reply g.C.Caller.hand = record {
       plain = g.met.C.Caller.plain adds;
@@ -54,16 +60,20 @@ run_coenter-returns-in_err-begun-clause-early g t c =
       on = g.met.C.Caller.begins_on adds;
       grows = g.met.C.Caller.grows adds;
     } in
-    within_then g.C.Caller.State g.C.Caller.begins g.C.Caller.reply g.C.Caller.hand l u (begin_all g.C.Caller.State g.C.Caller.reply g.C.Caller.hand (plain_steps c.args.arms.now) c.args.within s)
-    (run_handed g.C.Caller.State g.C.Caller.reply g.C.Caller.hand c.args.numbers.now (plain_steps c.args.arms.now)) (c.in_err-begun.ensures.early known adds)
-    (handed_grows g.C.Caller.State g.C.Caller.begins g.C.Caller.reply g.C.Caller.hand l c.args.numbers.now (plain_steps c.args.arms.now)))
+    within_then g.C.Caller.State g.C.Caller.begins g.C.Caller.reply g.C.Caller.hand l u (begin_all g.C.Caller.State
+    g.C.Caller.reply g.C.Caller.hand (plain_steps c.args.arms.now) c.args.within s)
+    (run_handed g.C.Caller.State g.C.Caller.reply g.C.Caller.hand c.args.numbers.now (plain_steps c.args.arms.now))
+    (c.in_err-begun.ensures.early known adds)
+    (handed_grows g.C.Caller.State g.C.Caller.begins g.C.Caller.reply g.C.Caller.hand l c.args.numbers.now (plain_steps
+    c.args.arms.now)))
 
 pub run_coenter-returns-in_err-arms-clause-early :
     goal.run_coenter-returns-in_err-arms-clause-early
 run_coenter-returns-in_err-arms-clause-early g t c =
     let s = g.C.Caller.state c.args.caller.now in let u = g.C.Caller.state c.arms.new.self in
     on_err c.from_residual-in_err-arms.result g.C.Caller.known g.C.Caller.adds g.C.Caller.begins u
-    (run_part g.C.Caller.State g.C.Caller.reply g.C.Caller.hand c.args.numbers.now (block opening.Coenter (plain_steps c.args.arms.now)) c.args.within s)
+    (run_part g.C.Caller.State g.C.Caller.reply g.C.Caller.hand c.args.numbers.now (block opening.Coenter (plain_steps
+    c.args.arms.now)) c.args.within s)
     (λ known adds.
     let l : Growing g.C.Caller.State g.C.Caller.begins g.C.Caller.reply g.C.Caller.hand = record {
       plain = g.met.C.Caller.plain adds;
@@ -73,14 +83,16 @@ run_coenter-returns-in_err-arms-clause-early g t c =
     } in
     let v = g.C.Caller.state c.begin_arms.new.caller in
     rw (c.in_ok-begun.ensures.begun known) (rw (c.in_err-arms.ensures.early adds)
-    (handed_grows g.C.Caller.State g.C.Caller.begins g.C.Caller.reply g.C.Caller.hand l c.args.numbers.now (plain_steps c.args.arms.now) c.in_ok-begun.begun.items v)))
+    (handed_grows g.C.Caller.State g.C.Caller.begins g.C.Caller.reply g.C.Caller.hand l c.args.numbers.now (plain_steps
+    c.args.arms.now) c.in_ok-begun.begun.items v)))
 
 pub run_entered-returns-in_err-begin-clause-early :
     goal.run_entered-returns-in_err-begin-clause-early
 run_entered-returns-in_err-begin-clause-early g t c =
     let s = g.C.Caller.state c.args.caller.now in let u = g.C.Caller.state c.begin.new.caller in
     on_err c.from_residual.result g.C.Caller.known g.C.Caller.adds g.C.Caller.begins u
-    (run_part g.C.Caller.State g.C.Caller.reply g.C.Caller.hand c.args.numbers.now (block (opening.Enter c.args.kind) (plain_steps c.args.body.now)) c.args.within s)
+    (run_part g.C.Caller.State g.C.Caller.reply g.C.Caller.hand c.args.numbers.now (block (opening.Enter c.args.kind)
+    (plain_steps c.args.body.now)) c.args.within s)
     (λ known adds.
     let l : Growing g.C.Caller.State g.C.Caller.begins g.C.Caller.reply g.C.Caller.hand = record {
       plain = g.met.C.Caller.plain adds;
@@ -88,17 +100,22 @@ run_entered-returns-in_err-begin-clause-early g t c =
       on = g.met.C.Caller.begins_on adds;
       grows = g.met.C.Caller.grows adds;
     } in
-    within_then g.C.Caller.State g.C.Caller.begins g.C.Caller.reply g.C.Caller.hand l u (begin_one g.C.Caller.State g.C.Caller.reply g.C.Caller.hand c.args.kind c.args.within s)
-    (enter_on g.C.Caller.State g.C.Caller.begins g.C.Caller.reply g.C.Caller.hand l c.args.numbers.now (plain_steps c.args.body.now)) (c.in_err-begin.ensures.early known adds)
-    (enter_on_grows g.C.Caller.State g.C.Caller.begins g.C.Caller.reply g.C.Caller.hand l c.args.numbers.now (plain_steps c.args.body.now)
-    (parts_grow g.C.Caller.State g.C.Caller.begins g.C.Caller.reply g.C.Caller.hand l c.args.numbers.now (plain_steps c.args.body.now))))
+    within_then g.C.Caller.State g.C.Caller.begins g.C.Caller.reply g.C.Caller.hand l u (begin_one g.C.Caller.State
+    g.C.Caller.reply g.C.Caller.hand c.args.kind c.args.within s)
+    (enter_on g.C.Caller.State g.C.Caller.begins g.C.Caller.reply g.C.Caller.hand l c.args.numbers.now (plain_steps
+    c.args.body.now)) (c.in_err-begin.ensures.early known adds)
+    (enter_on_grows g.C.Caller.State g.C.Caller.begins g.C.Caller.reply g.C.Caller.hand l c.args.numbers.now
+    (plain_steps c.args.body.now)
+    (parts_grow g.C.Caller.State g.C.Caller.begins g.C.Caller.reply g.C.Caller.hand l c.args.numbers.now (plain_steps
+    c.args.body.now))))
 
 pub run_if-returns-in_err-reply-clause-early :
     goal.run_if-returns-in_err-reply-clause-early
 run_if-returns-in_err-reply-clause-early g t c =
     let s = g.C.Caller.state c.args.caller.now in let u = g.C.Caller.state c.call.new.self in
     on_err c.from_residual.result g.C.Caller.known g.C.Caller.adds g.C.Caller.begins u
-    (run_part g.C.Caller.State g.C.Caller.reply g.C.Caller.hand c.args.numbers.now (block (opening.If c.args.lock c.args.x) (plain_steps c.args.body.now)) (Some c.args.action) s)
+    (run_part g.C.Caller.State g.C.Caller.reply g.C.Caller.hand c.args.numbers.now (block (opening.If c.args.lock
+    c.args.x) (plain_steps c.args.body.now)) (Some c.args.action) s)
     (λ known adds.
     let l : Growing g.C.Caller.State g.C.Caller.begins g.C.Caller.reply g.C.Caller.hand = record {
       plain = g.met.C.Caller.plain adds;
@@ -106,7 +123,12 @@ run_if-returns-in_err-reply-clause-early g t c =
       on = g.met.C.Caller.begins_on adds;
       grows = g.met.C.Caller.grows adds;
     } in
-    within_then g.C.Caller.State g.C.Caller.begins g.C.Caller.reply g.C.Caller.hand l u (g.C.Caller.reply (test_call c.args.lock c.args.action (named c.args.numbers.now c.args.x)) s)
-    (test_on g.C.Caller.State g.C.Caller.begins g.C.Caller.reply g.C.Caller.hand l c.args.numbers.now (plain_steps c.args.body.now) c.args.action) (rw c.object_at.ensures at (rw c.call_to_test.ensures at (c.in_err-reply.ensures.early adds)))
-    (test_on_grows g.C.Caller.State g.C.Caller.begins g.C.Caller.reply g.C.Caller.hand l c.args.numbers.now (plain_steps c.args.body.now) c.args.action
-    (parts_grow g.C.Caller.State g.C.Caller.begins g.C.Caller.reply g.C.Caller.hand l c.args.numbers.now (plain_steps c.args.body.now))))
+    within_then g.C.Caller.State g.C.Caller.begins g.C.Caller.reply g.C.Caller.hand l u (g.C.Caller.reply (test_call
+    c.args.lock c.args.action (named c.args.numbers.now c.args.x)) s)
+    (test_on g.C.Caller.State g.C.Caller.begins g.C.Caller.reply g.C.Caller.hand l c.args.numbers.now (plain_steps
+    c.args.body.now) c.args.action) (rw c.object_at.ensures at (rw c.call_to_test.ensures at
+    (c.in_err-reply.ensures.early adds)))
+    (test_on_grows g.C.Caller.State g.C.Caller.begins g.C.Caller.reply g.C.Caller.hand l c.args.numbers.now
+    (plain_steps c.args.body.now) c.args.action
+    (parts_grow g.C.Caller.State g.C.Caller.begins g.C.Caller.reply g.C.Caller.hand l c.args.numbers.now (plain_steps
+    c.args.body.now))))

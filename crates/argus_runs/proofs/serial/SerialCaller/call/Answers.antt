@@ -13,13 +13,15 @@ returns-in-Err-clause-early g c =
 
 pub returns-in-Ok-write_line-clause-kept : goal.returns-in-Ok-write_line-clause-kept
 returns-in-Ok-write_line-clause-kept g c =
-    rw c.if-self.false (written_one c.args.self.now.guardian c.call.new.self (plain_call c.args.call) c.next_number-at.result
+    rw c.if-self.false (written_one c.args.self.now.guardian c.call.new.self (plain_call c.args.call)
+    c.next_number-at.result
     (g.W.Write.contents (inner_of c.args.self.now.writer)) (g.W.Write.contents (inner_of c.write_line.new.writer))
     c.in-Ok.ensures.ok c.next_number-at.ensures c.in-Ok-write_line.ensures.ok)
 
 pub returns-in-Err-write_line-clause-kept : goal.returns-in-Err-write_line-clause-kept
 returns-in-Err-write_line-clause-kept g c =
     let cut = c.in-Err-write_line.ensures.cut in
-    rw c.if-self.false (lacking_one c.args.self.now.guardian c.call.new.self (plain_call c.args.call) c.next_number-at.result cut.0
+    rw c.if-self.false (lacking_one c.args.self.now.guardian c.call.new.self (plain_call c.args.call)
+    c.next_number-at.result cut.0
     (g.W.Write.contents (inner_of c.args.self.now.writer)) (g.W.Write.contents (inner_of c.write_line.new.writer))
     c.in-Ok.ensures.ok c.next_number-at.ensures cut.1)
