@@ -11,6 +11,7 @@ ghost use Rattle.argus_entries.specs.Entry.{plain_entry};
 ghost use Rattle.argus_entries.specs.Reply.{plain_reply};
 ghost use Rattle.argus_steps.specs.Parts.{Keeps, said_of, with_entry};
 ghost use Rattle.argus_steps.specs.Prepared.{CanAccess, CanBegin, CanDeclare, CanEnd, CanPass};
+ghost use Rattle.argus_steps.specs.Prepared.{CanStep};
 ghost use Rattle.argus_steps.specs.Prepared.{HasPlace, IsLeft, IsReady, TellsNothing};
 ghost use Rattle.argus_steps.specs.Step.{after, reply_to};
 ghost use Rattle.argus_objects.specs.Rules.{may_read, may_write};
@@ -38,51 +39,30 @@ pub fn make(parts: &mut Parts, prepared: Prepared) -> Reply
         ≡ reply_to (said_of parts.old) (plain_call prepared.entry.call) }
 {
     let Prepared { step, entry, reply } = prepared;
+    take_step(parts, step, entry);
+    reply
+}
+
+// Makes the change, and records the call.
+fn take_step(parts: &mut Parts, step: Step, entry: Entry)
+    requires kept { Keeps parts.old }
+    requires place { HasPlace parts.old (plain_entry entry) }
+    requires step { CanStep parts.old (plain_entry entry) step }
+    ensures kept { Keeps parts.new }
+    ensures said { said_of parts.new ≡ with_entry (said_of parts.old) (plain_entry entry) }
+{
     match step {
-        Step::Nothing => {
-            make_nothing(parts, entry);
-            reply
-        }
-        Step::Declare(shape) => {
-            make_declare(parts, shape, entry);
-            reply
-        }
-        Step::BeginTop => {
-            make_begin_top(parts, entry);
-            reply
-        }
-        Step::BeginSub(parent) => {
-            make_begin_sub(parts, parent, entry);
-            reply
-        }
-        Step::BeginNested(creator) => {
-            make_begin_nested(parts, creator, entry);
-            reply
-        }
-        Step::Inherit(a, parent) => {
-            make_inherit(parts, a, parent, entry);
-            reply
-        }
-        Step::Settle(a) => {
-            make_settle(parts, a, entry);
-            reply
-        }
-        Step::Abort(a) => {
-            make_abort(parts, a, entry);
-            reply
-        }
-        Step::AbortOthers(a) => {
-            make_abort_others(parts, a, entry);
-            reply
-        }
-        Step::Read(a, o) => {
-            make_read(parts, a, o, entry);
-            reply
-        }
-        Step::Write(a, o, content) => {
-            make_write(parts, a, o, content, entry);
-            reply
-        }
+        Step::Nothing => make_nothing(parts, entry),
+        Step::Declare(shape) => make_declare(parts, shape, entry),
+        Step::BeginTop => make_begin_top(parts, entry),
+        Step::BeginSub(parent) => make_begin_sub(parts, parent, entry),
+        Step::BeginNested(creator) => make_begin_nested(parts, creator, entry),
+        Step::Inherit(a, parent) => make_inherit(parts, a, parent, entry),
+        Step::Settle(a) => make_settle(parts, a, entry),
+        Step::Abort(a) => make_abort(parts, a, entry),
+        Step::AbortOthers(a) => make_abort_others(parts, a, entry),
+        Step::Read(a, o) => make_read(parts, a, o, entry),
+        Step::Write(a, o, content) => make_write(parts, a, o, content, entry),
     }
 }
 
