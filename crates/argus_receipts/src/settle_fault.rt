@@ -1,0 +1,60 @@
+//! `SettleFault`: why the receipts and the seats of a sharing don't tell its journal.
+
+use argus_memory::OutOfMemory;
+use std::alloc::AllocFailed;
+use thiserror::Error;
+
+/// Why the receipts and the seats of a sharing don't tell its journal.
+///
+/// | Fault | When | Text |
+/// |---|---|---|
+/// | `NotThere` | the journal has no entry of this number with the receipt's call and reply | `entry 3 is not that of the receipt` |
+/// | `Twice` | an earlier receipt has this number | `entry 3 has two receipts` |
+/// | `Count` | the entries made since the sharing began aren't as many as the seats made | `5 entries, and 4 calls of the seats` |
+/// | `Folded` | a checkpoint has forgotten the entry of this number | `entry 3 was folded` |
+/// | `OutOfMemory` | memory is wanting; it may come in place of any other answer | `out of memory` |
+///
+/// Of one receipt `Folded` comes before `NotThere`, and that before `Twice`; of two receipts the
+/// earlier one's fault; `Count` after all receipts.
+///
+/// ```text
+/// if let Err(SettleFault::Twice(at)) = check(heap, journal, start, made, receipts) {
+///     ..                              // two receipts have this number
+/// }
+/// ```
+#[derive(Clone, Copy, Debug, PartialEq, Eq, Error)]
+pub enum SettleFault {
+    #[error("entry {0} is not that of the receipt")]
+    NotThere(u64),
+    #[error("entry {0} has two receipts")]
+    Twice(u64),
+    /// How many entries were made since the sharing began, and how many the seats made.
+    #[error("{journal} entries, and {seats} calls of the seats")]
+    Count { journal: u64, seats: u128 },
+    #[error("entry {0} was folded")]
+    Folded(u64),
+    #[error("out of memory")]
+    OutOfMemory,
+}
+
+impl From<OutOfMemory> for SettleFault {
+    ghost use Rattle.std.specs.Prelude.{◌≡◌};
+    ghost use Rattle.argus_receipts.specs.declared.settle_fault.SettleFault.TheVariants as fault;
+
+    ghost from_gives = { λ _ e. e ≡ fault.OutOfMemory };
+
+    fn from(_refused: OutOfMemory) -> SettleFault {
+        SettleFault::OutOfMemory
+    }
+}
+
+impl<T: Drop> From<AllocFailed<T>> for SettleFault {
+    ghost use Rattle.std.specs.Prelude.{◌≡◌};
+    ghost use Rattle.argus_receipts.specs.declared.settle_fault.SettleFault.TheVariants as fault;
+
+    ghost from_gives = { λ _ e. e ≡ fault.OutOfMemory };
+
+    fn from(_refused: AllocFailed<T>) -> SettleFault {
+        SettleFault::OutOfMemory
+    }
+}
