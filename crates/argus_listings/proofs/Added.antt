@@ -93,6 +93,25 @@ pub stops_then : (a : Option (List ℕ)) (s : List ℕ) (c : Option (List ℕ)) 
     → Cut a s c (x ++ y)
 stops_then a s c t x y added = left_stops a s c t (x ++ y) y (left_after a s c t x y added)
 
+-- all is written where nothing was pending and nothing is
+pub all_written : (a : Option (List ℕ)) (s : List ℕ) (c : Option (List ℕ)) (t : List ℕ) (d : Option (List ℕ))
+    (u x : List ℕ) → s ≡ [] → Added a s c t x → Added c t d u [] → u ≡ [] → Appends a d x
+all_written a s c t d u x e added poured f =
+    let all = added_then a s c t d u x [] added poured in
+    let same : all.0 ≡ x =
+    sym (append-nil all.0) ∙ ap (λ k. all.0 ++ k) (sym f) ∙ sym all.2 ∙ ap (λ k. k ++ (x ++ [])) e ∙ append-nil x in
+    subst (Appends a d) same all.1
+
+-- a front is written where nothing was pending
+pub front_written : (a : Option (List ℕ)) (s : List ℕ) (c : Option (List ℕ)) (x : List ℕ) → s ≡ [] → Cut a s c x
+    → (n : ℕ) × Appends a c (take n x)
+front_written a s c x e (n, p) = (n, subst (λ k. Appends a c (take n (k ++ x))) e p)
+
+pub front_poured : (a : Option (List ℕ)) (s : List ℕ) (c : Option (List ℕ)) (t : List ℕ) (d : Option (List ℕ))
+    (x : List ℕ) → s ≡ [] → Added a s c t x → Cut c t d [] → (n : ℕ) × Appends a d (take n x)
+front_poured a s c t d x e added cut =
+    front_written a s d x e (subst (Cut a s d) (append-nil x) (cut_then a s c t d x [] added cut))
+
 -- what holds in any case holds after an error
 pub on_err : {T E P : Type 0} (r : Result T E) → P → OnErr r P
 on_err (Ok x) p = tt

@@ -1,14 +1,14 @@
 -- A text that is made of the members of a list, each with its number.
 use Rattle.std.proofs.Common.{List, None, Option, Some, [], ap, arith, drop, length, subst, suc, sym, ℕ, ◌+◌}
-use Rattle.std.proofs.Common.{cond, drop-cons, false, inl, inr, nat_lt, reverse, ◌-◌, ◌++◌, ◌∙◌, ◌∷◌, ◌≡◌, ◌≤◌}
+use Rattle.std.proofs.Common.{cond, drop-cons, false, get_or, inl, inr, nat_lt, refl, reverse, ◌-◌, ◌<◌, ◌==◌, ◌≢◌, ◌++◌, ◌∙◌, ◌∷◌, ◌≡◌, ◌≤◌}
 use Rattle.std.proofs.lemmas.List.{drop_all}
-use Rattle.std.proofs.lemmas.Option.{get_or_from_slice_get, none-some, slice_get_cases, slice_get_within}
+use Rattle.std.proofs.lemmas.Option.{get_or_from_slice_get, none-some, slice_get_cases, slice_get_read, slice_get_within}
 use Rattle.std.specs.Prelude.{slice_get}
 use Rattle.argus_entries.specs.Entry.{PlainEntry}
 use Rattle.argus_journal.specs.Journal.{entry_at}
 use Rattle.argus_journal.specs.Opening.{Opening}
 use Rattle.argus_listings.proofs.Added.{Left, left_added, left_cut, left_ends, left_starts, left_stops, text_added}
-use Rattle.argus_listings.specs.Listing.{each_from}
+use Rattle.argus_listings.specs.Listing.{each_from, folded_line, opened_line, opening_text}
 use Rattle.argus_listings.specs.Pouring.{Added, Cut}
 
 found : {A : Type 0} (xs : List A) (i : ℕ) (x : A) → slice_get xs i ≡ Some x → drop i xs ≡ x ∷ drop (i + 1) xs
@@ -67,9 +67,24 @@ each_starts f xs n m c t e =
     ap (λ k. each_from f k xs) (sym e) ∙ ap (λ k. each_from f m (drop k xs)) (sym none) in
     subst (λ k. Left c t c t (each_from f n xs) k) same (left_starts c t (each_from f n xs))
 
+-- a member that was taken out of a list that is this one
+pub taken : {A : Type 0} (xs ys : List A) (i : ℕ) (x : A) → xs ≡ ys → i < length xs → x ≡ get_or xs i x
+    → slice_get ys i ≡ Some x
+taken xs ys i x e low is = subst (λ k. slice_get k i ≡ Some x) e (slice_get_read xs (length xs) i x refl low is)
+
 -- an entry of the journal, by its number, or none
 pub entry_there : (s : Opening) (j : List PlainEntry) (at : ℕ) (e : Option PlainEntry) → s.first_entry ≤ at
     → e ≡ entry_at s j at → slice_get (reverse j) (at - s.first_entry) ≡ e
 entry_there s j at e from is =
     let past : nat_lt at s.first_entry ≡ false = grind (arith, from) in
     sym (is ∙ ap (λ b. cond b None (slice_get (reverse j) (at - s.first_entry))) past)
+
+-- the lines of an opening before which entries went
+pub opening_there : (s : Opening) (n entries actions : ℕ) → n ≡ s.first_entry → n ≢ 0 → entries ≡ s.first_entry
+    → actions ≡ s.first_action
+    → folded_line entries actions ++ each_from opened_line 0 s.objects ≡ opening_text s
+opening_there s n entries actions e f g h =
+    let rest = each_from opened_line 0 s.objects in
+    let some : (s.first_entry == 0) ≡ false = grind (arith, e, f) in
+    ap (λ k. folded_line k actions ++ rest) g ∙ ap (λ k. folded_line s.first_entry k ++ rest) h
+    ∙ sym (ap (λ b. cond b [] (folded_line s.first_entry s.first_action ++ rest)) some)

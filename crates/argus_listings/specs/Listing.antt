@@ -106,7 +106,8 @@ objects_text listing names said =
 -- the line of how many entries and actions went before the opening
 abbrev pub folded_line : ℕ → ℕ → List ℕ
 folded_line entries actions =
-    codes "opening entries " ++ decimal entries ++ codes " actions " ++ decimal actions ++ 10 ∷ []
+    (codes "opening entries " ++ decimal entries)
+    ++ (codes " actions " ++ decimal actions) ++ 10 ∷ []
 
 -- the line of an object of the opening
 abbrev pub opened_line : ℕ → PlainShape × Option PlainContent → List ℕ
