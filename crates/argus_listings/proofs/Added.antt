@@ -1,6 +1,7 @@
 -- A text that is made and written piece by piece: what was written, what is pending and what is left
 -- to come.
-use Rattle.std.proofs.Common.{List, None, Option, Some, [], ap, append_assoc, length, refl, subst, suc, sym, take, ℕ, ◌+◌, ◌++◌}
+use Rattle.std.proofs.Common.{List, None, Option, Some, [], ap, append_assoc, length, refl, subst, suc, sym, take, ℕ}
+use Rattle.std.proofs.Common.{◌+◌, ◌++◌}
 use Rattle.std.proofs.Common.{Err, Ok, OnErr, Result, zero, ◌∙◌, ◌∷◌, ◌≡◌}
 use Rattle.std.proofs.Math.Seq.{take-append-add}
 use Rattle.std.proofs.lemmas.List.{append-nil}

@@ -85,6 +85,7 @@ audited said legal o name s j vs text mid e f told =
     Audited k l = mid ≡ text ++ base_line name (base_of k l o)
         → mid ++ version_lines name (map (held_as (λ a. seen_by k l a o)) vs)
         ≡ text ++ audit_text said o name
+
     from_said : Audited said.opening said.entries
     from_said h =
         let sees : ℕ → Option PlainContent = λ a. seen_by said.opening said.entries a o in

@@ -1,8 +1,10 @@
 -- A text that is made of the members of a list, each with its number.
 use Rattle.std.proofs.Common.{List, None, Option, Some, [], ap, arith, drop, length, subst, suc, sym, ℕ, ◌+◌}
-use Rattle.std.proofs.Common.{cond, drop-cons, false, get_or, inl, inr, nat_lt, refl, reverse, ◌-◌, ◌<◌, ◌==◌, ◌≢◌, ◌++◌, ◌∙◌, ◌∷◌, ◌≡◌, ◌≤◌}
+use Rattle.std.proofs.Common.{cond, drop-cons, false, get_or, inl, inr, nat_lt, refl, reverse, ◌-◌, ◌<◌, ◌==◌, ◌≢◌}
+use Rattle.std.proofs.Common.{◌++◌, ◌∙◌, ◌∷◌, ◌≡◌, ◌≤◌}
 use Rattle.std.proofs.lemmas.List.{drop_all}
-use Rattle.std.proofs.lemmas.Option.{get_or_from_slice_get, none-some, slice_get_cases, slice_get_read, slice_get_within}
+use Rattle.std.proofs.lemmas.Option.{get_or_from_slice_get, none-some, slice_get_cases, slice_get_read}
+use Rattle.std.proofs.lemmas.Option.{slice_get_within}
 use Rattle.std.specs.Prelude.{slice_get}
 use Rattle.argus_entries.specs.Entry.{PlainEntry}
 use Rattle.argus_journal.specs.Journal.{entry_at}
@@ -27,7 +29,6 @@ missing xs i e =
 module _ {A : Type 0} (f : ℕ → A → List ℕ) (xs : List A) (i n : ℕ)
     (a : Option (List ℕ)) (s : List ℕ) (c : Option (List ℕ)) (t whole : List ℕ)
     (left : Left a s c t whole (each_from f n (drop i xs))) where
-
   -- the next member, which was found
   module _ (x : A) (e : slice_get xs i ≡ Some x) (u : List ℕ) (made : u ≡ t ++ f n x) where
     appended : Left a s c u whole (each_from f (n + 1) (drop (i + 1) xs))

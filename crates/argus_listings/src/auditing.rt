@@ -62,8 +62,10 @@ fn append_versions_again(
 ) -> Result<(), OutOfMemory>
     requires { Legal (opening_of journal.now) (entries_of journal.now) }
     ensures { OnOk result (string_bytes text.new ≡ string_bytes text.old
-        ++ version_lines name.now (map (λ v. (v.holder.0,
-        seen_by (opening_of journal.now) (entries_of journal.now) v.holder.0 o.0))
+        ++ version_lines name.now (map (λ v. (
+          v.holder.0,
+          seen_by (opening_of journal.now) (entries_of journal.now) v.holder.0 o.0,
+        ))
         versions.now)) }
 {
     for version in versions {

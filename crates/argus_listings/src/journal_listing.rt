@@ -45,11 +45,7 @@ pub(crate) fn write_opening<W: Write + Drop>(
     write_opened(journal, text, writer)
 }
 
-fn append_folded(
-    entries: u64,
-    actions: u32,
-    text: &mut String<Heap>,
-) -> Result<(), OutOfMemory>
+fn append_folded(entries: u64, actions: u32, text: &mut String<Heap>) -> Result<(), OutOfMemory>
     ensures { OnOk result (string_bytes text.new
         ≡ string_bytes text.old ++ folded_line entries actions) }
 {

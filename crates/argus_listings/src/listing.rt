@@ -8,7 +8,7 @@
 /// | `Bases` | for each object `acct {7}`: what it holds for good |
 /// | `Stacks` | for each object `acct base {7}`, then its readers, then its versions |
 /// | `Journal` | the opening, where entries went before it; then each entry's line |
-/// | `Audit` | for each object its base and its versions, computed from the journal; then `entries 6` |
+/// | `Audit` | for each object its base and its versions, by the journal; then `entries 6` |
 ///
 /// Readers are `acct readers a1 a2`, or `acct readers none`. A version is `acct version a3 {8}`;
 /// they go from ancestor to descendant. An opening is `opening entries 6 actions 1`: the numbers of

@@ -6,6 +6,8 @@
 mod answering;
 mod asking;
 mod counting;
+mod full;
+mod listing;
 mod picture;
 mod question;
 mod reading;
@@ -23,11 +25,12 @@ use std::fs;
 use tester::Tester;
 
 // The files in data/.
-const TEXTS: [&str; 7] = [
+const TEXTS: [&str; 8] = [
     "locks.rows",
     "ends.rows",
     "contents.rows",
     "questions.rows",
+    "listings.rows",
     "checkpoints.rows",
     "limits.rows",
     "memory.rows",

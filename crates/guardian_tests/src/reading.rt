@@ -1,6 +1,7 @@
 //! What a row spells before its arrow. A call that is read wrongly is seen: its line is compared.
 
 use crate::asking::question_of;
+use crate::listing::listing_of;
 use crate::row::Row;
 use crate::row_fault::RowFault;
 use argus_actions::ActionId;
@@ -56,6 +57,9 @@ pub(crate) fn row_of(heap: Heap, text: &str) -> Result<Row, RowFault> {
         return Ok(Row::Checkpoint);
     }
     let (word, rest) = first_word(text);
+    if word == "list" {
+        return Ok(Row::List(listing_of(rest)?));
+    }
     match question_of(word, rest)? {
         Some(question) => Ok(Row::Question(question)),
         None => Ok(Row::Call(call_of(heap, word, rest)?)),

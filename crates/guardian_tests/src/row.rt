@@ -2,6 +2,7 @@
 
 use crate::question::Question;
 use argus_entries::Call;
+use argus_listings::Listing;
 
 /// What a row asks for, before its arrow.
 ///
@@ -16,4 +17,6 @@ pub(crate) enum Row {
     Checkpoint,
     /// A question, after which all is as before.
     Question(Question),
+    /// A listing, after which all is as before; the names stand in the row.
+    List(Listing),
 }

@@ -1,6 +1,7 @@
 //! `Subject`: a guardian that rows are told to.
 
 use crate::answering::tell_answer;
+use crate::listing::{names_in, tell_listing};
 use crate::picture::picture;
 use crate::question::Question;
 use crate::reading::row_of;
@@ -8,6 +9,7 @@ use crate::row::Row;
 use crate::row_fault::RowFault;
 use argus_entries::{Call, Entry, Reply, write_entry};
 use argus_guardian::{CheckpointError, Guardian};
+use argus_listings::Listing;
 use argus_memory::{Heap, OutOfMemory};
 
 /// A guardian that rows are told to, and the heap of its calls. What it answers is written in
@@ -56,6 +58,7 @@ impl Subject {
             Row::Call(call) => self.line_of_call(call),
             Row::Checkpoint => self.line_of_checkpoint(),
             Row::Question(question) => self.line_of_question(question, asked),
+            Row::List(listing) => self.line_of_listing(listing, asked),
         }
     }
 
@@ -94,6 +97,21 @@ impl Subject {
         let mut line = String::from_str(self.texts, asked)?;
         line.push_str(" ->")?;
         tell_answer(&self.guardian, self.heap, question, &mut line)?;
+        Ok(line)
+    }
+
+    fn line_of_listing(&self, listing: Listing, asked: &str) -> Result<String<Heap>, OutOfMemory> {
+        let mut line = String::from_str(self.texts, asked)?;
+        line.push_str(" ->")?;
+        let names = names_in(self.texts, asked)?;
+        tell_listing(
+            &self.guardian,
+            self.heap,
+            self.texts,
+            names.as_slice(),
+            listing,
+            &mut line,
+        )?;
         Ok(line)
     }
 }

@@ -16,7 +16,7 @@ returns-in-Some c =
     let entries = c.journal-journal.ensures.entries ∙ c.journal.ensures.entries in
     let legal : Legal said.opening said.entries = rw (← opening, ← entries) c.journal-journal.ensures.legal in
     let told = told_there said c.args.o.0 (map version_told c.in-Some.versions.now)
-        (versions_of said.opening said.entries c.args.o.0) c.requires c.in-Some.ensures in
+    (versions_of said.opening said.entries c.args.o.0) c.requires c.in-Some.ensures in
     IfOk-equal c.append_versions_again.result _ _ _ c.append_versions_again.ensures
     (audited said legal c.args.o.0 c.args.name.now (opening_of journal) (entries_of journal) c.in-Some.versions.now
     (string_bytes c.args.text.now) (string_bytes c.append_base_again.new.text) opening entries told

@@ -9,7 +9,13 @@ use Rattle.argus_listings.proofs.auditing.append_versions_again.Given as goal
 
 abbrev pub invariant-loop-version : goal.invariant-loop-version
 invariant-loop-version l =
-    string_bytes l.text ++ version_lines l.name (map (λ (v : Version). (v.holder.0, seen_by (opening_of l.journal)
-    (entries_of l.journal) v.holder.0 l.o.0)) (drop l.version-index l.versions))
-    ≡ string_bytes l.fn.text ++ version_lines l.name (map (λ (v : Version). (v.holder.0, seen_by (opening_of l.journal)
-    (entries_of l.journal) v.holder.0 l.o.0)) l.versions)
+    string_bytes l.text ++ version_lines l.name (map (λ (v : Version). (
+      v.holder.0,
+      seen_by (opening_of l.journal)
+          (entries_of l.journal) v.holder.0 l.o.0,
+    )) (drop l.version-index l.versions))
+    ≡ string_bytes l.fn.text ++ version_lines l.name (map (λ (v : Version). (
+      v.holder.0,
+      seen_by (opening_of l.journal)
+          (entries_of l.journal) v.holder.0 l.o.0,
+    )) l.versions)

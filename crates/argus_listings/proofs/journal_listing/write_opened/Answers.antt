@@ -38,13 +38,13 @@ returns-in_err-pour_long-clause-cut g c =
 pub overflow_add-o : goal.overflow_add-o
 overflow_add-o g c =
     let low = slice_get_within (opening_of c.args.journal.now).objects c.loop-shape.o
-        (c.in-Some.shape.now, plain_option c.in-Some.content.now) (sym c.in-Some.ensures.object) in
+    (c.in-Some.shape.now, plain_option c.in-Some.content.now) (sym c.in-Some.ensures.object) in
     omega (arith, low, c.requires.few)
 
 pub loop-shape-smaller : goal.loop-shape-smaller
 loop-shape-smaller g c =
     let low = slice_get_within (opening_of c.args.journal.now).objects c.loop-shape.o
-        (c.in-Some.shape.now, plain_option c.in-Some.content.now) (sym c.in-Some.ensures.object) in
+    (c.in-Some.shape.now, plain_option c.in-Some.content.now) (sym c.in-Some.ensures.object) in
     omega (arith, low)
 
 pub loop-shape-preserved : goal.loop-shape-preserved

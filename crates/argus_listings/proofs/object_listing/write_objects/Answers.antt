@@ -27,8 +27,8 @@ returns-in_err-pour_long-clause-cut g c =
     (g.W.Write.contents (inner_of c.loop-name.writer)) (string_bytes c.loop-name.text)
     (objects_text c.args.listing c.args.names.now said) c.loop-name.invariant.left
     c.name-item.result (taken c.declared_names-name-items.result.now (names_within said c.args.names.now)
-          c.loop-name.name-index c.name-item.result c.declared_names-name-items.ensures.within
-          c.loop-name-test.true c.name-item.is)
+    c.loop-name.name-index c.name-item.result c.declared_names-name-items.ensures.within
+    c.loop-name-test.true c.name-item.is)
     (string_bytes c.append_object.new.text) c.in_ok-append_object.ensures
     (g.W.Write.contents (inner_of c.pour_long.new.writer)) c.in_err-pour_long.ensures.cut)
 

@@ -18,7 +18,8 @@ same_journal : (listing : Listing) (names : List (List ℕ)) (said : Said) (s : 
     → listing ≡ Journal → s ≡ said.opening → j ≡ said.entries
     → opening_text s ++ entries_text s j ≡ listing_of listing names said
 same_journal listing names said s j e f h =
-    ap (λ k. opening_text k ++ entries_text k j) f ∙ ap (λ k. opening_text said.opening ++ entries_text said.opening k) h
+    ap (λ k. opening_text k ++ entries_text k j) f
+    ∙ ap (λ k. opening_text said.opening ++ entries_text said.opening k) h
     ∙ ap (λ k. listing_of k names said) (sym e)
 
 -- the objects and the last line are an audit

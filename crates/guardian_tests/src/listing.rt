@@ -1,0 +1,104 @@
+//! Listings, as text: a bar stands for each line's end.
+
+use crate::full::Full;
+use crate::row_fault::RowFault;
+use crate::telling::tell_word;
+use argus_contents::{Name, NameError};
+use argus_guardian::Guardian;
+use argus_listings::{ListError, Listing, list};
+use argus_memory::{Heap, OutOfMemory};
+use argus_streams::Watched;
+use std::str::from_utf8;
+
+/// The listing that a row asks for by its first word.
+pub(crate) fn listing_of(text: &str) -> Result<Listing, RowFault> {
+    match text.split(' ').next() {
+        Some("bases") => Ok(Listing::Bases),
+        Some("stacks") => Ok(Listing::Stacks),
+        Some("journal") => Ok(Listing::Journal),
+        Some("audit") => Ok(Listing::Audit),
+        Some(_) | None => Err(RowFault::NotSpelled),
+    }
+}
+
+/// The names that stand in a row behind `list` and the listing's word.
+pub(crate) fn names_in(texts: Heap, asked: &str) -> Result<Vec<Name, Heap>, OutOfMemory> {
+    let mut names = Vec::new(texts);
+    for word in asked.split(' ').skip(2) {
+        match Name::new(texts, word) {
+            Ok(name) => names.push(name)?,
+            Err(NameError::OutOfMemory) => return Err(OutOfMemory),
+            Err(NameError::BadName) => {}
+        }
+    }
+    Ok(names)
+}
+
+/// Adds the listing, or `nothing`. The first heap may be refused memory, the other one not.
+pub(crate) fn tell_listing(
+    guardian: &Guardian,
+    heap: Heap,
+    texts: Heap,
+    names: &[Name],
+    listing: Listing,
+    out: &mut String<Heap>,
+) -> Result<(), OutOfMemory> {
+    let mut writer = Watched::new(Vec::new(texts));
+    match list(heap, guardian, names, listing, &mut writer) {
+        Ok(()) => {}
+        Err(ListError::OutOfMemory) => return Err(OutOfMemory),
+        Err(ListError::Write) => return tell_word("write fault", out),
+    }
+    let written = writer.get_ref().as_slice();
+    for room in 0..written.len() {
+        if !is_cut_at(guardian, texts, names, listing, written, room) {
+            return tell_word("something else where the writer is full", out);
+        }
+    }
+    tell_lines(written, out)
+}
+
+// Whether a writer with so much room gets just the front, and is not tried again.
+fn is_cut_at(
+    guardian: &Guardian,
+    texts: Heap,
+    names: &[Name],
+    listing: Listing,
+    written: &[u8],
+    room: usize,
+) -> bool {
+    let mut writer = Watched::new(Full {
+        taken: Vec::new(texts),
+        room,
+        fails: room % 2 == 0,
+        writes_behind: 0,
+    });
+    let fault = list(texts, guardian, names, listing, &mut writer).err();
+    let full = writer.get_ref();
+    let is_front = full.taken.len() == room && written.starts_with(full.taken.as_slice());
+    fault == Some(ListError::Write) && is_front && full.writes_behind == 1
+}
+
+fn tell_lines(written: &[u8], out: &mut String<Heap>) -> Result<(), OutOfMemory> {
+    if written.is_empty() {
+        return tell_word("nothing", out);
+    }
+    match from_utf8(written) {
+        Ok(text) => tell_each_line(text, out),
+        Err(_) => tell_word("no text", out),
+    }
+}
+
+fn tell_each_line(text: &str, out: &mut String<Heap>) -> Result<(), OutOfMemory> {
+    let mut rest = text;
+    while let Some((line, others)) = rest.split_once('\n') {
+        tell_word(line, out)?;
+        tell_word("|", out)?;
+        rest = others;
+    }
+    if rest.is_empty() {
+        Ok(())
+    } else {
+        tell_word(rest, out)
+    }
+}
