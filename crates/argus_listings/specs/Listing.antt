@@ -1,0 +1,142 @@
+-- What each listing of a guardian is, to the byte.
+use Rattle.std.specs.Fmt.{decimal}
+use Rattle.std.specs.List.{enumerate_from, flat_map}
+use Rattle.std.specs.Prelude.{List, None, Option, Some, [], codes, if◌then◌else◌, map, reverse}
+use Rattle.std.specs.Prelude.{take, ℕ, ◌++◌, ◌==◌, ◌∷◌}
+use Rattle.argus_contents.specs.Content.{PlainContent}
+use Rattle.argus_contents.specs.Shape.{PlainShape}
+use Rattle.argus_entries.specs.Entry.{PlainEntry}
+use Rattle.argus_entries.specs.EntrySpelling.{entry_spelling}
+use Rattle.argus_journal.specs.Folding.{next_entry_number}
+use Rattle.argus_journal.specs.Objects.{declared}
+use Rattle.argus_journal.specs.Opening.{Opening}
+use Rattle.argus_journal.specs.Told.{replayed}
+use Rattle.argus_journal.specs.Words.{base_of, readers_of, versions_of, writers_of}
+use Rattle.argus_steps.specs.Step.{Said}
+use Rattle.argus_texts.specs.ContentSpelling.{content_spelling}
+use Rattle.argus_texts.specs.ShapeSpelling.{shape_spelling}
+use Rattle.argus_listings.specs.declared.listing.Listing.{Listing}
+use Rattle.argus_listings.specs.declared.listing.Listing.TheVariants.{Audit, Bases, Journal, Stacks}
+
+-- a content as it is written; `absent` where there is none
+abbrev pub content_text : Option PlainContent → List ℕ
+content_text None = codes "absent"
+content_text (Some c) = content_spelling c
+
+-- a line of an object: its name, these words, a content and a line feed
+abbrev pub object_line : List ℕ → List ℕ → Option PlainContent → List ℕ
+object_line name words c = name ++ words ++ content_text c ++ 10 ∷ []
+
+-- the line of what an object holds for good, where more is listed of it
+abbrev pub base_line : List ℕ → Option PlainContent → List ℕ
+base_line name c = object_line name (codes " base ") c
+
+-- the line of a version: its holder and its content
+abbrev pub version_line : List ℕ → ℕ × Option PlainContent → List ℕ
+version_line name v = object_line name (codes " version a" ++ decimal v.0 ++ codes " ") v.1
+
+-- the lines of versions, in their order
+abbrev pub version_lines : List ℕ → List (ℕ × Option PlainContent) → List ℕ
+version_lines name versions = flat_map (version_line name) versions
+
+-- an action behind a space
+abbrev pub reader_text : ℕ → List ℕ
+reader_text a = codes " a" ++ decimal a
+
+-- the readers, each behind a space; `none` where there is none
+abbrev pub readers_text : List ℕ → List ℕ
+readers_text [] = codes " none"
+readers_text (a ∷ actions) = flat_map reader_text (a ∷ actions)
+
+-- the line of an object's readers
+abbrev pub readers_line : List ℕ → List ℕ → List ℕ
+readers_line name readers = name ++ codes " readers" ++ readers_text readers ++ 10 ∷ []
+
+-- what is in the object for good, as the journal's writes leave it when they are run again
+abbrev pub base_again : Said → ℕ → Option PlainContent
+base_again said o = replayed said.opening said.entries None o said.entries
+
+-- what the action sees in the object, likewise
+abbrev pub seen_again : Said → ℕ → ℕ → Option PlainContent
+seen_again said a o =
+    replayed said.opening said.entries (Some (record { 0 = a })) o said.entries
+
+-- each who holds the object for writing, from ancestor to descendant, with what it sees, likewise
+abbrev pub versions_again : Said → ℕ → List (ℕ × Option PlainContent)
+versions_again said o =
+    map (λ a. (a, seen_again said a o)) (writers_of said.opening said.entries o)
+
+-- the line of an object in the listing of bases
+abbrev pub bases_text : Said → ℕ → List ℕ → List ℕ
+bases_text said o name =
+    object_line name (codes " ") (base_of said.opening said.entries o)
+
+-- the lines of an object in the listing of stacks
+abbrev pub stacks_text : Said → ℕ → List ℕ → List ℕ
+stacks_text said o name =
+    base_line name (base_of said.opening said.entries o)
+    ++ readers_line name (readers_of said.opening said.entries o)
+    ++ version_lines name (versions_of said.opening said.entries o)
+
+-- the lines of an object in the audit
+abbrev pub audit_text : Said → ℕ → List ℕ → List ℕ
+audit_text said o name =
+    base_line name (base_again said o) ++ version_lines name (versions_again said o)
+
+-- the lines of an object in each listing; the journal has none
+abbrev pub object_text : Listing → Said → ℕ → List ℕ → List ℕ
+object_text Bases said o name = bases_text said o name
+object_text Stacks said o name = stacks_text said o name
+object_text Journal said o name = []
+object_text Audit said o name = audit_text said o name
+
+-- what the function says of each, with its number, where the first has this number
+abbrev pub each_from : {A : Type 0} → (ℕ → A → List ℕ) → ℕ → List A → List ℕ
+each_from text n xs = flat_map (λ p. text p.0 p.1) (enumerate_from n xs)
+
+-- the names of declared objects
+abbrev pub names_within : Said → List (List ℕ) → List (List ℕ)
+names_within said names = take (declared said.opening said.entries) names
+
+-- the lines of the objects, in the order of their numbers
+abbrev pub objects_text : Listing → List (List ℕ) → Said → List ℕ
+objects_text listing names said =
+    each_from (object_text listing said) 0 (names_within said names)
+
+-- the line of how many entries and actions went before the opening
+abbrev pub folded_line : Opening → List ℕ
+folded_line s =
+    codes "opening entries " ++ decimal s.first_entry
+    ++ codes " actions " ++ decimal s.first_action ++ 10 ∷ []
+
+-- the line of an object of the opening
+abbrev pub opened_line : ℕ → PlainShape × Option PlainContent → List ℕ
+opened_line o object =
+    codes "opening o" ++ decimal o ++ codes " " ++ shape_spelling object.0
+    ++ codes " " ++ content_text object.1 ++ 10 ∷ []
+
+-- the lines of an opening; none where no entry went before it
+abbrev pub opening_text : Opening → List ℕ
+opening_text s =
+    if s.first_entry == 0 then [] else (folded_line s ++ each_from opened_line 0 s.objects)
+
+-- the line of the entry with this number
+abbrev pub entry_line : ℕ → PlainEntry → List ℕ
+entry_line at e = entry_spelling at e ++ 10 ∷ []
+
+-- the lines of the entries since the opening, the oldest first
+abbrev pub entries_text : Opening → List PlainEntry → List ℕ
+entries_text s j = each_from entry_line s.first_entry (reverse j)
+
+-- the last line of an audit: the number of the next entry
+abbrev pub length_line : Said → List ℕ
+length_line said =
+    codes "entries " ++ decimal (next_entry_number said.opening said.entries) ++ 10 ∷ []
+
+-- a listing of a guardian whose objects have these names, as far as there are both
+abbrev pub listing_of : Listing → List (List ℕ) → Said → List ℕ
+listing_of Bases names said = objects_text Bases names said
+listing_of Stacks names said = objects_text Stacks names said
+listing_of Journal names said =
+    opening_text said.opening ++ entries_text said.opening said.entries
+listing_of Audit names said = objects_text Audit names said ++ length_line said

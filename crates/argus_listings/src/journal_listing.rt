@@ -1,0 +1,128 @@
+//! The lines of a journal: of its opening, and of its entries.
+
+ghost use Rattle.std.specs.Prelude.{◌≡◌, ◌++◌, IfErr, OnErr, OnOk, false, string_bytes, true};
+ghost use Rattle.argus_contents.specs.Content.{plain_option};
+ghost use Rattle.argus_entries.specs.Entry.{plain_entry};
+ghost use Rattle.argus_journal.specs.Journal.{entries_of, opening_of};
+ghost use Rattle.argus_listings.specs.Listing.{each_from, entries_text, entry_line};
+ghost use Rattle.argus_listings.specs.Listing.{folded_line, opened_line, opening_text};
+ghost use Rattle.argus_listings.specs.Pouring.{Added, Cut};
+ghost use Rattle.argus_listings.specs.declared.list_error.ListError.TheVariants.{Write};
+ghost use Rattle.argus_streams.specs.Watched.{has_failed, inner_of};
+
+use crate::appending::{append, append_content, append_number};
+use crate::list_error::ListError;
+use crate::pouring::pour_long;
+use argus_contents::{Content, ObjId, Shape};
+use argus_entries::{Entry, write_entry};
+use argus_journal::Journal;
+use argus_memory::{Heap, OutOfMemory};
+use argus_streams::Watched;
+use argus_texts::write_shape;
+use std::io::Write;
+
+/// The lines of the opening, where entries went before it.
+pub(crate) fn write_opening<W: Write + Drop>(
+    journal: &Journal,
+    text: &mut String<Heap>,
+    writer: &mut Watched<W>,
+) -> Result<(), ListError>
+    requires { has_failed writer.old ≡ false }
+    ensures ok { OnOk result (Added (W.contents (inner_of writer.old)) (string_bytes text.old)
+        (W.contents (inner_of writer.new)) (string_bytes text.new)
+        (opening_text (opening_of journal.now))) }
+    ensures fine { OnOk result (has_failed writer.new ≡ false) }
+    ensures cut { OnErr result (Cut (W.contents (inner_of writer.old)) (string_bytes text.old)
+        (W.contents (inner_of writer.new)) (opening_text (opening_of journal.now))) }
+    ensures failed { IfErr result (λ e. e ≡ Write → has_failed writer.new ≡ true) }
+{
+    if journal.first_entry() == 0 {
+        return Ok(());
+    }
+    append_folded(journal, text)?;
+    write_opened(journal, text, writer)
+}
+
+fn append_folded(journal: &Journal, text: &mut String<Heap>) -> Result<(), OutOfMemory>
+    ensures { OnOk result (string_bytes text.new
+        ≡ string_bytes text.old ++ folded_line (opening_of journal.now)) }
+{
+    append_number("opening entries ", journal.first_entry(), text)?;
+    append_number(" actions ", u64::from(journal.first_action()), text)?;
+    append("\n", text)
+}
+
+// The lines of the opening's objects.
+fn write_opened<W: Write + Drop>(
+    journal: &Journal,
+    text: &mut String<Heap>,
+    writer: &mut Watched<W>,
+) -> Result<(), ListError>
+    requires { has_failed writer.old ≡ false }
+    ensures ok { OnOk result (Added (W.contents (inner_of writer.old)) (string_bytes text.old)
+        (W.contents (inner_of writer.new)) (string_bytes text.new)
+        (each_from opened_line 0 (opening_of journal.now).objects)) }
+    ensures fine { OnOk result (has_failed writer.new ≡ false) }
+    ensures cut { OnErr result (Cut (W.contents (inner_of writer.old)) (string_bytes text.old)
+        (W.contents (inner_of writer.new))
+        (each_from opened_line 0 (opening_of journal.now).objects)) }
+    ensures failed { IfErr result (λ e. e ≡ Write → has_failed writer.new ≡ true) }
+{
+    let mut o = 0;
+    while let Some((shape, content)) = journal.opening(ObjId(o)) {
+        append_opened(o, shape, content, text)?;
+        pour_long(text, writer)?;
+        o += 1;
+    }
+    Ok(())
+}
+
+fn append_opened(
+    o: u32,
+    shape: &Shape,
+    content: &Option<Content>,
+    text: &mut String<Heap>,
+) -> Result<(), OutOfMemory>
+    ensures { OnOk result (string_bytes text.new ≡ string_bytes text.old
+        ++ opened_line o (shape.now, plain_option content.now)) }
+{
+    append_number("opening o", u64::from(o), text)?;
+    append(" ", text)?;
+    write_shape(shape, text)?;
+    append(" ", text)?;
+    append_content(content, text)?;
+    append("\n", text)
+}
+
+/// The lines of the entries since the opening.
+pub(crate) fn write_entries<W: Write + Drop>(
+    journal: &Journal,
+    text: &mut String<Heap>,
+    writer: &mut Watched<W>,
+) -> Result<(), ListError>
+    requires { has_failed writer.old ≡ false }
+    ensures ok { OnOk result (Added (W.contents (inner_of writer.old)) (string_bytes text.old)
+        (W.contents (inner_of writer.new)) (string_bytes text.new)
+        (entries_text (opening_of journal.now) (entries_of journal.now))) }
+    ensures fine { OnOk result (has_failed writer.new ≡ false) }
+    ensures cut { OnErr result (Cut (W.contents (inner_of writer.old)) (string_bytes text.old)
+        (W.contents (inner_of writer.new))
+        (entries_text (opening_of journal.now) (entries_of journal.now))) }
+    ensures failed { IfErr result (λ e. e ≡ Write → has_failed writer.new ≡ true) }
+{
+    let mut at = journal.first_entry();
+    while let Some(entry) = journal.get(at) {
+        append_entry(at, entry, text)?;
+        pour_long(text, writer)?;
+        at += 1;
+    }
+    Ok(())
+}
+
+fn append_entry(at: u64, entry: &Entry, text: &mut String<Heap>) -> Result<(), OutOfMemory>
+    ensures { OnOk result (string_bytes text.new
+        ≡ string_bytes text.old ++ entry_line at (plain_entry entry.now)) }
+{
+    write_entry(at, entry, text)?;
+    append("\n", text)
+}

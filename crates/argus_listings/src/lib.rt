@@ -1,0 +1,17 @@
+//! The listings of a guardian, written to a writer.
+#![tactic(auto)]
+
+mod appending;
+mod auditing;
+mod journal_listing;
+pub mod laws;
+mod list_error;
+mod listing;
+mod object_listing;
+mod pouring;
+mod stacking;
+mod writing;
+
+pub use list_error::ListError;
+pub use listing::Listing;
+pub use writing::list;

@@ -1,0 +1,76 @@
+//! The lines of objects, in the order of their numbers.
+
+ghost use Rattle.std.specs.Prelude.{◌≡◌, ◌<◌, ◌++◌, IfErr, OnErr, OnOk, false};
+ghost use Rattle.std.specs.Prelude.{string_bytes, true};
+ghost use Rattle.argus_journal.specs.Objects.{declared};
+ghost use Rattle.argus_listings.specs.Listing.{names_within, object_text, objects_text};
+ghost use Rattle.argus_listings.specs.Pouring.{Added, Cut};
+ghost use Rattle.argus_listings.specs.declared.list_error.ListError.TheVariants.{Write};
+ghost use Rattle.argus_streams.specs.Watched.{has_failed, inner_of};
+
+use crate::auditing::append_audit;
+use crate::list_error::ListError;
+use crate::listing::Listing;
+use crate::pouring::pour_long;
+use crate::stacking::{append_base, append_stack};
+use argus_contents::{Name, ObjId};
+use argus_guardian::Guardian;
+use argus_memory::{Heap, OutOfMemory};
+use argus_streams::Watched;
+use std::io::Write;
+
+/// The lines of each object, as far as there are both a name and a declared object.
+pub(crate) fn write_objects<W: Write + Drop>(
+    heap: Heap,
+    guardian: &Guardian,
+    names: &[Name],
+    listing: Listing,
+    text: &mut String<Heap>,
+    writer: &mut Watched<W>,
+) -> Result<(), ListError>
+    requires { has_failed writer.old ≡ false }
+    ensures ok { OnOk result (Added (W.contents (inner_of writer.old)) (string_bytes text.old)
+        (W.contents (inner_of writer.new)) (string_bytes text.new)
+        (objects_text listing names.now guardian.now)) }
+    ensures fine { OnOk result (has_failed writer.new ≡ false) }
+    ensures cut { OnErr result (Cut (W.contents (inner_of writer.old)) (string_bytes text.old)
+        (W.contents (inner_of writer.new)) (objects_text listing names.now guardian.now)) }
+    ensures failed { IfErr result (λ e. e ≡ Write → has_failed writer.new ≡ true) }
+{
+    let mut o = 0;
+    for name in declared_names(guardian, names) {
+        append_object(heap, guardian, ObjId(o), name, listing, text)?;
+        pour_long(text, writer)?;
+        o += 1;
+    }
+    Ok(())
+}
+
+// The names of declared objects.
+fn declared_names<'a>(guardian: &Guardian, names: &'a [Name]) -> &'a [Name]
+    ensures { result.now ≡ names_within guardian.now names.now }
+{
+    let count = (guardian.objects() as usize).min(names.len());
+    &names[..count]
+}
+
+// The lines of one object.
+fn append_object(
+    heap: Heap,
+    guardian: &Guardian,
+    o: ObjId,
+    name: &Name,
+    listing: Listing,
+    text: &mut String<Heap>,
+) -> Result<(), OutOfMemory>
+    requires { o.0 < declared guardian.now.opening guardian.now.entries }
+    ensures { OnOk result (string_bytes text.new
+        ≡ string_bytes text.old ++ object_text listing guardian.now o.0 name.now) }
+{
+    match listing {
+        Listing::Bases => append_base(guardian, o, name, " ", text),
+        Listing::Stacks => append_stack(guardian, o, name, text),
+        Listing::Journal => Ok(()),
+        Listing::Audit => append_audit(heap, guardian, o, name, text),
+    }
+}

@@ -1,0 +1,93 @@
+//! `list`: a listing of a guardian, written.
+
+ghost use Rattle.std.specs.Io.KnownBytes.{Appends};
+ghost use Rattle.std.specs.Prelude.{IfErr, OnErr, OnOk, false, string_bytes, take, true, ℕ, ◌≡◌};
+ghost use Rattle.argus_listings.specs.Listing.{listing_of};
+ghost use Rattle.argus_listings.specs.Pouring.{Added, Cut};
+ghost use Rattle.argus_listings.specs.declared.list_error.ListError.TheVariants.{Write};
+ghost use Rattle.argus_streams.specs.Watched.{has_failed, inner_of};
+
+use crate::auditing::append_length;
+use crate::journal_listing::{write_entries, write_opening};
+use crate::list_error::ListError;
+use crate::listing::Listing;
+use crate::object_listing::write_objects;
+use crate::pouring::pour;
+use argus_contents::Name;
+use argus_guardian::Guardian;
+use argus_memory::Heap;
+use argus_streams::Watched;
+use std::io::Write;
+
+/// Writes a listing of the guardian. The first name is that of object 0, and so on; objects are
+/// listed as far as there are both a name and a declared object.
+///
+/// The listing is made in the heap in pieces of some 64 KiB, each written once it is made. Nothing
+/// is tried again after a failure; what was written then is a front of the listing.
+///
+/// | Error | When |
+/// |---|---|
+/// | `OutOfMemory` | memory is wanting |
+/// | `Write` | the writer failed or took nothing, and only then |
+///
+/// The writer may not have failed before. An audit goes through the journal for each object, and
+/// for each version once more.
+///
+/// ```text
+/// let mut writer = Watched::new(rt.stdout());
+/// list(heap, &guardian, script.names(), Listing::Bases, &mut writer)?;
+/// // acct {7}
+/// ```
+pub fn list<W: Write + Drop>(
+    heap: Heap,
+    guardian: &Guardian,
+    names: &[Name],
+    listing: Listing,
+    writer: &mut Watched<W>,
+) -> Result<(), ListError>
+    requires { has_failed writer.old ≡ false }
+    ensures written { OnOk result (Appends (W.contents (inner_of writer.old))
+        (W.contents (inner_of writer.new)) (listing_of listing names.now guardian.now)) }
+    ensures cut { OnErr result ((n : ℕ) × Appends (W.contents (inner_of writer.old))
+        (W.contents (inner_of writer.new)) (take n (listing_of listing names.now guardian.now))) }
+    ensures failed { IfErr result (λ e. e ≡ Write → has_failed writer.new ≡ true) }
+{
+    let mut text = String::new(heap);
+    write_listing(heap, guardian, names, listing, &mut text, writer)?;
+    pour(&mut text, writer)
+}
+
+// Writes the listing but for what is then left in the text.
+fn write_listing<W: Write + Drop>(
+    heap: Heap,
+    guardian: &Guardian,
+    names: &[Name],
+    listing: Listing,
+    text: &mut String<Heap>,
+    writer: &mut Watched<W>,
+) -> Result<(), ListError>
+    requires { has_failed writer.old ≡ false }
+    ensures ok { OnOk result (Added (W.contents (inner_of writer.old)) (string_bytes text.old)
+        (W.contents (inner_of writer.new)) (string_bytes text.new)
+        (listing_of listing names.now guardian.now)) }
+    ensures fine { OnOk result (has_failed writer.new ≡ false) }
+    ensures cut { OnErr result (Cut (W.contents (inner_of writer.old)) (string_bytes text.old)
+        (W.contents (inner_of writer.new)) (listing_of listing names.now guardian.now)) }
+    ensures failed { IfErr result (λ e. e ≡ Write → has_failed writer.new ≡ true) }
+{
+    match listing {
+        Listing::Bases | Listing::Stacks => {
+            write_objects(heap, guardian, names, listing, text, writer)
+        }
+        Listing::Journal => {
+            let journal = guardian.journal().journal();
+            write_opening(journal, text, writer)?;
+            write_entries(journal, text, writer)
+        }
+        Listing::Audit => {
+            write_objects(heap, guardian, names, listing, text, writer)?;
+            append_length(guardian, text)?;
+            Ok(())
+        }
+    }
+}
