@@ -66,11 +66,7 @@ pub fn run<R: Read + Drop, W: Write + Drop>(
 }
 
 // The script that the bytes spell, and the guardian on which it was run.
-fn run_bytes(
-    heap: Heap,
-    bytes: &[u8],
-    checkpoint: bool,
-) -> Result<(Script, Guardian), CliFault>
+fn run_bytes(heap: Heap, bytes: &[u8], checkpoint: bool) -> Result<(Script, Guardian), CliFault>
     ensures ran { IfOk result (λ r. RunsTo bytes.now checkpoint (plain_script r.0) r.1) }
     ensures fault { IfErr result (IsRunFault bytes.now) }
 {

@@ -77,12 +77,7 @@ fn words_of(alloc: Global, command: &str) -> Result<Vec<String>> {
 }
 
 // Tells the listing of the script that the reader has, and the status.
-fn tell_run<R: Read + Drop>(
-    rt: &impl Print,
-    heap: Heap,
-    reader: R,
-    asked: Options,
-) -> Result<()> {
+fn tell_run<R: Read + Drop>(rt: &impl Print, heap: Heap, reader: R, asked: Options) -> Result<()> {
     let mut writer = Watched::new(Vec::new(heap));
     let result = run(heap, &mut Watched::new(reader), &mut writer, asked);
     rt.print(from_utf8(writer.get_ref())?)?;

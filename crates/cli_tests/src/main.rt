@@ -35,7 +35,10 @@ fn main(rt: HostRuntime) -> Result<()> {
     }
     ensure!(refused > 1_000, "too few allocations are refused");
     let text = fs::read_to_string(&rt, "command_lines.rows")?;
-    println!(rt; "{} command lines", check_command_lines(rt.alloc(), text.as_str())?)?;
+    println!(rt;
+        "{} command lines",
+        check_command_lines(rt.alloc(), text.as_str())?
+    )?;
     Ok(())
 }
 
@@ -61,13 +64,7 @@ fn check_text(
 }
 
 // Runs the row's script in all ways. Answers how many allocations were refused in turn.
-fn check_row(
-    alloc: Global,
-    heap: Heap,
-    tight: Heap,
-    budget: Budget,
-    row: &Row<'_>,
-) -> Result<u64> {
+fn check_row(alloc: Global, heap: Heap, tight: Heap, budget: Budget, row: &Row<'_>) -> Result<u64> {
     let asked = asked_by(alloc, row)?;
     check_listing(alloc, heap, row, asked)?;
     if row.large {

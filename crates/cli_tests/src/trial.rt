@@ -63,10 +63,7 @@ pub(crate) fn check_reader(heap: Heap, row: &Row<'_>, asked: Options) -> Result<
             "the reader's fault isn't told"
         );
         ensure!(writer.get_ref().is_empty(), "a listing of what wasn't read");
-        ensure!(
-            reader.get_ref().reads_behind == 1,
-            "a read was tried again"
-        );
+        ensure!(reader.get_ref().reads_behind == 1, "a read was tried again");
     }
     ensure!(false, "too many reads");
     Ok(())
