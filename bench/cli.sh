@@ -130,7 +130,7 @@ for count in 50000 100000; do
     report lines "$count"
     report objects "$count"
 done
-for size in 8 15; do
+for size in 8 16; do
     report texts "$size"
     report items "$size"
 done
