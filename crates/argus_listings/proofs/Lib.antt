@@ -1,0 +1,4 @@
+pub mod Added
+pub mod Audits
+pub mod Each
+pub mod Pieces

@@ -104,10 +104,10 @@ objects_text listing names said =
     each_from (object_text listing said) 0 (names_within said names)
 
 -- the line of how many entries and actions went before the opening
-abbrev pub folded_line : Opening → List ℕ
-folded_line s =
-    codes "opening entries " ++ decimal s.first_entry
-    ++ codes " actions " ++ decimal s.first_action ++ 10 ∷ []
+abbrev pub folded_line : ℕ → ℕ → List ℕ
+folded_line entries actions =
+    (codes "opening entries " ++ decimal entries)
+    ++ (codes " actions " ++ decimal actions) ++ 10 ∷ []
 
 -- the line of an object of the opening
 abbrev pub opened_line : ℕ → PlainShape × Option PlainContent → List ℕ
@@ -118,7 +118,8 @@ opened_line o object =
 -- the lines of an opening; none where no entry went before it
 abbrev pub opening_text : Opening → List ℕ
 opening_text s =
-    if s.first_entry == 0 then [] else (folded_line s ++ each_from opened_line 0 s.objects)
+    if s.first_entry == 0 then [] else
+    (folded_line s.first_entry s.first_action ++ each_from opened_line 0 s.objects)
 
 -- the line of the entry with this number
 abbrev pub entry_line : ℕ → PlainEntry → List ℕ

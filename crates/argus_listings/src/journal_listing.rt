@@ -1,7 +1,9 @@
 //! The lines of a journal: of its opening, and of its entries.
 
-ghost use Rattle.std.specs.Prelude.{◌≡◌, ◌++◌, IfErr, OnErr, OnOk, false, string_bytes, true};
+ghost use Rattle.std.specs.Prelude.{◌≡◌, ◌≤◌, ◌++◌, IfErr, OnErr, OnOk, false, length};
+ghost use Rattle.std.specs.Prelude.{string_bytes, true};
 ghost use Rattle.argus_contents.specs.Content.{plain_option};
+ghost use Rattle.argus_contents.specs.declared.limits.TheConstants.{MAX_OBJECTS};
 ghost use Rattle.argus_entries.specs.Entry.{plain_entry};
 ghost use Rattle.argus_journal.specs.Journal.{entries_of, opening_of};
 ghost use Rattle.argus_listings.specs.Listing.{each_from, entries_text, entry_line};
@@ -39,16 +41,20 @@ pub(crate) fn write_opening<W: Write + Drop>(
     if journal.first_entry() == 0 {
         return Ok(());
     }
-    append_folded(journal, text)?;
+    append_folded(journal.first_entry(), journal.first_action(), text)?;
     write_opened(journal, text, writer)
 }
 
-fn append_folded(journal: &Journal, text: &mut String<Heap>) -> Result<(), OutOfMemory>
+fn append_folded(
+    entries: u64,
+    actions: u32,
+    text: &mut String<Heap>,
+) -> Result<(), OutOfMemory>
     ensures { OnOk result (string_bytes text.new
-        ≡ string_bytes text.old ++ folded_line (opening_of journal.now)) }
+        ≡ string_bytes text.old ++ folded_line entries actions) }
 {
-    append_number("opening entries ", journal.first_entry(), text)?;
-    append_number(" actions ", u64::from(journal.first_action()), text)?;
+    append_number("opening entries ", entries, text)?;
+    append_number(" actions ", u64::from(actions), text)?;
     append("\n", text)
 }
 
@@ -58,7 +64,8 @@ fn write_opened<W: Write + Drop>(
     text: &mut String<Heap>,
     writer: &mut Watched<W>,
 ) -> Result<(), ListError>
-    requires { has_failed writer.old ≡ false }
+    requires few { length (opening_of journal.now).objects ≤ MAX_OBJECTS }
+    requires fine { has_failed writer.old ≡ false }
     ensures ok { OnOk result (Added (W.contents (inner_of writer.old)) (string_bytes text.old)
         (W.contents (inner_of writer.new)) (string_bytes text.new)
         (each_from opened_line 0 (opening_of journal.now).objects)) }
@@ -110,11 +117,12 @@ pub(crate) fn write_entries<W: Write + Drop>(
         (entries_text (opening_of journal.now) (entries_of journal.now))) }
     ensures failed { IfErr result (λ e. e ≡ Write → has_failed writer.new ≡ true) }
 {
-    let mut at = journal.first_entry();
-    while let Some(entry) = journal.get(at) {
+    for at in journal.first_entry()..journal.len() {
+        let Some(entry) = journal.get(at) else {
+            return Ok(());
+        };
         append_entry(at, entry, text)?;
         pour_long(text, writer)?;
-        at += 1;
     }
     Ok(())
 }

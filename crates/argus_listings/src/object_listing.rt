@@ -1,6 +1,6 @@
 //! The lines of objects, in the order of their numbers.
 
-ghost use Rattle.std.specs.Prelude.{◌≡◌, ◌<◌, ◌++◌, IfErr, OnErr, OnOk, false};
+ghost use Rattle.std.specs.Prelude.{◌≡◌, ◌<◌, ◌^◌, ◌++◌, IfErr, OnErr, OnOk, false, length};
 ghost use Rattle.std.specs.Prelude.{string_bytes, true};
 ghost use Rattle.argus_journal.specs.Objects.{declared};
 ghost use Rattle.argus_listings.specs.Listing.{names_within, object_text, objects_text};
@@ -48,7 +48,8 @@ pub(crate) fn write_objects<W: Write + Drop>(
 
 // The names of declared objects.
 fn declared_names<'a>(guardian: &Guardian, names: &'a [Name]) -> &'a [Name]
-    ensures { result.now ≡ names_within guardian.now names.now }
+    ensures within { result.now ≡ names_within guardian.now names.now }
+    ensures few { length result.now < 2 ^ 32 }
 {
     let count = (guardian.objects() as usize).min(names.len());
     &names[..count]
