@@ -1,10 +1,9 @@
 //! `run`: from the bytes of a script to the listing of the guardian on which it was run.
 
-ghost use Rattle.std.specs.Prelude.{◌≡◌, ◌+◌, [], false, IfErr, IfOk, OnOk};
+ghost use Rattle.std.specs.Prelude.{◌≡◌, ◌+◌, false, true, IfErr, IfOk, OnOk};
 ghost use Rattle.argus_commands.specs.Script.{plain_script};
 ghost use Rattle.argus_commands.specs.declared.limits.TheConstants.{MAX_SCRIPT_BYTES};
 ghost use Rattle.argus_cli.specs.Ran.{Failed, IsRunFault, Ran, RunsTo, checkpointed};
-ghost use Rattle.argus_runs.specs.Played.{IsPlay};
 ghost use Rattle.argus_streams.specs.Watched.{has_failed, inner_of};
 
 use crate::cli_fault::CliFault;
@@ -61,8 +60,10 @@ pub fn run<R: Read + Drop, W: Write + Drop>(
         Err(InputError::Read) => return Err(CliFault::Read),
         Err(InputError::OutOfMemory) => return Err(CliFault::Memory),
     };
-    let (script, guardian) = run_bytes(heap, bytes.as_slice(), options.checkpoint)?;
-    list(heap, &guardian, script.names(), options.listing, writer)
+    match run_bytes(heap, bytes.as_slice(), options.checkpoint) {
+        Ok((script, guardian)) => list(heap, &guardian, script.names(), options.listing, writer),
+        Err(fault) => Err(fault),
+    }
 }
 
 // The script that the bytes spell, and the guardian on which it was run.
@@ -77,16 +78,17 @@ fn run_bytes(heap: Heap, bytes: &[u8], checkpoint: bool) -> Result<(Script, Guar
     };
     let mut guardian = Guardian::new(heap);
     run_unwritten(heap, &mut guardian, &script)?;
-    if checkpoint {
-        fold_past(&mut guardian)?;
-    }
+    fold_if(checkpoint, &mut guardian)?;
     Ok((script, guardian))
 }
 
-// Makes a checkpoint; where there can't be one, the guardian stays as it is.
-fn fold_past(guardian: &mut Guardian) -> Result<(), OutOfMemory>
-    ensures { OnOk result (guardian.new ≡ checkpointed true guardian.old) }
+// Makes a checkpoint where it is asked for; where there can't be one, the guardian stays as it is.
+fn fold_if(asked: bool, guardian: &mut Guardian) -> Result<(), OutOfMemory>
+    ensures { OnOk result (guardian.new ≡ checkpointed asked guardian.old) }
 {
+    if !asked {
+        return Ok(());
+    }
     match guardian.checkpoint() {
         Ok(()) => Ok(()),
         Err(CheckpointError::Busy) => Ok(()),
