@@ -1,4 +1,4 @@
-//! `argus`: runs a script from standard input, and lists what its objects then hold.
+//! `argus`: runs a script from standard input on a new guardian, and writes the listing asked for.
 //!
 //! | Status | Meaning | On standard error |
 //! |---|---|---|
@@ -9,8 +9,9 @@
 //! | 5 | a read or a write failed | `read fault` or `write fault` |
 #![tactic(auto)]
 
-use argus_cli::{CliFault, NoOptions, Options, Watched, options, run};
+use argus_cli::{CliFault, NoOptions, Options, options, run};
 use argus_memory::Heap;
+use argus_streams::Watched;
 use std::alloc::Global;
 use std::io::{Read, Write};
 use std::process::ExitCode;

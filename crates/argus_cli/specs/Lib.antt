@@ -1,15 +1,2 @@
-pub mod Command
-pub mod Doing
-pub mod Fault
-pub mod Fields
-pub mod Lines
-pub mod Listing
-pub mod Object
-pub mod Parsed
 pub mod Ran
-pub mod Reading
-pub mod Said
-pub mod Script
 pub mod Status
-pub mod Watched
-pub mod Work

@@ -1,5 +1,5 @@
 -- With which status a program ends.
-use Rattle.std.specs.Prelude.{◌≡◌, ℕ, ◌⊎◌}
+use Rattle.std.specs.Prelude.{◌≡◌, ℕ, ◌⊎◌, Bool, true}
 use Rattle.argus_cli.specs.declared.cli_fault.CliFault.{CliFault}
 use Rattle.argus_cli.specs.declared.cli_fault.CliFault.TheVariants as fault
 use Rattle.argus_cli.specs.declared.no_options.NoOptions.{NoOptions}
@@ -16,3 +16,10 @@ status_of fault.Write = 5
 abbrev pub EndsWith0Or2 : NoOptions → Type 0
 EndsWith0Or2 (no.Usage status text) = (status ≡ 0) ⊎ (status ≡ 2)
 EndsWith0Or2 no.OutOfMemory = Unit {0}
+
+-- a fault of a listing, after which the writer has failed or not: want of memory, or a failed write
+abbrev pub IsListingFault : CliFault → Bool → Type 0
+IsListingFault (fault.Script f) failed = ⊥
+IsListingFault fault.Memory failed = Unit {0}
+IsListingFault fault.Read failed = ⊥
+IsListingFault fault.Write failed = failed ≡ true

@@ -3,7 +3,7 @@
 ghost use Rattle.std.specs.Prelude.{◌≡◌};
 ghost use Rattle.argus_cli.specs.Status.{status_of};
 
-use crate::script_fault::ScriptFault;
+use argus_commands::ScriptFault;
 use argus_memory::OutOfMemory;
 use thiserror::Error;
 

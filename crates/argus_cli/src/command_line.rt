@@ -4,12 +4,19 @@ ghost use Rattle.std.specs.Prelude.{IfErr};
 ghost use Rattle.argus_cli.specs.Status.{EndsWith0Or2};
 
 use crate::no_options::NoOptions;
-use crate::run_options::{Listing, Options};
+use crate::run_options::Options;
+use argus_listings::Listing;
 use clap::error::ErrorKind;
 use clap::{Arg, ArgAction, Command, Error};
 use std::alloc::{AllocError, Global};
 
-/// What the words behind the program's name ask for. Without any, the bases are listed.
+/// What the words behind the program's name ask for. Without any, the bases are listed and no
+/// checkpoint is made.
+///
+/// | Words | What they ask for |
+/// |---|---|
+/// | `--list bases`, `stacks`, `journal` or `audit` | this listing |
+/// | `--checkpoint` | a checkpoint behind the run |
 ///
 /// `Usage` has the text with which the program ends and its status: 2 where the words are no
 /// command line of this program, 0 for `--help`. `OutOfMemory` may come in place of any answer.
@@ -20,34 +27,57 @@ use std::alloc::{AllocError, Global};
 pub fn options(alloc: Global, words: Vec<String>) -> Result<Options, NoOptions>
     ensures { IfErr result EndsWith0Or2 }
 {
-    match listing(alloc, words.as_slice()) {
-        Ok(listing) => Ok(Options { listing }),
+    match asked(alloc, words.as_slice()) {
+        Ok(options) => Ok(options),
         Err(error) => Err(usage(alloc, &error)),
     }
 }
 
-fn listing(alloc: Global, words: &[String]) -> Result<Listing, Error> {
+fn asked(alloc: Global, words: &[String]) -> Result<Options, Error> {
     let mut all = Vec::new(alloc);
     all.push("argus")?;
     for word in words {
         all.push(word.as_str())?;
     }
     let matches = command(alloc)?.try_get_matches_from(all.as_slice())?;
-    let _ = matches.get_str("list");
-    Ok(Listing::Bases)
+    Ok(Options {
+        listing: listing_named(matches.get_str("list").unwrap_or("bases")),
+        checkpoint: matches.get_flag("checkpoint"),
+    })
+}
+
+// The listing of a name that the command takes.
+fn listing_named(name: &str) -> Listing {
+    match name {
+        "stacks" => Listing::Stacks,
+        "journal" => Listing::Journal,
+        "audit" => Listing::Audit,
+        _ => Listing::Bases,
+    }
 }
 
 fn command<'a>(alloc: Global) -> Result<Command<'a>, AllocError> {
-    let list = Arg::new(alloc, "list")
+    Command::new(alloc, "argus")
+        .about("Runs a script over atomic objects on a guardian, and lists what it then holds.")
+        .arg(list_option(alloc))?
+        .arg(checkpoint_option(alloc))
+}
+
+fn list_option<'a>(alloc: Global) -> Arg<'a> {
+    Arg::new(alloc, "list")
         .long("list")
         .action(ArgAction::Set)
         .value_name("LISTING")
-        .value_parser(["bases"].as_slice())
+        .value_parser(["bases", "stacks", "journal", "audit"].as_slice())
         .default_value("bases")
-        .help("What is listed after the run: what each object holds for good");
-    Command::new(alloc, "argus")
-        .about("Runs a script over atomic objects, and lists what they then hold.")
-        .arg(list)
+        .help("What is listed after the run")
+}
+
+fn checkpoint_option<'a>(alloc: Global) -> Arg<'a> {
+    Arg::new(alloc, "checkpoint")
+        .long("checkpoint")
+        .action(ArgAction::SetTrue)
+        .help("Folds the journal into its opening before it is listed")
 }
 
 fn usage(alloc: Global, error: &Error) -> NoOptions

@@ -1,51 +1,50 @@
-//! The listing of bases: a line for each object, with its name and what it holds.
+//! `list`: what is asked of a guardian, written.
 
-ghost use Rattle.std.specs.Prelude.{◌≡◌, ◌++◌, IfOk, OnOk, string_bytes};
-ghost use Rattle.argus_contents.specs.Content.{plain_option};
-ghost use Rattle.argus_cli.specs.Doing.{plain_bases};
-ghost use Rattle.argus_cli.specs.Listing.{base_line, listing};
+ghost use Rattle.std.specs.Prelude.{◌≡◌, ℕ, take, false, IfErr, OnErr, OnOk};
+ghost use Rattle.std.specs.Io.KnownBytes.{Appends};
+ghost use Rattle.argus_listings.specs.Listing.{listing_of};
+ghost use Rattle.argus_cli.specs.Status.{IsListingFault};
+ghost use Rattle.argus_streams.specs.Watched.{has_failed, inner_of};
 
-use crate::objects::Objects;
-use argus_contents::Content;
-use argus_memory::{Heap, OutOfMemory};
-use argus_texts::write_content;
+use crate::cli_fault::CliFault;
+use argus_contents::Name;
+use argus_guardian::Guardian;
+use argus_listings::{ListError, Listing};
+use argus_memory::Heap;
+use argus_streams::Watched;
+use std::io::Write;
 
-/// The listing of these bases.
-pub(crate) fn list_bases(
+/// Writes a listing of the guardian, its objects under these names, as `argus_listings::list` does;
+/// the two errors are faults of the program.
+///
+/// | Error | When | What was written |
+/// |---|---|---|
+/// | `Memory` | memory is wanting | the front of the listing |
+/// | `Write` | a write failed, or took nothing; it isn't tried again | the front of the listing |
+///
+/// The writer may not have failed before.
+///
+/// ```text
+/// let mut writer = Watched::new(rt.stdout());
+/// list(heap, &guardian, script.names(), Listing::Stacks, &mut writer)?;
+/// ```
+pub fn list<W: Write + Drop>(
     heap: Heap,
-    objects: &Objects<'_>,
-    bases: &[Option<Content>],
-) -> Result<String<Heap>, OutOfMemory>
-    ensures { IfOk result (λ text. string_bytes text
-        ≡ listing objects.now (plain_bases bases.now)) }
+    guardian: &Guardian,
+    names: &[Name],
+    listing: Listing,
+    writer: &mut Watched<W>,
+) -> Result<(), CliFault>
+    requires { has_failed writer.old ≡ false }
+    ensures written { OnOk result (Appends (W.contents (inner_of writer.old))
+        (W.contents (inner_of writer.new)) (listing_of listing names.now guardian.now)) }
+    ensures cut { OnErr result ((n : ℕ) × Appends (W.contents (inner_of writer.old))
+        (W.contents (inner_of writer.new)) (take n (listing_of listing names.now guardian.now))) }
+    ensures failed { IfErr result (λ e. IsListingFault e (has_failed writer.new)) }
 {
-    let mut text = String::new(heap);
-    for i in 0..objects.len() {
-        let Some(name) = objects.name(i) else {
-            return Ok(text);
-        };
-        if i >= bases.len() {
-            return Ok(text);
-        }
-        append_base(name, &bases[i], &mut text)?;
+    match argus_listings::list(heap, guardian, names, listing, writer) {
+        Ok(()) => Ok(()),
+        Err(ListError::OutOfMemory) => Err(CliFault::Memory),
+        Err(ListError::Write) => Err(CliFault::Write),
     }
-    Ok(text)
-}
-
-fn append_base(
-    name: &str,
-    base: &Option<Content>,
-    text: &mut String<Heap>,
-) -> Result<(), OutOfMemory>
-    ensures { OnOk result (string_bytes text.new ≡ string_bytes text.old
-        ++ base_line name.now (plain_option base.now)) }
-{
-    text.push_str(name)?;
-    text.push_str(" ")?;
-    match base {
-        Some(content) => write_content(content, text)?,
-        None => text.push_str("absent")?,
-    }
-    text.push_str("\n")?;
-    Ok(())
 }

@@ -7,7 +7,7 @@ use std::alloc::AllocError;
 /// ```text
 /// match options(rt.alloc(), words) {
 ///     Ok(options) => ..,
-///     Err(NoOptions::Usage { status, text }) => ..,     // of `argus --workers 9`: 2, and what clap says
+///     Err(NoOptions::Usage { status, text }) => ..,     // of `argus --list locks`: 2
 ///     Err(NoOptions::OutOfMemory) => ..,
 /// }
 /// ```

@@ -1,23 +1,16 @@
 //! `Options`: what is asked of a run.
 
-/// What is listed after a run.
-///
-/// ```text
-/// acct {7}
-/// notes absent
-/// ```
-#[derive(Clone, Copy, Debug, PartialEq, Eq)]
-pub enum Listing {
-    /// A line for each object: its name, and what it holds for good.
-    Bases,
-}
+use argus_listings::Listing;
 
-/// What is asked of a run.
+/// What is asked of a run: which listing, and whether a checkpoint is made before it.
 ///
 /// ```text
-/// Options { listing: Listing::Bases }
+/// Options { listing: Listing::Journal, checkpoint: true }
 /// ```
 #[derive(Clone, Copy, Debug, PartialEq, Eq)]
 pub struct Options {
+    /// What is listed behind the run.
     pub listing: Listing,
+    /// Whether the journal is folded into its opening before the listing.
+    pub checkpoint: bool,
 }

@@ -1,36 +1,84 @@
-//! Runs the example scripts, and tells what each lists and with which status the program ends.
+//! Runs the example scripts as their own comments say, and tells what each lists and with which
+//! status the program ends.
 //!
-//! The scripts lie in data/, which `examples` at the top of the repository leads to.
+//! The scripts lie in data/, which `examples` at the top of the repository leads to. A comment
+//! that begins with `# ./argus` is a command line, and is carried out.
 #![tactic(auto)]
 
-use argus_cli::{Listing, NoOptions, Options, Watched, options, run};
-use argus_memory::Heap;
+use anyhow::Result;
+use argus_cli::{NoOptions, Options, options, run};
+use argus_memory::{Heap, OutOfMemory};
+use argus_streams::Watched;
 use std::alloc::Global;
 use std::fs;
 use std::io::Read;
 use std::str::from_utf8;
 
-const EXAMPLES: [&str; 3] = ["account.argus", "kinds.argus", "refused.argus"];
+const EXAMPLES: [&str; 8] = [
+    "account.argus",
+    "kinds.argus",
+    "refused.argus",
+    "transfer.argus",
+    "arms.argus",
+    "nested.argus",
+    "leave_all.argus",
+    "checkpoint.argus",
+];
 
-fn main(rt: HostRuntime) -> anyhow::Result<()> {
+fn main(rt: HostRuntime) -> Result<()> {
     let heap = Heap::new(rt.alloc())?;
     for name in EXAMPLES {
-        println!(rt; "argus < examples/{name}")?;
-        tell_run(&rt, heap, fs::open(&rt, name)?)?;
+        let script = fs::read_to_string(&rt, name)?;
+        tell_example(&rt, heap, script.as_str())?;
     }
-    println!(rt; "argus < .")?;
-    tell_run(&rt, heap, fs::open(&rt, ".")?)?;
-    println!(rt; "argus --list stacks")?;
-    println!(rt; "status {}", usage_status(rt.alloc())?)?;
+    tell_command(&rt, heap, "< .", fs::open(&rt, ".")?)?;
+    tell_command(&rt, heap, "--list locks", b"".as_slice())?;
     Ok(())
 }
 
+// Carries out each command line among the script's comments.
+fn tell_example(rt: &(impl Print + AllocGlobal), heap: Heap, script: &str) -> Result<()> {
+    for line in script.lines() {
+        if let Some(command) = line.strip_prefix("# ./argus ") {
+            tell_command(rt, heap, command, script.as_bytes())?;
+        }
+    }
+    Ok(())
+}
+
+// Tells a command line, and what comes of it where this is the program's input.
+fn tell_command<R: Read + Drop>(
+    rt: &(impl Print + AllocGlobal),
+    heap: Heap,
+    command: &str,
+    reader: R,
+) -> Result<()> {
+    rt.println(format_args!("./argus {command}"))?;
+    match options(rt.alloc(), words_of(rt.alloc(), command)?) {
+        Ok(asked) => tell_run(rt, heap, reader, asked),
+        Err(NoOptions::Usage { status, text: _ }) => {
+            rt.println(format_args!("status {status}"))?;
+            Ok(())
+        }
+        Err(NoOptions::OutOfMemory) => Err(OutOfMemory)?,
+    }
+}
+
+// The program's words: those in front of `<`.
+fn words_of(alloc: Global, command: &str) -> Result<Vec<String>> {
+    let mut words = Vec::new(alloc);
+    for word in command.split(' ') {
+        if word == "<" {
+            return Ok(words);
+        }
+        words.push(String::from_str(alloc, word)?)?;
+    }
+    Ok(words)
+}
+
 // Tells the listing of the script that the reader has, and the status.
-fn tell_run<R: Read + Drop>(rt: &impl Print, heap: Heap, reader: R) -> anyhow::Result<()> {
+fn tell_run<R: Read + Drop>(rt: &impl Print, heap: Heap, reader: R, asked: Options) -> Result<()> {
     let mut writer = Watched::new(Vec::new(heap));
-    let asked = Options {
-        listing: Listing::Bases,
-    };
     let result = run(heap, &mut Watched::new(reader), &mut writer, asked);
     rt.print(from_utf8(writer.get_ref())?)?;
     match result {
@@ -38,16 +86,4 @@ fn tell_run<R: Read + Drop>(rt: &impl Print, heap: Heap, reader: R) -> anyhow::R
         Err(fault) => rt.println(format_args!("status {}: {fault}", fault.status()))?,
     }
     Ok(())
-}
-
-// The status with which a command line ends that asks for no listing of this program.
-fn usage_status(alloc: Global) -> anyhow::Result<u8> {
-    let words = vec![in alloc;
-        String::from_str(alloc, "--list")?,
-        String::from_str(alloc, "stacks")?,
-    ]?;
-    match options(alloc, words) {
-        Err(NoOptions::Usage { status, text: _ }) => Ok(status),
-        Ok(_) | Err(NoOptions::OutOfMemory) => Ok(0),
-    }
 }

@@ -15,6 +15,7 @@ mod running_serially;
 mod serial;
 mod stepping;
 mod stopped;
+mod unwritten;
 
 pub use caller::Caller;
 pub use flow::Flow;
@@ -24,3 +25,4 @@ pub use running::run_script;
 pub use running_serially::run_serial;
 pub use stepping::run_steps;
 pub use stopped::Stopped;
+pub use unwritten::run_unwritten;

@@ -1,62 +1,62 @@
-//! What command lines ask for.
+//! What command lines ask for, by rows: `--list stacks -> stacks`.
 
-use argus_cli::{CliFault, FaultKind, Listing, NoOptions, Options, ScriptFault, options};
-use std::alloc::{AllocError, Global};
-use std::test::Fail;
+use anyhow::{Result, ensure};
+use argus_cli::{Listing, NoOptions, Options, options};
+use argus_memory::OutOfMemory;
+use std::alloc::Global;
 
-// The status with which the program ends; None where it runs.
-fn status_of(alloc: Global, words: &[&str]) -> Result<Option<u8>, AllocError> {
-    let mut all = Vec::new(alloc);
-    for word in words {
-        all.push(String::from_str(alloc, word)?)?;
-    }
-    match options(alloc, all) {
-        Ok(
-            Options {
-                listing: Listing::Bases,
-            },
-        ) => Ok(None),
-        Err(NoOptions::Usage { status, text }) => {
-            if text.is_empty() {
-                return Ok(Some(1));
-            }
-            Ok(Some(status))
+// The words of a row, parted by blanks.
+pub(crate) fn words_of(alloc: Global, row: &str) -> Result<Vec<String>> {
+    let mut words = Vec::new(alloc);
+    for word in row.split(' ') {
+        if !word.is_empty() {
+            words.push(String::from_str(alloc, word)?)?;
         }
-        Err(NoOptions::OutOfMemory) => Err(AllocError),
+    }
+    Ok(words)
+}
+
+// Checks that each row's words ask for what stands behind them. Answers how many rows there are.
+pub(crate) fn check_command_lines(alloc: Global, text: &str) -> Result<u64> {
+    let mut rows = 0u64;
+    for line in text.lines() {
+        if let Some((words, wanted)) = line.split_once("->") {
+            check_row(alloc, words, wanted.strip_prefix(' ').unwrap_or(wanted))?;
+            rows = rows.saturating_add(1);
+        }
+    }
+    Ok(rows)
+}
+
+fn check_row(alloc: Global, words: &str, wanted: &str) -> Result<()> {
+    match options(alloc, words_of(alloc, words)?) {
+        Ok(asked) => ensure!(told(asked) == wanted, "something else is asked for"),
+        Err(NoOptions::Usage { status, text }) => {
+            ensure!(told_status(status) == wanted, "another status");
+            ensure!(!text.is_empty(), "a usage without a text");
+        }
+        Err(NoOptions::OutOfMemory) => Err(OutOfMemory)?,
+    }
+    Ok(())
+}
+
+fn told(asked: Options) -> &'static str {
+    match (asked.listing, asked.checkpoint) {
+        (Listing::Bases, false) => "bases",
+        (Listing::Stacks, false) => "stacks",
+        (Listing::Journal, false) => "journal",
+        (Listing::Audit, false) => "audit",
+        (Listing::Bases, true) => "bases behind a checkpoint",
+        (Listing::Stacks, true) => "stacks behind a checkpoint",
+        (Listing::Journal, true) => "journal behind a checkpoint",
+        (Listing::Audit, true) => "audit behind a checkpoint",
     }
 }
 
-#[test]
-fn of_words(rt: HostRuntime) -> Result<(), Fail> {
-    assert_eq!(rt; status_of(rt.alloc(), &[])?, None);
-    assert_eq!(rt; status_of(rt.alloc(), &["--list", "bases"])?, None);
-    assert_eq!(rt; status_of(rt.alloc(), &["--list=bases"])?, None);
-    assert_eq!(rt; status_of(rt.alloc(), &["--help"])?, Some(0));
-    assert_eq!(rt; status_of(rt.alloc(), &["-h"])?, Some(0));
-    assert_eq!(rt; status_of(rt.alloc(), &["--list"])?, Some(2));
-    assert_eq!(rt; status_of(rt.alloc(), &["--list", "stacks"])?, Some(2));
-    assert_eq!(rt; status_of(rt.alloc(), &["--workers", "9"])?, Some(2));
-    assert_eq!(rt; status_of(rt.alloc(), &["--patience", "1"])?, Some(2));
-    assert_eq!(rt; status_of(rt.alloc(), &["script"])?, Some(2));
-    Ok(())
-}
-
-#[test]
-fn of_faults(rt: HostRuntime) -> Result<(), Fail> {
-    let script = CliFault::Script(ScriptFault {
-        line: 3,
-        kind: FaultKind::BadValue,
-    });
-    let faults = [
-        (script, 3, "line 3: BadValue"),
-        (CliFault::Memory, 4, "out of memory"),
-        (CliFault::Read, 5, "read fault"),
-        (CliFault::Write, 5, "write fault"),
-    ];
-    for (fault, status, text) in faults {
-        assert_eq!(rt; fault.status(), status);
-        let shown = format!(in rt.alloc(); "{fault}")?;
-        assert!(rt; shown.as_str() == text);
+fn told_status(status: u8) -> &'static str {
+    match status {
+        0 => "status 0",
+        2 => "status 2",
+        _ => "another status",
     }
-    Ok(())
 }

@@ -1,0 +1,47 @@
+//! Reading a bounded input.
+
+ghost use Rattle.std.specs.Prelude.{◌≡◌, true, false, IfOk, IfErr};
+ghost use Rattle.argus_streams.specs.Input.{ReadUpTo};
+ghost use Rattle.argus_streams.specs.Watched.{has_failed, inner_of};
+ghost use Rattle.argus_streams.specs.declared.input_error.InputError.TheVariants as InputError;
+
+use crate::input_error::InputError;
+use crate::watched::Watched;
+use argus_memory::Heap;
+use std::io::Read;
+
+// How much is read at once.
+const CHUNK: usize = 16_384;
+
+/// All that the reader has, at most `limit` bytes of it. A read that fails isn't tried again.
+///
+/// ```text
+/// let mut reader = Watched::new(rt.stdin());
+/// let bytes = read_up_to(heap, &mut reader, 4_096)?;
+/// ```
+pub fn read_up_to<R: Read + Drop>(
+    heap: Heap,
+    reader: &mut Watched<R>,
+    limit: usize,
+) -> Result<Vec<u8, Heap>, InputError>
+    requires { has_failed reader.old ≡ false }
+    ensures read { IfOk result (λ bytes. ReadUpTo limit (R.remaining (inner_of reader.old))
+        (R.remaining (inner_of reader.new)) bytes.items) }
+    ensures failed { IfErr result (λ e. e ≡ InputError.Read → has_failed reader.new ≡ true) }
+{
+    let mut all = Vec::new(heap);
+    let mut chunk = [0u8; CHUNK];
+    while all.len() < limit {
+        let size = CHUNK.min(limit - all.len());
+        match reader.read_once(&mut chunk[..size]) {
+            None => return Err(InputError::Read),
+            Some(0) => return Ok(all),
+            Some(n) => {
+                if all.extend_from_slice(&chunk[..n]).is_err() {
+                    return Err(InputError::OutOfMemory);
+                }
+            }
+        }
+    }
+    Ok(all)
+}

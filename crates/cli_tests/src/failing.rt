@@ -1,0 +1,28 @@
+//! `Failing`: a reader that fails once so many reads were made.
+
+use std::io;
+use std::io::{ErrorKind, Read};
+
+// Gives seven bytes a read at most, and fails once so many reads were made. It counts the reads
+// behind that.
+#[derive(Drop)]
+pub(crate) struct Failing<'a> {
+    pub(crate) rest: &'a [u8],
+    pub(crate) reads_left: u64,
+    pub(crate) reads_behind: u64,
+}
+
+impl Read for Failing<'_> {
+    fn read(&mut self, buf: &mut [u8]) -> io::Result<usize> {
+        if self.reads_left == 0 {
+            self.reads_behind = self.reads_behind.saturating_add(1);
+            return Err(io::Error::from(ErrorKind::Interrupted));
+        }
+        self.reads_left -= 1;
+        let size = buf.len().min(self.rest.len()).min(7);
+        let (front, behind) = self.rest.split_at(size);
+        buf[..size].copy_from_slice(front);
+        self.rest = behind;
+        Ok(size)
+    }
+}

@@ -1,0 +1,91 @@
+//! Scripts, run and listed: for each test of data/ what a run answers and writes is compared; then
+//! each allocation, each read and each write fails in turn.
+#![tactic(auto)]
+
+ghost use Rattle.std.specs.Prelude.{◌≡◌, false};
+ghost use Rattle.argus_streams.specs.Watched.{has_failed};
+
+mod command_lines;
+mod failing;
+mod full;
+mod row;
+mod trial;
+
+use anyhow::{Result, ensure};
+use argus_cli::{CliFault, Options, options};
+use argus_memory::{Budget, Heap, Limited, OutOfMemory};
+use command_lines::{check_command_lines, words_of};
+use row::Row;
+use std::alloc::Global;
+use std::fs;
+use trial::{check_listing, check_memory, check_reader, check_writer};
+
+// The files of scripts in data/.
+const TEXTS: [&str; 3] = ["listings.rows", "faults.rows", "limits.rows"];
+
+fn main(rt: HostRuntime) -> Result<()> {
+    let heap = Heap::new(rt.alloc())?;
+    let budget = Budget::new(rt.alloc())?;
+    let tight = Limited::with_budget(rt.alloc(), budget);
+    check_statuses()?;
+    let mut refused = 0u64;
+    for name in TEXTS {
+        let text = fs::read_to_string(&rt, name)?;
+        refused = refused.saturating_add(check_text(&rt, heap, tight, budget, text.as_str())?);
+    }
+    ensure!(refused > 1_000, "too few allocations are refused");
+    let text = fs::read_to_string(&rt, "command_lines.rows")?;
+    println!(rt;
+        "{} command lines",
+        check_command_lines(rt.alloc(), text.as_str())?
+    )?;
+    Ok(())
+}
+
+// Runs the scripts of a text. Answers how many allocations were refused.
+fn check_text(
+    rt: &(impl Print + AllocGlobal),
+    heap: Heap,
+    tight: Heap,
+    budget: Budget,
+    text: &str,
+) -> Result<u64> {
+    let mut refused = 0u64;
+    for block in text.split("\n\n") {
+        let row = Row::of_block(heap, block)?;
+        if !row.name.is_empty() {
+            rt.print(format_args!("{}:", row.name))?;
+            let here = check_row(rt.alloc(), heap, tight, budget, &row)?;
+            rt.println(format_args!(" {} lines", row.listing.lines().count()))?;
+            refused = refused.saturating_add(here);
+        }
+    }
+    Ok(refused)
+}
+
+// Runs the row's script in all ways. Answers how many allocations were refused in turn.
+fn check_row(alloc: Global, heap: Heap, tight: Heap, budget: Budget, row: &Row<'_>) -> Result<u64> {
+    let asked = asked_by(alloc, row)?;
+    check_listing(alloc, heap, row, asked)?;
+    if row.large {
+        return Ok(0);
+    }
+    check_reader(heap, row, asked)?;
+    check_writer(heap, row, asked)?;
+    check_memory(heap, tight, budget, row, asked)
+}
+
+fn asked_by(alloc: Global, row: &Row<'_>) -> Result<Options> {
+    match options(alloc, words_of(alloc, row.words)?) {
+        Ok(asked) => Ok(asked),
+        Err(_) => Err(OutOfMemory)?,
+    }
+}
+
+// The statuses and texts of the faults that tell nothing of a script.
+fn check_statuses() -> Result<()> {
+    ensure!(CliFault::Memory.status() == 4, "the status of memory");
+    ensure!(CliFault::Read.status() == 5, "the status of a read");
+    ensure!(CliFault::Write.status() == 5, "the status of a write");
+    Ok(())
+}
