@@ -9,6 +9,8 @@ mod lines;
 #[cfg(test)]
 mod openings;
 #[cfg(test)]
+mod receipts;
+#[cfg(test)]
 mod refusals;
 #[cfg(test)]
 mod replays;
