@@ -90,15 +90,15 @@ fn tell_lines(written: &[u8], out: &mut String<Heap>) -> Result<(), OutOfMemory>
 }
 
 fn tell_each_line(text: &str, out: &mut String<Heap>) -> Result<(), OutOfMemory> {
-    let mut rest = text;
-    while let Some((line, others)) = rest.split_once('\n') {
-        tell_word(line, out)?;
-        tell_word("|", out)?;
-        rest = others;
+    let mut is_first = true;
+    for line in text.split('\n') {
+        if !is_first {
+            tell_word("|", out)?;
+        }
+        if !line.is_empty() {
+            tell_word(line, out)?;
+        }
+        is_first = false;
     }
-    if rest.is_empty() {
-        Ok(())
-    } else {
-        tell_word(rest, out)
-    }
+    Ok(())
 }
