@@ -1,0 +1,5 @@
+pub mod Changes
+pub mod Contents
+pub mod History
+pub mod Prefixes
+pub mod Rule

@@ -1,0 +1,4 @@
+pub mod Effects
+pub mod History
+pub mod Published
+pub mod Board
