@@ -7,6 +7,7 @@ ghost use Rattle.argus_board.specs.Effects.{Leads, plain_contents, plain_effect}
 use crate::board::Board;
 use crate::change::Change;
 use crate::effect::Effect;
+use crate::front::Front;
 use crate::keeper::Keeper;
 use crate::looker::Looker;
 use crate::looking::duplicate_contents;
@@ -34,6 +35,8 @@ pub struct BoardWriter<N: Board, R: Wait + Drop> {
     pub(crate) writer: Publisher<N>,
     /// All effects since the board was opened.
     pub(crate) keeper: Keeper,
+    /// The history as it was then.
+    pub(crate) start: Front,
     pub(crate) rt: R,
 }
 
@@ -42,6 +45,7 @@ impl<N: Board, R: Wait + Drop> Drop for BoardWriter<N, R> {
         let Self {
             writer,
             keeper: _,
+            start: _,
             rt,
         } = self;
         drop(writer.take(&rt));
@@ -67,6 +71,8 @@ impl<N: Board, R: Wait + Drop> Model for BoardWriter<N, R> {
 
     ghost invariant = { λ b. Leads N.opening N.before N.first
         × (b.keeper.front.seen.book ≡ N.history)
+        × (b.start.seen.book ≡ N.history)
+        × (line N.root b.start.seen.log ≡ [])
         × (b.keeper.pen.nib.key ≡ tip N.root b.keeper.front.seen.log)
         × (seen_at b.writer.desk.place ≡ line N.root b.writer.desk.shown.value.front.seen.log)
         × (plain_contents b.writer.desk.shown.value.contents.items
@@ -99,14 +105,20 @@ impl<N: Board, R: Wait + Drop> BoardWriter<N, R> {
         let copy = duplicate_contents(heap, contents.as_slice())?;
         // One place more than there are lookers: briefing takes a new one before it frees the old.
         let writer = opened::<N>(heap, contents, copy, &keeper.front, lookers as usize + 1)?;
-        Ok(BoardWriter { writer, keeper, rt })
+        let start = keeper.front.again();
+        Ok(BoardWriter {
+            writer,
+            keeper,
+            start,
+            rt,
+        })
     }
 
     /// A place for a looker, which has seen what stood on the board at first.
     pub fn looker(&self) -> Result<Looker<N>, OutOfMemory>
         ensures { IfOk result (λ looker. looker ≡ N.before) }
     {
-        Looker::at(&self.writer, &self.keeper.front)
+        Looker::at(&self.writer, &self.start)
     }
 
     /// Makes an effect pending. At `OutOfMemory` all is as before, and the effect is spent.
@@ -116,7 +128,7 @@ impl<N: Board, R: Wait + Drop> BoardWriter<N, R> {
             ≡ self.old.pending ++ plain_effect effect.items ∷ []) }
         ensures err { OnErr result (self.new ≡ self.old) }
     {
-        let BoardWriter { writer, keeper, rt: _ } = self;
+        let BoardWriter { writer, keeper, .. } = self;
         let page = Snapshot::of(&effect);
         hand::<N>(writer, Change::Leaves(effect))?;
         keeper.add(page);
@@ -130,7 +142,7 @@ impl<N: Board, R: Wait + Drop> BoardWriter<N, R> {
             × (self.new.pending ≡ [])) }
         ensures err { OnErr result ((self.new ≡ self.old) × (self.old.pending ≢ [])) }
     {
-        let BoardWriter { writer, keeper, rt } = self;
+        let BoardWriter { writer, keeper, rt, .. } = self;
         publish::<N, R>(&*rt, writer, &keeper.front)
     }
 
@@ -144,7 +156,7 @@ impl<N: Board, R: Wait + Drop> BoardWriter<N, R> {
         ensures err { OnErr result ((self.new ≡ self.old) × (self.old.pending ≢ [])
             × (looker.new ≡ looker.old)) }
     {
-        let BoardWriter { writer, keeper, rt } = self;
+        let BoardWriter { writer, keeper, rt, .. } = self;
         let Looker { reader, front } = looker;
         keeper.covers(&*front);
         publish::<N, R>(&*rt, writer, &keeper.front)?;
@@ -158,6 +170,7 @@ impl<N: Board, R: Wait + Drop> BoardWriter<N, R> {
         let BoardWriter {
             writer,
             keeper: _,
+            start: _,
             rt,
         } = self;
         drop(writer.take(&rt));

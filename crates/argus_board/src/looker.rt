@@ -103,7 +103,10 @@ impl<N: Board> Looker<N> {
                     reader: reading.leave(),
                     front,
                 };
-                (looker, found.map_err(|_| LookFault::Memory))
+                match found {
+                    Ok(found) => (looker, Ok(found)),
+                    Err(OutOfMemory) => (looker, Err(LookFault::Memory)),
+                }
             }
             Err(reader) => (Looker { reader, front }, Err(LookFault::Closed)),
         }

@@ -50,7 +50,7 @@ impl Absorb<Change> for Table {
                 let Ok(copy) = duplicate_effect(self.heap, effect) else {
                     return Err(AllocError);
                 };
-                pad(&mut self.contents, required(&copy))?;
+                pad(&mut self.contents, required(copy.as_slice()))?;
                 write(&mut self.contents, copy);
             }
             Change::Marks(front) => self.front = front.again(),
@@ -61,7 +61,7 @@ impl Absorb<Change> for Table {
     fn absorb_second(&mut self, operation: Change, _other: &Table) -> Result<(), Change> {
         match operation {
             Change::Leaves(effect) => {
-                if pad(&mut self.contents, required(&effect)).is_err() {
+                if pad(&mut self.contents, required(effect.as_slice())).is_err() {
                     return Err(Change::Leaves(effect));
                 }
                 write(&mut self.contents, effect);

@@ -1,16 +1,16 @@
 //! Effects written into the contents of a table.
 
-ghost use Rattle.std.specs.Prelude.{◌≡◌, ◌≤◌, length, OnErr, OnOk};
+ghost use Rattle.std.specs.Prelude.{◌<◌, ◌≡◌, ◌≤◌, length, set, OnErr, OnOk};
 ghost use Rattle.argus_board.specs.Effects.{needed, padded, plain_contents, plain_effect, written};
 
 use crate::effect::Effect;
-use argus_contents::Content;
+use argus_contents::{Content, ObjId};
 use argus_memory::Heap;
 use std::alloc::AllocError;
 
 /// How many objects a table has to have for all that the effect names.
-pub(crate) fn required(effect: &Effect) -> usize
-    ensures { result ≡ needed (plain_effect effect.now.items) }
+pub(crate) fn required(effect: &[(ObjId, Option<Content>)]) -> usize
+    ensures { result ≡ needed (plain_effect effect.now) }
 {
     let mut count = 0;
     for pair in effect {
@@ -41,6 +41,14 @@ pub(crate) fn write(contents: &mut Vec<Option<Content>, Heap>, effect: Effect)
 {
     let mut effect = effect;
     while let Some((object, content)) = effect.pop() {
-        contents[object.0 as usize] = content;
+        put(contents, object.0 as usize, content);
     }
+}
+
+/// Puts a content in the place of another.
+fn put(contents: &mut Vec<Option<Content>, Heap>, at: usize, content: Option<Content>)
+    requires { at < length contents.old.items }
+    ensures { contents.new.items ≡ set contents.old.items at content }
+{
+    contents[at] = content;
 }

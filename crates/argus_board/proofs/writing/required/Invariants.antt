@@ -4,4 +4,4 @@ use Rattle.argus_board.specs.Effects.{needed, plain_effect}
 use Rattle.argus_board.proofs.writing.required.Given as goal
 
 abbrev pub invariant-loop-pair : goal.invariant-loop-pair
-invariant-loop-pair l = l.count ≡ needed (plain_effect (take l.pair-index l.effect.items))
+invariant-loop-pair l = l.count ≡ needed (plain_effect (take l.pair-index l.effect))

@@ -8,3 +8,6 @@ invariant-loop-object l =
     (written (plain_contents l.contents.items) (plain_effect l.effect.items)
     ≡ written (plain_contents l.initial.contents.items) (plain_effect l.initial.effect.items))
     × (needed (plain_effect l.effect.items) ≤ length l.contents.items)
+
+abbrev pub decreases-loop-object : goal.decreases-loop-object
+decreases-loop-object l = length l.effect.items
