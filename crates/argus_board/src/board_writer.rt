@@ -3,6 +3,7 @@
 ghost use Rattle.std.specs.Prelude.{◌++◌, ◌≡◌, ◌≢◌, ◌<◌, ◌∷◌, [], IfOk, OnErr, OnOk};
 ghost use mathlib.Core.List.{IsPrefix};
 ghost use Rattle.argus_board.specs.Effects.{Leads, plain_contents, plain_effect};
+ghost use Rattle.argus_board.specs.Keeper.{Opens};
 
 use crate::board::Board;
 use crate::change::Change;
@@ -97,8 +98,7 @@ impl<N: Board, R: Wait + Drop> BoardWriter<N, R> {
         requires lookers { lookers < 4294967295 }
         requires first { Leads N.opening N.before N.first }
         requires contents { plain_contents contents.items ≡ N.first }
-        requires keeper { (keeper.front.seen.log ≡ []) × (keeper.front.seen.book ≡ N.history)
-            × (keeper.pen.nib.key ≡ N.root) }
+        requires keeper { Opens N.history N.root keeper }
         ensures published { IfOk result (λ board. board.published ≡ N.before) }
         ensures pending { IfOk result (λ board. board.pending ≡ []) }
     {

@@ -20,16 +20,18 @@ use std::snapshot::Snapshot;
 #[derive(Drop)]
 pub struct Keeper {
     head: Word<Page, u64, Law>,
-    pub pen: Pen,
-    pub front: Front,
+    pub(crate) pen: Pen,
+    pub(crate) front: Front,
     ghost of_book: { (head ≡ head_of front.seen.book) × (pen.book ≡ front.seen.book) },
     ghost right: { pen.nib.right ≡ may_write },
 }
 
 impl Keeper {
+    ghost use Rattle.argus_board.specs.Keeper.{IsNew};
+
     /// A history with no effect. It takes no memory.
     pub fn new() -> Keeper
-        ensures { result.front.seen.log ≡ [] }
+        ensures { IsNew result }
     {
         let (seen, mut first, _second) = Seen::open(Start::alone(), 0, 0);
         let head = Word::tracked(0, &mut first);

@@ -19,11 +19,7 @@ mod writing;
 
 pub use board::Board;
 pub use board_writer::BoardWriter;
-pub use change::Change;
 pub use effect::{Effect, duplicate_effect};
-pub use front::Front;
 pub use keeper::Keeper;
 pub use look_fault::LookFault;
 pub use looker::Looker;
-pub use published::{BoardReader, Published, View};
-pub use table::Table;

@@ -65,7 +65,7 @@ impl Join<View> for Notes {
 }
 
 /// A looker's end, under the rule.
-pub type BoardReader<N> = Reader<Table, View, Published<N>, Heap>;
+pub(crate) type BoardReader<N> = Reader<Table, View, Published<N>, Heap>;
 
 /// The publisher's end, under the rule.
 pub(crate) type Publisher<N> = Writer<Table, Change, View, Published<N>, Heap>;

@@ -36,12 +36,10 @@ pub(crate) fn opened<N: Board>(
         × (drop w.behind w.log.items ≡ [])) }
 {
     let first = Table {
-        heap,
         contents,
         front: front.again(),
     };
     let second = Table {
-        heap,
         contents: copy,
         front: front.again(),
     };

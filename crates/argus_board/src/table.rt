@@ -17,7 +17,6 @@ use std::marker::Model;
 /// then. The board has two copies of it.
 #[derive(Drop)]
 pub struct Table {
-    pub(crate) heap: Heap,
     pub contents: Vec<Option<Content>, Heap>,
     pub front: Front,
 }
@@ -47,7 +46,7 @@ impl Absorb<Change> for Table {
     fn absorb_first(&mut self, operation: &Change, _other: &Table) -> Result<(), AllocError> {
         match operation {
             Change::Leaves(effect) => {
-                let Ok(copy) = duplicate_effect(self.heap, effect) else {
+                let Ok(copy) = duplicate_effect(*self.contents.allocator(), effect) else {
                     return Err(AllocError);
                 };
                 pad(&mut self.contents, required(copy.as_slice()))?;
