@@ -14,7 +14,7 @@ use argus_actions::ActionId;
 use argus_contents::{Content, ObjId};
 use argus_entries::Reply;
 use argus_memory::{Heap, OutOfMemory};
-use argus_steps::{Parts, Prepared, Step, make, prepare_commit};
+use argus_steps::{Parts, Prepared, make, prepare_commit};
 use std::marker::Model;
 
 /// A guardian with a commit for which all is at hand, so that it can't fail: for a caller that has
@@ -78,18 +78,13 @@ impl ReadyCommit {
             effect_told pairs.items) effect)
             ≡ added_by_call self.now.journal (commit self.now.action)) }
     {
-        match self.prepared.step {
-            Step::Settle(a) => effect_in(&self.parts, a),
-            Step::Nothing
-            | Step::Declare(_)
-            | Step::BeginTop
-            | Step::BeginSub(_)
-            | Step::BeginNested(_)
-            | Step::Inherit(_, _)
-            | Step::Abort(_)
-            | Step::AbortOthers(_)
-            | Step::Read(_, _)
-            | Step::Write(_, _, _) => Ok(None),
+        match self.parts.tree.commit_refusal(self.action) {
+            Some(_) => return Ok(None),
+            None => {}
+        }
+        match self.parts.tree.parent(self.action) {
+            Some(_) => Ok(None),
+            None => effect_in(&self.parts, self.action),
         }
     }
 
