@@ -97,7 +97,7 @@ impl<N: Sharing, R: Wait + Drop> Locked<N, R> {
             board,
             ..
         } = self;
-        let reply = replace_with(guardian, (board, a), |guardian, with| {
+        let reply = replace_with(guardian, (&mut *board, a), |guardian, with| {
             committed::<N, R>(guardian, with.0, with.1)
         })?;
         let at = counted(guardian, book, seat);

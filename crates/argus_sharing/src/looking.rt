@@ -13,7 +13,7 @@ ghost use Rattle.argus_sharing.specs.Locked.{next_number};
 use crate::locked::Locked;
 use crate::sharing::Sharing;
 use argus_board::Looker;
-use argus_entries::Call;
+use argus_entries::{Call, Refusal};
 use argus_guardian::CheckpointError;
 use std::sync::Wait;
 
@@ -70,6 +70,6 @@ impl<N: Sharing, R: Wait + Drop> Locked<N, R> {
 
     /// Whether the call would be refused `Conflict` now.
     pub(crate) fn would_conflict(&self, call: &Call) -> bool {
-        self.guardian.would_conflict(call)
+        self.guardian.access_refusal(call) == Some(Refusal::Conflict)
     }
 }
