@@ -1,3 +1,4 @@
+pub mod Commits
 pub mod Effects
 pub mod Written
 pub mod Told

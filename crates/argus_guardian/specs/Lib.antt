@@ -1,3 +1,4 @@
 pub mod Checkpoint
 pub mod Leaving
 pub mod Telling
+pub mod Committing

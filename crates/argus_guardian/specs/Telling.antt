@@ -6,7 +6,10 @@ use Rattle.argus_contents.specs.Content.{PlainContent, plain_option}
 use Rattle.argus_contents.specs.Shape.{PlainShape}
 use Rattle.argus_contents.specs.declared.content.Content.{Content}
 use Rattle.argus_contents.specs.declared.shape.Shape.{Shape}
-use Rattle.argus_steps.specs.Step.{Said}
+use Rattle.argus_entries.specs.Call.{PlainCall, abort, abort_others, alter, ask, begin_nested}
+use Rattle.argus_entries.specs.Call.{begin_sub, begin_top, commit, declare, test_read, test_write}
+use Rattle.argus_entries.specs.declared.refusal.Refusal.{Refusal}
+use Rattle.argus_steps.specs.Step.{Said, refusal_to}
 use Rattle.argus_journal.specs.Objects.{declared}
 use Rattle.argus_objects.specs.declared.version.Version.{Version}
 
@@ -38,3 +41,17 @@ version_told v = (v.holder.0, plain_option v.content)
 abbrev pub stack_told : Option (Bor (List Version)) → Option (List (ℕ × Option PlainContent))
 stack_told None = None
 stack_told (Some versions) = Some (map version_told versions.now)
+
+-- why a query or a change would be refused; none of every other call
+abbrev pub refusal_of_access : Said → PlainCall → Option Refusal
+refusal_of_access said (ask a o query) = refusal_to said (ask a o query)
+refusal_of_access said (alter a o change) = refusal_to said (alter a o change)
+refusal_of_access said (declare shape) = None
+refusal_of_access said begin_top = None
+refusal_of_access said (begin_sub parent) = None
+refusal_of_access said (begin_nested creator) = None
+refusal_of_access said (commit a) = None
+refusal_of_access said (abort a) = None
+refusal_of_access said (abort_others a) = None
+refusal_of_access said (test_read a o) = None
+refusal_of_access said (test_write a o) = None

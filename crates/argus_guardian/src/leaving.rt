@@ -6,6 +6,7 @@ ghost use Rattle.std.specs.Prelude.{if◌then◌else◌, length, map};
 ghost use Rattle.argus_contents.specs.Content.{plain_option};
 ghost use Rattle.argus_guardian.specs.Leaving.{effect_if_live, effect_told, version_in, written_in};
 ghost use Rattle.argus_steps.specs.Moving.{AreThere};
+ghost use Rattle.argus_steps.specs.Parts.{Keeps, said_of};
 ghost use Rattle.argus_steps.specs.declared.atomic_object.AtomicObject.{AtomicObject};
 ghost use Rattle.argus_objects.specs.Moves.{has_version, version_of};
 ghost use Rattle.argus_objects.specs.Object.{newest_first};
@@ -15,7 +16,7 @@ use argus_actions::ActionId;
 use argus_contents::{Content, ObjId};
 use argus_memory::{Heap, OutOfMemory};
 use argus_objects::Version;
-use argus_steps::{AtomicObject, is_live};
+use argus_steps::{AtomicObject, Parts, is_live};
 
 impl Guardian {
     /// What a live action would leave for good if it committed now, as a topaction or by all its
@@ -31,15 +32,27 @@ impl Guardian {
         ensures { IfOk result (λ effect. option_map (λ pairs. effect_told pairs.items) effect
             ≡ effect_if_live self.now a.0) }
     {
-        if !is_live(&self.parts.tree, a) {
-            return Ok(None);
-        }
-        let objects = self.parts.objects.as_slice();
-        let mut numbers = written_numbers(self.parts.heap, objects, self.parts.holdings.of(a), a)?;
-        numbers.sort()?;
-        let effect = contents_of(self.parts.heap, objects, numbers.as_slice(), a)?;
-        Ok(Some(effect))
+        effect_in(&self.parts, a)
     }
+}
+
+/// The same of the parts of a guardian.
+pub(crate) fn effect_in(
+    parts: &Parts,
+    a: ActionId,
+) -> Result<Option<Vec<(ObjId, Option<Content>), Heap>>, OutOfMemory>
+    requires { Keeps parts.now }
+    ensures { IfOk result (λ effect. option_map (λ pairs. effect_told pairs.items) effect
+        ≡ effect_if_live (said_of parts.now) a.0) }
+{
+    if !is_live(&parts.tree, a) {
+        return Ok(None);
+    }
+    let objects = parts.objects.as_slice();
+    let mut numbers = written_numbers(parts.heap, objects, parts.holdings.of(a), a)?;
+    numbers.sort()?;
+    let effect = contents_of(parts.heap, objects, numbers.as_slice(), a)?;
+    Ok(Some(effect))
 }
 
 /// The numbers of the objects on the list of which the action has a version.

@@ -11,8 +11,10 @@ mod ending;
 mod guardian;
 mod laws;
 mod leaving;
+mod ready_commit;
 mod telling;
 mod testing;
 
 pub use checkpoint_error::CheckpointError;
 pub use guardian::Guardian;
+pub use ready_commit::ReadyCommit;

@@ -2,10 +2,11 @@
 
 ghost use Rattle.std.specs.Prelude.{◌≡◌, ◌↔◌, true, IsTrue};
 ghost use Rattle.argus_contents.specs.Answer.{flag};
-ghost use Rattle.argus_entries.specs.Call.{test_read, test_write};
+ghost use Rattle.argus_entries.specs.Call.{plain_call, test_read, test_write};
 ghost use Rattle.argus_entries.specs.Reply.{answered};
 ghost use Rattle.argus_steps.specs.Step.{reply_to};
-ghost use Rattle.argus_guardian.specs.Telling.{actions_told, content_told, shape_told};
+ghost use Rattle.argus_guardian.specs.Telling.{actions_told, content_told, refusal_of_access};
+ghost use Rattle.argus_guardian.specs.Telling.{shape_told};
 ghost use Rattle.argus_guardian.specs.Telling.{stack_told, where_declared};
 ghost use Rattle.argus_journal.specs.Objects.{declared, shape_of};
 ghost use Rattle.argus_journal.specs.Opening.{fits_shape};
@@ -14,9 +15,10 @@ ghost use Rattle.argus_journal.specs.Words.{base_of, readers_of, versions_of};
 use crate::guardian::Guardian;
 use argus_actions::ActionId;
 use argus_contents::{Content, ObjId, Shape};
+use argus_entries::{Call, Refusal};
 use argus_laws::cell_laws;
 use argus_objects::Version;
-use argus_steps::{is_readable, is_writable, test_refusal};
+use argus_steps::{alter_refusal, ask_refusal, is_readable, is_writable, test_refusal};
 
 impl Guardian {
     /// How many objects are declared; they are numbered from 0.
@@ -103,6 +105,27 @@ impl Guardian {
         match test_refusal(self.parts.objects.as_slice(), &self.parts.tree, a, o) {
             Some(_) => false,
             None => is_writable(self.parts.objects.as_slice(), &self.parts.tree, a, o),
+        }
+    }
+
+    /// Why a query or a change would be refused now; None where it would not be, and of every other
+    /// call.
+    pub fn access_refusal(&self, call: &Call) -> Option<Refusal>
+        ensures { result ≡ refusal_of_access self.now (plain_call call.now) }
+    {
+        let objects = self.parts.objects.as_slice();
+        match call {
+            Call::Ask(a, o, query) => ask_refusal(objects, &self.parts.tree, *a, *o, query),
+            Call::Alter(a, o, change) => alter_refusal(objects, &self.parts.tree, *a, *o, change),
+            Call::Declare(_)
+            | Call::BeginTop
+            | Call::BeginSub(_)
+            | Call::BeginNested(_)
+            | Call::Commit(_)
+            | Call::Abort(_)
+            | Call::AbortOthers(_)
+            | Call::TestRead(_, _)
+            | Call::TestWrite(_, _) => None,
         }
     }
 }

@@ -32,7 +32,7 @@ pub use ending::{prepare_abort, prepare_abort_others, prepare_commit};
 pub use making::make;
 pub use parts::Parts;
 pub use prepared::Prepared;
-pub use refusing::test_refusal;
+pub use refusing::{alter_refusal, ask_refusal, test_refusal};
 pub use step::Step;
 pub use testing::{prepare_test_read, prepare_test_write};
 pub use writing::{alter_at_once, test_write_at_once};

@@ -28,7 +28,7 @@ pub(crate) fn refusal_of(refusal: ActionRefusal) -> Refusal
 }
 
 /// Why a query is refused, if it is.
-pub(crate) fn ask_refusal(
+pub fn ask_refusal(
     objects: &[AtomicObject],
     tree: &ActionTree,
     a: ActionId,
@@ -57,7 +57,7 @@ pub(crate) fn ask_refusal(
 }
 
 /// Why a change is refused, if it is.
-pub(crate) fn alter_refusal(
+pub fn alter_refusal(
     objects: &[AtomicObject],
     tree: &ActionTree,
     a: ActionId,

@@ -1,0 +1,6 @@
+pub mod Changes
+pub mod Contents
+pub mod Crossing
+pub mod History
+pub mod Prefixes
+pub mod Rule

@@ -1,0 +1,63 @@
+-- Effects, and the contents that they leave.
+use Rattle.std.specs.Coded.{Coded, coded_list, coded_option, coded_ℕ, coded×}
+use Rattle.std.specs.Prelude.{List, None, Option, [], get_or, length, map, max, replicate, set, ℕ}
+use Rattle.std.specs.Prelude.{fold, ◌++◌, ◌+◌, ◌-◌, ◌≡◌, ◌∷◌}
+use Rattle.argus_contents.specs.Content.{PlainContent, plain_option}
+use Rattle.argus_contents.specs.ContentCode.{content_coded}
+use Rattle.argus_contents.specs.declared.content.Content.{Content}
+use Rattle.argus_contents.specs.declared.obj_id.ObjId.{ObjId}
+use Rattle.argus_model.specs.Effects.{table}
+
+-- an effect: objects, each with what is left in it
+abbrev pub Effect : Type 0
+Effect = List (ℕ × Option PlainContent)
+
+-- what objects with their contents say
+abbrev pub plain_effect : List (ObjId × Option Content) → Effect
+plain_effect pairs = map (λ pair. (pair.0.0, plain_option pair.1)) pairs
+
+-- what a list of contents says
+abbrev pub plain_contents : List (Option Content) → List (Option PlainContent)
+plain_contents contents = map plain_option contents
+
+-- the content of an object, none where the list has none
+abbrev pub content_at : List (Option PlainContent) → ℕ → Option PlainContent
+content_at contents o = get_or contents o None
+
+-- how many objects a list has to have for all that the effect names
+abbrev pub needed : Effect → ℕ
+needed [] = 0
+needed (pair ∷ effect) = max (pair.0 + 1) (needed effect)
+
+-- the list with so many objects at least
+abbrev pub padded : List (Option PlainContent) → ℕ → List (Option PlainContent)
+padded contents n = contents ++ replicate (n - length contents) None
+
+-- the list with each object of the effect changed
+abbrev pub written : List (Option PlainContent) → Effect → List (Option PlainContent)
+written contents [] = contents
+written contents (pair ∷ effect) = set (written contents effect) pair.0 pair.1
+
+-- the contents after an effect
+abbrev pub overwritten : List (Option PlainContent) → Effect → List (Option PlainContent)
+overwritten contents effect = written (padded contents (needed effect)) effect
+
+-- the contents after these effects
+abbrev pub left_by : List (Option PlainContent) → List Effect → List (Option PlainContent)
+left_by first effects = fold overwritten first effects
+
+-- the list has the contents that these effects leave
+abbrev pub Leads : (ℕ → Option PlainContent) → List Effect → List (Option PlainContent) → Type 0
+Leads opening effects contents = (o : ℕ) → content_at contents o ≡ table opening effects o
+
+-- an effect is stored as a list of pairs
+abbrev pub effect_coded : Coded Effect
+effect_coded = coded_list (coded× coded_ℕ (coded_option content_coded))
+
+-- so effects can be stored
+abbrev pub effects_coded : Coded (List Effect)
+effects_coded = coded_list effect_coded
+
+-- so contents can be stored
+abbrev pub contents_coded : Coded (List (Option PlainContent))
+contents_coded = coded_list (coded_option content_coded)

@@ -1,0 +1,41 @@
+//! `Board`: what names one board.
+
+use std::marker::Brand;
+
+/// One board: its history, and what stood on it at first. Who opens a board picks these in a proof;
+/// code is generic in it.
+pub trait Board {
+    ghost use Rattle.std.specs.Prelude.{List, Option, ℕ};
+    ghost use Rattle.logbook.specs.Pages.{Book};
+    ghost use Rattle.argus_contents.specs.Content.{PlainContent};
+    ghost use Rattle.argus_board.specs.Effects.{Effect};
+
+    /// The book in which its history stands.
+    ghost history: { Book };
+
+    /// The right that begins its line there.
+    ghost root: { ℕ };
+
+    /// What the objects held before all effects.
+    ghost opening: { ℕ → Option PlainContent };
+
+    /// The effects before the board was opened.
+    ghost before: { List Effect };
+
+    /// What these left, in the order of the objects' numbers.
+    ghost first: { List (Option PlainContent) };
+}
+
+impl Board for Brand {
+    ghost use Rattle.std.specs.Prelude.{None, []};
+
+    ghost history = { record { number = 0; log_name = 0; cells_name = 0 } };
+
+    ghost root = { 0 };
+
+    ghost opening = { λ o. None };
+
+    ghost before = { [] };
+
+    ghost first = { [] };
+}

@@ -1,0 +1,26 @@
+//! `Effect`: what a committed topaction leaves.
+
+ghost use Rattle.std.specs.Prelude.{◌≡◌, IfOk};
+ghost use Rattle.argus_board.specs.Effects.{plain_effect};
+
+use argus_contents::{Content, ObjId};
+use argus_memory::{Heap, OutOfMemory};
+
+/// What a committed topaction leaves for good: each object that it has written, with its content,
+/// which may be absent. Where an object stands twice, the first counts.
+///
+/// Source: at a topaction's commit its versions become the bases (Argus Reference Manual,
+/// MIT/LCS/TR-400, 1987).
+pub type Effect = Vec<(ObjId, Option<Content>), Heap>;
+
+/// An effect equal to this one. `OutOfMemory`: nothing was copied.
+pub fn duplicate_effect(heap: Heap, effect: &Effect) -> Result<Effect, OutOfMemory>
+    ensures { IfOk result (λ copy. plain_effect copy.items ≡ plain_effect effect.now.items) }
+{
+    let mut copy = Vec::with_capacity(heap, effect.len())?;
+    for pair in effect {
+        let content = Content::duplicate_option(heap, &pair.1)?;
+        copy.push((pair.0, content))?;
+    }
+    Ok(copy)
+}

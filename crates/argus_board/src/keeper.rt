@@ -1,0 +1,95 @@
+//! `Keeper`: who alone adds to the history of a board.
+
+ghost use Rattle.std.specs.Prelude.{◌++◌, ◌∷◌, ◌≡◌, [], ℕ};
+ghost use mathlib.Core.List.{IsPrefix};
+ghost use Rattle.logbook.specs.Pages.{may_write};
+ghost use Rattle.argus_board.specs.Effects.{plain_effect};
+ghost use Rattle.argus_board.specs.History.{head_of, line, tip};
+
+use crate::effect::Effect;
+use crate::front::Front;
+use crate::page::Page;
+use crate::pages::{Add, Grow, Hold, Law, Leaf, Nothing};
+use logbook::{Offer, Pen, Seen, Start, Word};
+use std::snapshot::Snapshot;
+
+/// Who alone adds to the history of a board, with all of it. It takes one word, which never
+/// changes: the history itself exists in contracts alone.
+///
+/// Make one for each board, before the board: a contract names the board's history by it.
+#[derive(Drop)]
+pub struct Keeper {
+    head: Word<Page, u64, Law>,
+    pub(crate) pen: Pen,
+    pub(crate) front: Front,
+    ghost of_book: { (head ≡ head_of front.seen.book) × (pen.book ≡ front.seen.book) },
+    ghost right: { pen.nib.right ≡ may_write },
+}
+
+impl Keeper {
+    ghost use Rattle.argus_board.specs.Keeper.{IsNew};
+
+    /// A history with no effect. It takes no memory.
+    pub fn new() -> Keeper
+        ensures { IsNew result }
+    {
+        let (seen, mut first, _second) = Seen::open(Start::alone(), 0, 0);
+        let head = Word::tracked(0, &mut first);
+        let pen = right_of(&head, &seen);
+        Keeper {
+            head,
+            pen,
+            front: Front { seen },
+        }
+    }
+
+    /// Adds an effect to the line of its right. It can't fail.
+    pub(crate) fn add(&mut self, effect: Snapshot<Effect>)
+        ensures book { self.new.front.seen.book ≡ self.old.front.seen.book }
+        ensures line { (root : ℕ) → self.old.pen.nib.key ≡ tip root self.old.front.seen.log
+            → line root self.new.front.seen.log ≡ line root self.old.front.seen.log
+            ++ plain_effect effect.value.items ∷ [] }
+        ensures tip { (root : ℕ) → self.old.pen.nib.key ≡ tip root self.old.front.seen.log
+            → self.new.pen.nib.key ≡ tip root self.new.front.seen.log }
+    {
+        let Keeper { head, pen, front } = self;
+        let leaf = Leaf {
+            effect,
+            next: right_of(&*head, &front.seen),
+        };
+        let seen = &mut front.seen;
+        let mut offer: Offer<Page, u64, Law, Nothing> = seen.plain::<Nothing, Leaf, Add>(&leaf);
+        head.compare_exchange::<Add, Nothing>(0, 0, seen, &mut offer, pen);
+        let Leaf { effect: _, next } = leaf;
+        *pen = next;
+    }
+
+    /// Whatever was seen of its line begins it.
+    pub(crate) fn covers(&mut self, other: &Front)
+        requires { other.now.seen.book ≡ self.old.front.seen.book }
+        ensures front { self.new.front ≡ self.old.front }
+        ensures pen { self.new.pen.nib ≡ self.old.pen.nib }
+        ensures begins { (root : ℕ) → self.old.pen.nib.key ≡ tip root self.old.front.seen.log
+            → IsPrefix (line root other.now.seen.log) (line root self.old.front.seen.log) }
+    {
+        let Keeper { head, pen, front } = self;
+        let mut both = front.seen.again();
+        both.learn(&other.seen);
+        let mut offer: Offer<Page, u64, Law, Nothing> = both.plain::<Nothing, u8, Grow>(&0);
+        head.compare_exchange::<Hold, Nothing>(0, 0, &mut both, &mut offer, pen);
+    }
+}
+
+/// A right that no page has used up.
+fn right_of(head: &Word<Page, u64, Law>, seen: &Seen<Page, u64, Law>) -> Pen
+    requires { head.now ≡ head_of seen.now.book }
+    ensures book { result.book ≡ seen.now.book }
+    ensures right { result.nib.right ≡ may_write }
+{
+    let mut seen = seen.again();
+    let mut pen = seen.no_pen();
+    let mut offer: Offer<Page, u64, Law, Nothing> = seen.plain::<Nothing, u8, Grow>(&0);
+    head.compare_exchange::<Grow, Nothing>(0, 0, &mut seen, &mut offer, &mut pen);
+    drop(Word::<Page, u64, Law>::tracked(0, &mut pen));
+    pen
+}

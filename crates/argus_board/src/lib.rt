@@ -1,0 +1,25 @@
+//! The readers' board: committed contents that threads look at with no lock.
+#![tactic(auto)]
+
+mod board;
+mod board_writer;
+mod change;
+mod effect;
+mod front;
+mod keeper;
+mod look_fault;
+mod looker;
+mod looking;
+mod page;
+mod pages;
+mod published;
+mod publishing;
+mod table;
+mod writing;
+
+pub use board::Board;
+pub use board_writer::BoardWriter;
+pub use effect::{Effect, duplicate_effect};
+pub use keeper::Keeper;
+pub use look_fault::LookFault;
+pub use looker::Looker;

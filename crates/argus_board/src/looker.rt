@@ -1,0 +1,114 @@
+//! `Looker`: who looks at a board, with no lock.
+
+ghost use Rattle.std.specs.Prelude.{◌≡◌, ◌++◌, [], map, IfOk};
+ghost use mathlib.Core.List.{IsPrefix};
+ghost use Rattle.argus_model.specs.Effects.{table};
+ghost use Rattle.argus_board.specs.Effects.{Leads, plain_contents};
+ghost use Rattle.argus_board.specs.History.{line};
+
+use crate::board::Board;
+use crate::front::Front;
+use crate::look_fault::LookFault;
+use crate::looking::copies_of;
+use crate::published::{BoardReader, Looks, Publisher};
+use argus_contents::{Content, ObjId};
+use argus_memory::{Heap, OutOfMemory};
+use core::mem::replace_with;
+use std::marker::Model;
+
+/// A place at a board. Contracts see it as the effects that it saw, the newest last.
+///
+/// A look takes no lock and waits for nobody.
+///
+/// ```text
+/// let found = looker.look(heap, &[ObjId(0), ObjId(7)])?;
+/// assert_eq!(rt; found.len(), 2);
+/// ```
+#[derive(Drop)]
+pub struct Looker<N: Board> {
+    pub(crate) reader: BoardReader<N>,
+    pub(crate) front: Front,
+}
+
+impl<N: Board> Model for Looker<N> {
+    ghost use Rattle.std.specs.Prelude.{List, ◌++◌, ◌≡◌};
+    ghost use Rattle.left_right.specs.Sides.{view as seen_at};
+    ghost use Rattle.argus_board.specs.Effects.{Effect, Leads, effects_coded};
+    ghost use Rattle.argus_board.specs.History.{line};
+
+    ghost Value = { List Effect };
+
+    ghost coded = { effects_coded };
+
+    ghost view = { λ k. N.before ++ line N.root k.front.seen.log };
+
+    ghost invariant = { λ k. Leads N.opening N.before N.first
+        × (seen_at k.reader.place ≡ line N.root k.front.seen.log)
+        × (k.front.seen.book ≡ N.history) };
+}
+
+impl<N: Board> Looker<N> {
+    /// A free place, which has seen what stood on the board at first.
+    pub(crate) fn at(writer: &Publisher<N>, front: &Front) -> Result<Looker<N>, OutOfMemory>
+        requires first { Leads N.opening N.before N.first }
+        requires none { line N.root front.now.seen.log ≡ [] }
+        requires book { front.now.seen.book ≡ N.history }
+        ensures { IfOk result (λ looker. looker ≡ N.before) }
+    {
+        Ok(Looker {
+            reader: writer.factory().reader()?,
+            front: front.again(),
+        })
+    }
+
+    /// What was in these objects for good at one moment, none for an object that is absent or
+    /// undeclared: all from one published table, not before what this looker saw last. It takes no
+    /// lock and waits for nobody.
+    ///
+    /// Faults: `Memory`, after which it can look again; `Closed`, once the board has ended.
+    ///
+    /// ```text
+    /// let found = looker.look(heap, &[ObjId(0), ObjId(1)])?;
+    /// ```
+    pub fn look(
+        &mut self,
+        heap: Heap,
+        objects: &[ObjId],
+    ) -> Result<Vec<Option<Content>, Heap>, LookFault>
+        ensures later { IsPrefix self.old self.new }
+        ensures answer { IfOk result (λ found. plain_contents found.items
+            ≡ map (λ o. table N.opening self.new o.0) objects.now) }
+    {
+        replace_with(self, (heap, objects), |looker, asked| {
+            looker.looked(asked.0, asked.1)
+        })
+    }
+
+    fn looked(
+        self,
+        heap: Heap,
+        objects: &[ObjId],
+    ) -> (Looker<N>, Result<Vec<Option<Content>, Heap>, LookFault>)
+        ensures later { IsPrefix self result.0 }
+        ensures answer { IfOk result.1 (λ found. plain_contents found.items
+            ≡ map (λ o. table N.opening result.0 o.0) objects.now) }
+    {
+        let Looker { reader, front } = self;
+        match reader.enter_as::<Looks<N>>() {
+            Ok(reading) => {
+                let table = reading.get();
+                let front = table.front.again();
+                let found = copies_of(heap, table.contents.as_slice(), objects);
+                let looker = Looker {
+                    reader: reading.leave(),
+                    front,
+                };
+                match found {
+                    Ok(found) => (looker, Ok(found)),
+                    Err(OutOfMemory) => (looker, Err(LookFault::Memory)),
+                }
+            }
+            Err(reader) => (Looker { reader, front }, Err(LookFault::Closed)),
+        }
+    }
+}

@@ -1,0 +1,90 @@
+//! The rule of the history, and the steps that it can take.
+
+use crate::effect::Effect;
+use crate::page::Page;
+use logbook::{Gain, Pen, Plain, Play, Rule};
+use std::snapshot::Snapshot;
+
+/// The rule of the history.
+pub struct Law;
+
+impl Rule<Page, u64> for Law {
+    ghost use Rattle.std.specs.Prelude.{[]};
+    ghost use base.Fml.{ftrue};
+    ghost use Rattle.argus_board.specs.History.{IsKept};
+
+    ghost holds = { λ cells pages. IsKept cells pages };
+
+    ghost first = { [] };
+
+    ghost hinted = { λ n pages. Unit {0} };
+
+    ghost shows = { λ pages. [] };
+
+    ghost keeps = { λ names pages. ftrue };
+
+    ghost moves = { λ ask before after answer. Unit {0} };
+}
+
+/// Nobody trades anything.
+pub(crate) struct Nothing;
+
+impl Gain<Page, u64> for Nothing {
+    ghost use base.Fml.{ftrue};
+
+    ghost after = { λ names about answer. ftrue };
+}
+
+/// The step that makes a right.
+pub(crate) struct Grow;
+
+impl Play<Page, u64> for Grow {
+    ghost use Rattle.argus_board.specs.History.{Grows};
+
+    ghost then = { Grows };
+}
+
+impl Plain<u8, Page, u64> for Grow {
+    ghost use Rattle.std.specs.Prelude.{None, []};
+
+    ghost ask = { λ v. record { uses = 0; gives = 0; effect = [] } };
+
+    ghost state = { λ v. None };
+}
+
+/// The step that adds a page.
+pub(crate) struct Add;
+
+impl Play<Page, u64> for Add {
+    ghost use Rattle.argus_board.specs.History.{Adds};
+
+    ghost then = { Adds };
+}
+
+/// What is added, and the right that comes next.
+pub(crate) struct Leaf {
+    pub(crate) effect: Snapshot<Effect>,
+    pub(crate) next: Pen,
+}
+
+impl Plain<Leaf, Page, u64> for Add {
+    ghost use Rattle.std.specs.Prelude.{None};
+    ghost use Rattle.argus_board.specs.Effects.{plain_effect};
+
+    ghost ask = { λ v. record {
+        uses = 0;
+        gives = v.next.nib.key;
+        effect = plain_effect v.effect.value.items;
+    } };
+
+    ghost state = { λ v. None };
+}
+
+/// The step by which the holder of a right sees that no page used it up.
+pub(crate) struct Hold;
+
+impl Play<Page, u64> for Hold {
+    ghost use Rattle.argus_board.specs.History.{Holds};
+
+    ghost then = { Holds };
+}

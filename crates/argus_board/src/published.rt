@@ -1,0 +1,71 @@
+//! The rule of a board, and its two ends under that rule.
+
+use crate::board::Board;
+use crate::change::Change;
+use crate::table::Table;
+use argus_memory::Heap;
+use atomic_table::{Join, Split};
+use crossbeam_utils::rule::{Outcome, Protocol};
+use left_right::reader::Reader;
+use left_right::writer::Writer;
+use std::marker::{Model, PhantomData};
+
+/// What a place knows: the effects that it saw, the newest last. No value of it is made.
+pub struct View;
+
+impl Model for View {
+    ghost use Rattle.std.specs.Prelude.{List, []};
+    ghost use Rattle.argus_board.specs.Effects.{Effect, effects_coded};
+
+    ghost Value = { List Effect };
+
+    ghost coded = { effects_coded };
+
+    ghost view = { λ _. [] };
+}
+
+/// The rule: what is published are the contents of its effects, and each place saw a beginning of
+/// these.
+pub struct Published<N: Board>(PhantomData<N>);
+
+impl<N: Board> Protocol<Table, View> for Published<N> {
+    ghost use Rattle.std.specs.Prelude.{[]};
+    ghost use Rattle.argus_board.specs.Published.{Keeps};
+
+    ghost holds = { Keeps N.first N.history N.root };
+
+    ghost first = { [] };
+}
+
+/// The step by which a place comes to see all that is published.
+pub(crate) struct Looks<N: Board>(PhantomData<N>);
+
+impl<N: Board> Outcome<Table, View> for Looks<N> {
+    ghost use Rattle.argus_board.specs.Published.{Sees};
+
+    ghost then = { Sees N.first N.history N.root };
+}
+
+/// What the writer gives out of its view, and what a place makes of it.
+pub(crate) struct Notes;
+
+impl Split<View> for Notes {
+    ghost left = { λ v. v };
+
+    ghost right = { λ v. v };
+}
+
+impl Join<View> for Notes {
+    ghost use Rattle.std.specs.Prelude.{[]};
+    ghost use Rattle.argus_board.specs.Published.{told};
+
+    ghost both = { told };
+
+    ghost spent = { [] };
+}
+
+/// A looker's end, under the rule.
+pub(crate) type BoardReader<N> = Reader<Table, View, Published<N>, Heap>;
+
+/// The publisher's end, under the rule.
+pub(crate) type Publisher<N> = Writer<Table, Change, View, Published<N>, Heap>;

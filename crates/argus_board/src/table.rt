@@ -1,0 +1,72 @@
+//! `Table`: the contents that lookers see.
+
+ghost use Rattle.std.specs.Prelude.{◌≡◌};
+ghost use Rattle.argus_board.specs.Published.{absorbed, table_state};
+
+use crate::change::Change;
+use crate::effect::duplicate_effect;
+use crate::front::Front;
+use crate::writing::{pad, required, write};
+use argus_contents::Content;
+use argus_memory::Heap;
+use left_right::Absorb;
+use std::alloc::AllocError;
+use std::marker::Model;
+
+/// What is in the objects for good, in the order of their numbers, and how far the history had come
+/// then. The board has two copies of it.
+#[derive(Drop)]
+pub struct Table {
+    pub contents: Vec<Option<Content>, Heap>,
+    pub front: Front,
+}
+
+/// The contents of a table, as contracts see them. No value of it is made.
+pub struct Contents;
+
+impl Model for Contents {
+    ghost use Rattle.std.specs.Prelude.{List, Option, []};
+    ghost use Rattle.argus_contents.specs.Content.{PlainContent};
+    ghost use Rattle.argus_board.specs.Effects.{contents_coded};
+
+    ghost Value = { List (Option PlainContent) };
+
+    ghost coded = { contents_coded };
+
+    ghost view = { λ _. [] };
+}
+
+impl Absorb<Change> for Table {
+    type State = (Contents, Front);
+
+    ghost state = { table_state };
+
+    ghost applied = { absorbed };
+
+    fn absorb_first(&mut self, operation: &Change, _other: &Table) -> Result<(), AllocError> {
+        match operation {
+            Change::Leaves(effect) => {
+                let Ok(copy) = duplicate_effect(*self.contents.allocator(), effect) else {
+                    return Err(AllocError);
+                };
+                pad(&mut self.contents, required(copy.as_slice()))?;
+                write(&mut self.contents, copy);
+            }
+            Change::Marks(front) => self.front = front.again(),
+        }
+        Ok(())
+    }
+
+    fn absorb_second(&mut self, operation: Change, _other: &Table) -> Result<(), Change> {
+        match operation {
+            Change::Leaves(effect) => {
+                if pad(&mut self.contents, required(effect.as_slice())).is_err() {
+                    return Err(Change::Leaves(effect));
+                }
+                write(&mut self.contents, effect);
+            }
+            Change::Marks(front) => self.front = front,
+        }
+        Ok(())
+    }
+}

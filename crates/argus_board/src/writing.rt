@@ -1,0 +1,54 @@
+//! Effects written into the contents of a table.
+
+ghost use Rattle.std.specs.Prelude.{◌<◌, ◌≡◌, ◌≤◌, length, set, OnErr, OnOk};
+ghost use Rattle.argus_board.specs.Effects.{needed, padded, plain_contents, plain_effect, written};
+
+use crate::effect::Effect;
+use argus_contents::{Content, ObjId};
+use argus_memory::Heap;
+use std::alloc::AllocError;
+
+/// How many objects a table has to have for all that the effect names.
+pub(crate) fn required(effect: &[(ObjId, Option<Content>)]) -> usize
+    ensures { result ≡ needed (plain_effect effect.now) }
+{
+    let mut count = 0;
+    for pair in effect {
+        count = count.max(pair.0.0 as usize + 1);
+    }
+    count
+}
+
+/// Makes the contents so many at least: the new ones are absent. At `Err` nothing changed.
+pub(crate) fn pad(contents: &mut Vec<Option<Content>, Heap>, count: usize) -> Result<(), AllocError>
+    ensures ok { OnOk result (plain_contents contents.new.items
+        ≡ padded (plain_contents contents.old.items) count) }
+    ensures err { OnErr result (contents.new.items ≡ contents.old.items) }
+{
+    let missing = count.saturating_sub(contents.len());
+    contents.reserve(missing)?;
+    for _more in 0..missing {
+        contents.push_reserved(None);
+    }
+    Ok(())
+}
+
+/// Writes each object of the effect. There are so many at least.
+pub(crate) fn write(contents: &mut Vec<Option<Content>, Heap>, effect: Effect)
+    requires { needed (plain_effect effect.items) ≤ length contents.old.items }
+    ensures { plain_contents contents.new.items
+        ≡ written (plain_contents contents.old.items) (plain_effect effect.items) }
+{
+    let mut effect = effect;
+    while let Some((object, content)) = effect.pop() {
+        put(contents, object.0 as usize, content);
+    }
+}
+
+/// Puts a content in the place of another.
+fn put(contents: &mut Vec<Option<Content>, Heap>, at: usize, content: Option<Content>)
+    requires { at < length contents.old.items }
+    ensures { contents.new.items ≡ set contents.old.items at content }
+{
+    contents[at] = content;
+}

@@ -1,0 +1,30 @@
+use Rattle.std.proofs.Common.{ap, sym, ◌∙◌}
+use Rattle.argus_contents.specs.Change.{plain_change}
+use Rattle.argus_entries.specs.Call.{alter, ask, plain_call}
+use Rattle.argus_entries.specs.declared.call.Call.{Call}
+use Rattle.argus_guardian.proofs.guardian.Guardian.access_refusal.Goals as goal
+use Rattle.argus_guardian.specs.Telling.{refusal_of_access}
+use Rattle.argus_journal.specs.LegalJournal.{entries_in, opening_in}
+use Rattle.argus_steps.proofs.Alters.{alter_is}
+use Rattle.argus_steps.proofs.Asks.{ask_is}
+use Rattle.argus_steps.specs.Step.{Said}
+
+pub returns-in-Ask : goal.returns-in-Ask
+returns-in-Ask c =
+    let p = c.self.inside.parts in
+    let call = ask c.in-Ask.a.0 c.in-Ask.o.0 c.in-Ask.query in
+    (rw (c.as_slice-objects.ensures.value) at c.ask_refusal.ensures)
+    ∙ ask_is p.tree p.objects.items p.holdings (opening_in p.journal) (entries_in p.journal) c.self.invariant c.in-Ask.a
+    c.in-Ask.o c.in-Ask.query
+    ∙ ap (λ (s : Said). refusal_of_access s call) c.self.view_is
+    ∙ ap (λ (x : Call). refusal_of_access c.args.self.now (plain_call x)) (sym c.in-Ask.is)
+
+pub returns-in-Alter : goal.returns-in-Alter
+returns-in-Alter c =
+    let p = c.self.inside.parts in
+    let call = alter c.in-Alter.a.0 c.in-Alter.o.0 (plain_change c.in-Alter.change) in
+    (rw (c.as_slice-objects.ensures.value) at c.alter_refusal.ensures)
+    ∙ alter_is p.tree p.objects.items p.holdings (opening_in p.journal) (entries_in p.journal) c.self.invariant c.in-Alter.a
+    c.in-Alter.o (plain_change c.in-Alter.change)
+    ∙ ap (λ (s : Said). refusal_of_access s call) c.self.view_is
+    ∙ ap (λ (x : Call). refusal_of_access c.args.self.now (plain_call x)) (sym c.in-Alter.is)

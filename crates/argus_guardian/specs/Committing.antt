@@ -1,0 +1,25 @@
+-- A commit for which all is at hand, and what a call adds to the effects.
+use Rattle.std.specs.Coded.{Coded, code_by, coded_ℕ, coded×}
+use Rattle.std.specs.Prelude.{List, Option, refl, ℕ}
+use Rattle.argus_contents.specs.Content.{PlainContent}
+use Rattle.argus_entries.specs.Call.{PlainCall}
+use Rattle.argus_journal.specs.Effects.{added_by}
+use Rattle.argus_journal.specs.Events.{happens}
+use Rattle.argus_steps.specs.Step.{Said, entry_of, said_coded}
+
+-- the journal before the commit, and the action that is going to commit
+pub record Committing : Type 0 where
+  pub journal : Said
+  pub action : ℕ
+
+-- both are stored
+abbrev pub committing_coded : Coded Committing
+committing_coded =
+    code_by (Said × ℕ) (coded× said_coded coded_ℕ) (λ c. (c.journal, c.action))
+    (λ p. record { journal = p.0; action = p.1 }) (λ _. refl)
+
+-- what one more call adds to the effects: the commit of a topaction its effect, and everything else
+-- nothing
+abbrev pub added_by_call : Said → PlainCall → List (List (ℕ × Option PlainContent))
+added_by_call said call =
+    added_by said.opening (happens said.opening (entry_of said call) said.entries) said.entries
