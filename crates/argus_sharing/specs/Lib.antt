@@ -1,3 +1,0 @@
-pub mod Locked
-pub mod Following
-pub mod Receipts
