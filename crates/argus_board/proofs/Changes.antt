@@ -50,7 +50,7 @@ leaf_whole l m n ops c e whole more is =
 pub leaf_some : (ops : List Change) (c : Change) (e : Effect) → effects_in (c ∷ []) ≡ e ∷ [] → effects_in (ops ++ c ∷ []) ≢ []
 leaf_some ops c e is none =
     let n : length (effects_in ops ++ e ∷ []) ≡ 0 =
-        ap length (sym (effects_on ops (c ∷ []) ∙ ap (λ z. effects_in ops ++ z) is) ∙ none) in
+    ap length (sym (effects_on ops (c ∷ []) ∙ ap (λ z. effects_in ops ++ z) is) ∙ none) in
     omega (arith, n, length-append (effects_in ops) (e ∷ []))
 
 module _ {A B T : Type 0} where

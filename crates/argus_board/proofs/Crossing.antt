@@ -76,10 +76,11 @@ change_syncs = search (sendable, change_field_syncs)
 
 inside_sends : (N R : RattleType) (g : Ghosts N.Denot) → IsSend R → IsSend (declared_row (inside N R g))
 inside_sends N R g s = let t = inside N R g in
-    recorded_send _ t.D t.to t.to_one (struct_send (shape t)
-    (publisher_send table_row change_row view_row (published_row N) memory.heap (Tuple (contents_row ∷ front_row ∷ [])) absorbs
-    (keeps N g no_dict) memory.rests table_sends change_sends memory.heap_sends table_syncs memory.heap_syncs memory.heap_frees,
-    (keeper_field_sends, (front_field_sends, (s, tt)))))
+    recorded_send _ t.D t.to t.to_one (struct_send (shape t) (
+      publisher_send table_row change_row view_row (published_row N) memory.heap (Tuple (contents_row ∷ front_row ∷ [])) absorbs
+          (keeps N g no_dict) memory.rests table_sends change_sends memory.heap_sends table_syncs memory.heap_syncs memory.heap_frees,
+      (keeper_field_sends, (front_field_sends, (s, tt))),
+    ))
 
 pub writer_sends : (N R : RattleType) (g : Ghosts N.Denot) → IsSend R → IsSend (writer_row N R g)
 writer_sends N R g s = view_send _ _ _ _ _ (inside_sends N R g s)

@@ -71,7 +71,8 @@ module _ (first : List (Option PlainContent)) (own : Book) (root : ℕ) where
       let l = upto x in
       let u = told v w in
       let theirs : IsPrefix w l =
-          ⊎_elim (λ (t : (other ≡ by) × (u ≡ w)). absurd (apart t.0))
-          (λ (t : (other ≢ by) × (get_elem? views other ≡ some w)). h.1 other w t.1) (at_set views by other u w there) in
-      (h.0,
-      all_set l (set views by u) other [] (all_set l views by u h.1 (told_begins v w l (h.1 by v at) theirs)) (nothing_begins l))
+      ⊎_elim (λ (t : (other ≡ by) × (u ≡ w)). absurd (apart t.0))
+      (λ (t : (other ≢ by) × (get_elem? views other ≡ some w)). h.1 other w t.1) (at_set views by other u w there) in (
+        h.0,
+        all_set l (set views by u) other [] (all_set l views by u h.1 (told_begins v w l (h.1 by v at) theirs)) (nothing_begins l),
+      )

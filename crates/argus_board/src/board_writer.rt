@@ -66,8 +66,8 @@ impl<N: Board, R: Wait + Drop> Model for BoardWriter<N, R> {
     ghost coded = { shown_coded };
 
     ghost view = { λ b. record {
-        published = N.before ++ line N.root b.writer.desk.shown.value.front.seen.log;
-        pending = effects_in (drop b.writer.behind b.writer.log.items);
+      published = N.before ++ line N.root b.writer.desk.shown.value.front.seen.log;
+      pending = effects_in (drop b.writer.behind b.writer.log.items);
     } };
 
     ghost invariant = { λ b. Leads N.opening N.before N.first
@@ -142,7 +142,12 @@ impl<N: Board, R: Wait + Drop> BoardWriter<N, R> {
             × (self.new.pending ≡ [])) }
         ensures err { OnErr result ((self.new ≡ self.old) × (self.old.pending ≢ [])) }
     {
-        let BoardWriter { writer, keeper, rt, .. } = self;
+        let BoardWriter {
+            writer,
+            keeper,
+            rt,
+            ..
+        } = self;
         publish::<N, R>(&*rt, writer, &keeper.front)
     }
 
@@ -156,7 +161,12 @@ impl<N: Board, R: Wait + Drop> BoardWriter<N, R> {
         ensures err { OnErr result ((self.new ≡ self.old) × (self.old.pending ≢ [])
             × (looker.new ≡ looker.old)) }
     {
-        let BoardWriter { writer, keeper, rt, .. } = self;
+        let BoardWriter {
+            writer,
+            keeper,
+            rt,
+            ..
+        } = self;
         let Looker { reader, front } = looker;
         keeper.covers(&*front);
         publish::<N, R>(&*rt, writer, &keeper.front)?;

@@ -72,9 +72,9 @@ impl Plain<Leaf, Page, u64> for Add {
     ghost use Rattle.argus_board.specs.Effects.{plain_effect};
 
     ghost ask = { λ v. record {
-        uses = 0;
-        gives = v.next.nib.key;
-        effect = plain_effect v.effect.value.items;
+      uses = 0;
+      gives = v.next.nib.key;
+      effect = plain_effect v.effect.value.items;
     } };
 
     ghost state = { λ v. None };

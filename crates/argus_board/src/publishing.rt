@@ -93,10 +93,7 @@ fn is_behind<N: Board>(writer: &Publisher<N>) -> bool
 }
 
 /// Gives the writer one change more. At `Err` there was no memory, and nothing changed.
-pub(crate) fn hand<N: Board>(
-    writer: &mut Publisher<N>,
-    change: Change,
-) -> Result<(), OutOfMemory>
+pub(crate) fn hand<N: Board>(writer: &mut Publisher<N>, change: Change) -> Result<(), OutOfMemory>
     ensures desk { writer.new.desk ≡ writer.old.desk }
     ensures ok { OnOk result (drop writer.new.behind writer.new.log.items
         ≡ drop writer.old.behind writer.old.log.items ++ change ∷ []) }

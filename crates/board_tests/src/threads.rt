@@ -22,10 +22,11 @@ fn one_publishes_and_one_looks(rt: HostRuntime) -> Result<(), Fail> {
     publish_and_look::<Brand, _>(rt, heap, Keeper::new())
 }
 
-fn publish_and_look<
-    N: Board + Send + Sync,
-    R: Threads + Wait + Abort + Copy + Drop + Send + Sync,
->(rt: R, heap: Heap, keeper: Keeper) -> Result<(), Fail>
+fn publish_and_look<N: Board + Send + Sync, R: Threads + Wait + Abort + Copy + Drop + Send + Sync>(
+    rt: R,
+    heap: Heap,
+    keeper: Keeper,
+) -> Result<(), Fail>
     requires keeper { Opens N.history N.root keeper }
     requires first { N.first ≡ [] }
     requires leads { Leads N.opening N.before N.first }
@@ -62,10 +63,7 @@ fn publish_often<N: Board, R: Wait + Drop>(
 }
 
 // Whether each look gave one number twice.
-fn look_often<N: Board>(
-    heap: Heap,
-    mut looker: Looker<N>,
-) -> Result<(Looker<N>, bool), LookFault> {
+fn look_often<N: Board>(heap: Heap, mut looker: Looker<N>) -> Result<(Looker<N>, bool), LookFault> {
     let mut same = true;
     for _turn in 0..TURNS {
         let found = looker.look(heap, &[ObjId(0), ObjId(3)])?;

@@ -17,7 +17,7 @@ publish_as-writer-requires g c next is =
     let front : next.front ≡ c.args.front.now = ap (λ (s : List (Option PlainContent) × Front). s.1) both in
     let log : line root next.front.seen.log ≡ line root c.args.front.now.seen.log = ap (λ (f : Front). line root f.seen.log) front in
     let contents : plain_contents next.contents.items ≡ left_by first (line root c.args.front.now.seen.log) =
-        ap (λ (s : List (Option PlainContent) × Front). s.0) both in
+    ap (λ (s : List (Option PlainContent) × Front). s.0) both in
     rises first g.N.Board.history root _ _ x next
     (subst (IsPrefix (line root x.front.seen.log)) (sym log) c.requires.begins)
     (contents ∙ ap (left_by first) (sym log), ap (λ (f : Front). f.seen.book) front ∙ c.requires.book)

@@ -16,7 +16,7 @@ invariant_of-self-2 g c =
     let root = g.N.Board.root in
     let f = line root c.self.inside.keeper.front.seen.log in
     let more : line root c.add.new.self.front.seen.log ≡ f ++ plain_effect e.items ∷ [] =
-        c.add.ensures.line root inv.4 ∙ ap (λ v. f ++ plain_effect v.items ∷ []) c.of-page.ensures in (
+    c.add.ensures.line root inv.4 ∙ ap (λ v. f ++ plain_effect v.items ∷ []) c.of-page.ensures in (
       inv.0,
       c.add.ensures.book ∙ inv.1,
       inv.2,
@@ -25,7 +25,7 @@ invariant_of-self-2 g c =
       rw c.hand.ensures.desk inv.5,
       rw c.hand.ensures.desk inv.6,
       rw (c.hand.ensures.desk, c.in_ok-hand.ensures.ok)
-      (leaf_whole (line root was.desk.shown.value.front.seen.log) f _ ops (Leaves e) (plain_effect e.items) inv.7 more refl),
+          (leaf_whole (line root was.desk.shown.value.front.seen.log) f _ ops (Leaves e) (plain_effect e.items) inv.7 more refl),
       (λ none. absurd (leaf_some ops (Leaves e) (plain_effect e.items) refl (sym (ap effects_in c.in_ok-hand.ensures.ok) ∙ none))),
     )
 
