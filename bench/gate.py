@@ -1,0 +1,86 @@
+#!/usr/bin/env python3
+"""Runs the merge gate in a fresh clone with an empty home, and tells where its time goes.
+
+    bench/gate.py [COMMIT] > FILE
+
+Each line that the gate prints comes with the minutes since its start; after its end come the
+processor minutes of each crate's proof, tests and must-fail edits, as sampled every three seconds.
+Nothing is compared with a limit. Run it alone: the gate reckons with the memory that is free at its
+start, and the figures are the machine's. Python 3 and git are all that it needs.
+"""
+
+import collections
+import os
+import subprocess
+import sys
+import tempfile
+import threading
+import time
+
+TICK = os.sysconf("SC_CLK_TCK")
+
+
+def kind_of(words, folder):
+    """What a check of the gate is for."""
+    if "/rt-edit-" in folder:
+        return "edits"
+    return "tests" if "--test" in words else "proof"
+
+
+def sample(seen, peak):
+    """Notes the processor time of each check that runs now."""
+    for pid in filter(str.isdigit, os.listdir("/proc")):
+        try:
+            with open(f"/proc/{pid}/cmdline", encoding="utf-8", errors="replace") as it:
+                words = it.read().split("\0")
+            if not words[0].endswith("/rattle") or "--crate-name" not in words:
+                continue
+            with open(f"/proc/{pid}/stat", encoding="utf-8") as it:
+                fields = it.read().rsplit(")", 1)[1].split()
+            what = words[words.index("--crate-name") + 1], kind_of(words, os.readlink(f"/proc/{pid}/cwd"))
+        except (OSError, IndexError):
+            continue
+        seen[pid, fields[19]] = what, (int(fields[11]) + int(fields[12])) / TICK
+        peak[what] = max(peak[what], int(fields[21]) * os.sysconf("SC_PAGESIZE"))
+
+
+def main():
+    top = subprocess.check_output(["git", "rev-parse", "--show-toplevel"], text=True).strip()
+    commit = sys.argv[1] if len(sys.argv) > 1 else "HEAD"
+    with tempfile.TemporaryDirectory(prefix="gate-") as room:
+        os.mkdir(f"{room}/home")
+        subprocess.check_call(["git", "clone", "-q", top, f"{room}/clone"])
+        subprocess.check_call(["git", "-C", f"{room}/clone", "checkout", "-q", commit])
+        seen, peak, ended = {}, collections.defaultdict(int), threading.Event()
+
+        def watch():
+            while not ended.wait(3):
+                sample(seen, peak)
+
+        threading.Thread(target=watch).start()
+        start = time.time()
+        gate = subprocess.Popen(
+            ["bash", ".ci/run"],
+            cwd=f"{room}/clone",
+            env={"HOME": f"{room}/home", "PATH": os.environ["PATH"], "CI": "true"},
+            stdin=subprocess.DEVNULL,
+            stdout=subprocess.PIPE,
+            stderr=subprocess.STDOUT,
+            text=True,
+            errors="replace",
+        )
+        for line in gate.stdout:
+            print(f"{(time.time() - start) / 60:7.2f} {line}", end="", flush=True)
+        ended.set()
+        print(f"{(time.time() - start) / 60:7.2f} status {gate.wait()}")
+    sums = collections.defaultdict(float)
+    for what, seconds in seen.values():
+        sums[what] += seconds / 60
+    print(f"processor minutes, by crate and kind; in all {sum(sums.values()):.0f}")
+    for what, minutes in sorted(sums.items(), key=lambda it: -it[1]):
+        print(f"{what[0]:20} {what[1]:6} {minutes:6.1f}   at most {peak[what] / 1e9:.1f} GB a process")
+    return gate.returncode
+
+
+if __name__ == "__main__":
+    sys.exit(main())
