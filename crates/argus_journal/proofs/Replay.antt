@@ -2,7 +2,6 @@
 use Rattle.std.proofs.Common.{Bool, List, None, Option, Some, [], ap, cond, drop, false, refl, subst, sym, take, true}
 use Rattle.std.proofs.Common.{ℕ, ◌++◌, ◌+◌, ◌-◌, ◌∙◌, ◌∷◌, ◌≡◌}
 use Rattle.std.specs.Prelude.{◌&&◌, ◌==◌}
-use Rattle.std.proofs.lemmas.List.{take-append-drop}
 use Rattle.argus_actions.specs.declared.action_id.ActionId.{ActionId}
 use Rattle.argus_contents.specs.Content.{KeepsLimits, PlainContent}
 use Rattle.argus_entries.specs.Call.{PlainCall, abort, abort_others, alter, ask, begin_nested, begin_sub, begin_top}
@@ -28,7 +27,7 @@ use Rattle.argus_journal.specs.declared.owner.Owner.TheVariants.{Base, Folded, G
 use Rattle.argus_journal.proofs.Contents.{content_fits}
 use Rattle.argus_journal.proofs.Fitting.{fits_keeps}
 use Rattle.argus_journal.proofs.Kin.{above_told, with_reply}
-use Rattle.argus_journal.proofs.Newest.{newest_append}
+use Rattle.argus_journal.proofs.Newest.{newest_parted}
 use Rattle.argus_journal.proofs.Shifted.{before}
 use Rattle.argus_journal.proofs.Told.{model_owner, owner_is_told}
 
@@ -42,8 +41,7 @@ pub taken_legal : (s : Opening) (items : List Entry) (i : ℕ) → Legal s (newe
     → Legal s (newest_first (take i items))
 taken_legal s items i l =
     older_legal s (newest_first (drop i items)) (newest_first (take i items))
-    (subst (λ j. Legal s j)
-    (ap newest_first (sym (take-append-drop i items)) ∙ newest_append (take i items) (drop i items)) l)
+    (subst (Legal s) (newest_parted items i) l)
 
 -- one more entry
 

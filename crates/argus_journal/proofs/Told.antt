@@ -121,7 +121,7 @@ kept_owner c r older (Some Gone) e = refl
 kept_owner c r older (Some Base) e = refl
 kept_owner c r older (Some (Held x)) e = ap (λ b. Some (cond b (owner_then c older x) (Held x))) e
 
-spared_owner : (c : PlainCall) (r : PlainReply) (older : List PlainEntry) (q : Option Owner)
+pub spared_owner : (c : PlainCall) (r : PlainReply) (older : List PlainEntry) (q : Option Owner)
     → ((x : ActionId) → owner_then c older x ≡ Held x) → owner_next (with_reply c r) older q ≡ q
 spared_owner c r older None f = refl
 spared_owner c r older (Some Folded) f = refl
@@ -361,7 +361,7 @@ folded_there first a = either (nat_lt a first) ∙ shift first a
     shift : (first a : ℕ) → nat_lt a first ≡ nat_lt (a + 1) (first + 1)
     shift first a = grind (arith, nat_tests)
 
-owner_there : (s : Opening) (j : List PlainEntry) → Legal s j → (a : ℕ)
+pub owner_there : (s : Opening) (j : List PlainEntry) → Legal s j → (a : ℕ)
     → is_some (told_owner s.first_action j a) ≡ nat_lt (a + 1) (next_action (history s j))
 owner_there s [] l a = folded_there s.first_action a
 owner_there s (e ∷ older) l a =

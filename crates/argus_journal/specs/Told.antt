@@ -126,6 +126,14 @@ told_owner first (e ∷ older) a =
     if begins e.reply a then Some (Held (record { 0 = a })) else
     owner_next e older (told_owner first older a)
 
+-- no later entry changes it: it is there for good, undone, or folded
+abbrev pub is_settled : Option Owner → Bool
+is_settled None = false
+is_settled (Some Folded) = true
+is_settled (Some Gone) = true
+is_settled (Some Base) = true
+is_settled (Some (Held x)) = false
+
 -- what has this owner counts for the reader: it is there for good, or held by the reader or one
 -- above it
 abbrev pub counts_with : List PlainEntry → Option ActionId → Option Owner → Bool

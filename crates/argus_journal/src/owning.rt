@@ -5,7 +5,7 @@ ghost use Rattle.argus_entries.specs.Call.{plain_call};
 ghost use Rattle.argus_entries.specs.Entry.{plain_entry};
 ghost use Rattle.argus_entries.specs.Reply.{plain_reply};
 ghost use Rattle.argus_journal.specs.Events as events;
-ghost use Rattle.argus_journal.specs.Journal.{entries_of, newest_first, opening_of};
+ghost use Rattle.argus_journal.specs.Journal.{entries_of, first_of, newest_first, opening_of};
 ghost use Rattle.argus_journal.specs.Legal.{Legal};
 ghost use Rattle.argus_journal.specs.Told as told;
 ghost use Rattle.argus_journal.specs.Words.{owner_in};
@@ -19,29 +19,52 @@ use argus_entries::{Call, Entry, Reply};
 /// Who answers for what the action did. None where it hasn't begun, `Folded` where it was begun
 /// before the opening.
 ///
-/// The journal has to be legal, as a guardian's is. The entries from the action's begin on are gone
-/// through; this is for audits. It takes no memory.
+/// The journal has to be legal, as a guardian's is. The entries are gone through until the action's
+/// owner is settled; this is for audits. It takes no memory.
 pub fn owner_of(journal: &Journal, a: ActionId) -> Option<Owner>
     requires { Legal (opening_of journal.now) (entries_of journal.now) }
     ensures { result ≡ owner_in (opening_of journal.now) (entries_of journal.now) a.0 }
 {
-    owner_among(journal.first_action(), journal.entries(), a)
-}
-
-/// Who answers for what the action did, as the entries tell, where the first action has this
-/// number.
-pub(crate) fn owner_among(first: u32, entries: &[Entry], a: ActionId) -> Option<Owner>
-    ensures { result ≡ told.told_owner first (newest_first entries.now) a.0 }
-{
-    let mut owner = if a.0 < first {
+    let first = journal.first_action();
+    let opened = if a.0 < first {
         Some(Owner::Folded)
     } else {
         None
     };
-    for i in 0..entries.len() {
+    owner_from(journal, 0, a, opened)
+}
+
+/// Who answers for what the action did, where this is who did after so many entries.
+pub(crate) fn owner_from(
+    journal: &Journal,
+    from: usize,
+    a: ActionId,
+    owner: Option<Owner>,
+) -> Option<Owner>
+    requires legal { Legal (opening_of journal.now) (entries_of journal.now) }
+    requires known { owner
+        ≡ told.told_owner (opening_of journal.now).first_action (first_of journal.now from) a.0 }
+    ensures { result
+        ≡ told.told_owner (opening_of journal.now).first_action (entries_of journal.now) a.0 }
+{
+    let entries = journal.entries();
+    let mut owner = owner;
+    for i in from..entries.len() {
+        if is_settled(owner) {
+            return owner;
+        }
         owner = owner_after(&entries[..i], &entries[i], a, owner);
     }
     owner
+}
+
+fn is_settled(owner: Option<Owner>) -> bool
+    ensures { result ≡ told.is_settled owner }
+{
+    match owner {
+        Some(Owner::Folded) | Some(Owner::Gone) | Some(Owner::Base) => true,
+        Some(Owner::Held(_)) | None => false,
+    }
 }
 
 fn owner_after(older: &[Entry], entry: &Entry, a: ActionId, owner: Option<Owner>) -> Option<Owner>

@@ -1,21 +1,23 @@
 //! `replay_for` and `replay_base`: what the entries leave in an object.
 
-ghost use Rattle.std.specs.Prelude.{◌≡◌, IfOk, None, OnOk, Some, if◌then◌else◌};
+ghost use Rattle.std.specs.Prelude.{◌≡◌, ◌∷◌, ◌-◌, IfOk, None, OnOk, Some, if◌then◌else◌};
 ghost use Rattle.argus_contents.specs.Content.{KeepsLimits, plain_option};
 ghost use Rattle.argus_entries.specs.Entry.{plain_entry};
 ghost use Rattle.argus_entries.specs.Reply.{plain_reply};
 ghost use Rattle.argus_contents.specs.Answer.{plain_answer};
 ghost use Rattle.argus_journal.specs.Entries.{left_by};
 ghost use Rattle.argus_journal.specs.Events as events;
-ghost use Rattle.argus_journal.specs.Journal.{entries_of, newest_first, opening_of};
+ghost use Rattle.argus_journal.specs.Journal.{entries_of, first_of, opening_of};
 ghost use Rattle.argus_journal.specs.Legal.{Legal};
-ghost use Rattle.argus_journal.specs.Told.{replayed, replay_next, told_counts, writer_by};
+ghost use Rattle.argus_journal.specs.Told.{replay_next, replayed, told_counts, told_owner};
+ghost use Rattle.argus_journal.specs.Told.{writer_by};
+ghost use Rattle.argus_journal.specs.declared.owner.Owner.TheVariants.{Held};
 ghost use Rattle.argus_journal.specs.Words.{base_of, seen_by};
 
 use crate::journal::Journal;
 use crate::kinship::is_above;
 use crate::owner::Owner;
-use crate::owning::{is_answered, owner_among};
+use crate::owning::{is_answered, owner_from};
 use argus_actions::ActionId;
 use argus_contents::{Answer, Content, ObjId, alter_in_place};
 use argus_entries::{Call, Entry, Reply};
@@ -24,8 +26,8 @@ use argus_memory::{Heap, OutOfMemory};
 /// What the action sees in the object: what was written for good, and what was written by those
 /// whose owner is the action or an ancestor of it. Absent where the object isn't declared.
 ///
-/// The journal has to be legal, as a guardian's is. All entries are gone through, for each write of
-/// the object once more; this is for audits.
+/// The journal has to be legal, as a guardian's is. All entries are gone through, and for each
+/// write of the object those after it until its action's owner is settled; this is for audits.
 pub fn replay_for(
     heap: Heap,
     journal: &Journal,
@@ -41,8 +43,8 @@ pub fn replay_for(
 
 /// What is in the object for good. Absent where the object isn't declared.
 ///
-/// The journal has to be legal, as a guardian's is. All entries are gone through, for each write of
-/// the object once more; this is for audits.
+/// The journal has to be legal, as a guardian's is. All entries are gone through, and for each
+/// write of the object those after it until its action's owner is settled; this is for audits.
 pub fn replay_base(heap: Heap, journal: &Journal, o: ObjId) -> Result<Option<Content>, OutOfMemory>
     requires { Legal (opening_of journal.now) (entries_of journal.now) }
     ensures { IfOk result (λ content. plain_option content
@@ -64,32 +66,36 @@ fn replay(
         ≡ replayed (opening_of journal.now) j reader o.0 j) }
 {
     let mut content = journal.opening_content(heap, o)?;
-    let first = journal.first_action();
     let entries = journal.entries();
-    for entry in entries {
-        replay_entry(heap, first, entries, entry, reader, o, &mut content)?;
+    for at in 0..entries.len() {
+        replay_entry(heap, journal, at + 1, &entries[at], reader, o, &mut content)?;
     }
     Ok(content)
 }
 
+// This entry is the last of so many.
 fn replay_entry(
     heap: Heap,
-    first: u32,
-    entries: &[Entry],
+    journal: &Journal,
+    count: usize,
     entry: &Entry,
     reader: Option<ActionId>,
     o: ObjId,
     content: &mut Option<Content>,
 ) -> Result<(), OutOfMemory>
-    requires { KeepsLimits (plain_option content.old) }
-    ensures { let counts = told_counts first (newest_first entries.now) reader in
+    requires legal { Legal (opening_of journal.now) (entries_of journal.now) }
+    requires last { first_of journal.now count
+        ≡ plain_entry entry.now ∷ first_of journal.now (count - 1) }
+    requires limits { KeepsLimits (plain_option content.old) }
+    ensures { let s = opening_of journal.now in
+        let counts = told_counts s.first_action (entries_of journal.now) reader in
         OnOk result (plain_option content.new
         ≡ replay_next counts (plain_entry entry.now) o.0 (plain_option content.old)) }
 {
     match writer_of(entry, o) {
         None => Ok(()),
         Some(a) => {
-            if counts(first, entries, reader, a) {
+            if counts(journal, count, reader, a) {
                 write(heap, entry, content)
             } else {
                 Ok(())
@@ -136,14 +142,19 @@ fn truth_of(answer: &Answer) -> bool
     }
 }
 
-// Whether what the action did counts for the reader.
-fn counts(first: u32, entries: &[Entry], reader: Option<ActionId>, a: ActionId) -> bool
-    ensures { result ≡ told_counts first (newest_first entries.now) reader a.0 }
+// Whether what the action did counts for the reader, where it answered for itself after so many
+// entries.
+fn counts(journal: &Journal, count: usize, reader: Option<ActionId>, a: ActionId) -> bool
+    requires legal { Legal (opening_of journal.now) (entries_of journal.now) }
+    requires held { told_owner (opening_of journal.now).first_action (first_of journal.now count) a.0
+        ≡ Some (Held a) }
+    ensures { result
+        ≡ told_counts (opening_of journal.now).first_action (entries_of journal.now) reader a.0 }
 {
-    match owner_among(first, entries, a) {
+    match owner_from(journal, count, a, Some(Owner::Held(a))) {
         Some(Owner::Base) => true,
         Some(Owner::Held(x)) => match reader {
-            Some(h) => is_above(entries, x, h),
+            Some(h) => is_above(journal.entries(), x, h),
             None => false,
         },
         Some(Owner::Folded) | Some(Owner::Gone) | None => false,
