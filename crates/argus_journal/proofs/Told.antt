@@ -173,7 +173,7 @@ abort_owner h z c over older goes (Some (Held y)) p =
     either false y = refl
 
 -- an action that answers for some work is live
-held_live : (h : History PlainEntry) → Orderly h → (a : ℕ) (y : ActionId) → model.Held (y.0 + 1) ≡ owner h a
+pub held_live : (h : History PlainEntry) → Orderly h → (a : ℕ) (y : ActionId) → model.Held (y.0 + 1) ≡ owner h a
     → is_live h (y.0 + 1) ≡ true
 held_live h w a y e =
     ⊎_elim
@@ -330,7 +330,8 @@ owner_is_told s (e ∷ older) l a =
 
 -- where there is an owner
 
-next_there : (e : PlainEntry) (older : List PlainEntry) (q : Option Owner) → is_some (owner_next e older q) ≡ is_some q
+pub next_there : (e : PlainEntry) (older : List PlainEntry) (q : Option Owner)
+    → is_some (owner_next e older q) ≡ is_some q
 next_there e older None = refl
 next_there e older (Some Folded) = refl
 next_there e older (Some Gone) = refl

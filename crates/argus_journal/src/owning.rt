@@ -31,39 +31,76 @@ pub fn owner_of(journal: &Journal, a: ActionId) -> Option<Owner>
     } else {
         None
     };
-    owner_from(journal, 0, a, opened)
+    owner_from(journal, 0, a, opened, &mut None)
 }
 
 /// Who answers for what the action did, where this is who did after so many entries.
+///
+/// The last owner of one action may be known. It is used where that action comes to hold the work;
+/// afterwards that of the work's first heir is known. So the entries of a long action are gone
+/// through once, and not for each of its writes or subactions.
 pub(crate) fn owner_from(
     journal: &Journal,
     from: usize,
     a: ActionId,
     owner: Option<Owner>,
+    known: &mut Option<(ActionId, Option<Owner>)>,
 ) -> Option<Owner>
     requires legal { Legal (opening_of journal.now) (entries_of journal.now) }
-    requires known { owner
+    requires owner { owner
         ≡ told.told_owner (opening_of journal.now).first_action (first_of journal.now from) a.0 }
-    ensures { result
+    requires known { told.IsTold (opening_of journal.now).first_action (entries_of journal.now)
+        known.old }
+    ensures owner { result
         ≡ told.told_owner (opening_of journal.now).first_action (entries_of journal.now) a.0 }
+    ensures known { told.IsTold (opening_of journal.now).first_action (entries_of journal.now)
+        known.new }
 {
     let entries = journal.entries();
     let mut owner = owner;
+    let mut heir = a;
     for i in from..entries.len() {
-        if is_settled(owner) {
-            return owner;
+        if let Some(last) = last_owner(*known, owner) {
+            *known = Some((heir, last));
+            return last;
         }
         owner = owner_after(&entries[..i], &entries[i], a, owner);
+        heir = first_heir(a, heir, owner);
     }
+    *known = Some((heir, owner));
     owner
 }
 
-fn is_settled(owner: Option<Owner>) -> bool
-    ensures { result ≡ told.is_settled owner }
+// The last owner of what has this owner now, where that can be said.
+fn last_owner(
+    known: Option<(ActionId, Option<Owner>)>,
+    owner: Option<Owner>,
+) -> Option<Option<Owner>>
+    ensures { result ≡ told.last_owner known owner }
 {
     match owner {
-        Some(Owner::Folded) | Some(Owner::Gone) | Some(Owner::Base) => true,
-        Some(Owner::Held(_)) | None => false,
+        Some(Owner::Folded) | Some(Owner::Gone) | Some(Owner::Base) => Some(owner),
+        Some(Owner::Held(x)) => last_known(known, x),
+        None => None,
+    }
+}
+
+fn last_known(known: Option<(ActionId, Option<Owner>)>, x: ActionId) -> Option<Option<Owner>>
+    ensures { result ≡ told.last_owner known (Some (Owner.Held x)) }
+{
+    match known {
+        Some((holder, last)) => { if holder == x { Some(last) } else { None } }
+        None => None,
+    }
+}
+
+// The first other than a to hold its work, where this was the first so far, or a itself.
+fn first_heir(a: ActionId, heir: ActionId, owner: Option<Owner>) -> ActionId
+    ensures { result ≡ told.first_heir a.0 heir owner }
+{
+    match owner {
+        Some(Owner::Held(x)) => { if heir == a { x } else { heir } }
+        Some(Owner::Folded) | Some(Owner::Gone) | Some(Owner::Base) | None => heir,
     }
 }
 

@@ -7,11 +7,9 @@ ghost use Rattle.argus_entries.specs.Reply.{plain_reply};
 ghost use Rattle.argus_contents.specs.Answer.{plain_answer};
 ghost use Rattle.argus_journal.specs.Entries.{left_by};
 ghost use Rattle.argus_journal.specs.Events as events;
-ghost use Rattle.argus_journal.specs.Journal.{entries_of, first_of, opening_of};
+ghost use Rattle.argus_journal.specs.Journal.{entries_of, first_of, newest_first, opening_of};
 ghost use Rattle.argus_journal.specs.Legal.{Legal};
-ghost use Rattle.argus_journal.specs.Told.{replay_next, replayed, told_counts, told_owner};
-ghost use Rattle.argus_journal.specs.Told.{writer_by};
-ghost use Rattle.argus_journal.specs.declared.owner.Owner.TheVariants.{Held};
+ghost use Rattle.argus_journal.specs.Told as told;
 ghost use Rattle.argus_journal.specs.Words.{base_of, seen_by};
 
 use crate::journal::Journal;
@@ -26,8 +24,8 @@ use argus_memory::{Heap, OutOfMemory};
 /// What the action sees in the object: what was written for good, and what was written by those
 /// whose owner is the action or an ancestor of it. Absent where the object isn't declared.
 ///
-/// The journal has to be legal, as a guardian's is. All entries are gone through, and for each
-/// write of the object those after it until its action's owner is settled; this is for audits.
+/// The journal has to be legal, as a guardian's is. All entries are gone through, and for a write
+/// of the object those after it until its last owner is known; this is for audits.
 pub fn replay_for(
     heap: Heap,
     journal: &Journal,
@@ -43,8 +41,8 @@ pub fn replay_for(
 
 /// What is in the object for good. Absent where the object isn't declared.
 ///
-/// The journal has to be legal, as a guardian's is. All entries are gone through, and for each
-/// write of the object those after it until its action's owner is settled; this is for audits.
+/// The journal has to be legal, as a guardian's is. All entries are gone through, and for a write
+/// of the object those after it until its last owner is known; this is for audits.
 pub fn replay_base(heap: Heap, journal: &Journal, o: ObjId) -> Result<Option<Content>, OutOfMemory>
     requires { Legal (opening_of journal.now) (entries_of journal.now) }
     ensures { IfOk result (λ content. plain_option content
@@ -63,50 +61,54 @@ fn replay(
     requires { Legal (opening_of journal.now) (entries_of journal.now) }
     ensures { let j = entries_of journal.now in
         IfOk result (λ content. plain_option content
-        ≡ replayed (opening_of journal.now) j reader o.0 j) }
+        ≡ told.replayed (opening_of journal.now) j reader o.0 j) }
 {
     let mut content = journal.opening_content(heap, o)?;
     let entries = journal.entries();
+    let mut known = None;
     for at in 0..entries.len() {
-        replay_entry(heap, journal, at + 1, &entries[at], reader, o, &mut content)?;
+        let entry = &entries[at];
+        if is_counted(journal, at + 1, entry, reader, o, &mut known) {
+            write(heap, entry, &mut content)?;
+        }
     }
     Ok(content)
 }
 
-// This entry is the last of so many.
-fn replay_entry(
-    heap: Heap,
+// Whether this entry, the last of so many, writes the object by an action that counts for the
+// reader.
+fn is_counted(
     journal: &Journal,
     count: usize,
     entry: &Entry,
     reader: Option<ActionId>,
     o: ObjId,
-    content: &mut Option<Content>,
-) -> Result<(), OutOfMemory>
+    known: &mut Option<(ActionId, Option<Owner>)>,
+) -> bool
     requires legal { Legal (opening_of journal.now) (entries_of journal.now) }
     requires last { first_of journal.now count
         ≡ plain_entry entry.now ∷ first_of journal.now (count - 1) }
-    requires limits { KeepsLimits (plain_option content.old) }
-    ensures { let s = opening_of journal.now in
-        let counts = told_counts s.first_action (entries_of journal.now) reader in
-        OnOk result (plain_option content.new
-        ≡ replay_next counts (plain_entry entry.now) o.0 (plain_option content.old)) }
+    requires known { told.IsTold (opening_of journal.now).first_action (entries_of journal.now)
+        known.old }
+    ensures counted { let first = (opening_of journal.now).first_action in
+        let e = plain_entry entry.now in
+        result ≡ told.is_counted (told.told_counts first (entries_of journal.now) reader)
+        (told.writer_by e.call e.reply o.0) }
+    ensures known { told.IsTold (opening_of journal.now).first_action (entries_of journal.now)
+        known.new }
 {
     match writer_of(entry, o) {
-        None => Ok(()),
+        None => false,
         Some(a) => {
-            if counts(journal, count, reader, a) {
-                write(heap, entry, content)
-            } else {
-                Ok(())
-            }
+            let owner = owner_from(journal, count, a, Some(Owner::Held(a)), known);
+            counts(journal.entries(), reader, owner)
         }
     }
 }
 
 // The action that writes the object by this entry.
 fn writer_of(entry: &Entry, o: ObjId) -> Option<ActionId>
-    ensures { result ≡ writer_by (plain_entry entry.now).call (plain_entry entry.now).reply o.0 }
+    ensures { let e = plain_entry entry.now in result ≡ told.writer_by e.call e.reply o.0 }
 {
     match &entry.call {
         Call::Alter(a, i, _) => action_if(*i == o && is_answered(&entry.reply), *a),
@@ -142,19 +144,14 @@ fn truth_of(answer: &Answer) -> bool
     }
 }
 
-// Whether what the action did counts for the reader, where it answered for itself after so many
-// entries.
-fn counts(journal: &Journal, count: usize, reader: Option<ActionId>, a: ActionId) -> bool
-    requires legal { Legal (opening_of journal.now) (entries_of journal.now) }
-    requires held { told_owner (opening_of journal.now).first_action (first_of journal.now count) a.0
-        ≡ Some (Held a) }
-    ensures { result
-        ≡ told_counts (opening_of journal.now).first_action (entries_of journal.now) reader a.0 }
+// Whether what has this owner counts for the reader.
+fn counts(entries: &[Entry], reader: Option<ActionId>, owner: Option<Owner>) -> bool
+    ensures { result ≡ told.counts_with (newest_first entries.now) reader owner }
 {
-    match owner_from(journal, count, a, Some(Owner::Held(a))) {
+    match owner {
         Some(Owner::Base) => true,
         Some(Owner::Held(x)) => match reader {
-            Some(h) => is_above(journal.entries(), x, h),
+            Some(h) => is_above(entries, x, h),
             None => false,
         },
         Some(Owner::Folded) | Some(Owner::Gone) | None => false,

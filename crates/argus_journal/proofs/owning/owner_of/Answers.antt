@@ -7,4 +7,4 @@ use Rattle.argus_journal.proofs.owning.owner_of.Goals as goal
 pub returns : goal.returns
 returns c =
     let journal = c.args.journal.now in
-    c.owner_from.ensures ∙ owner_told (opening_of journal) (entries_of journal) c.requires c.args.a.0
+    c.owner_from.ensures.owner ∙ owner_told (opening_of journal) (entries_of journal) c.requires c.args.a.0
