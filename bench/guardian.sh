@@ -101,6 +101,7 @@ for _ in $(seq "$reps"); do
     beside W4 5000 chain
     beside W7 20000 stores
     ours 500 reads
+    ours 9900 audit
 done
 printf '%-20s %12s' 'work and part' 'ns each'
 [ -z "$peers" ] || printf ' %12s %7s' 'by hand' ratio

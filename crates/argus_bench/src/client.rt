@@ -5,6 +5,7 @@ use argus_actions::ActionId;
 use argus_contents::{Answer, Change, Content, Name, ObjId, Query, Shape, Ty, Value};
 use argus_entries::{Call, Reply};
 use argus_guardian::Guardian;
+use argus_journal::replay_base;
 use argus_memory::Heap;
 use std::collections::VecDeque;
 
@@ -98,6 +99,18 @@ impl Client {
             Reply::Object(_) | Reply::Begun(_) | Reply::Answered(_) | Reply::Refused(_) => {
                 Err(BenchError::OtherReply)
             }
+        }
+    }
+
+    /// The integer that the journal's writes leave in a record for good.
+    pub(crate) fn replay(&self, o: ObjId) -> Result<i64, BenchError> {
+        let replayed = replay_base(self.heap, self.guardian.journal().journal(), o)?;
+        let Some(Content::Rec(values)) = replayed else {
+            return Err(BenchError::OtherReply);
+        };
+        match values.first() {
+            Some(Value::Int(number)) => Ok(*number),
+            Some(_) | None => Err(BenchError::OtherReply),
         }
     }
 

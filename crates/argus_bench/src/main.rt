@@ -37,6 +37,8 @@ WORK is one of these:
   stores     a store into an array of 65,000 integers, by one topaction: the first store
              (with the topaction's begin), the next ones, and the commit
   reads      a topaction that reads each of 1,000 records: the asks, and the commit
+  audit      a topaction that sets 8 of 1,000 records; what is timed is the audit after all
+             turns: what the journal's writes leave in each record
 
 It prints WORK PART n=N ns_each=NANOSECONDS sum=SUM for each part that is timed. The sum is
 that of what was read and of what the objects then hold, each times its place.";
@@ -44,7 +46,7 @@ that of what was read and of what the objects then hold, each times its place.";
 // The turns of the small runs.
 const SMALL: u32 = 20;
 
-const WORKS: [Work; 7] = [
+const WORKS: [Work; 8] = [
     Work::Flat,
     Work::Nested,
     Work::Commit(10),
@@ -52,6 +54,7 @@ const WORKS: [Work; 7] = [
     Work::Chain,
     Work::Stores,
     Work::Reads,
+    Work::Audit,
 ];
 
 fn tell<R: Print + Clock>(rt: &R, heap: Heap) -> Result<()> {

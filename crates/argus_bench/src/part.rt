@@ -15,6 +15,8 @@ pub(crate) enum Part {
     Asks,
     /// The commit of what was read or changed.
     Commit,
+    /// The contents for good, each by a replay of the journal.
+    Replays,
 }
 
 impl fmt::Display for Part {
@@ -25,6 +27,7 @@ impl fmt::Display for Part {
             Part::Next => "next",
             Part::Asks => "asks",
             Part::Commit => "commit",
+            Part::Replays => "replays",
         })
     }
 }

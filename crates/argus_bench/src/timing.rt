@@ -8,8 +8,8 @@ use crate::part::Part;
 use crate::turning::RECORDS;
 use crate::work::Work;
 use crate::working::{
-    ITEMS, make_turns, read_records, records_of, store_numbers, weigh_array, weigh_records,
-    with_records,
+    ITEMS, make_turns, read_records, records_of, replay_records, store_numbers, weigh_array,
+    weigh_records, with_records,
 };
 use anyhow::Result;
 use argus_contents::ObjId;
@@ -25,6 +25,7 @@ pub(crate) fn run(rt: &impl Clock, heap: Heap, work: Work, turns: u32) -> Result
         }
         Work::Stores => run_stores(rt, heap, turns),
         Work::Reads => run_reads(rt, heap, turns),
+        Work::Audit => run_audit(rt, heap, turns),
     }
 }
 
@@ -114,5 +115,21 @@ fn run_reads(rt: &impl Clock, heap: Heap, turns: u32) -> Result<Outcome> {
         taken: commits,
     })?;
     let sum = weigh_records(&mut client, RECORDS)?;
+    Ok(Outcome { figures, sum })
+}
+
+// The turns come before, and aren't timed.
+fn run_audit(rt: &impl Clock, heap: Heap, turns: u32) -> Result<Outcome> {
+    let mut client = with_records(heap, RECORDS)?;
+    let _ = make_turns(&mut client, Work::Audit, turns)?;
+    let start = Instant::now(rt)?;
+    let sum = replay_records(&client, RECORDS)?;
+    let taken = start.elapsed(rt)?;
+    let mut figures = Vec::new(heap);
+    figures.push(Figure {
+        part: Part::Replays,
+        count: u32::from(RECORDS),
+        taken,
+    })?;
     Ok(Outcome { figures, sum })
 }

@@ -18,6 +18,7 @@ pub(crate) enum Work {
     Chain,
     Stores,
     Reads,
+    Audit,
 }
 
 impl FromStr for Work {
@@ -47,6 +48,7 @@ fn named(text: &str) -> Result<Work, BenchError> {
         "chain" => Ok(Work::Chain),
         "stores" => Ok(Work::Stores),
         "reads" => Ok(Work::Reads),
+        "audit" => Ok(Work::Audit),
         _ => Err(BenchError::UnknownWork),
     }
 }
@@ -61,6 +63,7 @@ impl fmt::Display for Work {
             Work::Chain => f.write_str("chain"),
             Work::Stores => f.write_str("stores"),
             Work::Reads => f.write_str("reads"),
+            Work::Audit => f.write_str("audit"),
         }
     }
 }

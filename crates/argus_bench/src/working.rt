@@ -4,7 +4,7 @@ use crate::bench_error::BenchError;
 use crate::client::Client;
 use crate::draws::Draws;
 use crate::turning::{
-    CHAIN_RECORDS, RECORDS, turn_abort, turn_chain, turn_commit, turn_flat, turn_nested,
+    CHAIN_RECORDS, RECORDS, turn_abort, turn_chain, turn_commit, turn_eight, turn_flat, turn_nested,
 };
 use crate::work::Work;
 use argus_actions::ActionId;
@@ -26,7 +26,7 @@ pub(crate) fn with_records(heap: Heap, count: u16) -> Result<Client, BenchError>
 /// How many records the work begins with.
 pub(crate) fn records_of(work: Work) -> u16 {
     match work {
-        Work::Flat | Work::Nested | Work::Reads => RECORDS,
+        Work::Flat | Work::Nested | Work::Reads | Work::Audit => RECORDS,
         Work::Commit(count) | Work::Abort(count) => count,
         Work::Chain => CHAIN_RECORDS,
         Work::Stores => 0,
@@ -55,6 +55,7 @@ fn make_turn(
         Work::Commit(count) => turn_commit(client, draws, count, turn)?,
         Work::Abort(count) => turn_abort(client, draws, count, turn)?,
         Work::Chain => turn_chain(client, turn)?,
+        Work::Audit => turn_eight(client, turn)?,
         Work::Stores | Work::Reads => {}
     }
     Ok(0)
@@ -86,6 +87,16 @@ pub(crate) fn read_records(
     for number in 0..count {
         let read = client.get(a, ObjId(u32::from(number)))?;
         sum = sum.wrapping_add(read.wrapping_mul(i64::from(number) + 1));
+    }
+    Ok(sum)
+}
+
+/// What the journal's writes leave in the records for good, each times its place from 1 on.
+pub(crate) fn replay_records(client: &Client, count: u16) -> Result<i64, BenchError> {
+    let mut sum = 0i64;
+    for number in 0..count {
+        let left = client.replay(ObjId(u32::from(number)))?;
+        sum = sum.wrapping_add(left.wrapping_mul(i64::from(number) + 1));
     }
     Ok(sum)
 }

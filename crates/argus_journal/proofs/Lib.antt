@@ -9,6 +9,7 @@ pub mod NextEntry
 pub mod Kin
 pub mod Told
 pub mod Newest
+pub mod Owners
 pub mod Replay
 pub mod Within
 pub mod Folded

@@ -1,15 +1,13 @@
 -- What the entries leave in an object, entry by entry.
-use Rattle.std.proofs.Common.{Bool, List, None, Option, Some, [], ap, cond, drop, false, refl, subst, sym, take, true}
-use Rattle.std.proofs.Common.{ℕ, ◌++◌, ◌+◌, ◌-◌, ◌∙◌, ◌∷◌, ◌≡◌}
+use Rattle.std.proofs.Common.{Bool, List, None, Option, Some, [], ap, cond, false, refl, subst, sym, true}
+use Rattle.std.proofs.Common.{ℕ, ◌+◌, ◌-◌, ◌∙◌, ◌∷◌, ◌≡◌}
 use Rattle.std.specs.Prelude.{◌&&◌, ◌==◌}
-use Rattle.std.proofs.lemmas.List.{take-append-drop}
 use Rattle.argus_actions.specs.declared.action_id.ActionId.{ActionId}
 use Rattle.argus_contents.specs.Content.{KeepsLimits, PlainContent}
 use Rattle.argus_entries.specs.Call.{PlainCall, abort, abort_others, alter, ask, begin_nested, begin_sub, begin_top}
 use Rattle.argus_entries.specs.Call.{commit, declare, test_read, test_write}
 use Rattle.argus_entries.specs.Entry.{PlainEntry}
 use Rattle.argus_entries.specs.Reply.{PlainReply}
-use Rattle.argus_entries.specs.declared.entry.Entry.{Entry}
 use Rattle.argus_model.specs.Contents.{replay}
 use Rattle.argus_model.specs.Event.{Aborted, Accessed, Began, Committed, Event, Nested, Sub, Top}
 use Rattle.argus_model.specs.History.{History, ◌▹◌}
@@ -17,7 +15,6 @@ use Rattle.argus_model.specs.Owner.{counts_for, is_base, owner}
 use Rattle.argus_model.specs.Status.{live_siblings}
 use Rattle.argus_journal.specs.Entries.{entries, is_write, left_by}
 use Rattle.argus_journal.specs.Events.{event_if, event_of, history, is_answered, is_begun_reply, says_yes, with_event}
-use Rattle.argus_journal.specs.Journal.{newest_first}
 use Rattle.argus_journal.specs.Legal.{Legal}
 use Rattle.argus_journal.specs.Objects.{declared, shape_of}
 use Rattle.argus_journal.specs.Opening.{Opening, content_in, is_sound}
@@ -28,22 +25,8 @@ use Rattle.argus_journal.specs.declared.owner.Owner.TheVariants.{Base, Folded, G
 use Rattle.argus_journal.proofs.Contents.{content_fits}
 use Rattle.argus_journal.proofs.Fitting.{fits_keeps}
 use Rattle.argus_journal.proofs.Kin.{above_told, with_reply}
-use Rattle.argus_journal.proofs.Newest.{newest_append}
 use Rattle.argus_journal.proofs.Shifted.{before}
 use Rattle.argus_journal.proofs.Told.{model_owner, owner_is_told}
-
--- the older entries of a legal journal are legal
-
-older_legal : (s : Opening) (xs ys : List PlainEntry) → Legal s (xs ++ ys) → Legal s ys
-older_legal s [] ys l = l
-older_legal s (x ∷ xs) ys l = older_legal s xs ys l.1
-
-pub taken_legal : (s : Opening) (items : List Entry) (i : ℕ) → Legal s (newest_first items)
-    → Legal s (newest_first (take i items))
-taken_legal s items i l =
-    older_legal s (newest_first (drop i items)) (newest_first (take i items))
-    (subst (λ j. Legal s j)
-    (ap newest_first (sym (take-append-drop i items)) ∙ newest_append (take i items) (drop i items)) l)
 
 -- one more entry
 

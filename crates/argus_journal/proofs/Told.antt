@@ -121,7 +121,7 @@ kept_owner c r older (Some Gone) e = refl
 kept_owner c r older (Some Base) e = refl
 kept_owner c r older (Some (Held x)) e = ap (λ b. Some (cond b (owner_then c older x) (Held x))) e
 
-spared_owner : (c : PlainCall) (r : PlainReply) (older : List PlainEntry) (q : Option Owner)
+pub spared_owner : (c : PlainCall) (r : PlainReply) (older : List PlainEntry) (q : Option Owner)
     → ((x : ActionId) → owner_then c older x ≡ Held x) → owner_next (with_reply c r) older q ≡ q
 spared_owner c r older None f = refl
 spared_owner c r older (Some Folded) f = refl
@@ -173,7 +173,7 @@ abort_owner h z c over older goes (Some (Held y)) p =
     either false y = refl
 
 -- an action that answers for some work is live
-held_live : (h : History PlainEntry) → Orderly h → (a : ℕ) (y : ActionId) → model.Held (y.0 + 1) ≡ owner h a
+pub held_live : (h : History PlainEntry) → Orderly h → (a : ℕ) (y : ActionId) → model.Held (y.0 + 1) ≡ owner h a
     → is_live h (y.0 + 1) ≡ true
 held_live h w a y e =
     ⊎_elim
@@ -330,7 +330,8 @@ owner_is_told s (e ∷ older) l a =
 
 -- where there is an owner
 
-next_there : (e : PlainEntry) (older : List PlainEntry) (q : Option Owner) → is_some (owner_next e older q) ≡ is_some q
+pub next_there : (e : PlainEntry) (older : List PlainEntry) (q : Option Owner)
+    → is_some (owner_next e older q) ≡ is_some q
 next_there e older None = refl
 next_there e older (Some Folded) = refl
 next_there e older (Some Gone) = refl
@@ -361,7 +362,7 @@ folded_there first a = either (nat_lt a first) ∙ shift first a
     shift : (first a : ℕ) → nat_lt a first ≡ nat_lt (a + 1) (first + 1)
     shift first a = grind (arith, nat_tests)
 
-owner_there : (s : Opening) (j : List PlainEntry) → Legal s j → (a : ℕ)
+pub owner_there : (s : Opening) (j : List PlainEntry) → Legal s j → (a : ℕ)
     → is_some (told_owner s.first_action j a) ≡ nat_lt (a + 1) (next_action (history s j))
 owner_there s [] l a = folded_there s.first_action a
 owner_there s (e ∷ older) l a =

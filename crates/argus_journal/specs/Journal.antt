@@ -1,6 +1,6 @@
 -- What contracts see of a `Journal`: its opening, its entries, and for how many more there is room.
 use Rattle.std.specs.Prelude.{List, None, Option, Some, if◌then◌else◌, map, nat_lt, reverse}
-use Rattle.std.specs.Prelude.{slice_get, vec_len, ℕ, ◌-◌}
+use Rattle.std.specs.Prelude.{slice_get, take, vec_len, ℕ, ◌-◌}
 use Rattle.std.specs.Borrow.{Bor}
 use Rattle.std.specs.Vec.{vec_capacity}
 use Rattle.argus_actions.specs.declared.action_id.ActionId.{ActionId}
@@ -31,6 +31,10 @@ newest_first entries = reverse (map plain_entry entries)
 -- the entries since then, the newest first
 abbrev pub entries_of : Journal → List PlainEntry
 entries_of j = newest_first j.entries.items
+
+-- so many of them from the first on, the newest first
+abbrev pub first_of : Journal → ℕ → List PlainEntry
+first_of j n = newest_first (take n j.entries.items)
 
 -- each reply is the answer of the entries before it
 abbrev pub IsLegal : Journal → Type 0

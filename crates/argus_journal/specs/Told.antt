@@ -1,7 +1,7 @@
 -- What the numbers in a journal's entries tell, newest first. Of a legal journal it is what its
 -- history says.
 use Rattle.std.specs.Prelude.{◌&&◌, Bool, List, None, Option, Some, [], false, if◌then◌else◌}
-use Rattle.std.specs.Prelude.{nat_lt, not, true, ℕ, ◌==◌, ◌||◌, ◌∷◌}
+use Rattle.std.specs.Prelude.{nat_lt, not, true, ℕ, ◌==◌, ◌||◌, ◌∷◌, ◌≡◌}
 use Rattle.argus_actions.specs.declared.action_id.ActionId.{ActionId}
 use Rattle.argus_contents.specs.Content.{PlainContent}
 use Rattle.argus_entries.specs.Call.{PlainCall, abort, abort_others, alter, ask, begin_nested}
@@ -126,6 +126,29 @@ told_owner first (e ∷ older) a =
     if begins e.reply a then Some (Held (record { 0 = a })) else
     owner_next e older (told_owner first older a)
 
+-- what is known of the last owner of an action's work, if anything, is what the entries tell
+abbrev pub IsTold : ℕ → List PlainEntry → Option (ActionId × Option Owner) → Type 0
+IsTold first j None = Unit {0}
+IsTold first j (Some known) = known.1 ≡ told_owner first j known.0.0
+
+-- the last owner of what has this owner now, where that can be said: for good, undone and folded
+-- stay, and what an action holds shares the fate of its own work
+abbrev pub last_owner : Option (ActionId × Option Owner) → Option Owner → Option (Option Owner)
+last_owner known None = None
+last_owner known (Some Folded) = Some (Some Folded)
+last_owner known (Some Gone) = Some (Some Gone)
+last_owner known (Some Base) = Some (Some Base)
+last_owner None (Some (Held x)) = None
+last_owner (Some known) (Some (Held x)) = if known.0.0 == x.0 then Some known.1 else None
+
+-- the first other than a to hold its work: this one, or the holder now where there was none
+abbrev pub first_heir : ℕ → ActionId → Option Owner → ActionId
+first_heir a heir None = heir
+first_heir a heir (Some Folded) = heir
+first_heir a heir (Some Gone) = heir
+first_heir a heir (Some Base) = heir
+first_heir a heir (Some (Held x)) = if heir.0 == a then x else heir
+
 -- what has this owner counts for the reader: it is there for good, or held by the reader or one
 -- above it
 abbrev pub counts_with : List PlainEntry → Option ActionId → Option Owner → Bool
@@ -156,12 +179,16 @@ writer_by (abort_others a) reply o = None
 writer_by (ask a i query) reply o = None
 writer_by (test_read a i) reply o = None
 
+-- there is a writer, and it counts
+abbrev pub is_counted : (ℕ → Bool) → Option ActionId → Bool
+is_counted counts None = false
+is_counted counts (Some a) = counts a.0
+
 -- what f leaves of the content, where there is a writer and it counts
 abbrev pub written_if : (ℕ → Bool) → (Option PlainContent → Option PlainContent) → Option ActionId
     → Option PlainContent
     → Option PlainContent
-written_if counts f None c = c
-written_if counts f (Some a) c = if counts a.0 then f c else c
+written_if counts f writer c = if is_counted counts writer then f c else c
 
 -- the content after an entry, where its action writes the object and counts
 abbrev pub replay_next : (ℕ → Bool) → PlainEntry → ℕ → Option PlainContent → Option PlainContent

@@ -5,7 +5,7 @@ ghost use Rattle.argus_entries.specs.Call.{plain_call};
 ghost use Rattle.argus_entries.specs.Entry.{plain_entry};
 ghost use Rattle.argus_entries.specs.Reply.{plain_reply};
 ghost use Rattle.argus_journal.specs.Events as events;
-ghost use Rattle.argus_journal.specs.Journal.{entries_of, newest_first, opening_of};
+ghost use Rattle.argus_journal.specs.Journal.{entries_of, first_of, newest_first, opening_of};
 ghost use Rattle.argus_journal.specs.Legal.{Legal};
 ghost use Rattle.argus_journal.specs.Told as told;
 ghost use Rattle.argus_journal.specs.Words.{owner_in};
@@ -19,29 +19,89 @@ use argus_entries::{Call, Entry, Reply};
 /// Who answers for what the action did. None where it hasn't begun, `Folded` where it was begun
 /// before the opening.
 ///
-/// The journal has to be legal, as a guardian's is. The entries from the action's begin on are gone
-/// through; this is for audits. It takes no memory.
+/// The journal has to be legal, as a guardian's is. The entries are gone through until the action's
+/// owner is settled; this is for audits. It takes no memory.
 pub fn owner_of(journal: &Journal, a: ActionId) -> Option<Owner>
     requires { Legal (opening_of journal.now) (entries_of journal.now) }
     ensures { result ≡ owner_in (opening_of journal.now) (entries_of journal.now) a.0 }
 {
-    owner_among(journal.first_action(), journal.entries(), a)
-}
-
-/// Who answers for what the action did, as the entries tell, where the first action has this
-/// number.
-pub(crate) fn owner_among(first: u32, entries: &[Entry], a: ActionId) -> Option<Owner>
-    ensures { result ≡ told.told_owner first (newest_first entries.now) a.0 }
-{
-    let mut owner = if a.0 < first {
+    let first = journal.first_action();
+    let opened = if a.0 < first {
         Some(Owner::Folded)
     } else {
         None
     };
-    for i in 0..entries.len() {
+    owner_from(journal, 0, a, opened, &mut None)
+}
+
+/// Who answers for what the action did, where this is who did after so many entries.
+///
+/// The last owner of one action may be known. It is used where that action comes to hold the work;
+/// afterwards that of the work's first heir is known. So the entries of a long action are gone
+/// through once, and not for each of its writes or subactions.
+pub(crate) fn owner_from(
+    journal: &Journal,
+    from: usize,
+    a: ActionId,
+    owner: Option<Owner>,
+    known: &mut Option<(ActionId, Option<Owner>)>,
+) -> Option<Owner>
+    requires legal { Legal (opening_of journal.now) (entries_of journal.now) }
+    requires owner { owner
+        ≡ told.told_owner (opening_of journal.now).first_action (first_of journal.now from) a.0 }
+    requires known { told.IsTold (opening_of journal.now).first_action (entries_of journal.now)
+        known.old }
+    ensures owner { result
+        ≡ told.told_owner (opening_of journal.now).first_action (entries_of journal.now) a.0 }
+    ensures known { told.IsTold (opening_of journal.now).first_action (entries_of journal.now)
+        known.new }
+{
+    let entries = journal.entries();
+    let mut owner = owner;
+    let mut heir = a;
+    for i in from..entries.len() {
+        if let Some(last) = last_owner(*known, owner) {
+            *known = Some((heir, last));
+            return last;
+        }
         owner = owner_after(&entries[..i], &entries[i], a, owner);
+        heir = first_heir(a, heir, owner);
     }
+    *known = Some((heir, owner));
     owner
+}
+
+// The last owner of what has this owner now, where that can be said.
+fn last_owner(
+    known: Option<(ActionId, Option<Owner>)>,
+    owner: Option<Owner>,
+) -> Option<Option<Owner>>
+    ensures { result ≡ told.last_owner known owner }
+{
+    match owner {
+        Some(Owner::Folded) | Some(Owner::Gone) | Some(Owner::Base) => Some(owner),
+        Some(Owner::Held(x)) => last_known(known, x),
+        None => None,
+    }
+}
+
+fn last_known(known: Option<(ActionId, Option<Owner>)>, x: ActionId) -> Option<Option<Owner>>
+    ensures { result ≡ told.last_owner known (Some (Owner.Held x)) }
+{
+    match known {
+        Some((holder, last)) => { if holder == x { Some(last) } else { None } }
+        None => None,
+    }
+}
+
+// The first other than a to hold its work, where this was the first so far, or a itself.
+fn first_heir(a: ActionId, heir: ActionId, owner: Option<Owner>) -> ActionId
+    ensures { result ≡ told.first_heir a.0 heir owner }
+{
+    match owner {
+        Some(Owner::Held(x)) => { if heir == a { x } else { heir } }
+        Some(Owner::Folded) | Some(Owner::Gone) | Some(Owner::Base) | None => heir,
+    }
 }
 
 fn owner_after(older: &[Entry], entry: &Entry, a: ActionId, owner: Option<Owner>) -> Option<Owner>

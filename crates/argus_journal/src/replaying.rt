@@ -1,21 +1,21 @@
 //! `replay_for` and `replay_base`: what the entries leave in an object.
 
-ghost use Rattle.std.specs.Prelude.{◌≡◌, IfOk, None, OnOk, Some, if◌then◌else◌};
+ghost use Rattle.std.specs.Prelude.{◌≡◌, ◌∷◌, ◌-◌, IfOk, None, OnOk, Some, if◌then◌else◌};
 ghost use Rattle.argus_contents.specs.Content.{KeepsLimits, plain_option};
 ghost use Rattle.argus_entries.specs.Entry.{plain_entry};
 ghost use Rattle.argus_entries.specs.Reply.{plain_reply};
 ghost use Rattle.argus_contents.specs.Answer.{plain_answer};
 ghost use Rattle.argus_journal.specs.Entries.{left_by};
 ghost use Rattle.argus_journal.specs.Events as events;
-ghost use Rattle.argus_journal.specs.Journal.{entries_of, newest_first, opening_of};
+ghost use Rattle.argus_journal.specs.Journal.{entries_of, first_of, newest_first, opening_of};
 ghost use Rattle.argus_journal.specs.Legal.{Legal};
-ghost use Rattle.argus_journal.specs.Told.{replayed, replay_next, told_counts, writer_by};
+ghost use Rattle.argus_journal.specs.Told as told;
 ghost use Rattle.argus_journal.specs.Words.{base_of, seen_by};
 
 use crate::journal::Journal;
 use crate::kinship::is_above;
 use crate::owner::Owner;
-use crate::owning::{is_answered, owner_among};
+use crate::owning::{is_answered, owner_from};
 use argus_actions::ActionId;
 use argus_contents::{Answer, Content, ObjId, alter_in_place};
 use argus_entries::{Call, Entry, Reply};
@@ -24,8 +24,8 @@ use argus_memory::{Heap, OutOfMemory};
 /// What the action sees in the object: what was written for good, and what was written by those
 /// whose owner is the action or an ancestor of it. Absent where the object isn't declared.
 ///
-/// The journal has to be legal, as a guardian's is. All entries are gone through, for each write of
-/// the object once more; this is for audits.
+/// The journal has to be legal, as a guardian's is. All entries are gone through, and for a write
+/// of the object those after it until its last owner is known; this is for audits.
 pub fn replay_for(
     heap: Heap,
     journal: &Journal,
@@ -41,8 +41,8 @@ pub fn replay_for(
 
 /// What is in the object for good. Absent where the object isn't declared.
 ///
-/// The journal has to be legal, as a guardian's is. All entries are gone through, for each write of
-/// the object once more; this is for audits.
+/// The journal has to be legal, as a guardian's is. All entries are gone through, and for a write
+/// of the object those after it until its last owner is known; this is for audits.
 pub fn replay_base(heap: Heap, journal: &Journal, o: ObjId) -> Result<Option<Content>, OutOfMemory>
     requires { Legal (opening_of journal.now) (entries_of journal.now) }
     ensures { IfOk result (λ content. plain_option content
@@ -61,46 +61,54 @@ fn replay(
     requires { Legal (opening_of journal.now) (entries_of journal.now) }
     ensures { let j = entries_of journal.now in
         IfOk result (λ content. plain_option content
-        ≡ replayed (opening_of journal.now) j reader o.0 j) }
+        ≡ told.replayed (opening_of journal.now) j reader o.0 j) }
 {
     let mut content = journal.opening_content(heap, o)?;
-    let first = journal.first_action();
     let entries = journal.entries();
-    for entry in entries {
-        replay_entry(heap, first, entries, entry, reader, o, &mut content)?;
+    let mut known = None;
+    for at in 0..entries.len() {
+        let entry = &entries[at];
+        if is_counted(journal, at + 1, entry, reader, o, &mut known) {
+            write(heap, entry, &mut content)?;
+        }
     }
     Ok(content)
 }
 
-fn replay_entry(
-    heap: Heap,
-    first: u32,
-    entries: &[Entry],
+// Whether this entry, the last of so many, writes the object by an action that counts for the
+// reader.
+fn is_counted(
+    journal: &Journal,
+    count: usize,
     entry: &Entry,
     reader: Option<ActionId>,
     o: ObjId,
-    content: &mut Option<Content>,
-) -> Result<(), OutOfMemory>
-    requires { KeepsLimits (plain_option content.old) }
-    ensures { let counts = told_counts first (newest_first entries.now) reader in
-        OnOk result (plain_option content.new
-        ≡ replay_next counts (plain_entry entry.now) o.0 (plain_option content.old)) }
+    known: &mut Option<(ActionId, Option<Owner>)>,
+) -> bool
+    requires legal { Legal (opening_of journal.now) (entries_of journal.now) }
+    requires last { first_of journal.now count
+        ≡ plain_entry entry.now ∷ first_of journal.now (count - 1) }
+    requires known { told.IsTold (opening_of journal.now).first_action (entries_of journal.now)
+        known.old }
+    ensures counted { let first = (opening_of journal.now).first_action in
+        let e = plain_entry entry.now in
+        result ≡ told.is_counted (told.told_counts first (entries_of journal.now) reader)
+        (told.writer_by e.call e.reply o.0) }
+    ensures known { told.IsTold (opening_of journal.now).first_action (entries_of journal.now)
+        known.new }
 {
     match writer_of(entry, o) {
-        None => Ok(()),
+        None => false,
         Some(a) => {
-            if counts(first, entries, reader, a) {
-                write(heap, entry, content)
-            } else {
-                Ok(())
-            }
+            let owner = owner_from(journal, count, a, Some(Owner::Held(a)), known);
+            counts(journal.entries(), reader, owner)
         }
     }
 }
 
 // The action that writes the object by this entry.
 fn writer_of(entry: &Entry, o: ObjId) -> Option<ActionId>
-    ensures { result ≡ writer_by (plain_entry entry.now).call (plain_entry entry.now).reply o.0 }
+    ensures { let e = plain_entry entry.now in result ≡ told.writer_by e.call e.reply o.0 }
 {
     match &entry.call {
         Call::Alter(a, i, _) => action_if(*i == o && is_answered(&entry.reply), *a),
@@ -136,11 +144,11 @@ fn truth_of(answer: &Answer) -> bool
     }
 }
 
-// Whether what the action did counts for the reader.
-fn counts(first: u32, entries: &[Entry], reader: Option<ActionId>, a: ActionId) -> bool
-    ensures { result ≡ told_counts first (newest_first entries.now) reader a.0 }
+// Whether what has this owner counts for the reader.
+fn counts(entries: &[Entry], reader: Option<ActionId>, owner: Option<Owner>) -> bool
+    ensures { result ≡ told.counts_with (newest_first entries.now) reader owner }
 {
-    match owner_among(first, entries, a) {
+    match owner {
         Some(Owner::Base) => true,
         Some(Owner::Held(x)) => match reader {
             Some(h) => is_above(entries, x, h),

@@ -1,12 +1,12 @@
 -- The content so far is what the entries so far leave.
-use Rattle.std.proofs.Common.{take, ◌≡◌}
+use Rattle.std.proofs.Common.{◌≡◌}
 use Rattle.argus_contents.specs.Content.{plain_option}
-use Rattle.argus_journal.specs.Journal.{entries_of, newest_first, opening_of}
-use Rattle.argus_journal.specs.Told.{replayed}
+use Rattle.argus_journal.specs.Journal.{entries_of, first_of, opening_of}
+use Rattle.argus_journal.specs.Told.{IsTold, replayed}
 use Rattle.argus_journal.proofs.replaying.replay.Given as goal
 
-abbrev pub invariant-loop-entry : goal.invariant-loop-entry
-invariant-loop-entry l =
-    plain_option l.content
-    ≡ replayed (opening_of l.journal) (entries_of l.journal) l.reader l.o.0
-    (newest_first (take l.entry-index l.entries))
+abbrev pub invariant-loop-at : goal.invariant-loop-at
+invariant-loop-at l =
+    let s = opening_of l.journal in
+    let j = entries_of l.journal in
+    (plain_option l.content ≡ replayed s j l.reader l.o.0 (first_of l.journal l.at)) × IsTold s.first_action j l.known

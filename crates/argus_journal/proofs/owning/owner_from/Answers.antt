@@ -1,0 +1,37 @@
+-- What is known of the owner, or of one that shares its fate, is the owner after all entries.
+use Rattle.std.proofs.Common.{arith, sym, ◌+◌, ◌∙◌, ◌≡◌}
+use Rattle.std.proofs.lemmas.Grind.{common_steps}
+use Rattle.argus_journal.specs.Journal.{first_of, opening_of}
+use Rattle.argus_journal.specs.Told.{told_owner}
+use Rattle.argus_journal.proofs.Owners.{heir_fate, last_told}
+use Rattle.argus_journal.proofs.owning.owner_from.Goals as goal
+
+pub returns-in-Some-clause-owner : goal.returns-in-Some-clause-owner
+returns-in-Some-clause-owner c =
+    let journal = c.args.journal.now in
+    let so = c.loop-i.invariant in
+    last_told (opening_of journal) journal.entries.items c.requires.legal c.loop-i.i c.args.a.0 c.loop-i.known
+    c.loop-i.owner c.in-Some.last so.known so.so_far (sym c.in-Some.ensures)
+
+pub returns-in-Some-clause-known : goal.returns-in-Some-clause-known
+returns-in-Some-clause-known c =
+    let journal = c.args.journal.now in
+    let so = c.loop-i.invariant in
+    last_told (opening_of journal) journal.entries.items c.requires.legal c.loop-i.i c.args.a.0 c.loop-i.known
+    c.loop-i.owner c.in-Some.last so.known so.so_far (sym c.in-Some.ensures)
+    ∙ so.shared
+
+pub loop-i-preserved : goal.loop-i-preserved
+loop-i-preserved c =
+    let journal = c.args.journal.now in
+    let so = c.loop-i.invariant in
+    let next : c.owner_after-owner.result
+    ≡ told_owner journal.first_action (first_of journal (c.loop-i.i + 1)) c.args.a.0
+    = grind (arith, common_steps, so.so_far) in
+    record {
+      so_far = next;
+      shared = rw c.first_heir-heir.ensures
+          (heir_fate (opening_of journal) journal.entries.items c.requires.legal (c.loop-i.i + 1) c.args.a.0
+          c.loop-i.heir c.owner_after-owner.result next so.shared);
+      known = so.known;
+    }
