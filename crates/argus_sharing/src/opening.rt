@@ -1,0 +1,65 @@
+//! What a sharing begins with: seats, lookers, and the contents of its board.
+
+ghost use Rattle.std.specs.Prelude.{◌≡◌, All, IfOk, length};
+ghost use Rattle.argus_board.specs.Effects.{plain_contents};
+ghost use Rattle.argus_sharing.specs.Following.{AreBases};
+
+use crate::seat::Seat;
+use crate::sharing::Sharing;
+use argus_board::{Board, BoardWriter, Looker};
+use argus_contents::{Content, ObjId};
+use argus_guardian::Guardian;
+use argus_memory::{Heap, OutOfMemory};
+use std::sync::Wait;
+use std::sync::ledger::Share;
+
+/// So many seats, each with one part of the share.
+pub(crate) fn seats_over<N: Sharing>(
+    heap: Heap,
+    mut share: Share<N>,
+    count: u32,
+) -> Result<Vec<Seat<N>, Heap>, OutOfMemory>
+    requires { (share.amount ≡ 0) × (share.parts ≡ count) }
+    ensures { IfOk result (λ seats. All (λ seat. seat.made ≡ 0) seats.items
+        × (length seats.items ≡ count)) }
+{
+    let mut seats = Vec::new(heap);
+    for _i in 0..count {
+        seats.push(Seat::over(share.split_off(1, 0)))?;
+    }
+    Ok(seats)
+}
+
+/// So many places at the board.
+pub(crate) fn lookers_at<N: Sharing, R: Wait + Drop>(
+    heap: Heap,
+    board: &BoardWriter<N, R>,
+    count: u32,
+) -> Result<Vec<Looker<N>, Heap>, OutOfMemory>
+    ensures { IfOk result (λ lookers. All (λ looker. looker ≡ N.before) lookers.items
+        × (length lookers.items ≡ count)) }
+{
+    let mut lookers = Vec::new(heap);
+    for _i in 0..count {
+        lookers.push(board.looker()?)?;
+    }
+    Ok(lookers)
+}
+
+/// What is in the guardian's objects for good, in the order of their numbers.
+pub(crate) fn bases_of(
+    heap: Heap,
+    guardian: &Guardian,
+) -> Result<Vec<Option<Content>, Heap>, OutOfMemory>
+    ensures { IfOk result (λ bases. AreBases guardian.now (plain_contents bases.items)) }
+{
+    let mut bases = Vec::with_capacity(heap, guardian.objects() as usize)?;
+    for number in 0..guardian.objects() {
+        let copy = match guardian.base(ObjId(number)) {
+            Some(base) => Content::duplicate_option(heap, base)?,
+            None => None,
+        };
+        bases.push(copy)?;
+    }
+    Ok(bases)
+}

@@ -1,0 +1,189 @@
+//! `Shared`: a guardian that threads share.
+
+ghost use Rattle.std.specs.Prelude.{◌+◌, ◌<◌, ◌≡◌, All, List, length, sum_by};
+ghost use Rattle.std.specs.Prelude.{IfErr, IfOk, OnErr, OnOk};
+ghost use Rattle.argus_board.specs.Effects.{Leads};
+ghost use Rattle.argus_board.specs.Keeper.{Opens};
+ghost use Rattle.argus_entries.specs.Call.{plain_call};
+ghost use Rattle.argus_entries.specs.Reply.{plain_reply};
+ghost use Rattle.argus_journal.specs.Legal.{Legal};
+ghost use Rattle.argus_journal.specs.Opening.{content_in};
+ghost use Rattle.argus_sharing.specs.Following.{AreBases, effects_told};
+ghost use Rattle.argus_sharing.specs.Locked.{next_number};
+ghost use Rattle.argus_steps.specs.Step.{Said, reply_to};
+
+use crate::locked::Locked;
+use crate::not_shared::NotShared;
+use crate::opening::{bases_of, lookers_at, seats_over};
+use crate::parts::Parts;
+use crate::receipt::Receipt;
+use crate::seat::Seat;
+use crate::sharing::Sharing;
+use argus_board::{BoardWriter, Keeper, Looker};
+use argus_entries::{Call, Reply};
+use argus_guardian::{CheckpointError, Guardian};
+use argus_memory::{Heap, OutOfMemory};
+use std::sync::ledger::Blank;
+use std::sync::{Condvar, Mutex, Wait};
+
+/// A guardian under one lock, for threads with seats, and a board for lookers, who take no lock.
+///
+/// Each call takes the lock and makes the call of the same name of `laws::Locked`, where the clauses
+/// stand that speak of the locked value.
+///
+/// ```text
+/// let Parts { shared, mut seats, mut lookers } = Shared::new(rt, heap, guardian, 2, 1, blank, keeper)?;
+/// let receipt = shared.call(&rt, &mut seats[0], Call::BeginTop)?;
+/// ```
+#[derive(Drop)]
+pub struct Shared<N: Sharing, R: Wait + Drop> {
+    pub(crate) locked: Mutex<Locked<N, R>>,
+    pub(crate) freed: Condvar,
+}
+
+impl<N: Sharing, R: Wait + Drop> Shared<N, R> {
+    /// Shares the guardian among so many seats, with places for so many lookers. Each seat has made
+    /// no call, and each looker has seen the effects of the journal so far. `NotShared`: there was
+    /// no memory, and the guardian is as it was.
+    pub fn new(
+        rt: R,
+        heap: Heap,
+        guardian: Guardian,
+        seats: u32,
+        lookers: u32,
+        blank: Blank,
+        keeper: Keeper,
+    ) -> Result<Parts<N, R>, NotShared>
+        requires lookers { lookers < 4294967295 }
+        requires name { blank.name ≡ N.name }
+        requires parts { (blank.parts ≡ N.parts) × (blank.parts ≡ seats) }
+        requires keeper { Opens N.history N.root keeper }
+        requires start { N.start ≡ next_number guardian }
+        requires before { N.before ≡ effects_told guardian }
+        requires opening { N.opening ≡ content_in guardian.opening.objects }
+        requires first { AreBases guardian N.first }
+        ensures seats { IfOk result (λ p. All (λ seat. seat.made ≡ 0) p.seats.items
+            × (length p.seats.items ≡ seats)) }
+        ensures lookers { IfOk result (λ p. All (λ looker. looker ≡ effects_told guardian)
+            p.lookers.items × (length p.lookers.items ≡ lookers)) }
+        ensures back { IfErr result (λ e. e.guardian ≡ guardian) }
+    {
+        let (book, share) = blank.open::<N>();
+        let Ok(seats) = seats_over(heap, share, seats) else {
+            return Err(NotShared { guardian });
+        };
+        let Ok(bases) = bases_of(heap, &guardian) else {
+            return Err(NotShared { guardian });
+        };
+        let Ok(board) = BoardWriter::<N, R>::new(rt, heap, bases, keeper, lookers) else {
+            return Err(NotShared { guardian });
+        };
+        let Ok(lookers) = lookers_at(heap, &board, lookers) else {
+            return Err(NotShared { guardian });
+        };
+        Ok(Parts {
+            shared: Shared {
+                locked: Mutex::new(Locked::over(heap, guardian, book, board)),
+                freed: Condvar::new(),
+            },
+            seats,
+            lookers,
+        })
+    }
+
+    /// Makes a call, as the seat's. The receipt has the number of its entry in the journal, the call
+    /// that was handed in, and the reply that the journal before it gives. At `OutOfMemory` nothing
+    /// was journalled, and the call is spent.
+    ///
+    /// It may wait for other threads. The seat came with the same sharing.
+    pub fn call(
+        &self,
+        rt: &impl Wait,
+        seat: &mut Seat<N>,
+        call: Call,
+    ) -> Result<Receipt, OutOfMemory>
+        ensures call { IfOk result (λ receipt. plain_call receipt.call ≡ plain_call call) }
+        ensures reply { IfOk result (λ receipt. (said : Said) × Legal said.opening said.entries
+            × (receipt.at ≡ next_number said)
+            × (plain_reply receipt.reply ≡ reply_to said (plain_call call))) }
+        ensures made { OnOk result (seat.new.made ≡ seat.old.made + 1) }
+        ensures err { OnErr result (seat.new.made ≡ seat.old.made) }
+    {
+        let receipt = self.locked.lock(rt).call(seat, call);
+        if frees(&receipt) {
+            self.freed.notify_all();
+        }
+        receipt
+    }
+
+    /// Makes a call, as the seat's, once it wouldn't be refused `Conflict`, or after so many
+    /// wake-ups: all that wait are woken after each end of actions that was done, and a wake-up
+    /// without cause counts too. Then it is `call`.
+    pub fn call_waiting(
+        &self,
+        rt: &impl Wait,
+        seat: &mut Seat<N>,
+        call: Call,
+        patience: u32,
+    ) -> Result<Receipt, OutOfMemory>
+        ensures call { IfOk result (λ receipt. plain_call receipt.call ≡ plain_call call) }
+        ensures reply { IfOk result (λ receipt. (said : Said) × Legal said.opening said.entries
+            × (receipt.at ≡ next_number said)
+            × (plain_reply receipt.reply ≡ reply_to said (plain_call call))) }
+        ensures made { OnOk result (seat.new.made ≡ seat.old.made + 1) }
+        ensures err { OnErr result (seat.new.made ≡ seat.old.made) }
+    {
+        let mut guard = self.locked.lock(rt);
+        for _wake_up in 0..patience {
+            if !guard.would_conflict(&call) {
+                break;
+            }
+            guard = self.freed.wait(rt, guard);
+        }
+        let receipt = guard.call(seat, call);
+        drop(guard);
+        if frees(&receipt) {
+            self.freed.notify_all();
+        }
+        receipt
+    }
+
+    /// Publishes what is pending, and lets the looker see all that is committed. False: there was
+    /// no memory, and the board is behind.
+    ///
+    /// It may wait for other threads. The looker came with the same sharing.
+    pub fn brief(&self, rt: &impl Wait, looker: &mut Looker<N>) -> bool {
+        self.locked.lock(rt).brief(looker)
+    }
+
+    /// Publishes what is pending. False: there was no memory, and the board is behind.
+    pub fn refresh(&self, rt: &impl Wait) -> bool {
+        self.locked.lock(rt).refresh()
+    }
+
+    /// Folds the journal's past into its opening, as `Guardian::checkpoint` does. Lookers, board
+    /// and seats stay as they are. It may wait for other threads.
+    pub fn checkpoint(&self, rt: &impl Wait) -> Result<(), CheckpointError> {
+        self.locked.lock(rt).checkpoint()
+    }
+}
+
+/// Whether the call ended actions, so that others need wait no longer.
+fn frees(receipt: &Result<Receipt, OutOfMemory>) -> bool {
+    match receipt {
+        Ok(receipt) => match receipt.call {
+            Call::Commit(_) | Call::Abort(_) | Call::AbortOthers(_) => {
+                matches!(receipt.reply, Reply::Answered(_))
+            }
+            Call::Declare(_)
+            | Call::BeginTop
+            | Call::BeginSub(_)
+            | Call::BeginNested(_)
+            | Call::Ask(_, _, _)
+            | Call::Alter(_, _, _)
+            | Call::TestRead(_, _)
+            | Call::TestWrite(_, _) => false,
+        },
+        Err(OutOfMemory) => false,
+    }
+}
