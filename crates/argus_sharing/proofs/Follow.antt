@@ -39,17 +39,17 @@ accessed_adds false s j a o e = refl
 
 -- a call that is no commit adds no effect
 pub adds_none : (said : Said) (call : PlainCall) → IsNoCommit call → added_by_call said call ≡ []
-adds_none said (declare shape) no = refl
-adds_none said begin_top no = began_adds _ said.opening said.entries _
-adds_none said (begin_sub parent) no = began_adds _ said.opening said.entries _
-adds_none said (begin_nested creator) no = began_adds _ said.opening said.entries _
-adds_none said (commit a) no = absurd no
-adds_none said (abort a) no = aborted_adds _ said.opening said.entries _
-adds_none said (abort_others a) no = aborted_adds _ said.opening said.entries _
-adds_none said (ask a o query) no = accessed_adds _ said.opening said.entries _ o _
-adds_none said (alter a o change) no = accessed_adds _ said.opening said.entries _ o _
-adds_none said (test_read a o) no = accessed_adds _ said.opening said.entries _ o _
-adds_none said (test_write a o) no = accessed_adds _ said.opening said.entries _ o _
+adds_none said (declare shape) other = refl
+adds_none said begin_top other = began_adds _ said.opening said.entries _
+adds_none said (begin_sub parent) other = began_adds _ said.opening said.entries _
+adds_none said (begin_nested creator) other = began_adds _ said.opening said.entries _
+adds_none said (commit a) other = absurd other
+adds_none said (abort a) other = aborted_adds _ said.opening said.entries _
+adds_none said (abort_others a) other = aborted_adds _ said.opening said.entries _
+adds_none said (ask a o query) other = accessed_adds _ said.opening said.entries _ o _
+adds_none said (alter a o change) other = accessed_adds _ said.opening said.entries _ o _
+adds_none said (test_read a o) other = accessed_adds _ said.opening said.entries _ o _
+adds_none said (test_write a o) other = accessed_adds _ said.opening said.entries _ o _
 
 -- after one call more, and what it adds
 pub follows_call : (opening : ℕ → Option PlainContent) (said next : Said) (call : PlainCall) (l m : List Effect)

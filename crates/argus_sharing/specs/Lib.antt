@@ -1,3 +1,2 @@
 pub mod Locked
 pub mod Following
-pub mod Receipts

@@ -4,21 +4,18 @@ ghost use Rattle.std.specs.Prelude.{◌++◌, ◌+◌, ◌≡◌, IfOk, MatchOpt
 ghost use Rattle.argus_entries.specs.Call.{commit, plain_call};
 ghost use Rattle.argus_entries.specs.Reply.{plain_reply};
 ghost use Rattle.argus_journal.specs.Legal.{Legal};
-ghost use Rattle.argus_guardian.specs.Committing.{added_by_call};
 ghost use Rattle.argus_sharing.specs.Following.{Follows, IsNoCommit};
 ghost use Rattle.argus_sharing.specs.Locked.{next_number};
 ghost use Rattle.argus_steps.specs.Step.{after, reply_to};
 
 use crate::locked::Locked;
-use crate::receipt::Receipt;
+use argus_receipts::Receipt;
 use crate::seat::Seat;
 use crate::sharing::Sharing;
 use argus_actions::ActionId;
-use argus_board::BoardWriter;
 use argus_entries::{Call, Reply};
 use argus_guardian::Guardian;
 use argus_memory::OutOfMemory;
-use core::mem::replace_with;
 use std::sync::Wait;
 use std::sync::ledger::Book;
 
@@ -63,14 +60,12 @@ impl<N: Sharing, R: Wait + Drop> Locked<N, R> {
             (self.new.board.published ++ self.new.board.pending) }
     {
         let Locked {
-            heap,
-            guardian,
-            book,
-            ..
+            heap, shown, book, ..
         } = self;
+        shown.guardian.journal_is_legal();
         let copy = call.duplicate(*heap)?;
-        let reply = guardian.call(call)?;
-        let at = counted(guardian, book, seat);
+        let reply = shown.guardian.call(call)?;
+        let at = counted(&shown.guardian, book, seat);
         Ok(Receipt {
             at,
             call: copy,
@@ -91,53 +86,18 @@ impl<N: Sharing, R: Wait + Drop> Locked<N, R> {
         ensures board { Follows N.opening self.new.journal
             (self.new.board.published ++ self.new.board.pending) }
     {
-        let Locked {
-            guardian,
-            book,
-            board,
-            ..
-        } = self;
-        let reply = replace_with(guardian, (&mut *board, a), |guardian, with| {
-            committed::<N, R>(guardian, with.0, with.1)
-        })?;
-        let at = counted(guardian, book, seat);
+        let Locked { shown, book, .. } = self;
+        shown.guardian.journal_is_legal();
+        let reply = shown.commit(a)?;
+        let at = counted(&shown.guardian, book, seat);
         // Where it finds no memory, the effect stays pending.
-        let _shown = board.publish();
+        let _shown = shown.board.publish();
         Ok(Receipt {
             at,
             call: Call::Commit(a),
             reply,
         })
     }
-}
-
-/// Commits, once what a topaction leaves is pending on the board.
-fn committed<N: Sharing, R: Wait + Drop>(
-    guardian: Guardian,
-    board: &mut BoardWriter<N, R>,
-    a: ActionId,
-) -> (Guardian, Result<Reply, OutOfMemory>)
-    ensures published { board.new.published ≡ board.old.published }
-    ensures reply { IfOk result.1 (λ reply. plain_reply reply ≡ reply_to guardian (commit a.0)) }
-    ensures ok { OnOk result.1 ((result.0 ≡ after guardian (commit a.0))
-        × (board.new.pending ≡ board.old.pending ++ added_by_call guardian (commit a.0))) }
-    ensures err { OnErr result.1 ((result.0 ≡ guardian) × (board.new ≡ board.old)) }
-{
-    let ready = match guardian.ready_commit(a) {
-        Ok(ready) => ready,
-        Err(guardian) => return (guardian, Err(OutOfMemory)),
-    };
-    let effect = match ready.effect() {
-        Ok(effect) => effect,
-        Err(OutOfMemory) => return (ready.cancel(), Err(OutOfMemory)),
-    };
-    if let Some(effect) = effect {
-        if board.append(effect).is_err() {
-            return (ready.cancel(), Err(OutOfMemory));
-        }
-    }
-    let (guardian, reply) = ready.make();
-    (guardian, Ok(reply))
 }
 
 /// Counts the call that the guardian has just made, as the seat's; the number of its entry.
@@ -147,10 +107,11 @@ fn counted<N: Sharing>(guardian: &Guardian, book: &mut Book<N>, seat: &mut Seat<
     ensures total { book.new.total ≡ book.old.total + 1 }
     ensures made { seat.new.made ≡ seat.old.made + 1 }
 {
+    let at = guardian.journal().journal().len() - 1;
     book.audit(&mut seat.share);
     book.add(&mut seat.share, 1);
     seat.made += 1;
-    guardian.journal().journal().len() - 1
+    at
 }
 
 /// The action that the call commits, if it is a commit.

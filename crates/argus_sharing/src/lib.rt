@@ -2,23 +2,22 @@
 #![tactic(auto)]
 
 mod calling;
+mod checking;
 mod locked;
 mod looking;
 mod not_shared;
 mod opening;
 mod parts;
-mod receipt;
 mod seat;
-mod settle_fault;
 mod shared;
 mod sharing;
+mod shown_guardian;
 mod unsettled;
 
+pub use argus_receipts::{Receipt, SettleFault};
 pub use not_shared::NotShared;
 pub use parts::Parts;
-pub use receipt::Receipt;
 pub use seat::Seat;
-pub use settle_fault::SettleFault;
 pub use shared::Shared;
 pub use sharing::Sharing;
 pub use unsettled::Unsettled;

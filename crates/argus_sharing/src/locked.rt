@@ -7,7 +7,8 @@ ghost use Rattle.argus_sharing.specs.Following.{Follows, effects_told};
 ghost use Rattle.argus_sharing.specs.Locked.{next_number};
 
 use crate::sharing::Sharing;
-use argus_board::{Board, BoardWriter};
+use crate::shown_guardian::ShownGuardian;
+use argus_board::BoardWriter;
 use argus_guardian::Guardian;
 use argus_journal::LegalJournal;
 use argus_memory::Heap;
@@ -23,10 +24,9 @@ use std::sync::ledger::Book;
 #[derive(Drop)]
 pub struct Locked<N: Sharing, R: Wait + Drop> {
     pub(crate) heap: Heap,
-    pub(crate) guardian: Guardian,
+    pub(crate) shown: ShownGuardian<N, R>,
     pub(crate) book: Book<N>,
     pub(crate) start: u64,
-    pub(crate) board: BoardWriter<N, R>,
 }
 
 impl<N: Sharing, R: Wait + Drop> Model for Locked<N, R> {
@@ -38,11 +38,12 @@ impl<N: Sharing, R: Wait + Drop> Model for Locked<N, R> {
 
     ghost coded = { state_coded };
 
-    ghost view = { λ s. record { journal = s.guardian; board = s.board } };
+    ghost view = { λ s. record { journal = s.shown.guardian; board = s.shown.board } };
 
     ghost invariant = { λ s. (s.start ≡ N.start)
-        × (next_number s.guardian ≡ N.start + s.book.total)
-        × Follows N.opening s.guardian (s.board.published ++ s.board.pending) };
+        × (next_number s.shown.guardian ≡ N.start + s.book.total)
+        × Follows N.opening s.shown.guardian
+        (s.shown.board.published ++ s.shown.board.pending) };
 }
 
 impl<N: Sharing, R: Wait + Drop> Locked<N, R> {
@@ -62,10 +63,9 @@ impl<N: Sharing, R: Wait + Drop> Locked<N, R> {
         let start = guardian.journal().journal().len();
         Locked {
             heap,
-            guardian,
+            shown: ShownGuardian { guardian, board },
             book,
             start,
-            board,
         }
     }
 
@@ -75,11 +75,11 @@ impl<N: Sharing, R: Wait + Drop> Locked<N, R> {
     {
         let Locked {
             heap: _,
-            guardian,
+            shown,
             book: _,
             start: _,
-            board,
         } = self;
+        let ShownGuardian { guardian, board } = shown;
         board.end();
         guardian
     }
@@ -94,7 +94,7 @@ impl<N: Sharing, R: Wait + Drop> Locked<N, R> {
         ensures board { Follows N.opening self.now.journal
             (self.now.board.published ++ self.now.board.pending) }
     {
-        self.guardian.journal_is_legal();
-        self.guardian.journal()
+        self.shown.guardian.journal_is_legal();
+        self.shown.guardian.journal()
     }
 }

@@ -34,8 +34,8 @@ impl<N: Sharing, R: Wait + Drop> Locked<N, R> {
         ensures rest { result ≡ false → (self.new ≡ self.old) × (looker.new ≡ looker.old)
             × (self.old.board.pending ≢ []) }
     {
-        let Locked { board, .. } = self;
-        board.brief(looker).is_ok()
+        let Locked { shown, .. } = self;
+        shown.board.brief(looker).is_ok()
     }
 
     /// Publishes what is pending. False: a publish found no memory, and all is as before.
@@ -48,8 +48,8 @@ impl<N: Sharing, R: Wait + Drop> Locked<N, R> {
         ensures all { result ≡ true → self.new.board.pending ≡ [] }
         ensures rest { result ≡ false → (self.new ≡ self.old) × (self.old.board.pending ≢ []) }
     {
-        let Locked { board, .. } = self;
-        board.publish().is_ok()
+        let Locked { shown, .. } = self;
+        shown.board.publish().is_ok()
     }
 
     /// Folds the journal's past into its opening, as `Guardian::checkpoint` does: nothing is lost
@@ -64,12 +64,13 @@ impl<N: Sharing, R: Wait + Drop> Locked<N, R> {
         ensures board { Follows N.opening self.new.journal
             (self.new.board.published ++ self.new.board.pending) }
     {
-        let Locked { guardian, .. } = self;
-        guardian.checkpoint()
+        let Locked { shown, .. } = self;
+        shown.guardian.journal_is_legal();
+        shown.guardian.checkpoint()
     }
 
     /// Whether the call would be refused `Conflict` now.
     pub(crate) fn would_conflict(&self, call: &Call) -> bool {
-        self.guardian.access_refusal(call) == Some(Refusal::Conflict)
+        self.shown.guardian.access_refusal(call) == Some(Refusal::Conflict)
     }
 }

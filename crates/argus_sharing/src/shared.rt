@@ -16,7 +16,7 @@ use crate::locked::Locked;
 use crate::not_shared::NotShared;
 use crate::opening::{bases_of, lookers_at, seats_over};
 use crate::parts::Parts;
-use crate::receipt::Receipt;
+use argus_receipts::Receipt;
 use crate::seat::Seat;
 use crate::sharing::Sharing;
 use argus_board::{BoardWriter, Keeper, Looker};

@@ -1,7 +1,7 @@
 //! `Unsettled`: a shared guardian that wasn't settled.
 
 use crate::seat::Seat;
-use crate::settle_fault::SettleFault;
+use argus_receipts::SettleFault;
 use crate::shared::Shared;
 use crate::sharing::Sharing;
 use argus_memory::Heap;
