@@ -1,12 +1,15 @@
 //! What a sharing begins with: seats, lookers, and the contents of its board.
 
-ghost use Rattle.std.specs.Prelude.{◌≡◌, All, IfOk, length};
+ghost use Rattle.std.specs.Prelude.{◌<◌, ◌≡◌, All, IfOk, length};
 ghost use Rattle.argus_board.specs.Effects.{plain_contents};
+ghost use Rattle.argus_contents.specs.Content.{plain_option};
+ghost use Rattle.argus_journal.specs.Objects.{declared};
+ghost use Rattle.argus_journal.specs.Words.{base_of};
 ghost use Rattle.argus_sharing.specs.Following.{AreBases};
 
 use crate::seat::Seat;
 use crate::sharing::Sharing;
-use argus_board::{Board, BoardWriter, Looker};
+use argus_board::{BoardWriter, Looker};
 use argus_contents::{Content, ObjId};
 use argus_guardian::Guardian;
 use argus_memory::{Heap, OutOfMemory};
@@ -53,13 +56,27 @@ pub(crate) fn bases_of(
 ) -> Result<Vec<Option<Content>, Heap>, OutOfMemory>
     ensures { IfOk result (λ bases. AreBases guardian.now (plain_contents bases.items)) }
 {
+    guardian.contents_fit();
     let mut bases = Vec::with_capacity(heap, guardian.objects() as usize)?;
     for number in 0..guardian.objects() {
-        let copy = match guardian.base(ObjId(number)) {
-            Some(base) => Content::duplicate_option(heap, base)?,
-            None => None,
-        };
-        bases.push(copy)?;
+        let base = duplicate_base(heap, guardian, ObjId(number))?;
+        bases.push(base)?;
     }
     Ok(bases)
+}
+
+/// What is in a declared object for good.
+fn duplicate_base(
+    heap: Heap,
+    guardian: &Guardian,
+    object: ObjId,
+) -> Result<Option<Content>, OutOfMemory>
+    requires { object.0 < declared guardian.now.opening guardian.now.entries }
+    ensures { IfOk result (λ base. plain_option base
+        ≡ base_of guardian.now.opening guardian.now.entries object.0) }
+{
+    match guardian.base(object) {
+        Some(base) => Content::duplicate_option(heap, base),
+        None => Ok(None),
+    }
 }
