@@ -1,0 +1,57 @@
+-- What is in the objects for good, as a list.
+use Rattle.std.proofs.Common.{List, None, Option, Some, [], ap, arith, inl, inr, length, map, refl, subst, sym, true, ℕ}
+use Rattle.std.proofs.Common.{◌+◌, ◌++◌, ◌<◌, ◌≤◌, ◌∙◌, ◌∷◌, ◌≡◌}
+use Rattle.std.specs.List.{range_with_len}
+use Rattle.std.specs.Prelude.{slice_get}
+use Rattle.std.proofs.lemmas.Bool.{cases_lt}
+use Rattle.std.proofs.lemmas.List.{get_or_past, map-append}
+use Rattle.std.proofs.lemmas.List.FromFn.{get_or-map-range_with_len, length-map-range_with_len, map-range_with_len_more}
+use Rattle.std.proofs.lemmas.Option.{slice_get_past}
+use Rattle.argus_board.specs.Effects.{plain_contents}
+use Rattle.argus_contents.specs.Content.{PlainContent, plain_option}
+use Rattle.argus_contents.specs.Shape.{PlainShape}
+use Rattle.argus_contents.specs.declared.content.Content.{Content}
+use Rattle.argus_journal.proofs.Fitting.{nothing}
+use Rattle.argus_journal.specs.Objects.{declared, shape_of, shapes}
+use Rattle.argus_journal.specs.Opening.{fits_shape}
+use Rattle.argus_journal.specs.Words.{base_of}
+use Rattle.argus_sharing.specs.Following.{AreBases}
+use Rattle.argus_steps.specs.Step.{Said}
+
+-- no content fits where there is no shape
+unfit : (shape : Option PlainShape) (n : ℕ) (content : Option PlainContent) → shape ≡ None
+    → fits_shape shape n content ≡ true → content ≡ None
+unfit None n None is e = refl
+unfit None n (Some c) is e = nothing e
+unfit (Some s) n content is e = absurd (cc is)
+
+-- a content more
+pub one_more : (f : ℕ → Option PlainContent) (xs ys : List (Option Content)) (x : Option Content) (n : ℕ)
+    → plain_contents xs ≡ map f (range_with_len 0 n) → plain_option x ≡ f n → ys ≡ xs ++ x ∷ []
+    → plain_contents ys ≡ map f (range_with_len 0 (n + 1))
+one_more f xs ys x n is last more =
+    ap plain_contents more ∙ map-append plain_option xs (x ∷ []) ∙ ap (λ z. z ++ plain_option x ∷ []) is
+    ∙ ap (λ c. map f (range_with_len 0 n) ++ c ∷ []) last ∙ sym (map-range_with_len_more f 0 n n (omega arith))
+
+module _ (said : Said)
+    (fits : (o : ℕ) → fits_shape (shape_of said.opening said.entries o) (declared said.opening said.entries)
+    (base_of said.opening said.entries o) ≡ true) where
+  -- the bases of all declared objects, in the order of their numbers
+  pub are_bases : (contents : _) → contents ≡ map (base_of said.opening said.entries)
+      (range_with_len 0 (declared said.opening said.entries)) → AreBases said contents
+  are_bases contents is =
+      let s = said.opening in
+      let j = said.entries in
+      let n = declared s j in
+      let f = base_of s j in
+      subst (AreBases said) (sym is) (
+        length-map-range_with_len f 0 n,
+        (λ o. elim (cases_lt o n) [
+          | inl lt ↦ get_or-map-range_with_len f 0 n o o None lt (omega arith)
+          | inr ge ↦
+              let past : length (map f (range_with_len 0 n)) ≤ o =
+                  omega (arith, ge, length-map-range_with_len f 0 n) in
+              get_or_past (map f (range_with_len 0 n)) o None past
+              ∙ sym (unfit (shape_of s j o) n (f o) (slice_get_past (shapes s j) o ge) (fits o))
+        ]),
+      )
