@@ -4,18 +4,24 @@ use Rattle.std.proofs.Common.{◌+◌, ◌++◌, ◌<◌, ◌≤◌, ◌∙◌, 
 use Rattle.std.specs.List.{range_with_len}
 use Rattle.std.specs.Prelude.{slice_get}
 use Rattle.std.proofs.lemmas.Bool.{cases_lt}
-use Rattle.std.proofs.lemmas.List.{get_or_past, map-append}
+use Rattle.std.proofs.lemmas.List.{ext_get_or, get_or_past, map-append}
 use Rattle.std.proofs.lemmas.List.FromFn.{get_or-map-range_with_len, length-map-range_with_len, map-range_with_len_more}
 use Rattle.std.proofs.lemmas.Option.{slice_get_past}
-use Rattle.argus_board.specs.Effects.{plain_contents}
+use Rattle.argus_board.specs.Effects.{Effect, Leads, plain_contents}
 use Rattle.argus_contents.specs.Content.{PlainContent, plain_option}
 use Rattle.argus_contents.specs.Shape.{PlainShape}
 use Rattle.argus_contents.specs.declared.content.Content.{Content}
 use Rattle.argus_journal.proofs.Fitting.{nothing}
+use Rattle.argus_journal.proofs.Legal.{lawful}
+use Rattle.argus_journal.specs.Entries.{entries}
+use Rattle.argus_journal.specs.Events.{history}
+use Rattle.argus_journal.specs.Legal.{Legal}
 use Rattle.argus_journal.specs.Objects.{declared, shape_of, shapes}
-use Rattle.argus_journal.specs.Opening.{fits_shape}
+use Rattle.argus_journal.specs.Opening.{content_in, fits_shape, opened}
 use Rattle.argus_journal.specs.Words.{base_of}
-use Rattle.argus_sharing.specs.Following.{AreBases}
+use Rattle.argus_model.proofs.Theorems.{table_is_base}
+use Rattle.argus_model.specs.Effects.{table}
+use Rattle.argus_sharing.specs.Following.{AreBases, effects_told}
 use Rattle.argus_steps.specs.Step.{Said}
 
 -- no content fits where there is no shape
@@ -55,3 +61,17 @@ module _ (said : Said)
               ∙ sym (unfit (shape_of s j o) n (f o) (slice_get_past (shapes s j) o ge) (fits o))
         ]),
       )
+
+-- two lists of them are one
+pub same_bases : (said : Said) (xs ys : List (Option PlainContent)) → AreBases said xs → AreBases said ys → xs ≡ ys
+same_bases said xs ys p q = ext_get_or None xs ys (p.0 ∙ sym q.0) (λ o _. p.1 o ∙ sym (q.1 o))
+
+-- they are what the effects of the journal leave
+pub bases_lead : (opening : ℕ → Option PlainContent) (before : List Effect) (said : Said)
+    (first : List (Option PlainContent)) → Legal said.opening said.entries → opening ≡ content_in said.opening.objects
+    → before ≡ effects_told said → AreBases said first → Leads opening before first
+bases_lead opening before said first legal is told bases o =
+    bases.1 o
+    ∙ sym (table_is_base entries (opened said.opening) (history said.opening said.entries) o
+    (lawful said.opening said.entries legal))
+    ∙ sym (ap (λ f. table f before o) is ∙ ap (λ l. table (content_in said.opening.objects) l o) told)

@@ -6,6 +6,7 @@ ghost use Rattle.std.specs.Result.{result_err};
 ghost use Rattle.argus_guardian.specs.Checkpoint.{after_checkpoint, is_quiet};
 ghost use Rattle.argus_guardian.specs.declared.checkpoint_error.CheckpointError.TheVariants.{Busy};
 ghost use Rattle.argus_guardian.specs.declared.checkpoint_error.CheckpointError.TheVariants.{Full};
+ghost use Rattle.argus_journal.specs.Legal.{Legal};
 ghost use Rattle.argus_journal.specs.declared.limits.TheConstants.{MAX_FIRST_ENTRY};
 ghost use Rattle.argus_sharing.specs.Following.{Follows};
 ghost use Rattle.argus_sharing.specs.Locked.{next_number};
@@ -27,6 +28,7 @@ impl<N: Sharing, R: Wait + Drop> Locked<N, R> {
         ensures journal { self.new.journal ≡ self.old.journal }
         ensures board { Follows N.opening self.new.journal
             (self.new.board.published ++ self.new.board.pending) }
+        ensures legal { Legal self.new.journal.opening self.new.journal.entries }
         ensures former { IsPrefix looker.old
             (self.new.board.published ++ self.new.board.pending) }
         ensures all { result ≡ true → (looker.new ≡ self.new.board.published)
@@ -35,6 +37,7 @@ impl<N: Sharing, R: Wait + Drop> Locked<N, R> {
             × (self.old.board.pending ≢ []) }
     {
         let Locked { shown, .. } = self;
+        shown.guardian.journal_is_legal();
         shown.board.brief(looker).is_ok()
     }
 

@@ -1,15 +1,17 @@
 //! What a sharing begins with: seats, lookers, and the contents of its board.
 
-ghost use Rattle.std.specs.Prelude.{◌<◌, ◌≡◌, All, IfOk, length};
+ghost use Rattle.std.specs.Prelude.{◌<◌, ◌≡◌, [], All, IfOk, length};
 ghost use Rattle.argus_board.specs.Effects.{plain_contents};
+ghost use Rattle.argus_board.specs.Keeper.{Opens};
 ghost use Rattle.argus_contents.specs.Content.{plain_option};
 ghost use Rattle.argus_journal.specs.Objects.{declared};
+ghost use Rattle.argus_journal.specs.Opening.{content_in};
 ghost use Rattle.argus_journal.specs.Words.{base_of};
-ghost use Rattle.argus_sharing.specs.Following.{AreBases};
+ghost use Rattle.argus_sharing.specs.Following.{AreBases, effects_told};
 
 use crate::seat::Seat;
 use crate::sharing::Sharing;
-use argus_board::{BoardWriter, Looker};
+use argus_board::{BoardWriter, Keeper, Looker};
 use argus_contents::{Content, ObjId};
 use argus_guardian::Guardian;
 use argus_memory::{Heap, OutOfMemory};
@@ -49,8 +51,29 @@ pub(crate) fn lookers_at<N: Sharing, R: Wait + Drop>(
     Ok(lookers)
 }
 
+/// The board of a sharing, with what is in the guardian's objects for good.
+pub(crate) fn board_of<N: Sharing, R: Wait + Drop>(
+    rt: R,
+    heap: Heap,
+    guardian: &Guardian,
+    keeper: Keeper,
+    lookers: u32,
+) -> Result<BoardWriter<N, R>, OutOfMemory>
+    requires lookers { lookers < 4294967295 }
+    requires keeper { Opens N.history N.root keeper }
+    requires before { N.before ≡ effects_told guardian.now }
+    requires opening { N.opening ≡ content_in guardian.now.opening.objects }
+    requires first { AreBases guardian.now N.first }
+    ensures published { IfOk result (λ board. board.published ≡ N.before) }
+    ensures pending { IfOk result (λ board. board.pending ≡ []) }
+{
+    guardian.journal_is_legal();
+    let bases = bases_of(heap, guardian)?;
+    BoardWriter::<N, R>::new(rt, heap, bases, keeper, lookers)
+}
+
 /// What is in the guardian's objects for good, in the order of their numbers.
-pub(crate) fn bases_of(
+fn bases_of(
     heap: Heap,
     guardian: &Guardian,
 ) -> Result<Vec<Option<Content>, Heap>, OutOfMemory>

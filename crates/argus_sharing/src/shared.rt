@@ -1,25 +1,29 @@
 //! `Shared`: a guardian that threads share.
 
-ghost use Rattle.std.specs.Prelude.{◌+◌, ◌<◌, ◌≡◌, All, List, length, sum_by};
-ghost use Rattle.std.specs.Prelude.{IfErr, IfOk, OnErr, OnOk};
-ghost use Rattle.argus_board.specs.Effects.{Leads};
+ghost use Rattle.std.specs.Prelude.{◌+◌, ◌<◌, ◌≡◌, All, IfErr, IfOk, OnErr, OnOk, false, length};
+ghost use Rattle.std.specs.Prelude.{map, sum_by, true};
+ghost use mathlib.Core.List.{IsPrefix};
 ghost use Rattle.argus_board.specs.Keeper.{Opens};
 ghost use Rattle.argus_entries.specs.Call.{plain_call};
 ghost use Rattle.argus_entries.specs.Reply.{plain_reply};
 ghost use Rattle.argus_journal.specs.Legal.{Legal};
 ghost use Rattle.argus_journal.specs.Opening.{content_in};
-ghost use Rattle.argus_sharing.specs.Following.{AreBases, effects_told};
+ghost use Rattle.argus_receipts.specs.Checking.{AreApart, Stands, entries_since};
+ghost use Rattle.argus_receipts.specs.Receipt.{plain_receipt};
+ghost use Rattle.argus_sharing.specs.Following.{AreBases, Follows, effects_told};
 ghost use Rattle.argus_sharing.specs.Locked.{next_number};
+ghost use Rattle.argus_sharing.specs.Waking.{has_ended};
 ghost use Rattle.argus_steps.specs.Step.{Said, reply_to};
 
 use crate::locked::Locked;
 use crate::not_shared::NotShared;
-use crate::opening::{bases_of, lookers_at, seats_over};
+use crate::opening::{board_of, lookers_at, seats_over};
 use crate::parts::Parts;
 use argus_receipts::Receipt;
 use crate::seat::Seat;
 use crate::sharing::Sharing;
-use argus_board::{BoardWriter, Keeper, Looker};
+use crate::unsettled::Unsettled;
+use argus_board::{Keeper, Looker};
 use argus_entries::{Call, Reply};
 use argus_guardian::{CheckpointError, Guardian};
 use argus_memory::{Heap, OutOfMemory};
@@ -72,10 +76,7 @@ impl<N: Sharing, R: Wait + Drop> Shared<N, R> {
         let Ok(seats) = seats_over(heap, share, seats) else {
             return Err(NotShared { guardian });
         };
-        let Ok(bases) = bases_of(heap, &guardian) else {
-            return Err(NotShared { guardian });
-        };
-        let Ok(board) = BoardWriter::<N, R>::new(rt, heap, bases, keeper, lookers) else {
+        let Ok(board) = board_of::<N, R>(rt, heap, &guardian, keeper, lookers) else {
             return Err(NotShared { guardian });
         };
         let Ok(lookers) = lookers_at(heap, &board, lookers) else {
@@ -152,7 +153,12 @@ impl<N: Sharing, R: Wait + Drop> Shared<N, R> {
     /// no memory, and the board is behind.
     ///
     /// It may wait for other threads. The looker came with the same sharing.
-    pub fn brief(&self, rt: &impl Wait, looker: &mut Looker<N>) -> bool {
+    pub fn brief(&self, rt: &impl Wait, looker: &mut Looker<N>) -> bool
+        ensures later { IsPrefix looker.old looker.new }
+        ensures all { result ≡ true → (said : Said) × Legal said.opening said.entries
+            × Follows N.opening said looker.new }
+        ensures rest { result ≡ false → looker.new ≡ looker.old }
+    {
         self.locked.lock(rt).brief(looker)
     }
 
@@ -166,10 +172,49 @@ impl<N: Sharing, R: Wait + Drop> Shared<N, R> {
     pub fn checkpoint(&self, rt: &impl Wait) -> Result<(), CheckpointError> {
         self.locked.lock(rt).checkpoint()
     }
+
+    /// Gives the guardian back and ends the board, if these receipts and seats tell the journal:
+    /// each receipt's call and reply are those of the entry at its number, no number comes twice,
+    /// and the seats made as many calls as entries came since the sharing began. Any part of the
+    /// receipts may be handed in. `Unsettled` hands all back.
+    ///
+    /// It may wait for lookers that are inside.
+    ///
+    /// ```text
+    /// let guardian = shared.settle(seats, receipts.as_slice())?;
+    /// ```
+    pub fn settle(
+        self,
+        seats: Vec<Seat<N>, Heap>,
+        receipts: &[Receipt],
+    ) -> Result<Guardian, Unsettled<N, R>>
+        ensures stand { IfOk result (λ guardian. All (Stands guardian.opening guardian.entries)
+            (map plain_receipt receipts.now)) }
+        ensures apart { OnOk result (AreApart (map plain_receipt receipts.now)) }
+        ensures count { IfOk result (λ guardian. entries_since N.start guardian.opening
+            guardian.entries ≡ sum_by (λ seat. seat.made) seats.items) }
+        ensures back { IfErr result (λ unsettled. unsettled.seats ≡ seats) }
+    {
+        let Shared { locked, freed } = self;
+        let locked = locked.into_inner();
+        match locked.check(seats.as_slice(), receipts) {
+            Ok(()) => Ok(locked.ended()),
+            Err(fault) => Err(Unsettled {
+                fault,
+                shared: Shared {
+                    locked: Mutex::new(locked),
+                    freed,
+                },
+                seats,
+            }),
+        }
+    }
 }
 
 /// Whether the call ended actions, so that others need wait no longer.
-fn frees(receipt: &Result<Receipt, OutOfMemory>) -> bool {
+fn frees(receipt: &Result<Receipt, OutOfMemory>) -> bool
+    ensures { result ≡ has_ended receipt.now }
+{
     match receipt {
         Ok(receipt) => match receipt.call {
             Call::Commit(_) | Call::Abort(_) | Call::AbortOthers(_) => {
