@@ -6,8 +6,8 @@ use Rattle.std.proofs.lemmas.List.{append-nil}
 use Rattle.argus_board.specs.Board.{Shown}
 use Rattle.argus_board.specs.Effects.{Effect}
 use Rattle.argus_contents.specs.Content.{PlainContent}
-use Rattle.argus_entries.specs.Call.{PlainCall, abort, abort_others, alter, ask, begin_nested, begin_sub, begin_top, commit}
-use Rattle.argus_entries.specs.Call.{declare, test_read, test_write}
+use Rattle.argus_entries.specs.Call.{PlainCall, abort, abort_others, alter, ask, begin_nested, begin_sub}
+use Rattle.argus_entries.specs.Call.{begin_top, commit, declare, test_read, test_write}
 use Rattle.argus_entries.specs.Entry.{PlainEntry}
 use Rattle.argus_guardian.specs.Checkpoint.{after_checkpoint}
 use Rattle.argus_guardian.specs.Committing.{added_by_call}
@@ -39,8 +39,8 @@ adds_none said (declare shape) other = refl
 adds_none said begin_top other =
     may_add (is_begun_reply (reply_to said begin_top)) said.opening (Began Top) said.entries refl
 adds_none said (begin_sub parent) other =
-    may_add (is_begun_reply (reply_to said (begin_sub parent))) said.opening (Began (Sub (in_history parent))) said.entries
-    refl
+    may_add (is_begun_reply (reply_to said (begin_sub parent))) said.opening (Began (Sub (in_history parent)))
+    said.entries refl
 adds_none said (begin_nested creator) other =
     may_add (is_begun_reply (reply_to said (begin_nested creator))) said.opening (Began (Nested (in_history creator)))
     said.entries refl
@@ -77,8 +77,8 @@ module _ (opening : ℕ → Option PlainContent) (said next : Said) where
         h.0,
         h.1,
         more ∙ ap (λ z. z ++ added_by_call said call) h.2
-        ∙ append_assoc h.0 (effects_told said) (added_by_call said call)
-        ∙ ap (λ z. h.0 ++ z) (sym (effects_then said call legal)),
+            ∙ append_assoc h.0 (effects_told said) (added_by_call said call)
+            ∙ ap (λ z. h.0 ++ z) (sym (effects_then said call legal)),
       )
 
   -- after a call that is no commit
@@ -107,9 +107,9 @@ module _ (opening : ℕ → Option PlainContent) (said next : Said) where
       subst (λ t. Follows opening t l) (sym is) (
         h.0 ++ effects_of s j,
         (λ o. table-append opening h.0 (effects_of s j) o
-        ∙ table_same (table opening h.0) (content_in s.objects) (effects_of s j) h.1 o
-        ∙ ap (λ z. table (content_in s.objects) z o) (sym (append-nil (effects_of s j)))
-        ∙ effects_after s j sound legal [] o),
+            ∙ table_same (table opening h.0) (content_in s.objects) (effects_of s j) h.1 o
+            ∙ ap (λ z. table (content_in s.objects) z o) (sym (append-nil (effects_of s j)))
+            ∙ effects_after s j sound legal [] o),
         h.2 ∙ sym (append-nil (h.0 ++ effects_of s j)),
       )
 

@@ -1,6 +1,7 @@
 -- How the effects on a board stand to a journal.
-use Rattle.std.specs.Prelude.{List, Option, length, ℕ, ◌++◌, ◌≡◌}
-use Rattle.argus_board.specs.Effects.{Effect, content_at}
+use Rattle.std.specs.List.{range_with_len}
+use Rattle.std.specs.Prelude.{List, Option, map, ℕ, ◌++◌, ◌≡◌}
+use Rattle.argus_board.specs.Effects.{Effect}
 use Rattle.argus_contents.specs.Content.{PlainContent}
 use Rattle.argus_entries.specs.Call.{PlainCall, abort, abort_others, alter, ask, begin_nested}
 use Rattle.argus_entries.specs.Call.{begin_sub, begin_top, commit, declare, test_read, test_write}
@@ -34,8 +35,8 @@ IsNoCommit (alter a o change) = Unit {0}
 IsNoCommit (test_read a o) = Unit {0}
 IsNoCommit (test_write a o) = Unit {0}
 
--- the contents are what is in the objects for good, in the order of their numbers
-abbrev pub AreBases : Said → List (Option PlainContent) → Type 0
-AreBases said contents =
-    (length contents ≡ declared said.opening said.entries)
-    × ((o : ℕ) → content_at contents o ≡ base_of said.opening said.entries o)
+-- what is in the declared objects for good, in the order of their numbers
+abbrev pub bases_told : Said → List (Option PlainContent)
+bases_told said =
+    map (base_of said.opening said.entries)
+    (range_with_len 0 (declared said.opening said.entries))

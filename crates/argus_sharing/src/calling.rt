@@ -9,13 +9,13 @@ ghost use Rattle.argus_sharing.specs.Locked.{next_number};
 ghost use Rattle.argus_steps.specs.Step.{after, reply_to};
 
 use crate::locked::Locked;
-use argus_receipts::Receipt;
 use crate::seat::Seat;
 use crate::sharing::Sharing;
 use argus_actions::ActionId;
-use argus_entries::{Call, Reply};
+use argus_entries::Call;
 use argus_guardian::Guardian;
 use argus_memory::OutOfMemory;
+use argus_receipts::Receipt;
 use std::sync::Wait;
 use std::sync::ledger::Book;
 
@@ -52,7 +52,8 @@ impl<N: Sharing, R: Wait + Drop> Locked<N, R> {
         ensures call { IfOk result (λ receipt. plain_call receipt.call ≡ plain_call call) }
         ensures reply { IfOk result (λ receipt. plain_reply receipt.reply
             ≡ reply_to self.old.journal (plain_call call)) }
-        ensures journal { OnOk result (self.new.journal ≡ after self.old.journal (plain_call call)) }
+        ensures journal { OnOk result (self.new.journal
+            ≡ after self.old.journal (plain_call call)) }
         ensures made { OnOk result (seat.new.made ≡ seat.old.made + 1) }
         ensures err { OnErr result ((self.new ≡ self.old) × (seat.new.made ≡ seat.old.made)) }
         ensures legal { Legal self.old.journal.opening self.old.journal.entries }
@@ -60,7 +61,10 @@ impl<N: Sharing, R: Wait + Drop> Locked<N, R> {
             (self.new.board.published ++ self.new.board.pending) }
     {
         let Locked {
-            heap, shown, book, ..
+            heap,
+            shown,
+            book,
+            ..
         } = self;
         shown.guardian.journal_is_legal();
         let copy = call.duplicate(*heap)?;

@@ -28,7 +28,10 @@ impl<N: Sharing, R: Wait + Drop> Locked<N, R> {
             (sum_by (λ seat. seat.made) seats.now) (map plain_receipt receipts.now))) }
     {
         let Locked {
-            heap, shown, start, ..
+            heap,
+            shown,
+            start,
+            ..
         } = self;
         let journal = shown.guardian.journal().journal();
         check(*heap, journal, *start, sum_of(seats), receipts)

@@ -1,9 +1,9 @@
 //! `Locked`: the value behind the lock of a shared guardian.
 
-ghost use Rattle.std.specs.Prelude.{◌++◌, ◌≡◌, []};
+ghost use Rattle.std.specs.Prelude.{◌++◌, ◌≡◌};
 ghost use Rattle.argus_journal.specs.LegalJournal.{entries_in, opening_in};
 ghost use Rattle.argus_journal.specs.Legal.{Legal};
-ghost use Rattle.argus_sharing.specs.Following.{Follows, effects_told};
+ghost use Rattle.argus_sharing.specs.Following.{Follows};
 ghost use Rattle.argus_sharing.specs.Locked.{next_number};
 
 use crate::sharing::Sharing;
@@ -19,8 +19,13 @@ use std::sync::ledger::Book;
 /// The value behind the lock: the guardian, the ledger's book of its seats' calls, and the board's
 /// writer. Contracts see the guardian's journal and the board's effects.
 ///
-/// `Shared` takes the lock and makes the call of the same name here; the clauses stand here, since a
-/// function that takes a lock can't say what it did to the value.
+/// `Shared` takes the lock and makes the call of the same name here; the clauses stand here, since
+/// a function that takes a lock can't say what it did to the value.
+///
+/// ```text
+/// let receipt = locked.call(&mut seat, Call::BeginTop)?;
+/// assert!(rt; locked.refresh());
+/// ```
 #[derive(Drop)]
 pub struct Locked<N: Sharing, R: Wait + Drop> {
     pub(crate) heap: Heap,
@@ -84,9 +89,9 @@ impl<N: Sharing, R: Wait + Drop> Locked<N, R> {
         guardian
     }
 
-    /// The guardian's journal. It is legal, and the board's effects follow it: what is published and
-    /// then what is pending is some list that leaves the contents of the journal's opening, and then
-    /// the effects of its entries.
+    /// The guardian's journal. It is legal, and the board's effects follow it: what is published
+    /// and then what is pending is some list that leaves the contents of the journal's opening, and
+    /// then the effects of its entries.
     pub fn journal(&self) -> &LegalJournal
         ensures opening { opening_in result.now ≡ self.now.journal.opening }
         ensures entries { entries_in result.now ≡ self.now.journal.entries }

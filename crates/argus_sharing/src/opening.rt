@@ -7,7 +7,7 @@ ghost use Rattle.argus_contents.specs.Content.{plain_option};
 ghost use Rattle.argus_journal.specs.Objects.{declared};
 ghost use Rattle.argus_journal.specs.Opening.{content_in};
 ghost use Rattle.argus_journal.specs.Words.{base_of};
-ghost use Rattle.argus_sharing.specs.Following.{AreBases, effects_told};
+ghost use Rattle.argus_sharing.specs.Following.{bases_told, effects_told};
 
 use crate::seat::Seat;
 use crate::sharing::Sharing;
@@ -63,23 +63,20 @@ pub(crate) fn board_of<N: Sharing, R: Wait + Drop>(
     requires keeper { Opens N.history N.root keeper }
     requires before { N.before ≡ effects_told guardian.now }
     requires opening { N.opening ≡ content_in guardian.now.opening.objects }
-    requires first { AreBases guardian.now N.first }
+    requires first { N.first ≡ bases_told guardian.now }
     ensures published { IfOk result (λ board. board.published ≡ N.before) }
     ensures pending { IfOk result (λ board. board.pending ≡ []) }
 {
     guardian.journal_is_legal();
+    guardian.contents_fit();
     let bases = bases_of(heap, guardian)?;
     BoardWriter::<N, R>::new(rt, heap, bases, keeper, lookers)
 }
 
 /// What is in the guardian's objects for good, in the order of their numbers.
-fn bases_of(
-    heap: Heap,
-    guardian: &Guardian,
-) -> Result<Vec<Option<Content>, Heap>, OutOfMemory>
-    ensures { IfOk result (λ bases. AreBases guardian.now (plain_contents bases.items)) }
+fn bases_of(heap: Heap, guardian: &Guardian) -> Result<Vec<Option<Content>, Heap>, OutOfMemory>
+    ensures { IfOk result (λ bases. plain_contents bases.items ≡ bases_told guardian.now) }
 {
-    guardian.contents_fit();
     let mut bases = Vec::with_capacity(heap, guardian.objects() as usize)?;
     for number in 0..guardian.objects() {
         let base = duplicate_base(heap, guardian, ObjId(number))?;

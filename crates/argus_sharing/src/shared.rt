@@ -10,7 +10,7 @@ ghost use Rattle.argus_journal.specs.Legal.{Legal};
 ghost use Rattle.argus_journal.specs.Opening.{content_in};
 ghost use Rattle.argus_receipts.specs.Checking.{AreApart, Stands, entries_since};
 ghost use Rattle.argus_receipts.specs.Receipt.{plain_receipt};
-ghost use Rattle.argus_sharing.specs.Following.{AreBases, Follows, effects_told};
+ghost use Rattle.argus_sharing.specs.Following.{Follows, bases_told, effects_told};
 ghost use Rattle.argus_sharing.specs.Locked.{next_number};
 ghost use Rattle.argus_sharing.specs.Waking.{has_ended};
 ghost use Rattle.argus_steps.specs.Step.{Said, reply_to};
@@ -19,7 +19,6 @@ use crate::locked::Locked;
 use crate::not_shared::NotShared;
 use crate::opening::{board_of, lookers_at, seats_over};
 use crate::parts::Parts;
-use argus_receipts::Receipt;
 use crate::seat::Seat;
 use crate::sharing::Sharing;
 use crate::unsettled::Unsettled;
@@ -27,16 +26,18 @@ use argus_board::{Keeper, Looker};
 use argus_entries::{Call, Reply};
 use argus_guardian::{CheckpointError, Guardian};
 use argus_memory::{Heap, OutOfMemory};
+use argus_receipts::Receipt;
 use std::sync::ledger::Blank;
 use std::sync::{Condvar, Mutex, Wait};
 
 /// A guardian under one lock, for threads with seats, and a board for lookers, who take no lock.
 ///
-/// Each call takes the lock and makes the call of the same name of `laws::Locked`, where the clauses
-/// stand that speak of the locked value.
+/// Each call takes the lock and makes the call of the same name of `laws::Locked`, where the
+/// clauses stand that speak of the locked value.
 ///
 /// ```text
-/// let Parts { shared, mut seats, mut lookers } = Shared::new(rt, heap, guardian, 2, 1, blank, keeper)?;
+/// let parts = Shared::new(rt, heap, guardian, 2, 1, blank, keeper)?;
+/// let Parts { shared, mut seats, mut lookers } = parts;
 /// let receipt = shared.call(&rt, &mut seats[0], Call::BeginTop)?;
 /// ```
 #[derive(Drop)]
@@ -65,7 +66,7 @@ impl<N: Sharing, R: Wait + Drop> Shared<N, R> {
         requires start { N.start ≡ next_number guardian }
         requires before { N.before ≡ effects_told guardian }
         requires opening { N.opening ≡ content_in guardian.opening.objects }
-        requires first { AreBases guardian N.first }
+        requires first { N.first ≡ bases_told guardian }
         ensures seats { IfOk result (λ p. All (λ seat. seat.made ≡ 0) p.seats.items
             × (length p.seats.items ≡ seats)) }
         ensures lookers { IfOk result (λ p. All (λ looker. looker ≡ effects_told guardian)
@@ -92,9 +93,9 @@ impl<N: Sharing, R: Wait + Drop> Shared<N, R> {
         })
     }
 
-    /// Makes a call, as the seat's. The receipt has the number of its entry in the journal, the call
-    /// that was handed in, and the reply that the journal before it gives. At `OutOfMemory` nothing
-    /// was journalled, and the call is spent.
+    /// Makes a call, as the seat's. The receipt has the number of its entry in the journal, the
+    /// call that was handed in, and the reply that the journal before it gives. At `OutOfMemory`
+    /// nothing was journalled, and the call is spent.
     ///
     /// It may wait for other threads. The seat came with the same sharing.
     pub fn call(

@@ -1,9 +1,8 @@
-use Rattle.std.proofs.Common.{arith, map, ap, refl, ◌≡◌, ◌∙◌}
+use Rattle.std.proofs.Common.{ap, arith, map, ◌≡◌, ◌∙◌}
 use Rattle.std.specs.List.{range_with_len}
-use Rattle.argus_board.specs.Effects.{plain_contents}
 use Rattle.argus_journal.specs.Objects.{declared}
 use Rattle.argus_journal.specs.Words.{base_of}
-use Rattle.argus_sharing.proofs.Bases.{are_bases, one_more}
+use Rattle.argus_sharing.proofs.Bases.{one_more}
 use Rattle.argus_sharing.proofs.opening.bases_of.Goals as goal
 
 pub loop-number-preserved : goal.loop-number-preserved
@@ -17,5 +16,4 @@ returns c =
     let said = c.args.guardian.now in
     let all : c.loop-number.number ≡ declared said.opening said.entries =
         omega (arith, c.loop-number-test.false, c.loop-number.auto.number-end, c.objects-number-end.ensures) in
-    are_bases said c.contents_fit.ensures.base (plain_contents c.loop-number.bases.items)
-    (c.loop-number.invariant ∙ ap (λ n. map (base_of said.opening said.entries) (range_with_len 0 n)) all)
+    c.loop-number.invariant ∙ ap (λ n. map (base_of said.opening said.entries) (range_with_len 0 n)) all

@@ -18,5 +18,5 @@ pub invariant_of-self-2 : goal.invariant_of-self-2
 invariant_of-self-2 g c =
     let inv = c.self.invariant in
     let made : next_number c.call-2.new.self ≡ next_number c.self.inside.shown.guardian + 1 =
-        ap next_number c.in_ok-reply.ensures.ok ∙ omega arith in
+    ap next_number c.in_ok-reply.ensures.ok ∙ omega arith in
     (inv.0, omega (arith, made, inv.1, c.counted-at.ensures.total), returns-clause-board g c)

@@ -15,5 +15,5 @@ pub invariant_of-self : goal.invariant_of-self
 invariant_of-self g c =
     let inv = c.self.invariant in
     let same = checkpoint_number c.checkpoint.result c.self.inside.shown.guardian c.checkpoint.new.self
-        c.checkpoint.ensures.ok c.checkpoint.ensures.err in
+    c.checkpoint.ensures.ok c.checkpoint.ensures.err in
     (inv.0, omega (arith, same, inv.1), returns-clause-board g c)
