@@ -1,5 +1,5 @@
 -- The board's effects follow the journal, from one call to the next.
-use Rattle.std.proofs.Common.{Bool, List, None, Option, Some, [], ap, append_assoc, false, refl, subst, sym, true, ℕ}
+use Rattle.std.proofs.Common.{Bool, List, Option, Some, [], ap, append_assoc, false, refl, subst, sym, true, ℕ}
 use Rattle.std.proofs.Common.{◌++◌, ◌∙◌, ◌∷◌, ◌≡◌, ◌≢◌}
 use Rattle.std.specs.Prelude.{Err, Ok, OnErr, OnOk, Result}
 use Rattle.std.proofs.lemmas.List.{append-nil}

@@ -1,9 +1,7 @@
 -- What lies under the lock, as contracts see it.
 use Rattle.std.specs.Coded.{Coded, code_by, coded×}
-use Rattle.std.specs.Prelude.{List, refl, ℕ}
+use Rattle.std.specs.Prelude.{refl, ℕ}
 use Rattle.argus_board.specs.Board.{Shown, shown_coded}
-use Rattle.argus_board.specs.Effects.{Effect}
-use Rattle.argus_entries.specs.Entry.{PlainEntry}
 use Rattle.argus_journal.specs.Folding.{next_entry_number}
 use Rattle.argus_steps.specs.Step.{Said, said_coded}
 

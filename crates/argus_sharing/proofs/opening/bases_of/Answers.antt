@@ -15,5 +15,5 @@ pub returns : goal.returns
 returns c =
     let said = c.args.guardian.now in
     let all : c.loop-number.number ≡ declared said.opening said.entries =
-        omega (arith, c.loop-number-test.false, c.loop-number.auto.number-end, c.objects-number-end.ensures) in
+    omega (arith, c.loop-number-test.false, c.loop-number.auto.number-end, c.objects-number-end.ensures) in
     c.loop-number.invariant ∙ ap (λ n. map (base_of said.opening said.entries) (range_with_len 0 n)) all

@@ -1,4 +1,4 @@
-use Rattle.std.proofs.Common.{arith, ◌+◌, ◌++◌, ◌≡◌}
+use Rattle.std.proofs.Common.{arith, ◌++◌}
 use Rattle.argus_sharing.proofs.Follow.{checkpoint_number, follows_checkpoint}
 use Rattle.argus_sharing.proofs.locked.Locked.checkpoint.Goals as goal
 

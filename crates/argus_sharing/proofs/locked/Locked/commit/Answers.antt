@@ -1,4 +1,4 @@
-use Rattle.std.proofs.Common.{ap, arith, ◌+◌, ◌++◌, ◌∙◌, ◌≡◌}
+use Rattle.std.proofs.Common.{ap, arith, ◌+◌, ◌∙◌, ◌≡◌}
 use Rattle.argus_entries.specs.Call.{commit}
 use Rattle.argus_sharing.proofs.Follow.{follows_commit, published_same}
 use Rattle.argus_sharing.proofs.locked.Locked.commit.Goals as goal
