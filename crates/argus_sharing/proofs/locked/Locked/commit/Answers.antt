@@ -1,0 +1,25 @@
+use Rattle.std.proofs.Common.{ap, arith, ◌+◌, ◌∙◌, ◌≡◌}
+use Rattle.argus_entries.specs.Call.{commit}
+use Rattle.argus_sharing.proofs.Follow.{follows_commit, published_same}
+use Rattle.argus_sharing.proofs.locked.Locked.commit.Goals as goal
+use Rattle.argus_sharing.specs.Locked.{next_number}
+
+-- src/calling.rt:77:5
+pub returns-clause-board : goal.returns-clause-board
+returns-clause-board g c =
+    let inv = c.self.invariant in
+    let was = c.self.inside.shown in
+    let now = c.publish-shown.new.self in
+    let with_effect = c.commit.new.self.board in
+    follows_commit g.N.Board.opening was.guardian c.commit.new.self.guardian (commit c.args.a.0) was.board
+    with_effect now c.journal_is_legal.ensures.legal inv.2 c.in_ok-reply.ensures.ok.0 c.commit.ensures.published
+    c.in_ok-reply.ensures.ok.1
+    (published_same c.publish-shown.result with_effect now c.publish-shown.ensures.ok c.publish-shown.ensures.err)
+
+-- src/calling.rt:77:5
+pub invariant_of-self-2 : goal.invariant_of-self-2
+invariant_of-self-2 g c =
+    let inv = c.self.invariant in
+    let made : next_number c.commit.new.self.guardian ≡ next_number c.self.inside.shown.guardian + 1 =
+    ap next_number c.in_ok-reply.ensures.ok.0 ∙ omega arith in
+    (inv.0, omega (arith, made, inv.1, c.counted-at.ensures.total), returns-clause-board g c)

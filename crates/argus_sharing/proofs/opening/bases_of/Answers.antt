@@ -1,0 +1,19 @@
+use Rattle.std.proofs.Common.{ap, arith, map, ◌≡◌, ◌∙◌}
+use Rattle.std.specs.List.{range_with_len}
+use Rattle.argus_journal.specs.Objects.{declared}
+use Rattle.argus_journal.specs.Words.{base_of}
+use Rattle.argus_sharing.proofs.Bases.{one_more}
+use Rattle.argus_sharing.proofs.opening.bases_of.Goals as goal
+
+pub loop-number-preserved : goal.loop-number-preserved
+loop-number-preserved c =
+    let said = c.args.guardian.now in
+    one_more (base_of said.opening said.entries) c.loop-number.bases.items c.push.new.self.items c.in_ok-base.base
+    c.loop-number.number c.loop-number.invariant c.in_ok-base.ensures c.in_ok-push.ensures.items
+
+pub returns : goal.returns
+returns c =
+    let said = c.args.guardian.now in
+    let all : c.loop-number.number ≡ declared said.opening said.entries =
+    omega (arith, c.loop-number-test.false, c.loop-number.auto.number-end, c.objects-number-end.ensures) in
+    c.loop-number.invariant ∙ ap (λ n. map (base_of said.opening said.entries) (range_with_len 0 n)) all

@@ -1,0 +1,42 @@
+-- How the effects on a board stand to a journal.
+use Rattle.std.specs.List.{range_with_len}
+use Rattle.std.specs.Prelude.{List, Option, map, ℕ, ◌++◌, ◌≡◌}
+use Rattle.argus_board.specs.Effects.{Effect}
+use Rattle.argus_contents.specs.Content.{PlainContent}
+use Rattle.argus_entries.specs.Call.{PlainCall, abort, abort_others, alter, ask, begin_nested}
+use Rattle.argus_entries.specs.Call.{begin_sub, begin_top, commit, declare, test_read, test_write}
+use Rattle.argus_journal.specs.Objects.{declared}
+use Rattle.argus_journal.specs.Opening.{content_in}
+use Rattle.argus_journal.specs.Words.{base_of, effects_of}
+use Rattle.argus_model.specs.Effects.{table}
+use Rattle.argus_steps.specs.Step.{Said}
+
+-- the effects of the journal's entries
+abbrev pub effects_told : Said → List Effect
+effects_told said = effects_of said.opening said.entries
+
+-- some effects, which leave the contents of the journal's opening, and then those of its entries
+abbrev pub Follows : (ℕ → Option PlainContent) → Said → List Effect → Type 0
+Follows opening said effects = (earlier : List Effect)
+    × ((o : ℕ) → table opening earlier o ≡ content_in said.opening.objects o)
+    × (effects ≡ earlier ++ effects_told said)
+
+-- the call is no commit
+abbrev pub IsNoCommit : PlainCall → Type 0
+IsNoCommit (commit a) = ⊥
+IsNoCommit (declare shape) = Unit {0}
+IsNoCommit begin_top = Unit {0}
+IsNoCommit (begin_sub parent) = Unit {0}
+IsNoCommit (begin_nested creator) = Unit {0}
+IsNoCommit (abort a) = Unit {0}
+IsNoCommit (abort_others a) = Unit {0}
+IsNoCommit (ask a o query) = Unit {0}
+IsNoCommit (alter a o change) = Unit {0}
+IsNoCommit (test_read a o) = Unit {0}
+IsNoCommit (test_write a o) = Unit {0}
+
+-- what is in the declared objects for good, in the order of their numbers
+abbrev pub bases_told : Said → List (Option PlainContent)
+bases_told said =
+    map (base_of said.opening said.entries)
+    (range_with_len 0 (declared said.opening said.entries))

@@ -1,0 +1,3 @@
+pub mod Locked
+pub mod Following
+pub mod Waking

@@ -1,0 +1,139 @@
+//! Calls under the lock.
+
+ghost use Rattle.std.specs.Prelude.{◌++◌, ◌+◌, ◌≡◌, IfOk, MatchOption, OnErr, OnOk};
+ghost use Rattle.argus_entries.specs.Call.{commit, plain_call};
+ghost use Rattle.argus_entries.specs.Reply.{plain_reply};
+ghost use Rattle.argus_journal.specs.Legal.{Legal};
+ghost use Rattle.argus_sharing.specs.Following.{Follows, IsNoCommit};
+ghost use Rattle.argus_sharing.specs.Locked.{next_number};
+ghost use Rattle.argus_steps.specs.Step.{after, reply_to};
+
+use crate::locked::Locked;
+use crate::seat::Seat;
+use crate::sharing::Sharing;
+use argus_actions::ActionId;
+use argus_entries::Call;
+use argus_guardian::Guardian;
+use argus_memory::OutOfMemory;
+use argus_receipts::Receipt;
+use std::sync::Wait;
+use std::sync::ledger::Book;
+
+impl<N: Sharing, R: Wait + Drop> Locked<N, R> {
+    /// Makes a call, as the seat's, and tries to publish what the commit of a topaction left. The
+    /// receipt has the number of the entry, the call that was handed in, and the reply that the
+    /// journal before it gives. A publish that finds no memory leaves the reply as it is and the
+    /// board behind. At `OutOfMemory` all is as before.
+    ///
+    /// It may wait for lookers that are inside.
+    pub fn call(&mut self, seat: &mut Seat<N>, call: Call) -> Result<Receipt, OutOfMemory>
+        ensures at { IfOk result (λ receipt. receipt.at ≡ next_number self.old.journal) }
+        ensures call { IfOk result (λ receipt. plain_call receipt.call ≡ plain_call call) }
+        ensures reply { IfOk result (λ receipt. plain_reply receipt.reply
+            ≡ reply_to self.old.journal (plain_call call)) }
+        ensures journal { OnOk result (self.new.journal
+            ≡ after self.old.journal (plain_call call)) }
+        ensures made { OnOk result (seat.new.made ≡ seat.old.made + 1) }
+        ensures err { OnErr result ((self.new ≡ self.old) × (seat.new.made ≡ seat.old.made)) }
+        ensures legal { Legal self.old.journal.opening self.old.journal.entries }
+        ensures board { Follows N.opening self.new.journal
+            (self.new.board.published ++ self.new.board.pending) }
+    {
+        match commit_of(&call) {
+            Some(a) => self.commit(seat, a),
+            None => self.call_in_one_go(seat, call),
+        }
+    }
+
+    /// A call that is no commit.
+    fn call_in_one_go(&mut self, seat: &mut Seat<N>, call: Call) -> Result<Receipt, OutOfMemory>
+        requires { IsNoCommit (plain_call call) }
+        ensures at { IfOk result (λ receipt. receipt.at ≡ next_number self.old.journal) }
+        ensures call { IfOk result (λ receipt. plain_call receipt.call ≡ plain_call call) }
+        ensures reply { IfOk result (λ receipt. plain_reply receipt.reply
+            ≡ reply_to self.old.journal (plain_call call)) }
+        ensures journal { OnOk result (self.new.journal
+            ≡ after self.old.journal (plain_call call)) }
+        ensures made { OnOk result (seat.new.made ≡ seat.old.made + 1) }
+        ensures err { OnErr result ((self.new ≡ self.old) × (seat.new.made ≡ seat.old.made)) }
+        ensures legal { Legal self.old.journal.opening self.old.journal.entries }
+        ensures board { Follows N.opening self.new.journal
+            (self.new.board.published ++ self.new.board.pending) }
+    {
+        let Locked {
+            heap,
+            shown,
+            book,
+            ..
+        } = self;
+        shown.guardian.journal_is_legal();
+        let copy = call.duplicate(*heap)?;
+        let reply = shown.guardian.call(call)?;
+        let at = counted(&shown.guardian, book, seat);
+        Ok(Receipt {
+            at,
+            call: copy,
+            reply,
+        })
+    }
+
+    /// A commit.
+    fn commit(&mut self, seat: &mut Seat<N>, a: ActionId) -> Result<Receipt, OutOfMemory>
+        ensures at { IfOk result (λ receipt. receipt.at ≡ next_number self.old.journal) }
+        ensures call { IfOk result (λ receipt. plain_call receipt.call ≡ commit a.0) }
+        ensures reply { IfOk result (λ receipt. plain_reply receipt.reply
+            ≡ reply_to self.old.journal (commit a.0)) }
+        ensures journal { OnOk result (self.new.journal ≡ after self.old.journal (commit a.0)) }
+        ensures made { OnOk result (seat.new.made ≡ seat.old.made + 1) }
+        ensures err { OnErr result ((self.new ≡ self.old) × (seat.new.made ≡ seat.old.made)) }
+        ensures legal { Legal self.old.journal.opening self.old.journal.entries }
+        ensures board { Follows N.opening self.new.journal
+            (self.new.board.published ++ self.new.board.pending) }
+    {
+        let Locked { shown, book, .. } = self;
+        shown.guardian.journal_is_legal();
+        let reply = shown.commit(a)?;
+        let at = counted(&shown.guardian, book, seat);
+        // Where it finds no memory, the effect stays pending.
+        let _shown = shown.board.publish();
+        Ok(Receipt {
+            at,
+            call: Call::Commit(a),
+            reply,
+        })
+    }
+}
+
+/// Counts the call that the guardian has just made, as the seat's; the number of its entry.
+fn counted<N: Sharing>(guardian: &Guardian, book: &mut Book<N>, seat: &mut Seat<N>) -> u64
+    requires { next_number guardian.now ≡ N.start + book.old.total + 1 }
+    ensures at { result + 1 ≡ next_number guardian.now }
+    ensures total { book.new.total ≡ book.old.total + 1 }
+    ensures made { seat.new.made ≡ seat.old.made + 1 }
+{
+    let at = guardian.journal().journal().len() - 1;
+    book.audit(&mut seat.share);
+    book.add(&mut seat.share, 1);
+    seat.made += 1;
+    at
+}
+
+/// The action that the call commits, if it is a commit.
+fn commit_of(call: &Call) -> Option<ActionId>
+    ensures { MatchOption result (IsNoCommit (plain_call call.now))
+        (λ a. plain_call call.now ≡ commit a.0) }
+{
+    match call {
+        Call::Commit(a) => Some(*a),
+        Call::Declare(_)
+        | Call::BeginTop
+        | Call::BeginSub(_)
+        | Call::BeginNested(_)
+        | Call::Abort(_)
+        | Call::AbortOthers(_)
+        | Call::Ask(_, _, _)
+        | Call::Alter(_, _, _)
+        | Call::TestRead(_, _)
+        | Call::TestWrite(_, _) => None,
+    }
+}

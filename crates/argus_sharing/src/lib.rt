@@ -1,0 +1,28 @@
+//! A guardian that threads share: calls under one lock, receipts, and readers outside the lock.
+#![tactic(auto)]
+
+mod calling;
+mod checking;
+mod locked;
+mod looking;
+mod not_shared;
+mod opening;
+mod parts;
+mod seat;
+mod shared;
+mod sharing;
+mod shown_guardian;
+mod unsettled;
+
+pub use argus_receipts::{Receipt, SettleFault};
+pub use not_shared::NotShared;
+pub use parts::Parts;
+pub use seat::Seat;
+pub use shared::Shared;
+pub use sharing::Sharing;
+pub use unsettled::Unsettled;
+
+/// The value behind the lock, with the clauses of each call.
+pub mod laws {
+    pub use crate::locked::Locked;
+}

@@ -1,0 +1,105 @@
+//! `Locked`: the value behind the lock of a shared guardian.
+
+ghost use Rattle.std.specs.Prelude.{◌++◌, ◌≡◌};
+ghost use Rattle.argus_journal.specs.LegalJournal.{entries_in, opening_in};
+ghost use Rattle.argus_journal.specs.Legal.{Legal};
+ghost use Rattle.argus_sharing.specs.Following.{Follows};
+ghost use Rattle.argus_sharing.specs.Locked.{next_number};
+
+use crate::sharing::Sharing;
+use crate::shown_guardian::ShownGuardian;
+use argus_board::BoardWriter;
+use argus_guardian::Guardian;
+use argus_journal::LegalJournal;
+use argus_memory::Heap;
+use std::marker::Model;
+use std::sync::Wait;
+use std::sync::ledger::Book;
+
+/// The value behind the lock: the guardian, the ledger's book of its seats' calls, and the board's
+/// writer. Contracts see the guardian's journal and the board's effects.
+///
+/// `Shared` takes the lock and makes the call of the same name here; the clauses stand here, since
+/// a function that takes a lock can't say what it did to the value.
+///
+/// ```text
+/// let receipt = locked.call(&mut seat, Call::BeginTop)?;
+/// assert!(rt; locked.refresh());
+/// ```
+#[derive(Drop)]
+pub struct Locked<N: Sharing, R: Wait + Drop> {
+    pub(crate) heap: Heap,
+    pub(crate) shown: ShownGuardian<N, R>,
+    pub(crate) book: Book<N>,
+    pub(crate) start: u64,
+}
+
+impl<N: Sharing, R: Wait + Drop> Model for Locked<N, R> {
+    ghost use Rattle.std.specs.Prelude.{◌+◌, ◌++◌, ◌≡◌};
+    ghost use Rattle.argus_sharing.specs.Following.{Follows};
+    ghost use Rattle.argus_sharing.specs.Locked.{State, next_number, state_coded};
+
+    ghost Value = { State };
+
+    ghost coded = { state_coded };
+
+    ghost view = { λ s. record { journal = s.shown.guardian; board = s.shown.board } };
+
+    ghost invariant = { λ s. (s.start ≡ N.start)
+        × (next_number s.shown.guardian ≡ N.start + s.book.total)
+        × Follows N.opening s.shown.guardian
+        (s.shown.board.published ++ s.shown.board.pending) };
+}
+
+impl<N: Sharing, R: Wait + Drop> Locked<N, R> {
+    /// A guardian with a board that has been opened for it, before the first call.
+    pub(crate) fn over(
+        heap: Heap,
+        guardian: Guardian,
+        book: Book<N>,
+        board: BoardWriter<N, R>,
+    ) -> Locked<N, R>
+        requires book { book.total ≡ 0 }
+        requires start { next_number guardian ≡ N.start }
+        requires follows { Follows N.opening guardian (board.published ++ board.pending) }
+        ensures journal { result.journal ≡ guardian }
+        ensures board { result.board ≡ board }
+    {
+        let start = guardian.journal().journal().len();
+        Locked {
+            heap,
+            shown: ShownGuardian { guardian, board },
+            book,
+            start,
+        }
+    }
+
+    /// Ends the board, and gives the guardian back.
+    pub(crate) fn ended(self) -> Guardian
+        ensures { result ≡ self.journal }
+    {
+        let Locked {
+            heap: _,
+            shown,
+            book: _,
+            start: _,
+        } = self;
+        let ShownGuardian { guardian, board } = shown;
+        board.end();
+        guardian
+    }
+
+    /// The guardian's journal. It is legal, and the board's effects follow it: what is published
+    /// and then what is pending is some list that leaves the contents of the journal's opening, and
+    /// then the effects of its entries.
+    pub fn journal(&self) -> &LegalJournal
+        ensures opening { opening_in result.now ≡ self.now.journal.opening }
+        ensures entries { entries_in result.now ≡ self.now.journal.entries }
+        ensures legal { Legal self.now.journal.opening self.now.journal.entries }
+        ensures board { Follows N.opening self.now.journal
+            (self.now.board.published ++ self.now.board.pending) }
+    {
+        self.shown.guardian.journal_is_legal();
+        self.shown.guardian.journal()
+    }
+}

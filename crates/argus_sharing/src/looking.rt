@@ -1,0 +1,79 @@
+//! What lookers get under the lock.
+
+ghost use Rattle.std.specs.Prelude.{◌++◌, ◌<◌, ◌≡◌, ◌≢◌, ◌↔◌, [], OnErr, OnOk, Some, false, true};
+ghost use mathlib.Core.List.{IsPrefix};
+ghost use Rattle.std.specs.Result.{result_err};
+ghost use Rattle.argus_guardian.specs.Checkpoint.{after_checkpoint, is_quiet};
+ghost use Rattle.argus_guardian.specs.declared.checkpoint_error.CheckpointError.TheVariants.{Busy};
+ghost use Rattle.argus_guardian.specs.declared.checkpoint_error.CheckpointError.TheVariants.{Full};
+ghost use Rattle.argus_journal.specs.Legal.{Legal};
+ghost use Rattle.argus_journal.specs.declared.limits.TheConstants.{MAX_FIRST_ENTRY};
+ghost use Rattle.argus_sharing.specs.Following.{Follows};
+ghost use Rattle.argus_sharing.specs.Locked.{next_number};
+
+use crate::locked::Locked;
+use crate::sharing::Sharing;
+use argus_board::Looker;
+use argus_entries::{Call, Refusal};
+use argus_guardian::CheckpointError;
+use std::sync::Wait;
+
+impl<N: Sharing, R: Wait + Drop> Locked<N, R> {
+    /// Publishes what is pending, and lets the looker see all of it. What the looker saw before is
+    /// a beginning of that, whatever is answered. False: a publish found no memory, and all is as
+    /// before.
+    ///
+    /// It may wait for lookers that are inside. The looker came with the same sharing.
+    pub fn brief(&mut self, looker: &mut Looker<N>) -> bool
+        ensures journal { self.new.journal ≡ self.old.journal }
+        ensures board { Follows N.opening self.new.journal
+            (self.new.board.published ++ self.new.board.pending) }
+        ensures legal { Legal self.new.journal.opening self.new.journal.entries }
+        ensures former { IsPrefix looker.old
+            (self.new.board.published ++ self.new.board.pending) }
+        ensures all { result ≡ true → (looker.new ≡ self.new.board.published)
+            × (self.new.board.pending ≡ []) }
+        ensures rest { result ≡ false → (self.new ≡ self.old) × (looker.new ≡ looker.old)
+            × (self.old.board.pending ≢ []) }
+    {
+        let Locked { shown, .. } = self;
+        shown.guardian.journal_is_legal();
+        shown.board.brief(looker).is_ok()
+    }
+
+    /// Publishes what is pending. False: a publish found no memory, and all is as before.
+    ///
+    /// It may wait for lookers that are inside.
+    pub fn refresh(&mut self) -> bool
+        ensures journal { self.new.journal ≡ self.old.journal }
+        ensures board { Follows N.opening self.new.journal
+            (self.new.board.published ++ self.new.board.pending) }
+        ensures all { result ≡ true → self.new.board.pending ≡ [] }
+        ensures rest { result ≡ false → (self.new ≡ self.old) × (self.old.board.pending ≢ []) }
+    {
+        let Locked { shown, .. } = self;
+        shown.board.publish().is_ok()
+    }
+
+    /// Folds the journal's past into its opening, as `Guardian::checkpoint` does: nothing is lost
+    /// from view, since the board stays as it is.
+    pub fn checkpoint(&mut self) -> Result<(), CheckpointError>
+        ensures ok { OnOk result (self.new.journal ≡ after_checkpoint self.old.journal) }
+        ensures busy { (result_err result ≡ Some Busy) ↔ (is_quiet self.old.journal ≡ false) }
+        ensures full { (result_err result ≡ Some Full) ↔ ((is_quiet self.old.journal ≡ true)
+            × (MAX_FIRST_ENTRY < next_number self.old.journal)) }
+        ensures err { OnErr result (self.new ≡ self.old) }
+        ensures stays { self.new.board ≡ self.old.board }
+        ensures board { Follows N.opening self.new.journal
+            (self.new.board.published ++ self.new.board.pending) }
+    {
+        let Locked { shown, .. } = self;
+        shown.guardian.journal_is_legal();
+        shown.guardian.checkpoint()
+    }
+
+    /// Whether the call would be refused `Conflict` now.
+    pub(crate) fn would_conflict(&self, call: &Call) -> bool {
+        self.shown.guardian.access_refusal(call) == Some(Refusal::Conflict)
+    }
+}

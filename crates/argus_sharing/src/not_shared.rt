@@ -1,0 +1,15 @@
+//! `NotShared`: a guardian that couldn't be shared.
+
+use argus_guardian::Guardian;
+
+/// There was no memory to share the guardian, which is as it was.
+///
+/// ```text
+/// if let Err(NotShared { guardian }) = Shared::new(rt, heap, guardian, 2, 1, blank, keeper) {
+///     ..                                          // it goes on as a guardian of one thread
+/// }
+/// ```
+#[derive(Drop)]
+pub struct NotShared {
+    pub guardian: Guardian,
+}

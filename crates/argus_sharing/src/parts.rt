@@ -1,0 +1,21 @@
+//! `Parts`: what sharing a guardian gives.
+
+use crate::seat::Seat;
+use crate::shared::Shared;
+use crate::sharing::Sharing;
+use argus_board::Looker;
+use argus_memory::Heap;
+use std::sync::Wait;
+
+/// What sharing a guardian gives: the shared guardian, and its seats and lookers.
+///
+/// ```text
+/// let parts = Shared::new(rt, heap, guardian, 2, 1, blank, keeper)?;
+/// let Parts { shared, mut seats, mut lookers } = parts;
+/// ```
+#[derive(Drop)]
+pub struct Parts<N: Sharing, R: Wait + Drop> {
+    pub shared: Shared<N, R>,
+    pub seats: Vec<Seat<N>, Heap>,
+    pub lookers: Vec<Looker<N>, Heap>,
+}

@@ -1,0 +1,235 @@
+//! `Shared`: a guardian that threads share.
+
+ghost use Rattle.std.specs.Prelude.{◌+◌, ◌<◌, ◌≡◌, All, IfErr, IfOk, OnErr, OnOk, false, length};
+ghost use Rattle.std.specs.Prelude.{map, sum_by, true};
+ghost use mathlib.Core.List.{IsPrefix};
+ghost use Rattle.argus_board.specs.Keeper.{Opens};
+ghost use Rattle.argus_entries.specs.Call.{plain_call};
+ghost use Rattle.argus_entries.specs.Reply.{plain_reply};
+ghost use Rattle.argus_journal.specs.Legal.{Legal};
+ghost use Rattle.argus_journal.specs.Opening.{content_in};
+ghost use Rattle.argus_receipts.specs.Checking.{AreApart, Stands, entries_since};
+ghost use Rattle.argus_receipts.specs.Receipt.{plain_receipt};
+ghost use Rattle.argus_sharing.specs.Following.{Follows, bases_told, effects_told};
+ghost use Rattle.argus_sharing.specs.Locked.{next_number};
+ghost use Rattle.argus_sharing.specs.Waking.{has_ended};
+ghost use Rattle.argus_steps.specs.Step.{Said, reply_to};
+
+use crate::locked::Locked;
+use crate::not_shared::NotShared;
+use crate::opening::{board_of, lookers_at, seats_over};
+use crate::parts::Parts;
+use crate::seat::Seat;
+use crate::sharing::Sharing;
+use crate::unsettled::Unsettled;
+use argus_board::{Keeper, Looker};
+use argus_entries::{Call, Reply};
+use argus_guardian::{CheckpointError, Guardian};
+use argus_memory::{Heap, OutOfMemory};
+use argus_receipts::Receipt;
+use std::sync::ledger::Blank;
+use std::sync::{Condvar, Mutex, Wait};
+
+/// A guardian under one lock, for threads with seats, and a board for lookers, who take no lock.
+///
+/// Each call takes the lock and makes the call of the same name of `laws::Locked`, where the
+/// clauses stand that speak of the locked value.
+///
+/// ```text
+/// let parts = Shared::new(rt, heap, guardian, 2, 1, blank, keeper)?;
+/// let Parts { shared, mut seats, mut lookers } = parts;
+/// let receipt = shared.call(&rt, &mut seats[0], Call::BeginTop)?;
+/// ```
+#[derive(Drop)]
+pub struct Shared<N: Sharing, R: Wait + Drop> {
+    pub(crate) locked: Mutex<Locked<N, R>>,
+    pub(crate) freed: Condvar,
+}
+
+impl<N: Sharing, R: Wait + Drop> Shared<N, R> {
+    /// Shares the guardian among so many seats, with places for so many lookers. Each seat has made
+    /// no call, and each looker has seen the effects of the journal so far. `NotShared`: there was
+    /// no memory, and the guardian is as it was.
+    pub fn new(
+        rt: R,
+        heap: Heap,
+        guardian: Guardian,
+        seats: u32,
+        lookers: u32,
+        blank: Blank,
+        keeper: Keeper,
+    ) -> Result<Parts<N, R>, NotShared>
+        requires lookers { lookers < 4294967295 }
+        requires name { blank.name ≡ N.name }
+        requires parts { (blank.parts ≡ N.parts) × (blank.parts ≡ seats) }
+        requires keeper { Opens N.history N.root keeper }
+        requires start { N.start ≡ next_number guardian }
+        requires before { N.before ≡ effects_told guardian }
+        requires opening { N.opening ≡ content_in guardian.opening.objects }
+        requires first { N.first ≡ bases_told guardian }
+        ensures seats { IfOk result (λ p. All (λ seat. seat.made ≡ 0) p.seats.items
+            × (length p.seats.items ≡ seats)) }
+        ensures lookers { IfOk result (λ p. All (λ looker. looker ≡ effects_told guardian)
+            p.lookers.items × (length p.lookers.items ≡ lookers)) }
+        ensures back { IfErr result (λ e. e.guardian ≡ guardian) }
+    {
+        let (book, share) = blank.open::<N>();
+        let Ok(seats) = seats_over(heap, share, seats) else {
+            return Err(NotShared { guardian });
+        };
+        let Ok(board) = board_of::<N, R>(rt, heap, &guardian, keeper, lookers) else {
+            return Err(NotShared { guardian });
+        };
+        let Ok(lookers) = lookers_at(heap, &board, lookers) else {
+            return Err(NotShared { guardian });
+        };
+        Ok(Parts {
+            shared: Shared {
+                locked: Mutex::new(Locked::over(heap, guardian, book, board)),
+                freed: Condvar::new(),
+            },
+            seats,
+            lookers,
+        })
+    }
+
+    /// Makes a call, as the seat's. The receipt has the number of its entry in the journal, the
+    /// call that was handed in, and the reply that the journal before it gives. At `OutOfMemory`
+    /// nothing was journalled, and the call is spent.
+    ///
+    /// It may wait for other threads. The seat came with the same sharing.
+    pub fn call(
+        &self,
+        rt: &impl Wait,
+        seat: &mut Seat<N>,
+        call: Call,
+    ) -> Result<Receipt, OutOfMemory>
+        ensures call { IfOk result (λ receipt. plain_call receipt.call ≡ plain_call call) }
+        ensures reply { IfOk result (λ receipt. (said : Said) × Legal said.opening said.entries
+            × (receipt.at ≡ next_number said)
+            × (plain_reply receipt.reply ≡ reply_to said (plain_call call))) }
+        ensures made { OnOk result (seat.new.made ≡ seat.old.made + 1) }
+        ensures err { OnErr result (seat.new.made ≡ seat.old.made) }
+    {
+        let receipt = self.locked.lock(rt).call(seat, call);
+        if frees(&receipt) {
+            self.freed.notify_all();
+        }
+        receipt
+    }
+
+    /// Makes a call, as the seat's, once it wouldn't be refused `Conflict`, or after so many
+    /// wake-ups: all that wait are woken after each end of actions that was done, and a wake-up
+    /// without cause counts too. Then it is `call`.
+    pub fn call_waiting(
+        &self,
+        rt: &impl Wait,
+        seat: &mut Seat<N>,
+        call: Call,
+        patience: u32,
+    ) -> Result<Receipt, OutOfMemory>
+        ensures call { IfOk result (λ receipt. plain_call receipt.call ≡ plain_call call) }
+        ensures reply { IfOk result (λ receipt. (said : Said) × Legal said.opening said.entries
+            × (receipt.at ≡ next_number said)
+            × (plain_reply receipt.reply ≡ reply_to said (plain_call call))) }
+        ensures made { OnOk result (seat.new.made ≡ seat.old.made + 1) }
+        ensures err { OnErr result (seat.new.made ≡ seat.old.made) }
+    {
+        let mut guard = self.locked.lock(rt);
+        for _wake_up in 0..patience {
+            if !guard.would_conflict(&call) {
+                break;
+            }
+            guard = self.freed.wait(rt, guard);
+        }
+        let receipt = guard.call(seat, call);
+        drop(guard);
+        if frees(&receipt) {
+            self.freed.notify_all();
+        }
+        receipt
+    }
+
+    /// Publishes what is pending, and lets the looker see all that is committed. False: there was
+    /// no memory, and the board is behind.
+    ///
+    /// It may wait for other threads. The looker came with the same sharing.
+    pub fn brief(&self, rt: &impl Wait, looker: &mut Looker<N>) -> bool
+        ensures later { IsPrefix looker.old looker.new }
+        ensures all { result ≡ true → (said : Said) × Legal said.opening said.entries
+            × Follows N.opening said looker.new }
+        ensures rest { result ≡ false → looker.new ≡ looker.old }
+    {
+        self.locked.lock(rt).brief(looker)
+    }
+
+    /// Publishes what is pending. False: there was no memory, and the board is behind.
+    pub fn refresh(&self, rt: &impl Wait) -> bool {
+        self.locked.lock(rt).refresh()
+    }
+
+    /// Folds the journal's past into its opening, as `Guardian::checkpoint` does. Lookers, board
+    /// and seats stay as they are. It may wait for other threads.
+    pub fn checkpoint(&self, rt: &impl Wait) -> Result<(), CheckpointError> {
+        self.locked.lock(rt).checkpoint()
+    }
+
+    /// Gives the guardian back and ends the board, if these receipts and seats tell the journal:
+    /// each receipt's call and reply are those of the entry at its number, no number comes twice,
+    /// and the seats made as many calls as entries came since the sharing began. Any part of the
+    /// receipts may be handed in. `Unsettled` hands all back.
+    ///
+    /// It may wait for lookers that are inside.
+    ///
+    /// ```text
+    /// let guardian = shared.settle(seats, receipts.as_slice())?;
+    /// ```
+    pub fn settle(
+        self,
+        seats: Vec<Seat<N>, Heap>,
+        receipts: &[Receipt],
+    ) -> Result<Guardian, Unsettled<N, R>>
+        ensures stand { IfOk result (λ guardian. All (Stands guardian.opening guardian.entries)
+            (map plain_receipt receipts.now)) }
+        ensures apart { OnOk result (AreApart (map plain_receipt receipts.now)) }
+        ensures count { IfOk result (λ guardian. entries_since N.start guardian.opening
+            guardian.entries ≡ sum_by (λ seat. seat.made) seats.items) }
+        ensures back { IfErr result (λ unsettled. unsettled.seats ≡ seats) }
+    {
+        let Shared { locked, freed } = self;
+        let locked = locked.into_inner();
+        match locked.check(seats.as_slice(), receipts) {
+            Ok(()) => Ok(locked.ended()),
+            Err(fault) => Err(Unsettled {
+                fault,
+                shared: Shared {
+                    locked: Mutex::new(locked),
+                    freed,
+                },
+                seats,
+            }),
+        }
+    }
+}
+
+/// Whether the call ended actions, so that others need wait no longer.
+fn frees(receipt: &Result<Receipt, OutOfMemory>) -> bool
+    ensures { result ≡ has_ended receipt.now }
+{
+    match receipt {
+        Ok(receipt) => match receipt.call {
+            Call::Commit(_) | Call::Abort(_) | Call::AbortOthers(_) => {
+                matches!(receipt.reply, Reply::Answered(_))
+            }
+            Call::Declare(_)
+            | Call::BeginTop
+            | Call::BeginSub(_)
+            | Call::BeginNested(_)
+            | Call::Ask(_, _, _)
+            | Call::Alter(_, _, _)
+            | Call::TestRead(_, _)
+            | Call::TestWrite(_, _) => false,
+        },
+        Err(OutOfMemory) => false,
+    }
+}

@@ -1,0 +1,22 @@
+//! `Unsettled`: a shared guardian that wasn't settled.
+
+use crate::seat::Seat;
+use crate::shared::Shared;
+use crate::sharing::Sharing;
+use argus_memory::Heap;
+use argus_receipts::SettleFault;
+use std::sync::Wait;
+
+/// Why a shared guardian wasn't settled, with all that was handed in, unchanged.
+///
+/// ```text
+/// if let Err(Unsettled { fault, shared, seats }) = shared.settle(seats, receipts.as_slice()) {
+///     ..                                          // it is still shared
+/// }
+/// ```
+#[derive(Drop)]
+pub struct Unsettled<N: Sharing, R: Wait + Drop> {
+    pub fault: SettleFault,
+    pub shared: Shared<N, R>,
+    pub seats: Vec<Seat<N>, Heap>,
+}
