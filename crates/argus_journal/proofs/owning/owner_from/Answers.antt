@@ -1,25 +1,24 @@
 -- What is known of the owner, or of one that shares its fate, is the owner after all entries.
 use Rattle.std.proofs.Common.{arith, sym, ◌+◌, ◌∙◌, ◌≡◌}
 use Rattle.std.proofs.lemmas.Grind.{common_steps}
-use Rattle.argus_journal.specs.Journal.{first_of, opening_of}
+use Rattle.argus_journal.specs.Journal.{entries_of, first_of, opening_of}
 use Rattle.argus_journal.specs.Told.{told_owner}
 use Rattle.argus_journal.proofs.Owners.{heir_fate, last_told}
 use Rattle.argus_journal.proofs.owning.owner_from.Goals as goal
 
-pub returns-in-Some-clause-owner : goal.returns-in-Some-clause-owner
-returns-in-Some-clause-owner c =
+last : (c : goal.In-Some)
+    → c.in-Some.last ≡ told_owner c.args.journal.now.first_action (entries_of c.args.journal.now) c.args.a.0
+last c =
     let journal = c.args.journal.now in
     let so = c.loop-i.invariant in
     last_told (opening_of journal) journal.entries.items c.requires.legal c.loop-i.i c.args.a.0 c.loop-i.known
     c.loop-i.owner c.in-Some.last so.known so.so_far (sym c.in-Some.ensures)
 
+pub returns-in-Some-clause-owner : goal.returns-in-Some-clause-owner
+returns-in-Some-clause-owner c = last c
+
 pub returns-in-Some-clause-known : goal.returns-in-Some-clause-known
-returns-in-Some-clause-known c =
-    let journal = c.args.journal.now in
-    let so = c.loop-i.invariant in
-    last_told (opening_of journal) journal.entries.items c.requires.legal c.loop-i.i c.args.a.0 c.loop-i.known
-    c.loop-i.owner c.in-Some.last so.known so.so_far (sym c.in-Some.ensures)
-    ∙ so.shared
+returns-in-Some-clause-known c = last c ∙ c.loop-i.invariant.shared
 
 pub loop-i-preserved : goal.loop-i-preserved
 loop-i-preserved c =
