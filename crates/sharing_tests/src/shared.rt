@@ -45,8 +45,9 @@ fn share<N: Sharing, R: Wait + Abort + Copy + Drop>(
         shared,
         mut seats,
         mut lookers,
-    } = Shared::<N, R>::new(rt, heap, guardian, 1, 1, blank, keeper)
-        .map_err(|_| Fail::from("memory"))?;
+    } = Shared::<N, R>::new(rt, heap, guardian, 1, 1, blank, keeper).map_err(|_| Fail::from(
+        "memory",
+    ))?;
     let mut seat = seats.pop().ok_or("a seat")?;
     let mut looker = lookers.pop().ok_or("a looker")?;
     let receipts = make_calls(rt, heap, &shared, &mut seat)?;
@@ -56,7 +57,14 @@ fn share<N: Sharing, R: Wait + Abort + Copy + Drop>(
     assert!(rt; shared.refresh(&rt));
     assert_look(rt, heap, &mut looker)?;
     seats.push(seat).map_err(|_| OutOfMemory)?;
-    let Err(Unsettled { fault, shared, seats }) = shared.settle(seats, receipts.as_slice()) else {
+    let Err(
+        Unsettled {
+            fault,
+            shared,
+            seats,
+        },
+    ) = shared.settle(seats, receipts.as_slice())
+    else {
         return Err(Fail::from("receipts of folded entries"));
     };
     assert_eq!(rt; fault, SettleFault::Folded(0));
@@ -80,8 +88,12 @@ fn make_calls<N: Sharing, R: Wait + Abort + Copy + Drop>(
     calls.push(declaration(heap)?).map_err(|_| OutOfMemory)?;
     calls.push(declaration(heap)?).map_err(|_| OutOfMemory)?;
     calls.push(Call::BeginTop).map_err(|_| OutOfMemory)?;
-    calls.push(creation(heap, 0, 0, 7)?).map_err(|_| OutOfMemory)?;
-    calls.push(creation(heap, 0, 1, 8)?).map_err(|_| OutOfMemory)?;
+    calls
+        .push(creation(heap, 0, 0, 7)?)
+        .map_err(|_| OutOfMemory)?;
+    calls
+        .push(creation(heap, 0, 1, 8)?)
+        .map_err(|_| OutOfMemory)?;
     for call in calls {
         let receipt = shared.call(&rt, seat, call)?;
         receipts.push(receipt).map_err(|_| OutOfMemory)?;
