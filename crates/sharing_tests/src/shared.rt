@@ -15,6 +15,7 @@ use argus_guardian::{CheckpointError, Guardian};
 use argus_memory::{Heap, OutOfMemory};
 use argus_sharing::{Parts, Receipt, Seat, SettleFault, Shared, Sharing, Unsettled};
 use std::marker::Brand;
+use std::process::Abort;
 use std::sync::Wait;
 use std::sync::ledger::Blank;
 use std::test::Fail;
@@ -25,7 +26,7 @@ fn a_guardian_is_shared(rt: HostRuntime) -> Result<(), Fail> {
     share::<Brand, _>(rt, heap, Guardian::new(heap), Blank::new(1), Keeper::new())
 }
 
-fn share<N: Sharing, R: Wait + Copy + Drop>(
+fn share<N: Sharing, R: Wait + Abort + Copy + Drop>(
     rt: R,
     heap: Heap,
     guardian: Guardian,
@@ -76,7 +77,7 @@ fn share<N: Sharing, R: Wait + Copy + Drop>(
 }
 
 // Two objects are declared, and a topaction puts a number into each.
-fn make_calls<N: Sharing, R: Wait + Copy + Drop>(
+fn make_calls<N: Sharing, R: Wait + Abort + Copy + Drop>(
     rt: R,
     heap: Heap,
     shared: &Shared<N, R>,
@@ -105,7 +106,11 @@ fn make_calls<N: Sharing, R: Wait + Copy + Drop>(
     Ok(receipts)
 }
 
-fn assert_look<N: Sharing>(rt: impl Wait, heap: Heap, looker: &mut Looker<N>) -> Result<(), Fail> {
+fn assert_look<N: Sharing, R: Wait + Abort + Drop>(
+    rt: R,
+    heap: Heap,
+    looker: &mut Looker<N>,
+) -> Result<(), Fail> {
     let found = looker
         .look(heap, &[ObjId(0), ObjId(1), ObjId(7)])
         .map_err(|_| Fail::from("a look"))?;
