@@ -4,13 +4,13 @@ ghost use Rattle.std.specs.Prelude.{◌≡◌, false};
 ghost use Rattle.argus_streams.specs.Watched.{has_failed};
 
 use crate::failing::Failing;
-use crate::full::Full;
 use crate::row::Row;
 use anyhow::{Result, ensure};
 use argus_cli::{CliFault, Options, run};
 use argus_memory::{Budget, Heap};
 use argus_streams::Watched;
 use std::alloc::Global;
+use test_rows::Full;
 
 // More allocations, and more reads, than any run here makes.
 const MANY: u64 = 5_000;

@@ -1,7 +1,5 @@
 //! `Tester`: runs the tests of texts, and keeps count.
 
-use crate::counting::{Counted, counted_of};
-use crate::reading::first_word;
 use crate::subject::Subject;
 use crate::tight_subject::TightSubject;
 use crate::trial::Trial;
@@ -10,6 +8,7 @@ use argus_memory::{Budget, Heap, Limited, OutOfMemory};
 use std::alloc::{AllocError, Global};
 use std::collections::BTreeSet;
 use std::io::Print;
+use test_rows::{Counted, counted_of, first_word};
 
 /// Runs the tests of texts, and keeps count.
 ///

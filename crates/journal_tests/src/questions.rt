@@ -1,9 +1,9 @@
 //! What a legal journal is asked.
 
-use argus_actions::ActionId;
+use crate::kept::owner_in;
 use argus_contents::{Content, Shape};
 use argus_entries::write_entry;
-use argus_journal::{LegalJournal, Owner, owner_of, replay_base, replay_for};
+use argus_journal::{LegalJournal, Owner, replay_base, replay_for};
 use argus_memory::{Heap, OutOfMemory};
 use argus_texts::write_shape;
 use test_rows::{
@@ -25,7 +25,7 @@ pub(crate) fn answer_question(
         "first_action" => tell_number(u64::from(journal.journal().first_action()), &mut out)?,
         "entry" => tell_entry(journal, rest.parse::<u64>()?, &mut out)?,
         "opening" => tell_opened(journal.journal().opening(object(rest)?), &mut out)?,
-        "owner" => tell_owner(owner_of(journal.journal(), action(rest)?), &mut out)?,
+        "owner" => tell_owner(owner_in(journal, action(rest)?), &mut out)?,
         _ => return answer_replay(setting, journal, word, rest),
     }
     Ok(out)
@@ -81,6 +81,6 @@ fn tell_owner(owner: Option<Owner>, out: &mut String<Heap>) -> Result<(), OutOfM
         Some(Owner::Folded) => tell_word("folded", out),
         Some(Owner::Gone) => tell_word("gone", out),
         Some(Owner::Base) => tell_word("base", out),
-        Some(Owner::Held(ActionId(holder))) => tell_action(ActionId(holder), out),
+        Some(Owner::Held(holder)) => tell_action(holder, out),
     }
 }

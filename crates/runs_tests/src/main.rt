@@ -5,7 +5,6 @@
 ghost use Rattle.std.specs.Prelude.{◌≡◌, false};
 ghost use Rattle.argus_streams.specs.Watched.{has_failed};
 
-mod full;
 mod row;
 
 use anyhow::{Result, ensure};
@@ -14,10 +13,10 @@ use argus_guardian::Guardian;
 use argus_memory::{Budget, Heap, Limited};
 use argus_runs::{RunFault, run_serial};
 use argus_streams::Watched;
-use full::Full;
 use row::Row;
 use std::fs;
 use std::io::Write;
+use test_rows::Full;
 
 // More allocations than any run here makes.
 const MANY: u64 = 2_000;

@@ -17,12 +17,12 @@ pub struct Counted<'a> {
 
 /// The rows that the line stands for; None where it doesn't count.
 pub fn counted_of<'a>(line: &'a str) -> Option<Counted<'a>> {
-    let (range, row) = line.strip_prefix("from ")?.split_once(": ")?;
+    let (range, row) = line.strip_prefix("from ")?.split_once(':')?;
     let (first, last) = range.split_once(" to ")?;
     Some(Counted {
         first: first.parse::<u32>().ok()?,
         last: last.parse::<u32>().ok()?,
-        row,
+        row: row.strip_prefix(' ').unwrap_or(row),
     })
 }
 
@@ -30,6 +30,15 @@ impl Counted<'_> {
     /// How many rows there are, but one.
     pub fn steps(&self) -> u32 {
         self.first.abs_diff(self.last)
+    }
+
+    /// The row, where the number doesn't stand in it.
+    pub fn same_row(&self) -> Option<&str> {
+        if self.row.contains('%') || self.row.contains('^') {
+            None
+        } else {
+            Some(self.row)
+        }
     }
 
     /// The row so many steps after the first one: `%` stands for the number that is counted, up or

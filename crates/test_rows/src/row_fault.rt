@@ -18,6 +18,8 @@ pub enum RowFault {
     OutOfMemory,
     /// After a refused allocation something wasn't as before.
     Changed,
+    /// An allocation was refused, and the answer wasn't that memory is out.
+    Hidden,
     /// However many allocations were allowed, one was refused.
     NeverAnswered,
 }
@@ -29,6 +31,7 @@ impl RowFault {
             RowFault::NotSpelled => "it is no row",
             RowFault::OutOfMemory => "out of memory",
             RowFault::Changed => "a refused allocation has changed something",
+            RowFault::Hidden => "a refused allocation is answered otherwise",
             RowFault::NeverAnswered => "out of memory, whatever is allowed",
         }
     }
