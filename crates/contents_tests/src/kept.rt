@@ -1,7 +1,7 @@
 //! Contents that keep the limits of arrays, as operations want them.
 
-ghost use Rattle.std.specs.Prelude.{IfOk};
-ghost use Rattle.argus_contents.specs.Content.{KeepsLimits, plain_option};
+ghost use Rattle.std.specs.Prelude.{◌≡◌, ◌↔◌, IfOk, true};
+ghost use Rattle.argus_contents.specs.Content.{KeepsBounds, KeepsLimits, plain_option};
 
 use argus_contents::limits::{MAX_BOUND, MAX_ITEMS, MIN_BOUND};
 use argus_contents::{Content, Value};
@@ -33,11 +33,18 @@ fn within_limits(content: Content) -> Result<Option<Content>, RowFault>
 fn array_within_limits(low: i64, items: VecDeque<Value, Heap>) -> Result<Option<Content>, RowFault>
     ensures { IfOk result (λ content. KeepsLimits (plain_option content)) }
 {
-    if low < MIN_BOUND || low > MAX_BOUND || items.len() > MAX_ITEMS {
-        return Err(RowFault::NotSpelled);
+    if keeps_limits(low, items.len()) {
+        Ok(Some(Content::Arr { low, items }))
+    } else {
+        Err(RowFault::NotSpelled)
     }
-    if low + items.len() as i64 - 1 > MAX_BOUND {
-        return Err(RowFault::NotSpelled);
+}
+
+fn keeps_limits(low: i64, size: usize) -> bool
+    ensures { (result ≡ true) ↔ KeepsBounds low size }
+{
+    if size > MAX_ITEMS || low < MIN_BOUND || low > MAX_BOUND {
+        return false;
     }
-    Ok(Some(Content::Arr { low, items }))
+    low + size as i64 - 1 <= MAX_BOUND
 }
