@@ -1,10 +1,8 @@
 //! `Frame`: what the scripts of a test have in common.
 
-use crate::counting::{Counted, counted_of};
 use crate::row::Row;
-use crate::row_fault::RowFault;
-use crate::spelling::{spell, spell_line};
 use argus_memory::Heap;
+use test_rows::{Counted, RowFault, counted_of, spell, spell_line};
 
 // Said of a script, or of a line, that has no step.
 const NOTHING: &str = "nothing";
@@ -105,7 +103,7 @@ fn spell_counted(
     counted: Counted<'_>,
     out: &mut Vec<u8, Heap>,
 ) -> Result<(), RowFault> {
-    match counted.same_line() {
+    match counted.same_row() {
         Some(line) => spell_times(texts, counted.steps(), line, out),
         None => spell_steps(texts, counted, out),
     }
@@ -113,7 +111,7 @@ fn spell_counted(
 
 fn spell_steps(texts: Heap, counted: Counted<'_>, out: &mut Vec<u8, Heap>) -> Result<(), RowFault> {
     for step in 0..=counted.steps() {
-        let line = counted.line_at(texts, step)?;
+        let line = counted.row_at(texts, step)?;
         spell_line(line.as_str(), out)?;
     }
     Ok(())

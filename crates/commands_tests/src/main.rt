@@ -2,17 +2,13 @@
 //! has. A script that isn't answered as its row says is told, and the status is then 1.
 #![tactic(auto)]
 
-mod counting;
 mod frame;
 mod operation_telling;
 mod outline;
 mod row;
-mod row_fault;
-mod spelling;
 mod subject;
 mod telling;
 mod tester;
-mod tight_answer;
 mod tight_subject;
 mod trial;
 

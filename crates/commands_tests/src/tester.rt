@@ -9,6 +9,7 @@ use argus_memory::{Budget, Heap, Limited};
 use std::alloc::{AllocError, Global};
 use std::io;
 use std::io::Print;
+use test_rows::{Block, block_of};
 
 /// Runs the tests of texts, and keeps count.
 ///
@@ -50,15 +51,18 @@ impl Tester {
     }
 
     fn run_block(&mut self, rt: &impl Print, block: &str) -> io::Result<()> {
-        let (heading, lines) = block.split_once('\n').unwrap_or((block, ""));
-        if let Some(name) = heading.strip_prefix("test ") {
-            let trial = Trial::new(self.texts, self.ample(), Some(self.tight()));
-            self.run_test(rt, trial, name, lines)
-        } else if let Some(name) = heading.strip_prefix("large test ") {
-            let trial = Trial::new(self.texts, self.ample(), None);
-            self.run_test(rt, trial, name, lines)
-        } else {
-            self.pass_over(rt, block)
+        match block_of(block) {
+            Block::Test {
+                name,
+                is_large,
+                lines,
+            } => {
+                let tight = if is_large { None } else { Some(self.tight()) };
+                let trial = Trial::new(self.texts, self.ample(), tight);
+                self.run_test(rt, trial, name, lines)
+            }
+            Block::Comment => Ok(()),
+            Block::Unheaded => self.tell_unheaded(rt, block),
         }
     }
 
@@ -70,13 +74,9 @@ impl Tester {
         TightSubject::new(Subject::new(self.heap, self.texts), self.budget)
     }
 
-    // What is no test is to be a comment.
-    fn pass_over(&mut self, rt: &impl Print, block: &str) -> io::Result<()> {
-        if !block.is_empty() && !block.starts_with('#') {
-            self.wrong = self.wrong.saturating_add(1);
-            println!(rt; "no test: {block}")?;
-        }
-        Ok(())
+    fn tell_unheaded(&mut self, rt: &impl Print, block: &str) -> io::Result<()> {
+        self.wrong = self.wrong.saturating_add(1);
+        println!(rt; "no test: {block}")
     }
 
     fn run_test(

@@ -1,10 +1,9 @@
 //! `TightSubject`: `parse`, which is refused each allocation in turn.
 
-use crate::row_fault::RowFault;
 use crate::subject::Subject;
-use crate::tight_answer::TightAnswer;
 use argus_commands::ParseError;
 use argus_memory::Budget;
+use test_rows::{RowFault, TightAnswer};
 
 // No script takes so many allocations.
 const MOST: u64 = 1_000_000_000;

@@ -2,14 +2,13 @@
 
 use crate::frame::Frame;
 use crate::row::Row;
-use crate::row_fault::RowFault;
 use crate::subject::Subject;
-use crate::tight_answer::TightAnswer;
 use crate::tight_subject::TightSubject;
 use argus_memory::Heap;
 use std::io;
 use std::io::Print;
 use std::str::from_utf8;
+use test_rows::{RowFault, TightAnswer};
 
 /// One test, script by script: with ample memory and, but for large tests, once more where each
 /// allocation is refused in turn.

@@ -1,16 +1,14 @@
 //! What questions are answered, as text.
 
 use crate::question::Question;
-use crate::telling::{
-    tell_action, tell_base, tell_content, tell_flag, tell_number, tell_object, tell_readers,
-    tell_shape, tell_versions, tell_word,
-};
+use crate::telling::{tell_base, tell_readers, tell_shape, tell_versions};
 use argus_actions::ActionId;
 use argus_contents::{Content, ObjId};
 use argus_entries::write_entry;
 use argus_guardian::Guardian;
 use argus_journal::{Owner, owner_of, replay_base, replay_for};
 use argus_memory::{Heap, OutOfMemory};
+use test_rows::{tell_action, tell_content, tell_flag, tell_number, tell_object, tell_word};
 
 /// Adds what the guardian answers, in the heap that may be refused memory.
 pub(crate) fn tell_answer(

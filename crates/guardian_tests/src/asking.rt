@@ -1,10 +1,9 @@
 //! The questions that rows spell.
 
 use crate::question::Question;
-use crate::reading::{action, object, pair};
-use crate::row_fault::RowFault;
 use argus_actions::ActionId;
 use argus_contents::ObjId;
+use test_rows::{RowFault, action, object, pair};
 
 /// The question that begins with this word and goes on so; None where none begins with it.
 pub(crate) fn question_of(word: &str, rest: &str) -> Result<Option<Question>, RowFault> {

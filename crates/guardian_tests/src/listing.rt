@@ -1,14 +1,12 @@
 //! Listings, as text: a bar stands for each line's end.
 
-use crate::full::Full;
-use crate::row_fault::RowFault;
-use crate::telling::tell_word;
 use argus_contents::{Name, NameError};
 use argus_guardian::Guardian;
 use argus_listings::{ListError, Listing, list};
 use argus_memory::{Heap, OutOfMemory};
 use argus_streams::Watched;
 use std::str::from_utf8;
+use test_rows::{Full, RowFault, tell_word};
 
 /// The listing that a row asks for by its first word.
 pub(crate) fn listing_of(text: &str) -> Result<Listing, RowFault> {

@@ -5,18 +5,14 @@
 
 mod answering;
 mod asking;
-mod counting;
-mod full;
 mod listing;
 mod picture;
 mod question;
 mod reading;
 mod row;
-mod row_fault;
 mod subject;
 mod telling;
 mod tester;
-mod tight_line;
 mod tight_subject;
 mod trial;
 
@@ -25,11 +21,12 @@ use std::fs;
 use tester::Tester;
 
 // The files in data/.
-const TEXTS: [&str; 8] = [
+const TEXTS: [&str; 9] = [
     "locks.rows",
     "ends.rows",
     "contents.rows",
     "questions.rows",
+    "replays.rows",
     "listings.rows",
     "checkpoints.rows",
     "limits.rows",

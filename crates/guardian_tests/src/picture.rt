@@ -1,10 +1,11 @@
 //! All that a guardian tells, as one text.
 
 use crate::answering::tell_entry;
-use crate::telling::{tell_base, tell_number, tell_readers, tell_shape, tell_versions};
+use crate::telling::{tell_base, tell_readers, tell_shape, tell_versions};
 use argus_contents::ObjId;
 use argus_guardian::Guardian;
 use argus_memory::{Heap, OutOfMemory};
+use test_rows::tell_number;
 
 /// What the guardian tells of its journal and of each object. Two that are the same stand for the
 /// same objects, locks and versions, and a journal of the same length with the same last entry.

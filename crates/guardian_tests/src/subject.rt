@@ -6,11 +6,11 @@ use crate::picture::picture;
 use crate::question::Question;
 use crate::reading::row_of;
 use crate::row::Row;
-use crate::row_fault::RowFault;
 use argus_entries::{Call, Entry, Reply, write_entry};
 use argus_guardian::{CheckpointError, Guardian};
 use argus_listings::Listing;
 use argus_memory::{Heap, OutOfMemory};
+use test_rows::RowFault;
 
 /// A guardian that rows are told to, and the heap of its calls. What it answers is written in
 /// another heap, which always has memory.

@@ -1,58 +1,12 @@
 //! What a guardian tells of its objects, as text: each item with a space before it.
 
 use argus_actions::ActionId;
-use argus_contents::{Content, ObjId};
+use argus_contents::ObjId;
 use argus_guardian::Guardian;
 use argus_memory::{Heap, OutOfMemory};
 use argus_objects::Version;
-use argus_texts::{write_content, write_shape};
-use std::fmt::Write;
-
-pub(crate) fn tell_word(word: &str, out: &mut String<Heap>) -> Result<(), OutOfMemory> {
-    out.push_str(" ")?;
-    out.push_str(word)?;
-    Ok(())
-}
-
-/// A number behind this mark.
-pub(crate) fn tell_marked(
-    mark: &str,
-    number: u64,
-    out: &mut String<Heap>,
-) -> Result<(), OutOfMemory> {
-    write!(out, "{mark}{number}")?;
-    Ok(())
-}
-
-pub(crate) fn tell_number(number: u64, out: &mut String<Heap>) -> Result<(), OutOfMemory> {
-    tell_marked(" ", number, out)
-}
-
-pub(crate) fn tell_action(a: ActionId, out: &mut String<Heap>) -> Result<(), OutOfMemory> {
-    tell_marked(" a", u64::from(a.0), out)
-}
-
-pub(crate) fn tell_object(o: ObjId, out: &mut String<Heap>) -> Result<(), OutOfMemory> {
-    tell_marked(" o", u64::from(o.0), out)
-}
-
-pub(crate) fn tell_flag(is_so: bool, out: &mut String<Heap>) -> Result<(), OutOfMemory> {
-    tell_word(if is_so { "true" } else { "false" }, out)
-}
-
-/// A content, or `absent`.
-pub(crate) fn tell_content(
-    content: &Option<Content>,
-    out: &mut String<Heap>,
-) -> Result<(), OutOfMemory> {
-    match content {
-        Some(content) => {
-            out.push_str(" ")?;
-            write_content(content, out)
-        }
-        None => tell_word("absent", out),
-    }
-}
+use argus_texts::write_shape;
+use test_rows::{tell_action, tell_content, tell_word};
 
 pub(crate) fn tell_shape(
     guardian: &Guardian,

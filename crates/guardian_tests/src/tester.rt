@@ -1,7 +1,5 @@
 //! `Tester`: runs the tests of texts, and keeps count.
 
-use crate::counting::{Counted, counted_of};
-use crate::reading::first_word;
 use crate::subject::Subject;
 use crate::tight_subject::TightSubject;
 use crate::trial::Trial;
@@ -10,6 +8,7 @@ use argus_memory::{Budget, Heap, Limited, OutOfMemory};
 use std::alloc::{AllocError, Global};
 use std::collections::BTreeSet;
 use std::io::Print;
+use test_rows::{Block, Counted, block_of, counted_of, first_word};
 
 /// Runs the tests of texts, and keeps count.
 ///
@@ -63,18 +62,18 @@ impl Tester {
     }
 
     fn run_block(&mut self, rt: &impl Print, before: &str, block: &str) -> Result<()> {
-        let (heading, rows) = match block.split_once('\n') {
-            Some(parts) => parts,
-            None => (block, ""),
-        };
-        if let Some(name) = heading.strip_prefix("test ") {
-            let trial = Trial::new(self.ample(), Some(self.tight()));
-            self.run_test(rt, trial, name, before, rows)
-        } else if let Some(name) = heading.strip_prefix("large test ") {
-            let trial = Trial::new(self.ample(), None);
-            self.run_test(rt, trial, name, before, rows)
-        } else {
-            self.pass_over(rt, block)
+        match block_of(block) {
+            Block::Test {
+                name,
+                is_large,
+                lines,
+            } => {
+                let tight = if is_large { None } else { Some(self.tight()) };
+                let trial = Trial::new(self.ample(), tight);
+                self.run_test(rt, trial, name, before, lines)
+            }
+            Block::Comment => Ok(()),
+            Block::Unheaded => self.tell_unheaded(rt, block),
         }
     }
 
@@ -86,12 +85,9 @@ impl Tester {
         TightSubject::new(Subject::new(self.heap, self.texts), self.budget)
     }
 
-    // What is no test is to be a comment.
-    fn pass_over(&mut self, rt: &impl Print, block: &str) -> Result<()> {
-        if !block.is_empty() && !block.starts_with('#') {
-            self.wrong = self.wrong.saturating_add(1);
-            println!(rt; "no test: {block}")?;
-        }
+    fn tell_unheaded(&mut self, rt: &impl Print, block: &str) -> Result<()> {
+        self.wrong = self.wrong.saturating_add(1);
+        println!(rt; "no test: {block}")?;
         Ok(())
     }
 

@@ -1,9 +1,8 @@
 //! `TightSubject`: a guardian that is refused each allocation in turn.
 
-use crate::row_fault::RowFault;
 use crate::subject::Subject;
-use crate::tight_line::TightLine;
 use argus_memory::{Budget, Heap, OutOfMemory};
+use test_rows::{RowFault, TightAnswer};
 
 // No row takes so many allocations.
 const MOST: u64 = 10_000;
@@ -14,7 +13,7 @@ const MOST: u64 = 10_000;
 /// ```text
 /// let mut tight = TightSubject::new(Subject::new(heap, texts), budget);
 /// let answer = tight.answer("begin_top")?;
-/// assert_eq!(rt; answer.line.as_str(), "begin_top -> a0");
+/// assert_eq!(rt; answer.text.as_str(), "begin_top -> a0");
 /// ```
 #[derive(Drop)]
 pub(crate) struct TightSubject {
@@ -30,10 +29,13 @@ impl TightSubject {
 
     /// Answers the row where first no allocation is allowed, then one, then two, until none is
     /// refused. After each refusal all has to be as before.
-    pub(crate) fn answer(&mut self, asked: &str) -> Result<TightLine, RowFault> {
+    pub(crate) fn answer(&mut self, asked: &str) -> Result<TightAnswer, RowFault> {
         for refused in 0..MOST {
             if let Some(line) = self.answer_within(refused, asked)? {
-                return Ok(TightLine { line, refused });
+                return Ok(TightAnswer {
+                    text: line,
+                    refused,
+                });
             }
         }
         Err(RowFault::NeverAnswered)

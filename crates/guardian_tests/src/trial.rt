@@ -1,12 +1,11 @@
 //! `Trial`: one test, row by row, on a guardian with ample memory and on one without.
 
-use crate::row_fault::RowFault;
 use crate::subject::Subject;
-use crate::tight_line::TightLine;
 use crate::tight_subject::TightSubject;
 use argus_memory::Heap;
 use std::io;
 use std::io::Print;
+use test_rows::{RowFault, TightAnswer};
 
 /// One test, row by row: on a guardian with ample memory and, but for large tests, on another one
 /// of which each allocation is refused in turn.
@@ -53,11 +52,11 @@ impl Trial {
         &mut self,
         rt: &impl Print,
         row: &str,
-        answer: Result<TightLine, RowFault>,
+        answer: Result<TightAnswer, RowFault>,
     ) -> io::Result<bool> {
         match answer {
             Ok(tight) => {
-                self.compare(rt, row, Ok(tight.line))?;
+                self.compare(rt, row, Ok(tight.text))?;
                 Ok(tight.refused > 0)
             }
             Err(fault) => {

@@ -12,7 +12,7 @@ use argus_journal::{LegalJournal, Owner, owner_of};
 use argus_memory::OutOfMemory;
 
 /// Puts an entry at the end whose reply is the answer.
-pub fn say(kept: &mut LegalJournal, entry: Entry) -> Result<(), OutOfMemory>
+pub(crate) fn say(kept: &mut LegalJournal, entry: Entry) -> Result<(), OutOfMemory>
     requires { (plain_entry entry).reply
         ≡ answer (opening_in kept.old) (entries_in kept.old) (plain_entry entry).call }
     ensures opening { opening_in kept.new ≡ opening_in kept.old }
@@ -25,7 +25,7 @@ pub fn say(kept: &mut LegalJournal, entry: Entry) -> Result<(), OutOfMemory>
 }
 
 /// Who answers for what the action did.
-pub fn owner_in(kept: &LegalJournal, a: ActionId) -> Option<Owner>
+pub(crate) fn owner_in(kept: &LegalJournal, a: ActionId) -> Option<Owner>
     ensures { result ≡ owner_in (opening_in kept.now) (entries_in kept.now) a.0 }
 {
     owner_of(kept.journal(), a)

@@ -1,19 +1,48 @@
-//! Journals that go on where another ended.
+//! Journals that go on where another ended, and what they are asked.
 
 ghost use Rattle.std.specs.Prelude.{◌≡◌, [], ◌∷◌, IfOk, Some, map, pos};
 ghost use Rattle.argus_contents.specs.Content.{rec};
 ghost use Rattle.argus_contents.specs.Value.{int};
 ghost use Rattle.argus_journal.specs.Opening.{plain_object};
-ghost use Rattle.journal_tests.specs.Rows.{account};
+ghost use Rattle.journal_tests.specs.Account.{account};
 
-use crate::kept::{owner_in, say};
-use crate::rows::account;
+use crate::kept::say;
+use crate::questions::answer_question;
 use argus_actions::ActionId;
-use argus_contents::{Content, ObjId, Shape, Value};
+use argus_contents::{Content, Name, Shape, Ty, Value};
 use argus_entries::{Call, Entry, Reply};
-use argus_journal::{Journal, LegalJournal, Owner, owner_of, replay_base};
+use argus_journal::LegalJournal;
 use argus_memory::{Heap, OutOfMemory};
-use std::test::Fail;
+use test_rows::{RowFault, Setting};
+
+/// What the journal of this word is asked.
+pub(crate) fn answer_opening(
+    setting: Setting,
+    word: &str,
+    question: &str,
+) -> Result<String<Heap>, RowFault> {
+    match word {
+        "new" => answer_question(setting, &LegalJournal::new(setting.texts), question),
+        "begun" => answer_question(setting, &begun(setting.texts)?, question),
+        "later" => answer_question(setting, &later(setting.texts)?, question),
+        "folded" => answer_question(setting, &folded(setting.texts)?, question),
+        _ => Err(RowFault::NotSpelled),
+    }
+}
+
+fn account(heap: Heap) -> Result<Shape, OutOfMemory>
+    ensures { IfOk result (λ shape. shape ≡ account) }
+{
+    let Ok(name) = Name::new(heap, "balance") else {
+        return Err(OutOfMemory);
+    };
+    let mut fields = Vec::new(heap);
+    fields.push((name, Ty::Int))?;
+    let Ok(shape) = Shape::rec(fields) else {
+        return Err(OutOfMemory);
+    };
+    Ok(shape)
+}
 
 // One record that holds this number.
 fn holding(heap: Heap, n: u32) -> Result<Vec<(Shape, Option<Content>), Heap>, OutOfMemory>
@@ -28,36 +57,30 @@ fn holding(heap: Heap, n: u32) -> Result<Vec<(Shape, Option<Content>), Heap>, Ou
     Ok(objects)
 }
 
-#[test]
-fn a_journal_that_starts_later(rt: HostRuntime) -> Result<(), Fail> {
-    let heap = Heap::new(rt.alloc())?;
-    let journal = Journal::starting_at(heap, holding(heap, 7)?, 1, 6);
-    assert_eq!(rt; journal.first_action(), 1);
-    assert_eq!(rt; journal.first_entry(), 6);
-    assert_eq!(rt; journal.len(), 6);
-    assert!(rt; journal.get(5).is_none());
-    assert!(rt; journal.opening(ObjId(0)).is_some());
-    assert!(rt; journal.opening(ObjId(1)).is_none());
-    assert_eq!(rt; owner_of(&journal, ActionId(0)), Some(Owner::Folded));
-    assert_eq!(rt; owner_of(&journal, ActionId(1)), None);
-    assert!(rt; replay_base(heap, &journal, ObjId(0))?.is_some());
-    assert!(rt; replay_base(heap, &journal, ObjId(1))?.is_none());
-    Ok(())
+// One topaction begun.
+fn begun(heap: Heap) -> Result<LegalJournal, OutOfMemory> {
+    let mut journal = LegalJournal::new(heap);
+    let begin = Entry {
+        call: Call::BeginTop,
+        reply: Reply::Begun(ActionId(0)),
+    };
+    say(&mut journal, begin)?;
+    Ok(journal)
 }
 
-#[test]
-fn a_journal_that_is_folded(rt: HostRuntime) -> Result<(), Fail> {
-    let heap = Heap::new(rt.alloc())?;
-    let mut kept = LegalJournal::starting_at(heap, Vec::new(heap), 3, 7);
-    assert_eq!(rt; owner_in(&kept, ActionId(2)), Some(Owner::Folded));
+// One action and six entries went before.
+fn later(heap: Heap) -> Result<LegalJournal, OutOfMemory> {
+    Ok(LegalJournal::starting_at(heap, holding(heap, 7)?, 1, 6))
+}
+
+// Three actions and seven entries went before, then a topaction was begun and all was folded.
+fn folded(heap: Heap) -> Result<LegalJournal, OutOfMemory> {
+    let mut journal = LegalJournal::starting_at(heap, Vec::new(heap), 3, 7);
     let begin = Entry {
         call: Call::BeginTop,
         reply: Reply::Begun(ActionId(3)),
     };
-    say(&mut kept, begin)?;
-    kept.fold(Vec::new(heap), 4);
-    assert_eq!(rt; kept.journal().len(), 8);
-    assert_eq!(rt; kept.journal().first_entry(), 8);
-    assert_eq!(rt; owner_in(&kept, ActionId(3)), Some(Owner::Folded));
-    Ok(())
+    say(&mut journal, begin)?;
+    journal.fold(Vec::new(heap), 4);
+    Ok(journal)
 }

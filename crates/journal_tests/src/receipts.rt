@@ -1,11 +1,32 @@
-//! Receipts held against a journal: each fault, and the order of faults.
+//! Receipts held against a journal.
 
 use argus_actions::ActionId;
+use argus_contents::OutOfMemory;
 use argus_entries::{Call, Entry, Reply};
 use argus_journal::Journal;
-use argus_memory::{Budget, Heap, Limited, OutOfMemory};
+use argus_memory::Heap;
 use argus_receipts::{Receipt, SettleFault, check};
-use std::test::Fail;
+use test_rows::{RowFault, Setting, action, first_word, tell_number, tell_word};
+
+/// What is answered to so many calls of the seats and these receipts, as `3 8:a6 6:a4`: since the
+/// journal's first entry, or, behind `now`, since its last.
+pub(crate) fn answer_receipts(setting: Setting, text: &str) -> Result<String<Heap>, RowFault> {
+    let (word, rest) = first_word(text);
+    let journal = three_begun(setting.texts)?;
+    let (start, text) = if word == "now" {
+        (journal.len(), rest)
+    } else {
+        (journal.first_entry(), text)
+    };
+    let (made, words) = first_word(text);
+    let made = u128::from(made.parse::<u64>()?);
+    let receipts = receipts_of(setting.texts, words)?;
+    setting.limit();
+    told(
+        setting,
+        check(setting.heap, &journal, start, made, receipts.as_slice()),
+    )
+}
 
 // Topactions 4 and on, of a journal whose first entry has number 6: entries 6 to 8.
 fn three_begun(heap: Heap) -> Result<Journal, OutOfMemory> {
@@ -20,107 +41,45 @@ fn three_begun(heap: Heap) -> Result<Journal, OutOfMemory> {
     Ok(journal)
 }
 
-fn begun(at: u64, number: u32) -> Receipt {
-    Receipt {
-        at,
-        call: Call::BeginTop,
-        reply: Reply::Begun(ActionId(number)),
-    }
-}
-
-// The receipts of these numbers, which tell of these actions.
-fn receipts(heap: Heap, all: &[(u64, u32)]) -> Result<Vec<Receipt, Heap>, OutOfMemory> {
-    let mut list = Vec::new(heap);
-    for one in all {
-        list.push(begun(one.0, one.1))?;
-    }
-    Ok(list)
-}
-
-// What is answered to receipts of these numbers and actions, where the seats made so many calls
-// since the journal had 6 entries.
-fn answer(
-    heap: Heap,
-    made: u128,
-    all: &[(u64, u32)],
-) -> Result<Result<(), SettleFault>, OutOfMemory> {
-    let journal = three_begun(heap)?;
-    let list = receipts(heap, all)?;
-    let start = journal.first_entry();
-    Ok(check(heap, &journal, start, made, list.as_slice()))
-}
-
-#[test]
-fn receipts_that_tell(rt: HostRuntime) -> Result<(), Fail> {
-    let heap = Heap::new(rt.alloc())?;
-    assert_eq!(rt; answer(heap, 3, &[])?, Ok(()));
-    assert_eq!(rt; answer(heap, 3, &[(8, 6), (6, 4)])?, Ok(()));
-    assert_eq!(rt; answer(heap, 3, &[(6, 4), (7, 5), (8, 6)])?, Ok(()));
-    Ok(())
-}
-
-#[test]
-fn receipts_that_do_not_tell(rt: HostRuntime) -> Result<(), Fail> {
-    let heap = Heap::new(rt.alloc())?;
-    let count = SettleFault::Count {
-        journal: 3,
-        seats: 2,
-    };
-    assert_eq!(rt; answer(heap, 2, &[(7, 5)])?, Err(count));
-    assert_eq!(rt; answer(heap, 3, &[(9, 7)])?, Err(SettleFault::NotThere(9)));
-    assert_eq!(rt; answer(heap, 3, &[(7, 4)])?, Err(SettleFault::NotThere(7)));
-    assert_eq!(rt; answer(heap, 3, &[(5, 3)])?, Err(SettleFault::Folded(5)));
-    assert_eq!(rt;
-        answer(heap, 3, &[(7, 5), (7, 5)])?,
-        Err(SettleFault::Twice(7))
-    );
-    Ok(())
-}
-
-// The first receipt's fault; of one receipt that it isn't there before that it came twice; the
-// count last.
-#[test]
-fn the_first_fault_is_answered(rt: HostRuntime) -> Result<(), Fail> {
-    let heap = Heap::new(rt.alloc())?;
-    assert_eq!(rt;
-        answer(heap, 2, &[(5, 3), (9, 7)])?,
-        Err(SettleFault::Folded(5))
-    );
-    assert_eq!(rt;
-        answer(heap, 2, &[(9, 7), (5, 3)])?,
-        Err(SettleFault::NotThere(9))
-    );
-    assert_eq!(rt;
-        answer(heap, 2, &[(7, 5), (7, 4)])?,
-        Err(SettleFault::NotThere(7))
-    );
-    assert_eq!(rt;
-        answer(heap, 2, &[(7, 5), (7, 5)])?,
-        Err(SettleFault::Twice(7))
-    );
-    Ok(())
-}
-
-// A refused allocation is answered as such; where none is left to refuse, the receipts are told.
-#[test]
-fn each_allocation_is_refused(rt: HostRuntime) -> Result<(), Fail> {
-    let ample = Heap::new(rt.alloc())?;
-    let budget = Budget::new(rt.alloc())?;
-    let tight = Limited::with_budget(rt.alloc(), budget);
-    let journal = three_begun(ample)?;
-    let list = receipts(ample, &[(6, 4), (7, 5), (8, 6)])?;
-    let mut refused = 0u32;
-    for allowed in 0..20 {
-        budget.allow(allowed);
-        match check(tight, &journal, journal.len(), 0, list.as_slice()) {
-            Ok(()) => {
-                assert!(rt; refused > 0);
-                return Ok(());
-            }
-            Err(fault) => assert_eq!(rt; fault, SettleFault::OutOfMemory),
+fn receipts_of(heap: Heap, words: &str) -> Result<Vec<Receipt, Heap>, RowFault> {
+    let mut receipts = Vec::new(heap);
+    for word in words.split(' ') {
+        if !word.is_empty() {
+            receipts.push(receipt_of(word)?)?;
         }
-        refused += 1;
     }
-    assert!(rt; false, "{refused} allocations");
-    Ok(())
+    Ok(receipts)
+}
+
+// Of a topaction's begin, as `8:a6`.
+fn receipt_of(word: &str) -> Result<Receipt, RowFault> {
+    match word.split_once(':') {
+        Some((at, begun)) => Ok(Receipt {
+            at: at.parse::<u64>()?,
+            call: Call::BeginTop,
+            reply: Reply::Begun(action(begun)?),
+        }),
+        None => Err(RowFault::NotSpelled),
+    }
+}
+
+fn told(setting: Setting, answer: Result<(), SettleFault>) -> Result<String<Heap>, RowFault> {
+    let mut out = String::new(setting.texts);
+    match answer {
+        Ok(()) => tell_word("good", &mut out)?,
+        Err(SettleFault::NotThere(at)) => tell_at("NotThere", at, &mut out)?,
+        Err(SettleFault::Twice(at)) => tell_at("Twice", at, &mut out)?,
+        Err(SettleFault::Folded(at)) => tell_at("Folded", at, &mut out)?,
+        Err(SettleFault::Count { journal, seats }) => {
+            tell_at("Count", journal, &mut out)?;
+            tell_number(u64::try_from(seats).unwrap_or(u64::MAX), &mut out)?;
+        }
+        Err(SettleFault::OutOfMemory) => return Err(RowFault::OutOfMemory),
+    }
+    Ok(out)
+}
+
+fn tell_at(word: &str, at: u64, out: &mut String<Heap>) -> Result<(), OutOfMemory> {
+    tell_word(word, out)?;
+    tell_number(at, out)
 }

@@ -1,9 +1,0 @@
-use denote.Param.Send.{sendable}
-use Rattle.argus_contents.proofs.Crossing.{crosses}
-use Rattle.contents_tests.proofs.threads.fits_elsewhere.Goals as goal
-
-pub spawn-requires-send-F : goal.spawn-requires-send-F
-spawn-requires-send-F g c κs within = search (sendable, crosses) depth 40
-
-pub spawn-requires-send-T : goal.spawn-requires-send-T
-spawn-requires-send-T g c κs within = search (sendable, crosses) depth 40

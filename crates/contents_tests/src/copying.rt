@@ -1,0 +1,82 @@
+//! Copies, which have to be equal to what they are copies of.
+
+use argus_contents::{Shape, ShapeView};
+use argus_memory::Heap;
+use argus_texts::{read_content, read_shape, read_value, write_content, write_shape, write_value};
+use test_rows::{RowFault, Setting, change_of, first_word};
+
+/// The text of the copy: `KIND ONE`; of a change whether it's the same.
+pub(crate) fn answer_copy(setting: Setting, text: &str) -> Result<String<Heap>, RowFault> {
+    let (kind, source) = first_word(text);
+    match kind {
+        "value" => copied_value(setting, source),
+        "content" => copied_content(setting, source),
+        "change" => copied_change(setting, source),
+        "type" => copied_type(setting, source),
+        "shape" => copied_shape(setting, source),
+        _ => Err(RowFault::NotSpelled),
+    }
+}
+
+fn copied_value(setting: Setting, text: &str) -> Result<String<Heap>, RowFault> {
+    let value = read_value(setting.texts, text)?;
+    setting.limit();
+    let copy = value.duplicate(setting.heap)?;
+    let mut out = String::new(setting.texts);
+    write_value(&copy, &mut out)?;
+    sameness(copy == value, out)
+}
+
+fn copied_content(setting: Setting, text: &str) -> Result<String<Heap>, RowFault> {
+    let content = read_content(setting.texts, text)?;
+    setting.limit();
+    let copy = content.duplicate(setting.heap)?;
+    let mut out = String::new(setting.texts);
+    write_content(&copy, &mut out)?;
+    sameness(copy == content, out)
+}
+
+fn copied_change(setting: Setting, text: &str) -> Result<String<Heap>, RowFault> {
+    let change = change_of(setting.texts, text)?;
+    setting.limit();
+    let copy = change.duplicate(setting.heap)?;
+    sameness(copy == change, String::from_str(setting.texts, "same")?)
+}
+
+// The type is that of an array's items.
+fn copied_type(setting: Setting, text: &str) -> Result<String<Heap>, RowFault> {
+    let Some(shape) = read_shape(setting.texts, text)? else {
+        return Err(RowFault::NotSpelled);
+    };
+    setting.limit();
+    match shape.view() {
+        ShapeView::Arr(item) => match Shape::arr(item.duplicate(setting.heap)?) {
+            Ok(copy) => shape_text(setting, &copy, &shape),
+            Err(_) => Err(RowFault::Changed),
+        },
+        ShapeView::Rec(_) | ShapeView::Var(_) => Err(RowFault::NotSpelled),
+    }
+}
+
+fn copied_shape(setting: Setting, text: &str) -> Result<String<Heap>, RowFault> {
+    let Some(shape) = read_shape(setting.texts, text)? else {
+        return Err(RowFault::NotSpelled);
+    };
+    setting.limit();
+    let copy = shape.duplicate(setting.heap)?;
+    shape_text(setting, &copy, &shape)
+}
+
+fn shape_text(setting: Setting, copy: &Shape, source: &Shape) -> Result<String<Heap>, RowFault> {
+    let mut out = String::new(setting.texts);
+    write_shape(copy, &mut out)?;
+    sameness(copy == source, out)
+}
+
+fn sameness(is_same: bool, text: String<Heap>) -> Result<String<Heap>, RowFault> {
+    if is_same {
+        Ok(text)
+    } else {
+        Err(RowFault::Changed)
+    }
+}

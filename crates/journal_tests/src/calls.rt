@@ -1,0 +1,32 @@
+//! `Calls`: the calls of `argus_entries`, `argus_journal` and `argus_receipts` that rows make.
+
+use crate::comparing::answer_comparison;
+use crate::copying::answer_copy;
+use crate::journal_making::answer_journal;
+use crate::openings::answer_opening;
+use crate::receipts::answer_receipts;
+use crate::writing::answer_line;
+use argus_memory::Heap;
+use test_rows::{RowFault, Setting, Subject, first_word};
+
+/// The calls of `argus_entries`, `argus_journal` and `argus_receipts` that rows make.
+///
+/// ```text
+/// let text = Calls.answer(setting, "line 7 commit a2 : done")?;       // `7 commit a2 -> done`
+/// ```
+#[derive(Clone, Copy)]
+pub(crate) struct Calls;
+
+impl Subject for Calls {
+    fn answer(&self, setting: Setting, asked: &str) -> Result<String<Heap>, RowFault> {
+        let (word, rest) = first_word(asked);
+        match word {
+            "line" => answer_line(setting, rest),
+            "copy" => answer_copy(setting, rest),
+            "same" => answer_comparison(setting, rest),
+            "journal" => answer_journal(setting, rest),
+            "receipts" => answer_receipts(setting, rest),
+            _ => answer_opening(setting, word, rest),
+        }
+    }
+}

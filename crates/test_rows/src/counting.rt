@@ -1,0 +1,66 @@
+//! Rows that stand for many: `from 1 to 63: begin_sub a^ -> a%`.
+
+use crate::telling::tell_marked;
+use argus_memory::{Heap, OutOfMemory};
+
+/// Rows that a line stands for.
+///
+/// ```text
+/// let counted = counted_of("from 1 to 63: begin_sub a^ -> a%");
+/// ```
+#[derive(Clone, Copy)]
+pub struct Counted<'a> {
+    first: u32,
+    last: u32,
+    row: &'a str,
+}
+
+/// The rows that the line stands for; None where it doesn't count.
+pub fn counted_of<'a>(line: &'a str) -> Option<Counted<'a>> {
+    let (range, row) = line.strip_prefix("from ")?.split_once(':')?;
+    let (first, last) = range.split_once(" to ")?;
+    Some(Counted {
+        first: first.parse::<u32>().ok()?,
+        last: last.parse::<u32>().ok()?,
+        row: row.strip_prefix(' ').unwrap_or(row),
+    })
+}
+
+impl Counted<'_> {
+    /// How many rows there are, but one.
+    pub fn steps(&self) -> u32 {
+        self.first.abs_diff(self.last)
+    }
+
+    /// The row, where the number doesn't stand in it.
+    pub fn same_row(&self) -> Option<&str> {
+        if self.row.contains('%') || self.row.contains('^') {
+            None
+        } else {
+            Some(self.row)
+        }
+    }
+
+    /// The row so many steps after the first one: `%` stands for the number that is counted, up or
+    /// down, and `^` for the number below it.
+    pub fn row_at(&self, texts: Heap, step: u32) -> Result<String<Heap>, OutOfMemory> {
+        let number = if self.first <= self.last {
+            self.first.saturating_add(step)
+        } else {
+            self.first.saturating_sub(step)
+        };
+        with_number(texts, self.row, number)
+    }
+}
+
+fn with_number(texts: Heap, row: &str, number: u32) -> Result<String<Heap>, OutOfMemory> {
+    let mut out = String::new(texts);
+    for letter in row.chars() {
+        match letter {
+            '%' => tell_marked("", u64::from(number), &mut out)?,
+            '^' => tell_marked("", u64::from(number.saturating_sub(1)), &mut out)?,
+            _ => out.push(letter)?,
+        }
+    }
+    Ok(out)
+}

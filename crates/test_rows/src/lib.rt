@@ -1,0 +1,35 @@
+//! Rows of text as tests: how they are parted and read, told to what they test, and counted.
+#![tactic(auto)]
+
+mod block;
+mod call_reading;
+mod counting;
+mod full;
+mod operation_reading;
+mod reading;
+mod reply_reading;
+mod row_fault;
+mod setting;
+mod spelling;
+mod subject;
+mod telling;
+mod tester;
+mod tight_answer;
+
+pub use block::{Block, block_of};
+pub use call_reading::call_of;
+pub use counting::{Counted, counted_of};
+pub use full::Full;
+pub use operation_reading::{change_of, query_of};
+pub use reading::{action, first_word, object, pair, part, place};
+pub use reply_reading::{answer_of, reply_of};
+pub use row_fault::RowFault;
+pub use setting::Setting;
+pub use spelling::{spell, spell_line, spelled_row};
+pub use subject::Subject;
+pub use telling::{
+    tell_action, tell_answer, tell_content, tell_flag, tell_marked, tell_number, tell_object,
+    tell_word,
+};
+pub use tester::Tester;
+pub use tight_answer::TightAnswer;

@@ -1,0 +1,47 @@
+//! The words of rows.
+
+use crate::row_fault::RowFault;
+use argus_actions::ActionId;
+use argus_contents::ObjId;
+
+/// The first word, and what comes after it.
+pub fn first_word<'a>(text: &'a str) -> (&'a str, &'a str) {
+    match text.split_once(' ') {
+        Some((word, rest)) => (word, rest),
+        None => (text, ""),
+    }
+}
+
+// The number behind this letter.
+fn number(letter: &str, text: &str) -> Result<u32, RowFault> {
+    match text.strip_prefix(letter) {
+        Some(digits) => Ok(digits.parse::<u32>()?),
+        None => Err(RowFault::NotSpelled),
+    }
+}
+
+/// An action, as `a0`.
+pub fn action(text: &str) -> Result<ActionId, RowFault> {
+    Ok(ActionId(number("a", text)?))
+}
+
+/// An object, as `o0`.
+pub fn object(text: &str) -> Result<ObjId, RowFault> {
+    Ok(ObjId(number("o", text)?))
+}
+
+/// An action and an object, as `a0 o0`.
+pub fn pair(text: &str) -> Result<(ActionId, ObjId), RowFault> {
+    let (actor, rest) = first_word(text);
+    Ok((action(actor)?, object(rest)?))
+}
+
+/// An index, or a bound.
+pub fn place(text: &str) -> Result<i64, RowFault> {
+    Ok(text.parse::<i64>()?)
+}
+
+/// A field, or a tag.
+pub fn part(text: &str) -> Result<u8, RowFault> {
+    Ok(text.parse::<u8>()?)
+}

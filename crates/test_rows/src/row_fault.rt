@@ -1,0 +1,80 @@
+//! `RowFault`: why a row has no answer.
+
+use argus_contents::NameError;
+use argus_memory::OutOfMemory;
+use argus_texts::ReadError;
+use std::alloc::{AllocError, AllocFailed};
+use std::num::ParseIntError;
+
+/// Why a row has no answer.
+///
+/// ```text
+/// assert!(rt; matches!(query_of("ask"), Err(RowFault::NotSpelled)));
+/// ```
+#[derive(Clone, Copy)]
+pub enum RowFault {
+    /// What stands before the arrow asks for nothing.
+    NotSpelled,
+    OutOfMemory,
+    /// After a refused allocation something wasn't as before.
+    Changed,
+    /// An allocation was refused, and the answer wasn't that memory is out.
+    Hidden,
+    /// However many allocations were allowed, one was refused.
+    NeverAnswered,
+}
+
+impl RowFault {
+    /// What is told in place of an answer.
+    pub fn as_str(self) -> &'static str {
+        match self {
+            RowFault::NotSpelled => "it is no row",
+            RowFault::OutOfMemory => "out of memory",
+            RowFault::Changed => "a refused allocation has changed something",
+            RowFault::Hidden => "a refused allocation is answered otherwise",
+            RowFault::NeverAnswered => "out of memory, whatever is allowed",
+        }
+    }
+}
+
+impl From<OutOfMemory> for RowFault {
+    fn from(_refused: OutOfMemory) -> RowFault {
+        RowFault::OutOfMemory
+    }
+}
+
+impl From<AllocError> for RowFault {
+    fn from(_refused: AllocError) -> RowFault {
+        RowFault::OutOfMemory
+    }
+}
+
+impl<T: Drop> From<AllocFailed<T>> for RowFault {
+    fn from(_refused: AllocFailed<T>) -> RowFault {
+        RowFault::OutOfMemory
+    }
+}
+
+impl From<NameError> for RowFault {
+    fn from(error: NameError) -> RowFault {
+        match error {
+            NameError::BadName => RowFault::NotSpelled,
+            NameError::OutOfMemory => RowFault::OutOfMemory,
+        }
+    }
+}
+
+impl From<ReadError> for RowFault {
+    fn from(error: ReadError) -> RowFault {
+        match error {
+            ReadError::Fault(_) => RowFault::NotSpelled,
+            ReadError::Memory => RowFault::OutOfMemory,
+        }
+    }
+}
+
+impl From<ParseIntError> for RowFault {
+    fn from(_error: ParseIntError) -> RowFault {
+        RowFault::NotSpelled
+    }
+}

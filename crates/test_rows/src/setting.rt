@@ -1,0 +1,50 @@
+//! `Setting`: the heaps in which a row is answered.
+
+use argus_memory::{Budget, Heap, Limited};
+use std::alloc::{AllocError, Global};
+
+/// The heaps in which a row is answered, and how many allocations its calls are allowed.
+///
+/// ```text
+/// let setting = Setting::new(rt.alloc())?.allowing(1);
+/// let content = read_content(setting.texts, text)?;
+/// setting.limit();
+/// let copy = content.duplicate(setting.heap)?;            // OutOfMemory where it takes two
+/// ```
+#[derive(Clone, Copy)]
+pub struct Setting {
+    /// Always has memory: for what is read, told and compared.
+    pub texts: Heap,
+    /// That of the calls.
+    pub heap: Heap,
+    budget: Budget,
+    allowed: u64,
+}
+
+impl Setting {
+    /// Any number of allocations is allowed.
+    pub fn new(alloc: Global) -> Result<Setting, AllocError> {
+        let budget = Budget::new(alloc)?;
+        Ok(Setting {
+            texts: Heap::new(alloc)?,
+            heap: Limited::with_budget(alloc, budget),
+            budget,
+            allowed: u64::MAX,
+        })
+    }
+
+    /// The same heaps, with so many allocations.
+    pub fn allowing(self, allowed: u64) -> Setting {
+        Setting { allowed, ..self }
+    }
+
+    /// From now on allocations are counted, and refused where there are more.
+    pub fn limit(self) {
+        self.budget.allow(self.allowed);
+    }
+
+    /// From now on none is refused.
+    pub fn lift(self) {
+        self.budget.lift();
+    }
+}

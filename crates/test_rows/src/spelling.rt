@@ -1,0 +1,94 @@
+//! The bytes that lines of rows stand for.
+
+use crate::row_fault::RowFault;
+use argus_memory::Heap;
+use std::str::from_utf8;
+
+/// The row that the text stands for.
+pub fn spelled_row(texts: Heap, text: &str) -> Result<String<Heap>, RowFault> {
+    let mut bytes = Vec::new(texts);
+    spell(text, &mut bytes)?;
+    match from_utf8(bytes.as_slice()) {
+        Ok(row) => Ok(String::from_str(texts, row)?),
+        Err(_) => Err(RowFault::NotSpelled),
+    }
+}
+
+/// Adds the bytes that the text stands for, and a line feed, unless the text ends with `<cut>`.
+pub fn spell_line(text: &str, out: &mut Vec<u8, Heap>) -> Result<(), RowFault> {
+    match text.strip_suffix("<cut>") {
+        Some(text) => spell(text, out),
+        None => {
+            spell(text, out)?;
+            out.push(b'\n')?;
+            Ok(())
+        }
+    }
+}
+
+/// Adds the bytes that the text stands for.
+pub fn spell(text: &str, out: &mut Vec<u8, Heap>) -> Result<(), RowFault> {
+    match text.split_once('<') {
+        None => add(text, out),
+        Some((plain, marked)) => {
+            add(plain, out)?;
+            spell_marked(marked, out)
+        }
+    }
+}
+
+// The text begins behind a `<`.
+fn spell_marked(text: &str, out: &mut Vec<u8, Heap>) -> Result<(), RowFault> {
+    for piece in text.split('<') {
+        match piece.split_once('>') {
+            Some((mark, plain)) if is_mark(mark) => {
+                spell_mark(mark, out)?;
+                add(plain, out)?;
+            }
+            Some(_) | None => {
+                add("<", out)?;
+                add(piece, out)?;
+            }
+        }
+    }
+    Ok(())
+}
+
+// A variant's `<0:5>` is no mark.
+fn is_mark(mark: &str) -> bool {
+    mark.contains(" times ") || mark.starts_with(|first: char| first.is_ascii_lowercase())
+}
+
+fn spell_mark(mark: &str, out: &mut Vec<u8, Heap>) -> Result<(), RowFault> {
+    match mark {
+        "tab" => add("\t", out),
+        "space" => add(" ", out),
+        "return" => add("\r", out),
+        "feed" => add("\n", out),
+        _ => spell_number(mark, out),
+    }
+}
+
+// A byte by its number, or a text so many times.
+fn spell_number(mark: &str, out: &mut Vec<u8, Heap>) -> Result<(), RowFault> {
+    if let Some(number) = mark.strip_prefix("byte ") {
+        out.push(number.parse::<u8>()?)?;
+        return Ok(());
+    }
+    match mark.split_once(" times ") {
+        Some((times, text)) => add_times(times.parse::<u32>()?, text, out),
+        None => Err(RowFault::NotSpelled),
+    }
+}
+
+fn add_times(times: u32, text: &str, out: &mut Vec<u8, Heap>) -> Result<(), RowFault> {
+    for _ in 0..times {
+        add(text, out)?;
+    }
+    Ok(())
+}
+
+fn add(text: &str, out: &mut Vec<u8, Heap>) -> Result<(), RowFault> {
+    out.extend_from_slice(text.as_bytes())?;
+    Ok(())
+}

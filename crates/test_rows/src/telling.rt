@@ -1,0 +1,89 @@
+//! What is answered, as text: each item with a space before it.
+
+use argus_actions::ActionId;
+use argus_contents::{Answer, Content, ObjId, Signal};
+use argus_memory::{Heap, OutOfMemory};
+use argus_texts::{write_content, write_value};
+use std::fmt::Write;
+
+/// Adds a word.
+pub fn tell_word(word: &str, out: &mut String<Heap>) -> Result<(), OutOfMemory> {
+    out.push_str(" ")?;
+    out.push_str(word)?;
+    Ok(())
+}
+
+/// Adds a number behind this mark.
+pub fn tell_marked(mark: &str, number: u64, out: &mut String<Heap>) -> Result<(), OutOfMemory> {
+    write!(out, "{mark}{number}")?;
+    Ok(())
+}
+
+/// Adds a number.
+pub fn tell_number(number: u64, out: &mut String<Heap>) -> Result<(), OutOfMemory> {
+    tell_marked(" ", number, out)
+}
+
+/// Adds an action, as `a0`.
+pub fn tell_action(a: ActionId, out: &mut String<Heap>) -> Result<(), OutOfMemory> {
+    tell_marked(" a", u64::from(a.0), out)
+}
+
+/// Adds an object, as `o0`.
+pub fn tell_object(o: ObjId, out: &mut String<Heap>) -> Result<(), OutOfMemory> {
+    tell_marked(" o", u64::from(o.0), out)
+}
+
+/// Adds `true` or `false`.
+pub fn tell_flag(is_so: bool, out: &mut String<Heap>) -> Result<(), OutOfMemory> {
+    tell_word(if is_so { "true" } else { "false" }, out)
+}
+
+/// Adds a content, or `absent`.
+pub fn tell_content(content: &Option<Content>, out: &mut String<Heap>) -> Result<(), OutOfMemory> {
+    match content {
+        Some(content) => {
+            out.push_str(" ")?;
+            write_content(content, out)
+        }
+        None => tell_word("absent", out),
+    }
+}
+
+/// Adds what an operation answers, as a journal's lines do.
+pub fn tell_answer(answer: &Answer, out: &mut String<Heap>) -> Result<(), OutOfMemory> {
+    match answer {
+        Answer::Done => tell_word("done", out),
+        Answer::Val(value) => {
+            out.push_str(" val ")?;
+            write_value(value, out)
+        }
+        Answer::Num(number) => {
+            write!(out, " num {number}")?;
+            Ok(())
+        }
+        Answer::Flag(is_so) => {
+            out.push_str(" flag")?;
+            tell_flag(*is_so, out)
+        }
+        Answer::Body(content) => {
+            out.push_str(" body ")?;
+            write_content(content, out)
+        }
+        Answer::Signal(signal) => {
+            out.push_str(" signal")?;
+            tell_word(signal_name(*signal), out)
+        }
+    }
+}
+
+fn signal_name(signal: Signal) -> &'static str {
+    match signal {
+        Signal::Absent => "absent",
+        Signal::Exists => "exists",
+        Signal::Bounds => "bounds",
+        Signal::WrongTag => "wrong_tag",
+        Signal::NegativeSize => "negative_size",
+        Signal::Limits => "limits",
+    }
+}

@@ -1,0 +1,10 @@
+-- A journal may cross to another thread.
+use denote.Param.Send.{sendable}
+use Rattle.argus_journal.proofs.Crossing.{crosses}
+use Rattle.threads_tests.proofs.journal.reserved_elsewhere.Goals as goal
+
+pub spawn-requires-send-F : goal.spawn-requires-send-F
+spawn-requires-send-F g c κs within = search (sendable, crosses) depth 12
+
+pub spawn-requires-send-T : goal.spawn-requires-send-T
+spawn-requires-send-T g c κs within = search (sendable, crosses) depth 12
