@@ -8,11 +8,14 @@ use thiserror::Error;
 ///
 /// | Fault | When | Text |
 /// |---|---|---|
-/// | `NotThere` | the journal has no entry of this number with the receipt's call and reply | `entry 3 is not that of the receipt` |
+/// | `NotThere` | the entry of this number isn't the receipt's | `entry 3 is not that of the receipt` |
 /// | `Twice` | an earlier receipt has this number | `entry 3 has two receipts` |
-/// | `Count` | the entries made since the sharing began aren't as many as the seats made | `5 entries, and 4 calls of the seats` |
-/// | `Folded` | a checkpoint has forgotten the entry of this number | `entry 3 was folded` |
-/// | `OutOfMemory` | memory is wanting; it may come in place of any other answer | `out of memory` |
+/// | `Count` | as many calls weren't made as entries came | `5 entries, and 4 calls of the seats` |
+/// | `Folded` | a checkpoint has forgotten the entry | `entry 3 was folded` |
+/// | `OutOfMemory` | memory is wanting | `out of memory` |
+///
+/// An entry is the receipt's where it has its call and its reply. Entries and calls are counted
+/// from the beginning of the sharing on. `OutOfMemory` may come in place of any other answer.
 ///
 /// Of one receipt `Folded` comes before `NotThere`, and that before `Twice`; of two receipts the
 /// earlier one's fault; `Count` after all receipts.
