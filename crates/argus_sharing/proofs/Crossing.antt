@@ -5,7 +5,6 @@ use denote.Struct.Declared.{shape, row as declared_row}
 use denote.Param.Send.{IsSend, IsSync, recorded_send, sendable, struct_send, view_send}
 use Rattle.argus_actions.proofs.Crossing as actions
 use Rattle.argus_board.proofs.Crossing as board
-use Rattle.argus_board.specs.contracts.looker.Looker.{the_row as looker_row}
 use Rattle.argus_board.specs.declared.board.Board.{Ghosts}
 use Rattle.argus_contents.proofs.Crossing as contents
 use Rattle.argus_entries.proofs.Crossing as entries
@@ -20,14 +19,12 @@ use Rattle.argus_objects.proofs.holdings.Holdings.TheSendSync.{the_field_send as
 use Rattle.argus_receipts.specs.contracts.receipt.Receipt.{the_row as receipt_row}
 use Rattle.argus_sharing.specs.contracts.locked.Locked.TheInside.{the_type as inside}
 use Rattle.argus_sharing.specs.contracts.locked.Locked.{the_row as locked_row}
-use Rattle.argus_sharing.specs.contracts.seat.Seat.{the_row as seat_row}
 use Rattle.argus_sharing.specs.contracts.shared.Shared.{the_row as shared_row}
 use Rattle.argus_sharing.specs.contracts.shown_guardian.ShownGuardian.{the_field as shown_field, the_type as shown_type}
 use Rattle.argus_sharing.specs.declared.sharing.Sharing.{Ghosts as Named}
 use Rattle.argus_steps.specs.contracts.atomic_object.AtomicObject.{the_row as object_row}
 use Rattle.argus_steps.specs.contracts.parts.Parts.{the_field as parts_field, the_type as parts_type}
 use Rattle.core.proofs.ledger.Book.TheSendSync.{the_send as book_sends}
-use Rattle.core.proofs.ledger.Share.TheSendSync.{the_send as share_sends}
 use Rattle.core.specs.declared.ledger.Ledger.{Ghosts as Ledgered}
 use Rattle.std.proofs.Crossing.{crosses as std_crosses, send}
 use Rattle.std.specs.contracts.alloc.Global.{the_row as global}
