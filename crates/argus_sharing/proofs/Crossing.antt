@@ -19,12 +19,14 @@ use Rattle.argus_objects.proofs.holdings.Holdings.TheSendSync.{the_field_send as
 use Rattle.argus_receipts.specs.contracts.receipt.Receipt.{the_row as receipt_row}
 use Rattle.argus_sharing.specs.contracts.locked.Locked.TheInside.{the_type as inside}
 use Rattle.argus_sharing.specs.contracts.locked.Locked.{the_row as locked_row}
+use Rattle.argus_sharing.specs.contracts.seat.Seat.{the_row as seat_row}
 use Rattle.argus_sharing.specs.contracts.shared.Shared.{the_row as shared_row}
 use Rattle.argus_sharing.specs.contracts.shown_guardian.ShownGuardian.{the_field as shown_field, the_type as shown_type}
 use Rattle.argus_sharing.specs.declared.sharing.Sharing.{Ghosts as Named}
 use Rattle.argus_steps.specs.contracts.atomic_object.AtomicObject.{the_row as object_row}
 use Rattle.argus_steps.specs.contracts.parts.Parts.{the_field as parts_field, the_type as parts_type}
 use Rattle.core.proofs.ledger.Book.TheSendSync.{the_send as book_sends}
+use Rattle.core.proofs.ledger.Share.TheSendSync.{the_send as share_sends}
 use Rattle.core.specs.declared.ledger.Ledger.{Ghosts as Ledgered}
 use Rattle.std.proofs.Crossing.{crosses as std_crosses, send}
 use Rattle.std.specs.contracts.alloc.Global.{the_row as global}
@@ -73,7 +75,20 @@ module _ (N R : RattleType) (a : Named N.Denot) (l : Ledgered N.Denot) (g : Ghos
   pub shared_syncs : IsSync (shared_row N R a l g)
   shared_syncs = search (sendable, std_crosses, locked_sends) depth 40
 
+pub seat_sends : (N : RattleType) (a : Named N.Denot) (g : Ghosts N.Denot) (l : Ledgered N.Denot)
+    → IsSend (seat_row N a g l)
+seat_sends N a g l = search (sendable, share_sends) depth 40
+
 pub receipt_sends : IsSend receipt_row
 receipt_sends = search (sendable, entries.call_field_sends, entries.reply_field_sends) depth 40
 
-pub ruleset crosses = (memory.crosses, guardian_sends, locked_sends, shared_sends, shared_syncs, receipt_sends)
+pub ruleset crosses = (
+  memory.crosses,
+  board.looker_sends,
+  guardian_sends,
+  locked_sends,
+  shared_sends,
+  shared_syncs,
+  seat_sends,
+  receipt_sends,
+)
