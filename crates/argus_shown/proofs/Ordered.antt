@@ -1,5 +1,5 @@
 -- The order of calls, one more at a time.
-use Rattle.std.proofs.Common.{All, AllPairs, List, [], get_or, length, sym, subst, take, ℕ, ◌+◌, ◌++◌, ◌<◌, ◌≤◌, ◌∷◌, ◌≡◌}
+use Rattle.std.proofs.Common.{All, List, [], get_or, length, subst, sym, take, ℕ, ◌+◌, ◌++◌, ◌<◌, ◌≤◌, ◌∷◌, ◌≡◌}
 use Rattle.std.proofs.lemmas.List.{take_all, take_more}
 use Rattle.std.proofs.lemmas.List.Elements.{All-push, All-weaker}
 use Rattle.std.proofs.lemmas.List.Quantifiers.{all_pairs_push}
@@ -17,8 +17,7 @@ pub up_to_more : (o next : Order) (calls : List MadeCall) (i : ℕ) (d : MadeCal
 up_to_more o next calls i d l f (held, order) =
     let front : List MadeCall = take i calls in
     let call : MadeCall = get_or calls i d in
-    let e : take (i + 1) calls ≡ front ++ call ∷ [] = take_more calls i d l in
-    (
+    let e : take (i + 1) calls ≡ front ++ call ∷ [] = take_more calls i d l in (
       subst (All (Held next)) (sym e)
           (All-push (Held next) front call (All-weaker (Held o) (Held next) (λ c h. (f.0 c h).0) front held) f.1),
       subst InOrder (sym e)

@@ -18,12 +18,12 @@ use Rattle.argus_runs.specs.Comes.{Comes, comes, stops, ◌>>=◌}
 use Rattle.argus_runs.specs.Played.{told}
 use Rattle.argus_runs.specs.Replies.{begin_call, begun_by, flow_after, goes_on, is_over, named, object_of, test_call}
 use Rattle.argus_runs.specs.Running.{after_commit, after_others, begin_all, begin_arm, begin_one, commit_block}
-use Rattle.argus_runs.specs.Running.{finish, give_up, run_arm, run_arms, run_deed, run_part, run_parts, run_top, run_tops}
-use Rattle.argus_runs.specs.Running.{run_handed, then_on}
+use Rattle.argus_runs.specs.Running.{finish, give_up, run_arm, run_arms, run_deed, run_handed, run_part, run_parts}
+use Rattle.argus_runs.specs.Running.{run_top, run_tops, then_on}
 use Rattle.argus_runs.specs.declared.flow.Flow.{Flow}
 use Rattle.argus_runs.specs.declared.flow.Flow.TheVariants as flow
 use Rattle.argus_shown.specs.Laws.{ShownIsTold}
-use Rattle.argus_shown.specs.Shown.{Seen, enter_arm, entries_of, leave_arm, start, tell, tell_arm, tell_arms, tell_next}
+use Rattle.argus_shown.specs.Shown.{Seen, enter_arm, entries_of, leave_arm, start, tell, tell_arms, tell_next}
 use Rattle.argus_shown.specs.Shown.{with_call}
 
 -- entries that are told

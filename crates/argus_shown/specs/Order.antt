@@ -1,5 +1,5 @@
 -- Which calls are parallel, and the order of those that aren't.
-use Rattle.std.specs.Prelude.{Bool, List, None, Option, Some, false, not, ◌&&◌, ◌==◌, ◌≡◌, ◌<◌, ℕ}
+use Rattle.std.specs.Prelude.{Bool, List, None, Option, Some, false, not, ◌&&◌, ◌==◌, ◌≡◌, ◌<◌}
 use Rattle.std.specs.Prelude.{nat_lt}
 use Rattle.std.specs.List.{AllPairs}
 use Rattle.argus_shown.specs.declared.arm_number.ArmNumber.{ArmNumber}

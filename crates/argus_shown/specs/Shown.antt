@@ -1,12 +1,13 @@
 -- What receipts in script order show: that they tell a run, who made each call, and what became of
 -- the arms of outermost coenters.
-use Rattle.std.specs.Prelude.{Bool, List, None, Option, Some, cond, false, if◌then◌else◌, map, true}
+use Rattle.std.specs.Prelude.{Bool, List, None, Option, Some, cond, false, if◌then◌else◌, map}
 use Rattle.std.specs.Prelude.{ℕ, ◌+◌, ◌++◌, ◌∷◌, ◌≡◌, []}
 use Rattle.argus_actions.specs.declared.action_id.ActionId.{ActionId}
 use Rattle.argus_commands.specs.Part.{Part, Parts, more, none}
 use Rattle.argus_commands.specs.Script.{PlainScript}
 use Rattle.argus_contents.specs.declared.obj_id.ObjId.{ObjId}
-use Rattle.argus_entries.specs.Call.{PlainCall, abort}
+use Rattle.argus_entries.specs.Call.{PlainCall, abort, abort_others, alter, ask, begin_nested}
+use Rattle.argus_entries.specs.Call.{begin_sub, begin_top, commit, declare, test_read, test_write}
 use Rattle.argus_entries.specs.Entry.{PlainEntry}
 use Rattle.argus_entries.specs.Reply.{PlainReply, answered, begun, object, refused}
 use Rattle.argus_entries.specs.Same.{same_call}
@@ -23,9 +24,9 @@ use Rattle.argus_shown.specs.declared.ended.Ended.{Ended}
 use Rattle.argus_shown.specs.declared.ended.Ended.TheVariants as ended
 use Rattle.argus_shown.specs.declared.made_call.MadeCall.{MadeCall}
 
--- What was seen of a run so far: the receipts still to be told; who made each call that was; the arm
--- of an outermost coenter that runs, and how it stands; how many outermost coenters ran before, and
--- what became of the arms so far.
+-- What was seen of a run so far: the receipts still to be told; who made each call that was; the
+-- arm of an outermost coenter that runs, and how it stands; how many outermost coenters ran before,
+-- and what became of the arms so far.
 pub record Seen : Type 0 where
   pub left : List PlainReceipt
   pub calls : List MadeCall
@@ -41,10 +42,19 @@ found_over (object o) = false
 found_over (begun a) = false
 found_over (answered x) = false
 
--- an arm ends with an abort or a commit
+-- an arm ends with an abort, or with a commit
 abbrev pub ended_with : PlainCall → Ended
 ended_with (abort a) = ended.Aborted
-ended_with _ = ended.Committed
+ended_with (declare shape) = ended.Committed
+ended_with begin_top = ended.Committed
+ended_with (begin_sub a) = ended.Committed
+ended_with (begin_nested a) = ended.Committed
+ended_with (commit a) = ended.Committed
+ended_with (abort_others a) = ended.Committed
+ended_with (ask a o q) = ended.Committed
+ended_with (alter a o c) = ended.Committed
+ended_with (test_read a o) = ended.Committed
+ended_with (test_write a o) = ended.Committed
 
 -- how an arm has ended, if this was its last call
 abbrev pub ended_by : PlainEntry → Ended
@@ -110,9 +120,9 @@ start receipts = record {
 abbrev pub IsWhole : Seen → Type 0
 IsWhole s = (s.left ≡ []) × InOrder s.calls
 
--- The receipts are those of the calls of a run of the script, each the one that comes next after the
--- replies before it, and no more; of two calls that aren't parallel the earlier has the lower number;
--- and this became of the arms.
+-- The receipts are those of the calls of a run of the script, each the one that comes next after
+-- the replies before it, and no more; of two calls that aren't parallel the earlier has the lower
+-- number; and this became of the arms.
 abbrev pub IsShown : PlainScript → List PlainReceipt → List ArmOutcome → Type 0
 IsShown script receipts outcomes = (numbers : List ObjId) × (end : Seen)
     × (run_script Seen tell (Some (tell_arms 0)) script (start receipts) ≡ comes numbers end)

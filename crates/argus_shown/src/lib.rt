@@ -15,4 +15,3 @@ pub use arm_outcome::ArmOutcome;
 pub use ended::Ended;
 pub use laws::what_is_shown_is_told;
 pub use showing::shown;
-

@@ -45,7 +45,7 @@ fn next_order(order: Order, call: MadeCall) -> Option<Order>
         (Some(last), Some(arm)) if last.coenter == arm.coenter => {
             next_in_coenter(order, last, arm, call.at)
         }
-        _ => next_elsewhere(order, call),
+        (Some(_), Some(_)) | (Some(_), None) | (None, _) => next_elsewhere(order, call),
     }
 }
 
@@ -73,7 +73,11 @@ fn next_in_coenter(order: Order, last: ArmNumber, arm: ArmNumber, at: u64) -> Op
     if arm.arm < last.arm {
         return None;
     }
-    let least = if arm.arm == last.arm { order.within } else { order.beside };
+    let least = if arm.arm == last.arm {
+        order.within
+    } else {
+        order.beside
+    };
     if number < least {
         return None;
     }

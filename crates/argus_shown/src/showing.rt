@@ -20,8 +20,8 @@ use argus_runs::run_script;
 /// outermost coenter that ran, in script order.
 ///
 /// Script order is that of a run whose arms run one after another: for a coenter the begins of all
-/// its arms, then each arm's calls, arm after arm. Two calls are *parallel* where two different arms
-/// of one outermost coenter made them; a begin of an arm isn't made by the arm.
+/// its arms, then each arm's calls, arm after arm. Two calls are *parallel* where two different
+/// arms of one outermost coenter made them; a begin of an arm isn't made by the arm.
 ///
 /// `None` comes where the receipts don't show a run: a call isn't the one that comes next after the
 /// replies before it, one is lacking or too many, or of two that aren't parallel the earlier hasn't

@@ -3,12 +3,13 @@
 ghost use Rattle.std.specs.Prelude.{IfOk, None, OnOk, ◌≡◌};
 ghost use Rattle.argus_commands.specs.Part.{plain_step};
 ghost use Rattle.argus_entries.specs.Call.{plain_call};
+ghost use Rattle.argus_entries.specs.Reply.{plain_reply};
 ghost use Rattle.argus_entries.specs.Same.{same_call};
 ghost use Rattle.argus_runs.specs.Comes.{comes};
 ghost use Rattle.argus_runs.specs.Running.{run_arm};
 ghost use Rattle.argus_runs.specs.declared.flow.Flow.TheVariants.{On};
 ghost use Rattle.argus_receipts.specs.Receipt.{plain_receipt};
-ghost use Rattle.argus_shown.specs.Shown.{Seen, ended_by, tell, tell_arm};
+ghost use Rattle.argus_shown.specs.Shown.{Seen, ended_by, found_over, tell, tell_arm};
 ghost use Rattle.argus_shown.specs.State.{seen_by};
 
 use crate::arm_number::ArmNumber;
@@ -88,7 +89,7 @@ impl Caller for Teller<'_> {
                 self.ended = ended_by(receipt);
                 Ok(reply)
             }
-            _ => {
+            Some(_) | None => {
                 self.unfit = true;
                 Err(Stopped)
             }
@@ -156,13 +157,43 @@ fn is_of(receipt: &Receipt, call: &Call) -> bool
     receipt.call == *call
 }
 
-// How an arm stands after a call of its own.
+// How an arm has ended, if this was its last call.
 fn ended_by(receipt: &Receipt) -> Ended
     ensures { result ≡ ended_by (plain_receipt receipt.now).entry }
 {
-    match (&receipt.reply, &receipt.call) {
-        (Reply::Refused(Refusal::NoAction) | Reply::Refused(Refusal::Over), _) => Ended::Over,
-        (_, Call::Abort(_)) => Ended::Aborted,
-        _ => Ended::Committed,
+    if is_found_over(&receipt.reply) {
+        return Ended::Over;
+    }
+    match &receipt.call {
+        Call::Abort(_) => Ended::Aborted,
+        Call::Declare(_)
+        | Call::BeginTop
+        | Call::BeginSub(_)
+        | Call::BeginNested(_)
+        | Call::Commit(_)
+        | Call::AbortOthers(_)
+        | Call::Ask(_, _, _)
+        | Call::Alter(_, _, _)
+        | Call::TestRead(_, _)
+        | Call::TestWrite(_, _) => Ended::Committed,
+    }
+}
+
+// Whether a call was refused since its action is over, or was never begun.
+fn is_found_over(reply: &Reply) -> bool
+    ensures { result ≡ found_over (plain_reply reply.now) }
+{
+    match reply {
+        Reply::Refused(Refusal::NoAction) | Reply::Refused(Refusal::Over) => true,
+        Reply::Refused(Refusal::Suspended)
+        | Reply::Refused(Refusal::NoObject)
+        | Reply::Refused(Refusal::IllTyped)
+        | Reply::Refused(Refusal::Conflict)
+        | Reply::Refused(Refusal::TooDeep)
+        | Reply::Refused(Refusal::TooMany)
+        | Reply::Refused(Refusal::NoSiblings)
+        | Reply::Object(_)
+        | Reply::Begun(_)
+        | Reply::Answered(_) => false,
     }
 }

@@ -1,5 +1,5 @@
-//! Receipts written by hand, held against scripts: for each test of data/shown.rows what they show is
-//! compared, with ample memory and with each allocation refused in turn.
+//! Receipts written by hand, held against scripts: for each test of data/shown.rows what they show
+//! is compared, with ample memory and with each allocation refused in turn.
 #![tactic(auto)]
 
 mod receipt_reading;
@@ -44,7 +44,10 @@ fn check_row(heap: Heap, tight: Heap, budget: Budget, row: Row<'_>) -> Result<&'
         budget.lift();
         if let Ok(found) = answer {
             let told = outcomes_told(heap, found)?;
-            ensure!(told.as_str().trim_end() == row.shown.trim_end(), "something else is shown");
+            ensure!(
+                told.as_str().trim_end() == row.shown.trim_end(),
+                "something else is shown"
+            );
             ensure!(n > 0, "no allocation is refused");
             return Ok("as written");
         }
