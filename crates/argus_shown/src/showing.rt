@@ -25,8 +25,8 @@ use argus_runs::run_script;
 ///
 /// `None` comes where the receipts don't show a run: a call isn't the one that comes next after the
 /// replies before it, one is lacking or too many, or of two that aren't parallel the earlier hasn't
-/// the lower number. `OutOfMemory` may come in place of any answer. No call is copied, and of the
-/// replies one at a time.
+/// the lower number. `OutOfMemory` may come in place of any answer. No receipt's call is copied, and
+/// of the replies, and of the script's shapes and changes, one at a time.
 ///
 /// ```text
 /// let outcomes = shown(heap, &script, receipts.as_slice())?;
