@@ -1,0 +1,5 @@
+use Rattle.argus_shown.proofs.Ordered.{UpTo}
+use Rattle.argus_shown.proofs.ordering.in_order.Given as goal
+
+abbrev pub invariant-loop-call : goal.invariant-loop-call
+invariant-loop-call l = UpTo l.order l.calls l.call-index

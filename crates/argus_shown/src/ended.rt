@@ -1,0 +1,21 @@
+//! `Ended`: how an arm ended.
+
+/// How an arm of a coenter ended.
+///
+/// | Ended | When |
+/// |---|---|
+/// | `Committed` | its last call was a commit, which was accepted |
+/// | `Aborted` | its last call was an abort, and it isn't `Over` |
+/// | `Refused` | its begin was refused, so it made no call |
+/// | `Over` | its last call was refused since its action was over already, or was never begun |
+///
+/// ```text
+/// assert_eq!(rt; outcome.ended, Ended::Committed);
+/// ```
+#[derive(Clone, Copy, Debug, PartialEq, Eq)]
+pub enum Ended {
+    Committed,
+    Aborted,
+    Refused,
+    Over,
+}
