@@ -2,8 +2,8 @@
 
 use argus_memory::{Heap, OutOfMemory};
 
-/// Appends the text, so that it stands in the picture as it is: nothing in it is markup. A character
-/// that no XML text may have stands as `U+FFFD`.
+/// Appends the text, so that it stands in the picture as it is: nothing in it is markup. A
+/// character that no XML text may have stands as `U+FFFD`.
 pub(crate) fn append_escaped(text: &str, out: &mut String<Heap>) -> Result<(), OutOfMemory> {
     for character in text.chars() {
         match character {

@@ -94,21 +94,19 @@ fn draw_hold(
     Ok(())
 }
 
-// Each commit that changed what is in an object. A content that finds no room behind the one before
-// it stands in the title alone.
+// Each commit that changed what is in an object, the last first. A content has room up to the next
+// commit of its lane; where that is too little it stands in the title alone.
 fn draw_settlings(run: &Run<'_>, frame: &Frame, out: &mut String<Heap>) -> Result<(), OutOfMemory> {
-    let mut taken = [0u64; MAX_LANES as usize];
-    for settling in &run.settlings {
+    let mut ends = [width(frame); MAX_LANES as usize];
+    for settling in run.settlings.iter().rev() {
         if let Some(lane) = lane_of(frame, settling.object) {
             let x = entry_left(frame, settling.at);
             let top = lane_at(frame, lane);
             draw_settling(settling, x, top, out)?;
-            if let Some(until) = taken.get_mut(lane as usize) {
-                if *until <= x {
-                    draw_base(settling.base.as_str(), x, top, out)?;
-                    let letters = settling.base.len().min(MAX_CONTENT_LETTERS + 1) as u64;
-                    *until = x.saturating_add(6 * letters + 14);
-                }
+            if let Some(end) = ends.get_mut(lane as usize) {
+                let room = end.saturating_sub(x.saturating_add(12));
+                draw_base(settling.base.as_str(), x, top, room, out)?;
+                *end = x;
             }
             out.push_str("</g>\n")?;
         }
@@ -139,13 +137,31 @@ fn draw_settling(
     Ok(())
 }
 
-// What is in the object for good from here on.
-fn draw_base(base: &str, x: u64, top: u64, out: &mut String<Heap>) -> Result<(), OutOfMemory> {
+// What is in the object for good from here on, where so many pixels are enough for some of it.
+fn draw_base(
+    base: &str,
+    x: u64,
+    top: u64,
+    room: u64,
+    out: &mut String<Heap>,
+) -> Result<(), OutOfMemory> {
+    let letters = letters_within(room);
+    if letters < 3 && letters < base.len() {
+        return Ok(());
+    }
     let (left, line) = (x.saturating_add(6), top.saturating_add(LANE - 5));
     write!(out, "<text class=\"small\" x=\"{left}\" y=\"{line}\">")?;
-    append_shortened(base, MAX_CONTENT_LETTERS, out)?;
+    append_shortened(base, letters, out)?;
     out.push_str("</text>")?;
     Ok(())
+}
+
+// How many letters of a content so many pixels have room for.
+fn letters_within(room: u64) -> usize {
+    if room / 6 < MAX_CONTENT_LETTERS as u64 {
+        return (room / 6) as usize;
+    }
+    MAX_CONTENT_LETTERS
 }
 
 // The lane of the object at this place, where it has one.

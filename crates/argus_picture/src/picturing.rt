@@ -17,7 +17,8 @@ use std::str::from_utf8;
 
 /// The text of the picture of a journal's listing: an SVG 1.1 document, with no script and no link.
 ///
-/// `Fault` comes with the first faulty line, and why. `OutOfMemory` may come in place of any answer.
+/// `Fault` comes with the first faulty line, and why. `OutOfMemory` may come in place of any
+/// answer.
 ///
 /// ```text
 /// let text = picture(heap, b"0 begin_top -> a0\n1 commit a0 -> done\n")?;
@@ -67,11 +68,9 @@ fn read_run<'a>(heap: Heap, text: &'a str) -> Result<Run<'a>, PictureError> {
 fn draw_run(run: &Run<'_>, out: &mut String<Heap>) -> Result<(), OutOfMemory> {
     let frame = frame_of(run);
     let (wide, high) = (width(&frame), height(&frame));
-    write!(
-        out,
-        "<svg xmlns=\"http://www.w3.org/2000/svg\" version=\"1.1\" width=\"{wide}\" height=\"{high}\" "
-    )?;
-    write!(out, "viewBox=\"0 0 {wide} {high}\">\n")?;
+    out.push_str("<svg xmlns=\"http://www.w3.org/2000/svg\" version=\"1.1\"")?;
+    write!(out, " width=\"{wide}\" height=\"{high}\"")?;
+    write!(out, " viewBox=\"0 0 {wide} {high}\">\n")?;
     out.push_str("<title>The run that a journal tells</title>\n")?;
     out.push_str(LOOKS)?;
     write!(
@@ -148,8 +147,9 @@ fn draw_counts(
     let no_lane = objects.saturating_sub(frame.lanes as usize);
     write!(
         out,
-        "<text class=\"small\" x=\"14\" y=\"{line}\">{entries} entries, {actions} actions, {objects} objects. "
+        "<text class=\"small\" x=\"14\" y=\"{line}\">{entries} entries, "
     )?;
+    write!(out, "{actions} actions, {objects} objects. ")?;
     if no_row > 0 || no_strip > 0 || no_lane > 0 {
         write!(
             out,
