@@ -33,12 +33,32 @@ fn read_opening<'a>(text: &'a str) -> Option<Line<'a>> {
 
 fn read_entry<'a>(line: &'a str) -> Option<Line<'a>> {
     let (number, text) = line.split_once(' ')?;
-    let (call, reply) = call_and_reply(text)?;
+    let (asked, answered) = call_and_reply(text)?;
+    let call = read_call(asked)?;
+    let reply = read_reply(asked, answered);
+    if !may_be_given(call, reply) {
+        return None;
+    }
     Some(Line::Entry {
         number: number.parse::<u64>().ok()?,
-        call: read_call(call)?,
-        reply: read_reply(call, reply),
+        call,
+        reply,
     })
+}
+
+// Whether the call may be answered so: an end only by `done`, a change by a signal too.
+fn may_be_given(call: Call<'_>, reply: Reply<'_>) -> bool {
+    match (call, reply) {
+        (_, Reply::Refused(_) | Reply::NotFree) => true,
+        (Call::Declare(_) | Call::BeginTop, Reply::Given(_)) => true,
+        (Call::BeginSub(_) | Call::BeginNested(_), Reply::Given(_)) => true,
+        (Call::Commit(_) | Call::Abort(_) | Call::AbortOthers(_), Reply::Given(answer)) => {
+            answer == "done"
+        }
+        (Call::Access(access), Reply::Given(answer)) => {
+            access.change.is_none() || answer == "done" || answer.starts_with("signal ")
+        }
+    }
 }
 
 // The call and the reply round the arrow: a change may have an arrow in its text, and then the
