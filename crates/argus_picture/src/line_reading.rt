@@ -46,7 +46,7 @@ fn read_entry<'a>(line: &'a str) -> Option<Line<'a>> {
     })
 }
 
-// Whether the call may be answered so: an end only by `done`, a change by a signal too.
+// Whether the call may be answered so: an end by `done` alone.
 fn may_be_given(call: Call<'_>, reply: Reply<'_>) -> bool {
     match (call, reply) {
         (_, Reply::Refused(_) | Reply::NotFree) => true,
@@ -56,18 +56,25 @@ fn may_be_given(call: Call<'_>, reply: Reply<'_>) -> bool {
             answer == "done"
         }
         (Call::Access(access), Reply::Given(answer)) => {
-            access.change.is_none() || answer == "done" || answer.starts_with("signal ")
+            access.change.is_none() || is_change_answer(answer)
         }
     }
 }
 
-// The call and the reply round the arrow: a change may have an arrow in its text, and then the
-// reply has none; a query has none.
+// The call and the reply round the arrow. A change that is handed a value may have an arrow in its
+// text, and then its reply has none; of all others the call has none.
 fn call_and_reply<'a>(text: &'a str) -> Option<(&'a str, &'a str)> {
-    if text.starts_with("alter ") {
-        return text.rsplit_once(" -> ");
+    match text.split(' ').nth(3) {
+        Some("create" | "set_field" | "store" | "addh" | "addl" | "change_tag") => {
+            text.rsplit_once(" -> ")
+        }
+        _ => text.split_once(" -> "),
     }
-    text.split_once(" -> ")
+}
+
+// Whether a change may be answered so.
+fn is_change_answer(answer: &str) -> bool {
+    answer == "done" || answer.starts_with("signal ") || answer.starts_with("val ")
 }
 
 fn read_call<'a>(text: &'a str) -> Option<Call<'a>> {
