@@ -13,13 +13,18 @@ use test_rows::{RowFault, Setting, Subject, first_word};
 /// The calls of `argus_contents` that rows make.
 ///
 /// ```text
-/// let text = Calls.answer(setting, "ask 1[10,20] fetch 2")?;      // `val 20`
+/// let mut calls = Calls::new(setting);
+/// let text = calls.answer(setting, "ask 1[10,20] fetch 2")?;      // `val 20`
 /// ```
 #[derive(Clone, Copy)]
 pub(crate) struct Calls;
 
 impl Subject for Calls {
-    fn answer(&self, setting: Setting, asked: &str) -> Result<String<Heap>, RowFault> {
+    fn new(_setting: Setting) -> Calls {
+        Calls
+    }
+
+    fn answer(&mut self, setting: Setting, asked: &str) -> Result<String<Heap>, RowFault> {
         let (word, rest) = first_word(asked);
         match word {
             "ask" => answer_query(setting, rest),

@@ -16,14 +16,25 @@ pub(crate) fn answer_change(
     let (content, change) = first_word(text);
     let content = kept_of(setting.texts, content)?;
     let change = change_of(setting.texts, change)?;
+    made(setting, way, &content, change)
+}
+
+fn made(
+    setting: Setting,
+    way: &str,
+    content: &Option<Content>,
+    change: Change,
+) -> Result<String<Heap>, RowFault>
+    requires { KeepsLimits (plain_option content.now) }
+{
     // a copy has room for its items alone
-    let full = Content::duplicate_option(setting.heap, &content)?;
+    let full = Content::duplicate_option(setting.heap, content)?;
     setting.limit();
     match way {
-        "change" => in_each_way(setting, &content, full, change),
-        "change_answer" => foreseen(setting, &content, &change),
-        "alter" => altered(setting, &content, &change),
-        "alter_copy" => altered_copy(setting, &content, change),
+        "change" => in_each_way(setting, content, full, change),
+        "change_answer" => foreseen(setting, content, &change),
+        "alter" => altered(setting, content, &change),
+        "alter_copy" => altered_copy(setting, content, change),
         "alter_in_place" => altered_in_place(setting, full, change),
         _ => Err(RowFault::NotSpelled),
     }
@@ -39,15 +50,50 @@ fn in_each_way(
     requires content { KeepsLimits (plain_option content.now) }
     requires full { KeepsLimits (plain_option full) }
 {
-    let moved = change.duplicate(setting.texts)?;
-    let answer = foreseen(setting, content, &change)?;
-    let mut out = altered(setting, content, &change)?;
-    let copy = altered_copy(setting, content, change)?;
-    let in_place = altered_in_place(setting, full, moved)?;
-    if out != copy || out != in_place || !out.as_str().starts_with(answer.as_str()) {
-        tell_word("and something else where it is made otherwise", &mut out)?;
+    let mut out = as_foreseen(setting, content, &change)?;
+    let other = copied_and_in_place(setting, content, full, change)?;
+    if out != other {
+        tell_other(&mut out)?;
     }
     Ok(out)
+}
+
+// On a content that stays, and its answer alone.
+fn as_foreseen(
+    setting: Setting,
+    content: &Option<Content>,
+    change: &Change,
+) -> Result<String<Heap>, RowFault>
+    requires { KeepsLimits (plain_option content.now) }
+{
+    let answer = foreseen(setting, content, change)?;
+    let mut out = altered(setting, content, change)?;
+    if !out.as_str().starts_with(answer.as_str()) {
+        tell_other(&mut out)?;
+    }
+    Ok(out)
+}
+
+fn copied_and_in_place(
+    setting: Setting,
+    content: &Option<Content>,
+    full: Option<Content>,
+    change: Change,
+) -> Result<String<Heap>, RowFault>
+    requires content { KeepsLimits (plain_option content.now) }
+    requires full { KeepsLimits (plain_option full) }
+{
+    let moved = change.duplicate(setting.texts)?;
+    let mut out = altered_copy(setting, content, change)?;
+    let in_place = altered_in_place(setting, full, moved)?;
+    if out != in_place {
+        tell_other(&mut out)?;
+    }
+    Ok(out)
+}
+
+fn tell_other(out: &mut String<Heap>) -> Result<(), OutOfMemory> {
+    tell_word("and something else where it is made otherwise", out)
 }
 
 // The answer alone.

@@ -19,15 +19,44 @@ pub(crate) fn answer_comparison(setting: Setting, text: &str) -> Result<String<H
 
 fn are_same(heap: Heap, kind: &str, one: &str, other: &str) -> Result<bool, RowFault> {
     match kind {
-        "value" => Ok(read_value(heap, one)? == read_value(heap, other)?),
-        "content" => Ok(read_content(heap, one)? == read_content(heap, other)?),
-        "turned" => Ok(turned(heap, read_content(heap, one)?)? == read_content(heap, other)?),
-        "shape" => Ok(shape_of(heap, one)? == shape_of(heap, other)?),
-        "query" => Ok(query_of(one)? == query_of(other)?),
-        "change" => Ok(change_of(heap, one)? == change_of(heap, other)?),
-        "answer" => Ok(answer_of(heap, one)? == answer_of(heap, other)?),
+        "value" => are_same_values(heap, one, other),
+        "content" => are_same_contents(heap, one, other),
+        "turned" => are_same_turned(heap, one, other),
+        "shape" => are_same_shapes(heap, one, other),
+        "query" => are_same_queries(one, other),
+        "change" => are_same_changes(heap, one, other),
+        "answer" => are_same_answers(heap, one, other),
         _ => Err(RowFault::NotSpelled),
     }
+}
+
+fn are_same_values(heap: Heap, one: &str, other: &str) -> Result<bool, RowFault> {
+    Ok(read_value(heap, one)? == read_value(heap, other)?)
+}
+
+fn are_same_contents(heap: Heap, one: &str, other: &str) -> Result<bool, RowFault> {
+    Ok(read_content(heap, one)? == read_content(heap, other)?)
+}
+
+fn are_same_turned(heap: Heap, one: &str, other: &str) -> Result<bool, RowFault> {
+    let turned = turned(heap, read_content(heap, one)?)?;
+    Ok(turned == read_content(heap, other)?)
+}
+
+fn are_same_shapes(heap: Heap, one: &str, other: &str) -> Result<bool, RowFault> {
+    Ok(shape_of(heap, one)? == shape_of(heap, other)?)
+}
+
+fn are_same_queries(one: &str, other: &str) -> Result<bool, RowFault> {
+    Ok(query_of(one)? == query_of(other)?)
+}
+
+fn are_same_changes(heap: Heap, one: &str, other: &str) -> Result<bool, RowFault> {
+    Ok(change_of(heap, one)? == change_of(heap, other)?)
+}
+
+fn are_same_answers(heap: Heap, one: &str, other: &str) -> Result<bool, RowFault> {
+    Ok(answer_of(heap, one)? == answer_of(heap, other)?)
 }
 
 fn shape_of(heap: Heap, text: &str) -> Result<Shape, RowFault> {

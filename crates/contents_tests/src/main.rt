@@ -30,10 +30,10 @@ const TEXTS: [&str; 6] = [
 ];
 
 fn main(rt: HostRuntime) -> Result<()> {
-    let mut tester = Tester::new(rt.alloc())?;
+    let mut tester = Tester::<Calls>::new(rt.alloc())?;
     for name in TEXTS {
         let text = fs::read_to_string(&rt, name)?;
-        tester.run_text(&rt, &Calls, text.as_str())?;
+        tester.run_text(&rt, text.as_str())?;
     }
     tester.tell_counts(&rt)?;
     ensure!(tester.is_content(), "not all rows are answered as they say");

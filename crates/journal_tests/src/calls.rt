@@ -12,13 +12,18 @@ use test_rows::{RowFault, Setting, Subject, first_word};
 /// The calls of `argus_entries`, `argus_journal` and `argus_receipts` that rows make.
 ///
 /// ```text
-/// let text = Calls.answer(setting, "line 7 commit a2 : done")?;       // `7 commit a2 -> done`
+/// let mut calls = Calls::new(setting);
+/// let text = calls.answer(setting, "line 7 commit a2 : done")?;       // `7 commit a2 -> done`
 /// ```
 #[derive(Clone, Copy)]
 pub(crate) struct Calls;
 
 impl Subject for Calls {
-    fn answer(&self, setting: Setting, asked: &str) -> Result<String<Heap>, RowFault> {
+    fn new(_setting: Setting) -> Calls {
+        Calls
+    }
+
+    fn answer(&mut self, setting: Setting, asked: &str) -> Result<String<Heap>, RowFault> {
         let (word, rest) = first_word(asked);
         match word {
             "line" => answer_line(setting, rest),

@@ -31,10 +31,10 @@ const TEXTS: [&str; 4] = [
 
 fn main(rt: HostRuntime) -> Result<()> {
     call_laws();
-    let mut tester = Tester::new(rt.alloc())?;
+    let mut tester = Tester::<Calls>::new(rt.alloc())?;
     for name in TEXTS {
         let text = fs::read_to_string(&rt, name)?;
-        tester.run_text(&rt, &Calls, text.as_str())?;
+        tester.run_text(&rt, text.as_str())?;
     }
     tester.tell_counts(&rt)?;
     ensure!(tester.is_content(), "not all rows are answered as they say");

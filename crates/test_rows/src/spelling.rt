@@ -1,5 +1,6 @@
 //! The bytes that lines of rows stand for.
 
+use crate::counting::{Counted, counted_of};
 use crate::row_fault::RowFault;
 use argus_memory::Heap;
 use std::str::from_utf8;
@@ -65,7 +66,10 @@ fn spell_mark(mark: &str, out: &mut Vec<u8, Heap>) -> Result<(), RowFault> {
         "space" => add(" ", out),
         "return" => add("\r", out),
         "feed" => add("\n", out),
-        _ => spell_number(mark, out),
+        _ => match counted_of(mark) {
+            Some(counted) => add_counted(counted, out),
+            None => spell_number(mark, out),
+        },
     }
 }
 
@@ -79,6 +83,14 @@ fn spell_number(mark: &str, out: &mut Vec<u8, Heap>) -> Result<(), RowFault> {
         Some((times, text)) => add_times(times.parse::<u32>()?, text, out),
         None => Err(RowFault::NotSpelled),
     }
+}
+
+fn add_counted(counted: Counted<'_>, out: &mut Vec<u8, Heap>) -> Result<(), RowFault> {
+    for step in 0..=counted.steps() {
+        let text = counted.row_at(*out.allocator(), step)?;
+        add(text.as_str(), out)?;
+    }
+    Ok(())
 }
 
 fn add_times(times: u32, text: &str, out: &mut Vec<u8, Heap>) -> Result<(), RowFault> {

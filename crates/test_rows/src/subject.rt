@@ -4,10 +4,18 @@ use crate::row_fault::RowFault;
 use crate::setting::Setting;
 use argus_memory::Heap;
 
-/// What rows are told to.
-pub trait Subject {
+/// What the rows of one test are told to, one after another.
+///
+/// ```text
+/// let mut calls = Calls::new(setting);
+/// let text = calls.answer(setting, "name acct")?;                 // `good`
+/// ```
+pub trait Subject: Drop {
+    /// What a test begins with.
+    fn new(setting: Setting) -> Self;
+
     /// What the text before a row's arrow is answered. It's read with all memory; then the
     /// setting's limit holds for what is tested. Where an allocation is refused all has to be as
     /// before, and `OutOfMemory` comes.
-    fn answer(&self, setting: Setting, asked: &str) -> Result<String<Heap>, RowFault>;
+    fn answer(&mut self, setting: Setting, asked: &str) -> Result<String<Heap>, RowFault>;
 }

@@ -18,55 +18,74 @@ use std::io::Print;
 // No row takes so many allocations.
 const MOST: u64 = 10_000;
 
-/// Runs the tests of texts, and keeps count. Each row is told to the subject with ample memory;
-/// then, but in large tests, with each allocation refused in turn.
+/// Runs the tests of texts, and keeps count. Each test has two subjects of its own. Each row is told
+/// to one with ample memory; then, but in large tests, to the other one with each allocation
+/// refused in turn.
 ///
 /// ```text
-/// let mut tester = Tester::new(rt.alloc())?;
-/// tester.run_text(&rt, &subject, "test a_name\nname acct -> good\n")?;     // `a_name: 1 rows`
+/// let mut tester = Tester::<Calls>::new(rt.alloc())?;
+/// tester.run_text(&rt, "test a_name\nname acct -> good\n")?;       // `a_name: 1 rows`
 /// ```
 #[derive(Drop)]
-pub struct Tester {
+pub struct Tester<S: Subject> {
     setting: Setting,
+    // Those of the test that is running, and how many allocations its second one was refused.
+    ample: S,
+    tight: S,
+    rows: u32,
+    refusals: u64,
     // The first words of the rows that were refused an allocation.
     refused: BTreeSet<String<Heap>, Heap>,
     tests: u32,
-    // Those of the test that is running.
-    rows: u32,
     wrong: u32,
 }
 
-impl Tester {
+impl<S: Subject> Tester<S> {
     /// No test was run.
-    pub fn new(alloc: Global) -> Result<Tester, AllocError> {
+    pub fn new(alloc: Global) -> Result<Tester<S>, AllocError> {
         let setting = Setting::new(alloc)?;
         Ok(Tester {
             setting,
+            ample: S::new(setting),
+            tight: S::new(setting),
+            rows: 0,
+            refusals: 0,
             refused: BTreeSet::new(setting.texts),
             tests: 0,
-            rows: 0,
             wrong: 0,
         })
     }
 
-    /// Runs each test of the text, and tells how many rows it has.
-    pub fn run_text<S: Subject>(&mut self, rt: &impl Print, subject: &S, text: &str) -> Result<()> {
+    /// Runs each test of the text, and tells how many rows it has. The text may have one heading of
+    /// rows that come before those of each test below it.
+    pub fn run_text(&mut self, rt: &impl Print, text: &str) -> Result<()> {
+        match text.split_once("before each test\n") {
+            None => self.run_blocks(rt, "", text),
+            Some((above, below)) => {
+                let (before, tests) = below.split_once("\n\n").unwrap_or((below, ""));
+                self.run_blocks(rt, "", above)?;
+                self.run_blocks(rt, before, tests)
+            }
+        }
+    }
+
+    fn run_blocks(&mut self, rt: &impl Print, before: &str, text: &str) -> Result<()> {
         for block in text.split("\n\n") {
-            self.run_block(rt, subject, block)?;
+            self.run_block(rt, before, block)?;
         }
         Ok(())
     }
 
-    fn run_block<S: Subject>(&mut self, rt: &impl Print, subject: &S, block: &str) -> Result<()> {
+    fn run_block(&mut self, rt: &impl Print, before: &str, block: &str) -> Result<()> {
         match block_of(block) {
             Block::Test {
                 name,
                 is_large,
                 lines,
             } => {
-                self.rows = 0;
-                self.run_lines(rt, subject, is_large, lines)?;
-                self.tests = self.tests.saturating_add(1);
+                self.begin_test();
+                self.run_lines(rt, is_large, before)?;
+                self.run_lines(rt, is_large, lines)?;
                 println!(rt; "{name}: {} rows", self.rows)?;
             }
             Block::Comment => {}
@@ -75,83 +94,74 @@ impl Tester {
         Ok(())
     }
 
-    fn run_lines<S: Subject>(
-        &mut self,
-        rt: &impl Print,
-        subject: &S,
-        is_large: bool,
-        lines: &str,
-    ) -> Result<()> {
+    fn begin_test(&mut self) {
+        self.ample = S::new(self.setting);
+        self.tight = S::new(self.setting);
+        self.rows = 0;
+        self.refusals = 0;
+        self.tests = self.tests.saturating_add(1);
+    }
+
+    fn run_lines(&mut self, rt: &impl Print, is_large: bool, lines: &str) -> Result<()> {
         for line in lines.lines() {
             if !line.starts_with('#') {
-                self.run_line(rt, subject, is_large, line)?;
+                self.run_line(rt, is_large, line)?;
             }
         }
         Ok(())
     }
 
-    fn run_line<S: Subject>(
-        &mut self,
-        rt: &impl Print,
-        subject: &S,
-        is_large: bool,
-        line: &str,
-    ) -> Result<()> {
+    fn run_line(&mut self, rt: &impl Print, is_large: bool, line: &str) -> Result<()> {
         match counted_of(line) {
-            None => self.run_row(rt, subject, is_large, line),
-            Some(counted) => self.run_counted(rt, subject, is_large, counted),
+            None => self.run_row(rt, is_large, line),
+            Some(counted) => self.run_counted(rt, is_large, counted),
         }
     }
 
-    fn run_counted<S: Subject>(
-        &mut self,
-        rt: &impl Print,
-        subject: &S,
-        is_large: bool,
-        counted: Counted<'_>,
-    ) -> Result<()> {
+    fn run_counted(&mut self, rt: &impl Print, is_large: bool, counted: Counted<'_>) -> Result<()> {
         for step in 0..=counted.steps() {
             let row = counted.row_at(self.setting.texts, step)?;
-            self.run_row(rt, subject, is_large, row.as_str())?;
+            self.run_row(rt, is_large, row.as_str())?;
         }
         Ok(())
     }
 
-    fn run_row<S: Subject>(
-        &mut self,
-        rt: &impl Print,
-        subject: &S,
-        is_large: bool,
-        row: &str,
-    ) -> Result<()> {
+    fn run_row(&mut self, rt: &impl Print, is_large: bool, row: &str) -> Result<()> {
         self.rows = self.rows.saturating_add(1);
         let (asked, wanted) = row.split_once(" -> ").unwrap_or((row, "an answer"));
-        if let Some(counted) = asked.strip_prefix("allocations ") {
-            let answer = self.allocations(subject, counted, wanted);
+        if asked == "refusals" {
+            let answer = self.number_text(self.refusals, wanted);
             return self.compare(rt, row, wanted, answer);
         }
-        let answer = self.ample_answer(subject, asked);
+        if let Some(counted) = asked.strip_prefix("allocations ") {
+            let answer = self.allocations(counted, wanted);
+            return self.compare(rt, row, wanted, answer);
+        }
+        let answer = self.ample_answer(asked);
         self.compare(rt, row, wanted, answer)?;
         if is_large {
             return Ok(());
         }
-        let answer = self.tight_answer(subject, asked);
+        let answer = self.tight_answer(asked);
         self.compare_tight(rt, row, wanted, answer)
     }
 
-    fn ample_answer<S: Subject>(&self, subject: &S, asked: &str) -> Result<String<Heap>, RowFault> {
+    fn ample_answer(&mut self, asked: &str) -> Result<String<Heap>, RowFault> {
         let asked = spelled_row(self.setting.texts, asked)?;
-        subject.answer(self.setting, asked.as_str())
+        let answer = self.ample.answer(self.setting, asked.as_str());
+        self.setting.lift();
+        answer
     }
 
     // First no allocation is allowed, then one, then two, until none is refused.
-    fn tight_answer<S: Subject>(&self, subject: &S, asked: &str) -> Result<TightAnswer, RowFault> {
+    fn tight_answer(&mut self, asked: &str) -> Result<TightAnswer, RowFault> {
         let asked = spelled_row(self.setting.texts, asked)?;
         for allowed in 0..MOST {
-            let answer = subject.answer(self.setting.allowing(allowed), asked.as_str());
+            let setting = self.setting.allowing(allowed);
+            let answer = self.tight.answer(setting, asked.as_str());
             self.setting.lift();
             match answer {
-                Err(RowFault::OutOfMemory) => {}
+                Err(RowFault::OutOfMemory) => self.refusals = self.refusals.saturating_add(1),
                 Err(fault) => return Err(fault),
                 Ok(text) => {
                     return Ok(TightAnswer {
@@ -164,19 +174,20 @@ impl Tester {
         Err(RowFault::NeverAnswered)
     }
 
-    // How many allocations what is asked takes; what is wanted, as `2 or more`, where they are.
-    fn allocations<S: Subject>(
-        &self,
-        subject: &S,
-        asked: &str,
-        wanted: &str,
-    ) -> Result<String<Heap>, RowFault> {
-        let answer = self.tight_answer(subject, asked)?;
+    // How many allocations what is asked takes. The subject with ample memory is told it, too.
+    fn allocations(&mut self, asked: &str, wanted: &str) -> Result<String<Heap>, RowFault> {
+        let _told = self.ample_answer(asked)?;
+        let answer = self.tight_answer(asked)?;
+        self.number_text(answer.refused, wanted)
+    }
+
+    // The number; what is wanted, as `2 or more`, where the number is.
+    fn number_text(&self, number: u64, wanted: &str) -> Result<String<Heap>, RowFault> {
         let mut out = String::new(self.setting.texts);
-        if is_least(wanted, answer.refused) {
+        if is_within(wanted, number) {
             out.push_str(wanted)?;
         } else {
-            tell_marked("", answer.refused, &mut out)?;
+            tell_marked("", number, &mut out)?;
         }
         Ok(out)
     }
@@ -250,10 +261,21 @@ impl Tester {
     }
 }
 
-// Whether the text is `2 or more`, and the number is.
-fn is_least(text: &str, number: u64) -> bool {
-    match text.strip_suffix(" or more") {
-        Some(least) => least.parse::<u64>().is_ok_and(|least| least <= number),
+// Whether the text is `2 or more` or `2 to 5`, and the number is.
+fn is_within(text: &str, number: u64) -> bool {
+    if let Some(least) = text.strip_suffix(" or more") {
+        return is_least(least, number);
+    }
+    match text.split_once(" to ") {
+        Some((least, most)) => is_least(least, number) && is_most(most, number),
         None => false,
     }
+}
+
+fn is_least(text: &str, number: u64) -> bool {
+    text.parse::<u64>().is_ok_and(|least| least <= number)
+}
+
+fn is_most(text: &str, number: u64) -> bool {
+    text.parse::<u64>().is_ok_and(|most| number <= most)
 }

@@ -1,0 +1,54 @@
+//! What is written, behind a text that was there before.
+
+use argus_memory::{Heap, OutOfMemory};
+use argus_texts::{read_content, read_shape, read_value, write_content, write_shape, write_value};
+use test_rows::{RowFault, Setting};
+
+// Stands in a text before anything is added.
+const BEFORE: &str = "before ";
+
+/// `same` where a value that was read is written as it was.
+pub(crate) fn append_value(setting: Setting, text: &str) -> Result<String<Heap>, RowFault> {
+    let value = read_value(setting.texts, text)?;
+    let mut out = String::from_str(setting.heap, BEFORE)?;
+    setting.limit();
+    let answer = write_value(&value, &mut out);
+    told(setting.texts, text, answer, out.as_str())
+}
+
+/// The same of a content.
+pub(crate) fn append_content(setting: Setting, text: &str) -> Result<String<Heap>, RowFault> {
+    let content = read_content(setting.texts, text)?;
+    let mut out = String::from_str(setting.heap, BEFORE)?;
+    setting.limit();
+    let answer = write_content(&content, &mut out);
+    told(setting.texts, text, answer, out.as_str())
+}
+
+/// The same of a shape.
+pub(crate) fn append_shape(setting: Setting, text: &str) -> Result<String<Heap>, RowFault> {
+    let Some(shape) = read_shape(setting.texts, text)? else {
+        return Err(RowFault::NotSpelled);
+    };
+    let mut out = String::from_str(setting.heap, BEFORE)?;
+    setting.limit();
+    let answer = write_shape(&shape, &mut out);
+    told(setting.texts, text, answer, out.as_str())
+}
+
+// After a refusal the text has to be as it was.
+fn told(
+    texts: Heap,
+    text: &str,
+    answer: Result<(), OutOfMemory>,
+    written: &str,
+) -> Result<String<Heap>, RowFault> {
+    match answer {
+        Ok(()) => match written.strip_prefix(BEFORE) {
+            Some(behind) if behind == text => Ok(String::from_str(texts, "same")?),
+            Some(_) | None => Ok(String::from_str(texts, written)?),
+        },
+        Err(OutOfMemory) if written == BEFORE => Err(RowFault::OutOfMemory),
+        Err(OutOfMemory) => Err(RowFault::Changed),
+    }
+}
