@@ -2,16 +2,19 @@
 //! status the program ends.
 //!
 //! The scripts lie in data/, which `examples` at the top of the repository leads to. A comment
-//! that begins with `# ./argus` is a command line, and is carried out.
+//! that begins with `# ./argus` is a command line, and is carried out. One that goes on to
+//! `./picture` draws the run, and the picture is held against the one that is stored.
 #![tactic(auto)]
 
 use anyhow::Result;
-use argus_cli::{NoOptions, Options, options, run};
+use argus_cli::{Listing, NoOptions, Options, options, run};
 use argus_memory::{Heap, OutOfMemory};
+use argus_picture::picture;
 use argus_streams::Watched;
 use std::alloc::Global;
 use std::fs;
 use std::io::Read;
+use std::rt::Files;
 use std::str::from_utf8;
 
 const EXAMPLES: [&str; 8] = [
@@ -29,7 +32,7 @@ fn main(rt: HostRuntime) -> Result<()> {
     let heap = Heap::new(rt.alloc())?;
     for name in EXAMPLES {
         let script = fs::read_to_string(&rt, name)?;
-        tell_example(&rt, heap, script.as_str())?;
+        tell_example(&rt, heap, name, script.as_str())?;
     }
     tell_command(&rt, heap, "< .", fs::open(&rt, ".")?)?;
     tell_command(&rt, heap, "--list locks", b"".as_slice())?;
@@ -37,11 +40,52 @@ fn main(rt: HostRuntime) -> Result<()> {
 }
 
 // Carries out each command line among the script's comments.
-fn tell_example(rt: &(impl Print + AllocGlobal), heap: Heap, script: &str) -> Result<()> {
+fn tell_example(
+    rt: &(impl Files + Print + AllocGlobal),
+    heap: Heap,
+    name: &str,
+    script: &str,
+) -> Result<()> {
     for line in script.lines() {
         if let Some(command) = line.strip_prefix("# ./argus ") {
-            tell_command(rt, heap, command, script.as_bytes())?;
+            if command.ends_with("| ./picture > run.svg") {
+                tell_picture(rt, heap, name, script)?;
+            } else {
+                tell_command(rt, heap, command, script.as_bytes())?;
+            }
         }
+    }
+    Ok(())
+}
+
+// Draws the journal of the script's run, and tells whether this is the picture that is stored. If it
+// is another, that one is told whole.
+fn tell_picture(
+    rt: &(impl Files + Print + AllocGlobal),
+    heap: Heap,
+    name: &str,
+    script: &str,
+) -> Result<()> {
+    let asked = Options {
+        listing: Listing::Journal,
+        checkpoint: false,
+    };
+    let mut writer = Watched::new(Vec::new(heap));
+    run(
+        heap,
+        &mut Watched::new(script.as_bytes()),
+        &mut writer,
+        asked,
+    )?;
+    let drawn = picture(heap, writer.get_ref())?;
+    let stem = name.strip_suffix(".argus").unwrap_or(name);
+    let path = format!(in rt.alloc(); "{stem}.svg")?;
+    let stored = fs::read_to_string(rt, path.as_str())?;
+    if drawn.as_str() == stored.as_str() {
+        rt.println(format_args!("{path}: the picture that is stored"))?;
+    } else {
+        rt.println(format_args!("{path}: another picture"))?;
+        rt.print(drawn.as_str())?;
     }
     Ok(())
 }

@@ -1,0 +1,25 @@
+-- Where things stand in a picture, in pixels from its upper left corner.
+use Rattle.std.specs.Prelude.{ℕ, ◌+◌, ◌*◌, max}
+use Rattle.argus_picture.specs.declared.step.Step.{Step}
+use Rattle.argus_picture.specs.declared.frame.Frame.{Frame}
+use Rattle.argus_picture.specs.Step.{pixels_of}
+
+-- where an entry stands
+abbrev pub x_of : Step → ℕ → ℕ
+x_of step entry = 168 + pixels_of step * entry
+
+-- the top of the bars in a row
+abbrev pub row_top : ℕ → ℕ
+row_top row = 132 + 30 * row
+
+-- the top of a lane: all lanes stand below all rows
+abbrev pub lane_top : Frame → ℕ → ℕ
+lane_top frame lane = 158 + 30 * frame.rows + 60 * lane
+
+-- how wide the picture is
+abbrev pub width_of : Frame → ℕ
+width_of frame = max (236 + pixels_of frame.step * frame.entries) 980
+
+-- how high the picture is
+abbrev pub height_of : Frame → ℕ
+height_of frame = lane_top frame frame.lanes + 40

@@ -1,0 +1,200 @@
+//! The actions of a picture: bars, ties and refused calls.
+
+use crate::action::Action;
+use crate::escaping::{append_escaped, open_group};
+use crate::fate::Fate;
+use crate::frame::{BAR, Frame, bar_top, entry_left};
+use crate::life::{Life, life_of, life_within};
+use crate::limits::MAX_ROWS;
+use crate::origin::Origin;
+use crate::refused_call::RefusedCall;
+use crate::run::Run;
+use argus_memory::{Heap, OutOfMemory};
+use std::fmt::Write;
+
+/// Draws the ties, then the bars, then what was refused.
+pub(crate) fn draw_actions(
+    run: &Run<'_>,
+    frame: &Frame,
+    out: &mut String<Heap>,
+) -> Result<(), OutOfMemory> {
+    for action in &run.actions {
+        draw_tie(run, frame, action, out)?;
+    }
+    draw_bars(run, frame, out)?;
+    draw_refused(run, frame, out)
+}
+
+// From the bar of who began the action down to its own, where both have a row.
+fn draw_tie(
+    run: &Run<'_>,
+    frame: &Frame,
+    action: &Action<'_>,
+    out: &mut String<Heap>,
+) -> Result<(), OutOfMemory> {
+    let (Some(row), Some(upper)) = (action.row, run.row(action.origin.creator())) else {
+        return Ok(());
+    };
+    let class = match action.origin {
+        Origin::Top | Origin::Sub(_) => "stem",
+        Origin::Nested(_) => "tie",
+    };
+    let x = entry_left(frame, action.begin);
+    let from = bar_top(frame, upper).saturating_add(BAR);
+    let to = bar_top(frame, row);
+    write!(out, "<path class=\"{class}\" d=\"M{x} {from}V{to}\"/>\n")?;
+    Ok(())
+}
+
+fn draw_bars(run: &Run<'_>, frame: &Frame, out: &mut String<Heap>) -> Result<(), OutOfMemory> {
+    let mut number = u64::from(run.first_action);
+    for action in &run.actions {
+        if let Some(row) = action.row {
+            open_group(action.first_line, action.last_line, out)?;
+            let life = life_drawn(run, action);
+            draw_bar(frame, action.fate, life, row, number, out)?;
+            out.push_str("</g>\n")?;
+        }
+        number = number.saturating_add(1);
+    }
+    Ok(())
+}
+
+// The action's life, within that of its parent.
+fn life_drawn(run: &Run<'_>, action: &Action<'_>) -> Life {
+    let life = life_of(action, run.entries);
+    match run.action(action.origin.parent()) {
+        Some(parent) => life_within(life, life_of(&parent, run.entries)),
+        None => life,
+    }
+}
+
+fn draw_bar(
+    frame: &Frame,
+    fate: Fate,
+    life: Life,
+    row: u32,
+    number: u64,
+    out: &mut String<Heap>,
+) -> Result<(), OutOfMemory> {
+    let x = entry_left(frame, life.begin);
+    let y = bar_top(frame, row);
+    let end = entry_left(frame, life.end);
+    let wide = end.saturating_sub(x).max(3);
+    let class = fate.class();
+    write!(
+        out,
+        "<rect class=\"bar {class}\" x=\"{x}\" y=\"{y}\" width=\"{wide}\" height=\"{BAR}\"/>"
+    )?;
+    if wide >= 12 {
+        draw_end(fate, end, y, out)?;
+    }
+    if wide >= room_for(number) {
+        let left = x.saturating_add(4);
+        let line = y.saturating_add(11);
+        write!(
+            out,
+            "<text class=\"name on-{class}\" x=\"{left}\" y=\"{line}\">a{number}</text>"
+        )?;
+    }
+    Ok(())
+}
+
+/// How wide a bar has to be for the number of its action.
+pub(crate) fn room_for(number: u64) -> u64 {
+    match number {
+        0..=9 => 24,
+        10..=99 => 31,
+        100..=9_999 => 45,
+        _ => 90,
+    }
+}
+
+// The sign at the end of a bar.
+fn draw_end(fate: Fate, x: u64, y: u64, out: &mut String<Heap>) -> Result<(), OutOfMemory> {
+    let (class, sign) = match fate {
+        Fate::Committed => return Ok(()),
+        Fate::Live => ("arrow", "l8 7l-8 7z"),
+        Fate::AbortedAlone => ("cross", "m-4 3l8 8m0 -8l-8 8"),
+        Fate::AbortedWithAncestor => ("cross", "m-4 7h8"),
+        Fate::AbortedBySibling => ("cross", "m4 2l-8 5l8 5"),
+    };
+    write!(out, "<path class=\"{class}\" d=\"M{x} {y}{sign}\"/>")?;
+    Ok(())
+}
+
+// Each refused call, on the bar of who made it, or above all bars. A name that finds no room behind
+// the one before it stands in the title alone.
+fn draw_refused(run: &Run<'_>, frame: &Frame, out: &mut String<Heap>) -> Result<(), OutOfMemory> {
+    let mut taken = [0u64; MAX_ROWS + 1];
+    for call in &run.refused {
+        let row = run.row(call.caller);
+        let x = entry_left(frame, call.at);
+        open_group(call.line, call.line, out)?;
+        draw_against(run, frame, call, row, out)?;
+        draw_mark(frame, x, row, out)?;
+        if let Some(until) = taken.get_mut(row.unwrap_or(MAX_ROWS as u32) as usize) {
+            if *until <= x {
+                draw_why(frame, call, row, out)?;
+                *until = x.saturating_add(6 * (call.why.len() as u64).min(1000) + 10);
+            }
+        }
+        out.push_str("</g>\n")?;
+    }
+    Ok(())
+}
+
+// The top of the bars in the row, or of the place above all bars.
+fn top_of(frame: &Frame, row: Option<u32>) -> u64 {
+    match row {
+        Some(row) => bar_top(frame, row),
+        None => 82,
+    }
+}
+
+fn draw_mark(
+    frame: &Frame,
+    x: u64,
+    row: Option<u32>,
+    out: &mut String<Heap>,
+) -> Result<(), OutOfMemory> {
+    let y = top_of(frame, row).saturating_add(1);
+    write!(out, "<path class=\"mark\" d=\"M{x} {y}l6 6l-6 6l-6 -6z\"/>")?;
+    Ok(())
+}
+
+fn draw_why(
+    frame: &Frame,
+    call: &RefusedCall<'_>,
+    row: Option<u32>,
+    out: &mut String<Heap>,
+) -> Result<(), OutOfMemory> {
+    let x = entry_left(frame, call.at).saturating_sub(4);
+    let y = top_of(frame, row).saturating_add(24);
+    write!(out, "<text class=\"small refusal\" x=\"{x}\" y=\"{y}\">")?;
+    append_escaped(call.why, out)?;
+    out.push_str("</text>")?;
+    Ok(())
+}
+
+// From the refused call to the bar of the holder that stood against it.
+fn draw_against(
+    run: &Run<'_>,
+    frame: &Frame,
+    call: &RefusedCall<'_>,
+    row: Option<u32>,
+    out: &mut String<Heap>,
+) -> Result<(), OutOfMemory> {
+    let (Some(row), Some(holder)) = (row, run.row(call.holder)) else {
+        return Ok(());
+    };
+    let x = entry_left(frame, call.at);
+    let from = bar_top(frame, row).saturating_add(7);
+    let to = bar_top(frame, holder).saturating_add(7);
+    write!(out, "<path class=\"against\" d=\"M{x} {from}V{to}\"/>")?;
+    write!(
+        out,
+        "<circle class=\"holder\" cx=\"{x}\" cy=\"{to}\" r=\"4\"/>"
+    )?;
+    Ok(())
+}

@@ -1,0 +1,46 @@
+//! `draw`: from a reader of a listing to a writer of its picture.
+
+ghost use Rattle.std.specs.Prelude.{◌≡◌, false, true, IfErr};
+ghost use Rattle.argus_picture.specs.declared.draw_error.DrawError.TheVariants as DrawError;
+ghost use Rattle.argus_streams.specs.Watched.{has_failed};
+
+use crate::draw_error::DrawError;
+use crate::limits::MAX_BYTES;
+use crate::picture_error::PictureError;
+use crate::picturing::picture;
+use argus_memory::Heap;
+use argus_streams::{InputError, Watched, read_up_to, write_whole};
+use std::io::{Read, Write};
+
+/// Reads a journal's listing, up to 67,108,865 bytes, and writes its picture whole.
+///
+/// [`DrawError`]'s table says which error comes when. A stream that failed isn't tried again.
+///
+/// ```text
+/// draw(heap, &mut Watched::new(rt.stdin()), &mut Watched::new(rt.stdout()))?;
+/// ```
+pub fn draw<R: Read + Drop, W: Write + Drop>(
+    heap: Heap,
+    reader: &mut Watched<R>,
+    writer: &mut Watched<W>,
+) -> Result<(), DrawError>
+    requires reader { has_failed reader.old ≡ false }
+    requires writer { has_failed writer.old ≡ false }
+    ensures read { IfErr result (λ e. e ≡ DrawError.Read → has_failed reader.new ≡ true) }
+    ensures written { IfErr result (λ e. e ≡ DrawError.Write → has_failed writer.new ≡ true) }
+{
+    let listing = match read_up_to(heap, reader, MAX_BYTES + 1) {
+        Ok(listing) => listing,
+        Err(InputError::Read) => return Err(DrawError::Read),
+        Err(InputError::OutOfMemory) => return Err(DrawError::OutOfMemory),
+    };
+    let text = match picture(heap, listing.as_slice()) {
+        Ok(text) => text,
+        Err(PictureError::Fault(fault)) => return Err(DrawError::Fault(fault)),
+        Err(PictureError::OutOfMemory) => return Err(DrawError::OutOfMemory),
+    };
+    match write_whole(writer, text.as_bytes()) {
+        Ok(()) => Ok(()),
+        Err(_) => Err(DrawError::Write),
+    }
+}

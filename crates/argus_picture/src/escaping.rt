@@ -1,0 +1,52 @@
+//! Texts in a picture: escaped.
+
+use argus_memory::{Heap, OutOfMemory};
+
+/// Appends the text, so that it stands in the picture as it is: nothing in it is markup. A
+/// character that no XML text may have stands as `U+FFFD`.
+pub(crate) fn append_escaped(text: &str, out: &mut String<Heap>) -> Result<(), OutOfMemory> {
+    for character in text.chars() {
+        match character {
+            '&' => out.push_str("&amp;")?,
+            '<' => out.push_str("&lt;")?,
+            '>' => out.push_str("&gt;")?,
+            '"' => out.push_str("&quot;")?,
+            '\u{0}'..='\u{8}' | '\u{b}'..='\u{1f}' => out.push('\u{fffd}')?,
+            '\u{fffe}' | '\u{ffff}' => out.push('\u{fffd}')?,
+            _ => out.push(character)?,
+        }
+    }
+    Ok(())
+}
+
+/// Begins a group, whose title is these lines; the second is left out where it is the first.
+pub(crate) fn open_group(
+    first: &str,
+    last: &str,
+    out: &mut String<Heap>,
+) -> Result<(), OutOfMemory> {
+    out.push_str("<g><title>")?;
+    append_escaped(first, out)?;
+    if first != last {
+        out.push_str("\n")?;
+        append_escaped(last, out)?;
+    }
+    out.push_str("</title>")?;
+    Ok(())
+}
+
+/// The first letters of the text, escaped, and three dots where it goes on.
+pub(crate) fn append_shortened(
+    text: &str,
+    letters: usize,
+    out: &mut String<Heap>,
+) -> Result<(), OutOfMemory> {
+    match text.char_indices().nth(letters) {
+        Some((end, _)) => {
+            append_escaped(text.get(..end).unwrap_or(""), out)?;
+            out.push_str("\u{2026}")?;
+        }
+        None => append_escaped(text, out)?,
+    }
+    Ok(())
+}

@@ -1,0 +1,40 @@
+//! `Life`: from which entry to which an action lives.
+
+ghost use Rattle.std.specs.Prelude.{◌≡◌, ◌≤◌};
+
+use crate::action::Action;
+
+/// From which entry to which an action lives.
+#[derive(Clone, Copy)]
+pub(crate) struct Life {
+    pub begin: u32,
+    pub end: u32,
+}
+
+/// From the action's begin to its end, or to this last entry where it is live.
+pub(crate) fn life_of(action: &Action<'_>, last: u32) -> Life
+    ensures begin { result.begin ≡ action.now.begin }
+    ensures ordered { result.begin ≤ result.end }
+{
+    let end = action.end.unwrap_or(last);
+    Life {
+        begin: action.begin,
+        end: end.max(action.begin),
+    }
+}
+
+/// The part of a life that lies within another one; all of it where it does.
+pub(crate) fn life_within(life: Life, outer: Life) -> Life
+    requires { outer.begin ≤ outer.end }
+    ensures begins { outer.begin ≤ result.begin }
+    ensures ordered { result.begin ≤ result.end }
+    ensures ends { result.end ≤ outer.end }
+    ensures same_begin { outer.begin ≤ life.begin → life.begin ≤ outer.end
+        → result.begin ≡ life.begin }
+    ensures same_end { outer.begin ≤ life.begin → life.begin ≤ life.end → life.end ≤ outer.end
+        → result.end ≡ life.end }
+{
+    let begin = life.begin.max(outer.begin).min(outer.end);
+    let end = life.end.max(begin).min(outer.end);
+    Life { begin, end }
+}

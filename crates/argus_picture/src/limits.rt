@@ -1,0 +1,24 @@
+//! The limits of a picture, by name.
+
+/// A listing has at most so many bytes.
+pub(crate) const MAX_BYTES: usize = 67_108_864;
+
+/// A picture has at most so many entries.
+pub(crate) const MAX_ENTRIES: u32 = 65_536;
+
+/// So many rows of actions have room.
+pub(crate) const MAX_ROWS: usize = 64;
+
+/// So many objects have a lane.
+pub(crate) const MAX_LANES: u32 = 64;
+
+/// So many locks on one object have room in its lane at a time.
+pub(crate) const MAX_STRIPS: usize = 3;
+
+/// So many letters of a content stand at a commit, and so many in its title.
+pub(crate) const MAX_CONTENT_LETTERS: usize = 24;
+
+pub(crate) const MAX_TITLE_LETTERS: usize = 500;
+
+/// So many letters of a shape have room in front of its lane.
+pub(crate) const MAX_SHAPE_LETTERS: usize = 24;

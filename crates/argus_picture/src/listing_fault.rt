@@ -1,0 +1,16 @@
+//! `ListingFault`: the first faulty line of a listing.
+
+use crate::fault_kind::FaultKind;
+use thiserror::Error;
+
+/// The first faulty line of a listing, numbered from 1, and why it is refused.
+///
+/// ```text
+/// line 3: BadNumber
+/// ```
+#[derive(Clone, Copy, Debug, PartialEq, Eq, Error)]
+#[error("line {line}: {kind}")]
+pub struct ListingFault {
+    pub line: u64,
+    pub kind: FaultKind,
+}

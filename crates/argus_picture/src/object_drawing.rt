@@ -1,0 +1,173 @@
+//! The objects of a picture: lanes, the locks in them, and commits.
+
+use crate::action_drawing::room_for;
+use crate::escaping::{append_escaped, append_shortened, open_group};
+use crate::frame::{Frame, LANE, entry_left, lane_at, width};
+use crate::hold::Hold;
+use crate::limits::{MAX_CONTENT_LETTERS, MAX_LANES, MAX_SHAPE_LETTERS, MAX_TITLE_LETTERS};
+use crate::object::Object;
+use crate::run::Run;
+use crate::settling::Settling;
+use argus_memory::{Heap, OutOfMemory};
+use std::fmt::Write;
+
+/// Draws the lanes, then the locks, then the commits.
+pub(crate) fn draw_objects(
+    run: &Run<'_>,
+    frame: &Frame,
+    out: &mut String<Heap>,
+) -> Result<(), OutOfMemory> {
+    draw_lanes(run, frame, out)?;
+    draw_holds(run, frame, out)?;
+    draw_settlings(run, frame, out)
+}
+
+fn draw_lanes(run: &Run<'_>, frame: &Frame, out: &mut String<Heap>) -> Result<(), OutOfMemory> {
+    let mut lane = 0u32;
+    for object in &run.objects {
+        if lane >= frame.lanes {
+            return Ok(());
+        }
+        draw_lane(frame, lane, object, out)?;
+        lane += 1;
+    }
+    Ok(())
+}
+
+fn draw_lane(
+    frame: &Frame,
+    lane: u32,
+    object: &Object<'_>,
+    out: &mut String<Heap>,
+) -> Result<(), OutOfMemory> {
+    let y = lane_at(frame, lane);
+    let wide = width(frame).saturating_sub(16);
+    open_group(object.line, object.line, out)?;
+    write!(
+        out,
+        "<rect class=\"lane\" x=\"8\" y=\"{y}\" width=\"{wide}\" height=\"{LANE}\"/>"
+    )?;
+    let (name, shape) = (y.saturating_add(15), y.saturating_add(29));
+    write!(out, "<text x=\"14\" y=\"{name}\">o{lane}</text>")?;
+    write!(out, "<text class=\"small\" x=\"14\" y=\"{shape}\">")?;
+    append_shortened(object.shape_text, MAX_SHAPE_LETTERS, out)?;
+    out.push_str("</text></g>\n")?;
+    Ok(())
+}
+
+fn draw_holds(run: &Run<'_>, frame: &Frame, out: &mut String<Heap>) -> Result<(), OutOfMemory> {
+    for hold in &run.holds {
+        if let (Some(lane), Some(strip)) = (lane_of(frame, hold.object), hold.strip) {
+            let top = lane_at(frame, lane).saturating_add(3);
+            let y = top.saturating_add(12u64.saturating_mul(u64::from(strip)));
+            let number = u64::from(run.first_action).saturating_add(hold.action as u64);
+            open_group(hold.line, hold.line, out)?;
+            draw_hold(frame, hold, y, number, out)?;
+            out.push_str("</g>\n")?;
+        }
+    }
+    Ok(())
+}
+
+fn draw_hold(
+    frame: &Frame,
+    hold: &Hold<'_>,
+    y: u64,
+    number: u64,
+    out: &mut String<Heap>,
+) -> Result<(), OutOfMemory> {
+    let x = entry_left(frame, hold.begin);
+    let end = entry_left(frame, hold.end.unwrap_or(frame.entries));
+    let wide = end.saturating_sub(x).max(2);
+    let class = if hold.writes { "write" } else { "read" };
+    write!(
+        out,
+        "<rect class=\"{class}\" x=\"{x}\" y=\"{y}\" width=\"{wide}\" height=\"9\"/>"
+    )?;
+    if wide >= room_for(number) {
+        let (left, line) = (x.saturating_add(3), y.saturating_add(8));
+        write!(
+            out,
+            "<text class=\"tiny on-{class}\" x=\"{left}\" y=\"{line}\">a{number}</text>"
+        )?;
+    }
+    Ok(())
+}
+
+// Each commit that changed what is in an object, the last first. A content has room up to the next
+// commit of its lane; where that is too little it stands in the title alone.
+fn draw_settlings(run: &Run<'_>, frame: &Frame, out: &mut String<Heap>) -> Result<(), OutOfMemory> {
+    let mut ends = [width(frame); MAX_LANES as usize];
+    for settling in run.settlings.iter().rev() {
+        if let Some(lane) = lane_of(frame, settling.object) {
+            let x = entry_left(frame, settling.at);
+            let top = lane_at(frame, lane);
+            draw_settling(settling, x, top, out)?;
+            if let Some(end) = ends.get_mut(lane as usize) {
+                let room = end.saturating_sub(x.saturating_add(12));
+                draw_base(settling.base.as_str(), x, top, room, out)?;
+                *end = x;
+            }
+            out.push_str("</g>\n")?;
+        }
+    }
+    Ok(())
+}
+
+// The commit's sign; its title has what is there now, too.
+fn draw_settling(
+    settling: &Settling<'_>,
+    x: u64,
+    top: u64,
+    out: &mut String<Heap>,
+) -> Result<(), OutOfMemory> {
+    out.push_str("<g><title>")?;
+    append_escaped(settling.line, out)?;
+    out.push_str("\n")?;
+    append_shortened(settling.base.as_str(), MAX_TITLE_LETTERS, out)?;
+    let dot = top.saturating_add(LANE - 8);
+    write!(
+        out,
+        "</title><path class=\"base\" d=\"M{x} {top}v{LANE}\"/>"
+    )?;
+    write!(
+        out,
+        "<circle class=\"base\" cx=\"{x}\" cy=\"{dot}\" r=\"3\"/>"
+    )?;
+    Ok(())
+}
+
+// What is in the object for good from here on, where so many pixels are enough for some of it.
+fn draw_base(
+    base: &str,
+    x: u64,
+    top: u64,
+    room: u64,
+    out: &mut String<Heap>,
+) -> Result<(), OutOfMemory> {
+    let letters = letters_within(room);
+    if letters < 3 && letters < base.len() {
+        return Ok(());
+    }
+    let (left, line) = (x.saturating_add(6), top.saturating_add(LANE - 5));
+    write!(out, "<text class=\"small\" x=\"{left}\" y=\"{line}\">")?;
+    append_shortened(base, letters, out)?;
+    out.push_str("</text>")?;
+    Ok(())
+}
+
+// How many letters of a content so many pixels have room for.
+fn letters_within(room: u64) -> usize {
+    if room / 6 < MAX_CONTENT_LETTERS as u64 {
+        return (room / 6) as usize;
+    }
+    MAX_CONTENT_LETTERS
+}
+
+// The lane of the object at this place, where it has one.
+fn lane_of(frame: &Frame, object: usize) -> Option<u32> {
+    if object < frame.lanes as usize && object < MAX_LANES as usize {
+        return Some(object as u32);
+    }
+    None
+}

@@ -1,0 +1,28 @@
+//! `PictureError`: why there is no picture.
+
+use crate::listing_fault::ListingFault;
+use argus_memory::OutOfMemory;
+use thiserror::Error;
+
+/// Why there is no picture.
+///
+/// ```text
+/// match picture(heap, b"0 begin_top -> a1\n") {
+///     Err(PictureError::Fault(fault)) => ..,        // line 1: BadNumber
+///     ..
+/// }
+/// ```
+#[derive(Clone, Copy, Debug, PartialEq, Eq, Error)]
+pub enum PictureError {
+    #[error("out of memory")]
+    OutOfMemory,
+    /// The first faulty line.
+    #[error("{0}")]
+    Fault(ListingFault),
+}
+
+impl From<OutOfMemory> for PictureError {
+    fn from(_refused: OutOfMemory) -> PictureError {
+        PictureError::OutOfMemory
+    }
+}

@@ -1,0 +1,149 @@
+//! `Run`: what a listing tells, as a picture shows it.
+
+use crate::action::Action;
+use crate::hold::Hold;
+use crate::limits::{MAX_ROWS, MAX_STRIPS};
+use crate::object::Object;
+use crate::refused_call::RefusedCall;
+use crate::settling::Settling;
+use crate::write::Write;
+use argus_memory::Heap;
+
+/// What the lines that were read so far tell. Actions and objects stand at their places, which are
+/// their numbers less those that the opening has folded.
+#[derive(Drop)]
+pub(crate) struct Run<'a> {
+    pub first_entry: u64,
+    pub first_action: u32,
+    /// How many entries were read.
+    pub entries: u32,
+    pub actions: Vec<Action<'a>, Heap>,
+    pub objects: Vec<Object<'a>, Heap>,
+    pub holds: Vec<Hold<'a>, Heap>,
+    pub refused: Vec<RefusedCall<'a>, Heap>,
+    pub settlings: Vec<Settling<'a>, Heap>,
+    pub writes: Vec<Write, Heap>,
+}
+
+impl<'a> Run<'a> {
+    /// Nothing is read yet.
+    pub(crate) fn new(heap: Heap) -> Run<'a> {
+        Run {
+            first_entry: 0,
+            first_action: 0,
+            entries: 0,
+            actions: Vec::new(heap),
+            objects: Vec::new(heap),
+            holds: Vec::new(heap),
+            refused: Vec::new(heap),
+            settlings: Vec::new(heap),
+            writes: Vec::new(heap),
+        }
+    }
+
+    /// The place of the live action with this number.
+    pub(crate) fn live_place(&self, number: u32) -> Option<usize> {
+        let place = number.checked_sub(self.first_action)? as usize;
+        match self.actions.get(place)?.end {
+            None => Some(place),
+            Some(_) => None,
+        }
+    }
+
+    /// The action at this place.
+    pub(crate) fn action(&self, place: Option<usize>) -> Option<Action<'a>> {
+        self.actions.get(place?).copied()
+    }
+
+    /// The row of the action at this place.
+    pub(crate) fn row(&self, place: Option<usize>) -> Option<u32> {
+        self.action(place)?.row
+    }
+
+    /// Whether the one is the other, or stands above it.
+    pub(crate) fn is_above(&self, upper: usize, lower: usize) -> bool {
+        let mut place = Some(lower);
+        for _ in 0..self.actions.len() {
+            if place == Some(upper) {
+                return true;
+            }
+            place = match self.action(place) {
+                Some(action) => action.origin.parent(),
+                None => return false,
+            };
+        }
+        false
+    }
+
+    /// Whether an action that it has begun is live.
+    pub(crate) fn has_live_child(&self, place: usize) -> bool {
+        self.actions.iter().any(|action| action.end.is_none()
+            && action.origin.creator() == Some(place))
+    }
+
+    /// The first row below this one that no live action has.
+    pub(crate) fn free_row(&self, from: usize) -> Option<u32> {
+        let mut taken = [false; MAX_ROWS];
+        for action in &self.actions {
+            if let (None, Some(row)) = (action.end, action.row) {
+                if let Some(mark) = taken.get_mut(row as usize) {
+                    *mark = true;
+                }
+            }
+        }
+        first_free(&taken, from)
+    }
+
+    /// The first strip of the object's lane in which no lock is held.
+    pub(crate) fn free_strip(&self, object: usize) -> Option<u32> {
+        let mut taken = [false; MAX_STRIPS];
+        for hold in &self.holds {
+            if let (None, Some(strip)) = (hold.end, hold.strip) {
+                if hold.object == object {
+                    if let Some(mark) = taken.get_mut(strip as usize) {
+                        *mark = true;
+                    }
+                }
+            }
+        }
+        first_free(&taken, 0)
+    }
+
+    /// Whether the action has this lock.
+    pub(crate) fn has_lock(&self, place: usize, object: usize, writes: bool) -> bool {
+        self.holds.iter().any(|hold| {
+            hold.end.is_none()
+                && hold.action == place
+                && hold.object == object
+                && hold.writes == writes
+        })
+    }
+
+    /// The first holder that keeps the action from this lock: none of those above it.
+    pub(crate) fn holder_against(
+        &self,
+        place: usize,
+        object: usize,
+        writes: bool,
+    ) -> Option<usize> {
+        for hold in &self.holds {
+            let counts = hold.end.is_none() && hold.object == object && (writes || hold.writes);
+            if counts && !self.is_above(hold.action, place) {
+                return Some(hold.action);
+            }
+        }
+        None
+    }
+}
+
+// The first place from this one on that isn't taken.
+fn first_free(taken: &[bool], from: usize) -> Option<u32> {
+    let mut place = 0u32;
+    for is_taken in taken {
+        if !*is_taken && place as usize >= from {
+            return Some(place);
+        }
+        place = place.saturating_add(1);
+    }
+    None
+}
