@@ -5,33 +5,30 @@
 ghost use Rattle.std.specs.Prelude.{◌≡◌, false};
 ghost use Rattle.argus_streams.specs.Watched.{has_failed};
 
-mod full;
 mod row;
 
 use anyhow::{Result, ensure};
 use argus_commands::parse;
 use argus_guardian::Guardian;
-use argus_memory::{Budget, Heap, Limited};
+use argus_memory::Heap;
 use argus_runs::{RunFault, run_serial};
 use argus_streams::Watched;
-use full::Full;
 use row::Row;
 use std::fs;
 use std::io::Write;
+use test_rows::{Full, Setting};
 
 // More allocations than any run here makes.
 const MANY: u64 = 2_000;
 
 fn main(rt: HostRuntime) -> Result<()> {
-    let heap = Heap::new(rt.alloc())?;
-    let budget = Budget::new(rt.alloc())?;
-    let tight = Limited::with_budget(rt.alloc(), budget);
+    let setting = Setting::new(rt.alloc())?;
     let text = fs::read_to_string(&rt, "scripts.rows")?;
     for block in text.as_str().split("\n\n") {
         if let Some(row) = Row::of_block(block) {
-            check_lines(heap, row)?;
-            let refused = check_memory(heap, tight, budget, row)?;
-            check_writer(heap, row)?;
+            check_lines(setting.texts, row)?;
+            let refused = check_memory(setting, row)?;
+            check_writer(setting.texts, row)?;
             ensure!(refused > 3, "too few allocations are refused");
             println!(rt; "{}: {} lines", row.name, row.lines.lines().count())?;
         }
@@ -67,12 +64,12 @@ fn check_lines(heap: Heap, row: Row<'_>) -> Result<()> {
 }
 
 // How many allocations were refused in turn.
-fn check_memory(heap: Heap, tight: Heap, budget: Budget, row: Row<'_>) -> Result<u64> {
+fn check_memory(setting: Setting, row: Row<'_>) -> Result<u64> {
     for n in 0..MANY {
-        let mut writer = Watched::new(Vec::new(heap));
-        budget.allow(n);
-        let fault = run_row(heap, tight, row, &mut writer)?;
-        budget.lift();
+        let mut writer = Watched::new(Vec::new(setting.texts));
+        setting.allowing(n).limit();
+        let fault = run_row(setting.texts, setting.heap, row, &mut writer)?;
+        setting.lift();
         ensure!(
             is_front(writer.get_ref().as_slice(), row.lines),
             "other lines are written"

@@ -1,5 +1,7 @@
 //! `Row`: a script, and what its run writes.
 
+use test_rows::{Block, block_of};
+
 // A script, and what its run writes on an empty guardian.
 #[derive(Clone, Copy)]
 pub(crate) struct Row<'a> {
@@ -11,13 +13,16 @@ pub(crate) struct Row<'a> {
 impl<'a> Row<'a> {
     // The row that a block of text has; None where the block is none.
     pub(crate) fn of_block(block: &'a str) -> Option<Row<'a>> {
-        let (head, rest) = block.split_once("\n")?;
-        let name = head.strip_prefix("test ")?;
-        let (script, lines) = rest.split_once("writes\n")?;
-        Some(Row {
-            name,
-            script,
-            lines,
-        })
+        match block_of(block) {
+            Block::Test { name, lines, .. } => {
+                let (script, lines) = lines.split_once("writes\n")?;
+                Some(Row {
+                    name,
+                    script,
+                    lines,
+                })
+            }
+            Block::Comment | Block::Unheaded => None,
+        }
     }
 }
