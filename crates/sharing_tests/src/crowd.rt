@@ -1,0 +1,168 @@
+//! Eight seats and four lookers, each in a thread of its own, and a settlement with all receipts.
+
+use crate::caller::{ACCOUNTS, Caller};
+use crate::sharing::share;
+use crate::task::Task;
+use crate::watching::{Watched, count_seen, look_often};
+use anyhow::{Result, anyhow, bail, ensure};
+use argus_contents::ObjId;
+use argus_guardian::Guardian;
+use argus_memory::{Heap, OutOfMemory};
+use argus_sharing::{Parts, Receipt, Seat, Shared, Sharing};
+use std::io::Print;
+use std::sync::Wait;
+use std::sync::atomic::{AtomicBool, Ordering};
+use std::thread::{Threads, join, map_vec};
+use test_rows::{Setting, call_of};
+
+const SEATS: u8 = 8;
+
+const LOOKERS: u8 = 4;
+
+const TURNS: u32 = 3001;
+
+// The sum of the counts of all seats: the last turn of each one commits.
+const ALL_COMMITTED: i64 = 8 * 3001;
+
+/// Each seat moves amounts between accounts again and again, and counts its transfers in an object
+/// of its own, while the lookers look at all of it: each look shows a sum of 0, and no count below
+/// the one that it showed before. In the end a briefed looker sees all, and a settlement with all
+/// receipts has its guardian.
+pub(crate) fn work<R: Threads + Wait + Print + Copy + Drop + Send + Sync>(
+    rt: R,
+    setting: Setting,
+) -> Result<()> {
+    let heap = setting.texts;
+    let guardian = with_accounts(heap)?;
+    let _guardian = share(rt, setting, false, guardian, SEATS, LOOKERS, &mut Crowd { heap })?;
+    Ok(())
+}
+
+// The accounts, with a 0 in each, and the objects in which seats count, which are absent.
+fn with_accounts(heap: Heap) -> Result<Guardian> {
+    let mut guardian = Guardian::new(heap);
+    for _ in 0..ACCOUNTS + u32::from(SEATS) {
+        call(&mut guardian, heap, "declare atomic_record[n:int]")?;
+    }
+    call(&mut guardian, heap, "begin_top")?;
+    for number in 0..ACCOUNTS {
+        let text = format!(in heap; "alter a0 o{number} create {{0}}")?;
+        call(&mut guardian, heap, text.as_str())?;
+    }
+    call(&mut guardian, heap, "commit a0")?;
+    Ok(guardian)
+}
+
+fn call(guardian: &mut Guardian, heap: Heap, text: &str) -> Result<()> {
+    let call = call_of(heap, text).map_err(|fault| anyhow!("{}", fault.as_str()))?;
+    let _reply = guardian.call(call)?;
+    Ok(())
+}
+
+/// The work of all seats and lookers.
+#[derive(Drop)]
+struct Crowd {
+    heap: Heap,
+}
+
+impl Task for Crowd {
+    fn perform<
+        N: Sharing + Send + Sync,
+        R: Threads + Wait + Print + Copy + Drop + Send + Sync,
+    >(
+        &mut self,
+        rt: R,
+        parts: Parts<N, R>,
+    ) -> Result<Guardian> {
+        let Parts {
+            shared,
+            seats,
+            lookers,
+        } = parts;
+        let heap = self.heap;
+        let seats = numbered(heap, seats)?;
+        let is_over = AtomicBool::new(false);
+        let (watched, called) = join(
+            &rt,
+            || map_vec(&rt, lookers, &|looker| look_often(rt, heap, looker, &is_over)),
+            || {
+                let called = map_vec(&rt, seats, &|(count, seat)| {
+                    call_often(rt, heap, &shared, seat, count)
+                });
+                is_over.store(true, Ordering::SeqCst);
+                called
+            },
+        );
+        see(rt, heap, &shared, watched?)?;
+        let (seats, receipts) = gathered(heap, called?)?;
+        match shared.settle(seats, receipts.as_slice()) {
+            Ok(guardian) => Ok(guardian),
+            Err(unsettled) => bail!("the work isn't settled: {}", unsettled.fault),
+        }
+    }
+}
+
+// Each seat with the object in which it counts.
+fn numbered<N: Sharing>(
+    heap: Heap,
+    seats: Vec<Seat<N>, Heap>,
+) -> Result<Vec<(ObjId, Seat<N>), Heap>, OutOfMemory> {
+    let mut numbered = Vec::new(heap);
+    let mut number = ACCOUNTS;
+    for seat in seats {
+        numbered.push((ObjId(number), seat))?;
+        number = number.wrapping_add(1);
+    }
+    Ok(numbered)
+}
+
+/// A seat with the receipts of its calls.
+type Called<N> = (Seat<N>, Vec<Receipt, Heap>);
+
+fn call_often<N: Sharing, R: Wait + Drop>(
+    rt: R,
+    heap: Heap,
+    shared: &Shared<N, R>,
+    seat: Seat<N>,
+    count: ObjId,
+) -> Result<Called<N>, OutOfMemory> {
+    let mut caller = Caller::new(rt, heap, shared, seat, count);
+    caller.open()?;
+    for turn in 1..=TURNS {
+        caller.transfer(turn)?;
+    }
+    let Caller { seat, receipts, .. } = caller;
+    Ok((seat, receipts))
+}
+
+// All seats, and all receipts in one list.
+fn gathered<N: Sharing>(
+    heap: Heap,
+    called: Vec<Result<Called<N>, OutOfMemory>, Heap>,
+) -> Result<(Vec<Seat<N>, Heap>, Vec<Receipt, Heap>), OutOfMemory> {
+    let mut seats = Vec::new(heap);
+    let mut receipts = Vec::new(heap);
+    for one in called {
+        let (seat, mut of_seat) = one?;
+        seats.push(seat)?;
+        receipts.append(&mut of_seat)?;
+    }
+    Ok((seats, receipts))
+}
+
+// Each looker has seen what agrees, and sees all once it is briefed.
+fn see<N: Sharing, R: Wait + Drop>(
+    rt: R,
+    heap: Heap,
+    shared: &Shared<N, R>,
+    watched: Vec<Watched<N>, Heap>,
+) -> Result<()> {
+    for one in watched {
+        let Watched { mut looker, agrees } = one;
+        ensure!(agrees, "two looks disagree");
+        ensure!(shared.brief(&rt, &mut looker), "a looker isn't briefed");
+        let count = count_seen(&mut looker, heap);
+        ensure!(count == Some(ALL_COMMITTED), "a look shows other counts: {count:?}");
+    }
+    Ok(())
+}

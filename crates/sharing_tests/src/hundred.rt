@@ -1,0 +1,148 @@
+//! Commits of a hundred objects through a shared guardian, with each allocation refused in turn.
+
+use crate::sharing::{budgets, share};
+use crate::task::Task;
+use anyhow::{Result, anyhow, bail, ensure};
+use argus_actions::ActionId;
+use argus_contents::{Content, ObjId, Value};
+use argus_entries::Call;
+use argus_guardian::Guardian;
+use argus_memory::Heap;
+use argus_sharing::{Parts, Sharing};
+use std::io::Print;
+use std::sync::Wait;
+use std::thread::Threads;
+use test_rows::{Setting, call_of};
+
+const OBJECTS: u32 = 100;
+
+/// A subaction that has created 100 objects commits, and then its parent, a topaction. Each of the
+/// two commits is refused each of its allocations in turn, through a guardian that is shared anew
+/// for each try and settled after it: until it is made, all is as before.
+pub(crate) fn commit_within_budgets<R: Threads + Wait + Print + Copy + Drop + Send + Sync>(
+    rt: R,
+    setting: Setting,
+) -> Result<()> {
+    let (parent, child) = (ActionId(0), ActionId(1));
+    let guardian = with_objects(setting.heap)?;
+    let guardian = commit(rt, setting, guardian, child, 202, Some(child))?;
+    let guardian = commit(rt, setting, guardian, parent, 203, Some(parent))?;
+    ensure!(stands(&guardian, 204, None), "a commit leaves something else");
+    Ok(())
+}
+
+// Objects 0 to 99, which action 1, a subaction of action 0, has created with a 0 in each.
+fn with_objects(heap: Heap) -> Result<Guardian> {
+    let mut guardian = Guardian::new(heap);
+    for _ in 0..OBJECTS {
+        call(&mut guardian, heap, "declare atomic_record[n:int]")?;
+    }
+    call(&mut guardian, heap, "begin_top")?;
+    call(&mut guardian, heap, "begin_sub a0")?;
+    for number in 0..OBJECTS {
+        let text = format!(in heap; "alter a1 o{number} create {{0}}")?;
+        call(&mut guardian, heap, text.as_str())?;
+    }
+    Ok(guardian)
+}
+
+fn call(guardian: &mut Guardian, heap: Heap, text: &str) -> Result<()> {
+    let call = call_of(heap, text).map_err(|fault| anyhow!("{}", fault.as_str()))?;
+    let _reply = guardian.call(call)?;
+    Ok(())
+}
+
+// The action commits, within as many allocations as it takes. Until then the journal has this length
+// and each object this holder.
+fn commit<R: Threads + Wait + Print + Copy + Drop + Send + Sync>(
+    rt: R,
+    setting: Setting,
+    guardian: Guardian,
+    a: ActionId,
+    length: u64,
+    holder: Option<ActionId>,
+) -> Result<Guardian> {
+    let mut guardian = guardian;
+    for allowed in budgets(true) {
+        ensure!(stands(&guardian, length, holder), "a refused commit changes something");
+        let mut commit = Commit {
+            setting: setting.allowing(allowed),
+            a,
+            is_made: false,
+        };
+        guardian = share(rt, setting, false, guardian, 1, 0, &mut commit)?;
+        if commit.is_made {
+            return Ok(guardian);
+        }
+    }
+    bail!("a commit is never made")
+}
+
+/// A commit by one seat, with a settlement by its receipt, or by none where it was refused memory.
+#[derive(Drop)]
+struct Commit {
+    setting: Setting,
+    a: ActionId,
+    is_made: bool,
+}
+
+impl Task for Commit {
+    fn perform<
+        N: Sharing + Send + Sync,
+        R: Threads + Wait + Print + Copy + Drop + Send + Sync,
+    >(
+        &mut self,
+        rt: R,
+        parts: Parts<N, R>,
+    ) -> Result<Guardian> {
+        let Parts {
+            shared, mut seats, ..
+        } = parts;
+        let Some(seat) = seats.first_mut() else {
+            bail!("no seat");
+        };
+        self.setting.limit();
+        let receipt = shared.call(&rt, seat, Call::Commit(self.a));
+        self.setting.lift();
+        let mut receipts = Vec::new(self.setting.texts);
+        if let Ok(receipt) = receipt {
+            receipts.push(receipt)?;
+            self.is_made = true;
+        }
+        match shared.settle(seats, receipts.as_slice()) {
+            Ok(guardian) => Ok(guardian),
+            Err(unsettled) => bail!("a commit isn't settled: {}", unsettled.fault),
+        }
+    }
+}
+
+// Whether the journal has this length, and each of the objects one version, of this holder, or none
+// and a base; a 0 in each, and no readers.
+fn stands(guardian: &Guardian, length: u64, holder: Option<ActionId>) -> bool {
+    let are_all = (0..OBJECTS).all(|number| is_held(guardian, ObjId(number), holder));
+    are_all && guardian.journal().journal().len() == length
+}
+
+fn is_held(guardian: &Guardian, o: ObjId, holder: Option<ActionId>) -> bool {
+    let (Some(base), Some([]), Some(versions)) = (
+        guardian.base(o),
+        guardian.holders(o),
+        guardian.versions(o),
+    ) else {
+        return false;
+    };
+    match (holder, versions) {
+        (None, []) => is_zero(base),
+        (Some(a), [version]) => {
+            version.holder == a && is_zero(&version.content) && base.is_none()
+        }
+        (None, [_, ..]) | (Some(_), []) | (Some(_), [_, _, ..]) => false,
+    }
+}
+
+fn is_zero(content: &Option<Content>) -> bool {
+    match content {
+        Some(Content::Rec(values)) => matches!(values.as_slice(), [Value::Int(0)]),
+        Some(Content::Arr { .. }) | Some(Content::Var { .. }) | None => false,
+    }
+}
