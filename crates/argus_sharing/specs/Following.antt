@@ -5,10 +5,12 @@ use Rattle.argus_board.specs.Effects.{Effect}
 use Rattle.argus_contents.specs.Content.{PlainContent}
 use Rattle.argus_entries.specs.Call.{PlainCall, abort, abort_others, alter, ask, begin_nested}
 use Rattle.argus_entries.specs.Call.{begin_sub, begin_top, commit, declare, test_read, test_write}
+use Rattle.argus_journal.specs.Legal.{Legal}
 use Rattle.argus_journal.specs.Objects.{declared}
 use Rattle.argus_journal.specs.Opening.{content_in}
 use Rattle.argus_journal.specs.Words.{base_of, effects_of}
 use Rattle.argus_model.specs.Effects.{table}
+use Rattle.argus_sharing.specs.Locked.{State}
 use Rattle.argus_steps.specs.Step.{Said}
 
 -- the effects of the journal's entries
@@ -20,6 +22,11 @@ abbrev pub Follows : (ℕ → Option PlainContent) → Said → List Effect → 
 Follows opening said effects = (earlier : List Effect)
     × ((o : ℕ) → table opening earlier o ≡ content_in said.opening.objects o)
     × (effects ≡ earlier ++ effects_told said)
+
+-- the journal is legal, and the board follows it
+abbrev pub IsFollowed : (ℕ → Option PlainContent) → State → Type 0
+IsFollowed opening state = Legal state.journal.opening state.journal.entries
+    × Follows opening state.journal (state.board.published ++ state.board.pending)
 
 -- the call is no commit
 abbrev pub IsNoCommit : PlainCall → Type 0

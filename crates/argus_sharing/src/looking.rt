@@ -48,10 +48,12 @@ impl<N: Sharing, R: Wait + Drop> Locked<N, R> {
         ensures journal { self.new.journal ≡ self.old.journal }
         ensures board { Follows N.opening self.new.journal
             (self.new.board.published ++ self.new.board.pending) }
+        ensures legal { Legal self.new.journal.opening self.new.journal.entries }
         ensures all { result ≡ true → self.new.board.pending ≡ [] }
         ensures rest { result ≡ false → (self.new ≡ self.old) × (self.old.board.pending ≢ []) }
     {
         let Locked { shown, .. } = self;
+        shown.guardian.journal_is_legal();
         shown.board.publish().is_ok()
     }
 
@@ -66,6 +68,9 @@ impl<N: Sharing, R: Wait + Drop> Locked<N, R> {
         ensures stays { self.new.board ≡ self.old.board }
         ensures board { Follows N.opening self.new.journal
             (self.new.board.published ++ self.new.board.pending) }
+        ensures legal { Legal self.old.journal.opening self.old.journal.entries }
+        ensures former { Follows N.opening self.old.journal
+            (self.old.board.published ++ self.old.board.pending) }
     {
         let Locked { shown, .. } = self;
         shown.guardian.journal_is_legal();

@@ -1,17 +1,22 @@
 //! `Shared`: a guardian that threads share.
 
-ghost use Rattle.std.specs.Prelude.{◌+◌, ◌<◌, ◌≡◌, All, IfErr, IfOk, OnErr, OnOk, false, length};
-ghost use Rattle.std.specs.Prelude.{map, sum_by, true};
+ghost use Rattle.std.specs.Prelude.{◌+◌, ◌<◌, ◌≡◌, ◌≢◌, ◌↔◌, [], All, IfErr, IfOk, OnErr, OnOk};
+ghost use Rattle.std.specs.Prelude.{Some, false, length, map, sum_by, true};
+ghost use Rattle.std.specs.Result.{result_err};
 ghost use mathlib.Core.List.{IsPrefix};
 ghost use Rattle.argus_board.specs.Keeper.{Opens};
 ghost use Rattle.argus_entries.specs.Call.{plain_call};
 ghost use Rattle.argus_entries.specs.Reply.{plain_reply};
+ghost use Rattle.argus_guardian.specs.Checkpoint.{is_quiet};
+ghost use Rattle.argus_guardian.specs.declared.checkpoint_error.CheckpointError.TheVariants.{Busy};
+ghost use Rattle.argus_guardian.specs.declared.checkpoint_error.CheckpointError.TheVariants.{Full};
 ghost use Rattle.argus_journal.specs.Legal.{Legal};
 ghost use Rattle.argus_journal.specs.Opening.{content_in};
+ghost use Rattle.argus_journal.specs.declared.limits.TheConstants.{MAX_FIRST_ENTRY};
 ghost use Rattle.argus_receipts.specs.Checking.{AreApart, Stands, entries_since};
 ghost use Rattle.argus_receipts.specs.Receipt.{plain_receipt};
-ghost use Rattle.argus_sharing.specs.Following.{Follows, bases_told, effects_told};
-ghost use Rattle.argus_sharing.specs.Locked.{next_number};
+ghost use Rattle.argus_sharing.specs.Following.{Follows, IsFollowed, bases_told, effects_told};
+ghost use Rattle.argus_sharing.specs.Locked.{State, next_number};
 ghost use Rattle.argus_sharing.specs.Waking.{has_ended};
 ghost use Rattle.argus_steps.specs.Step.{Said, reply_to};
 
@@ -164,13 +169,28 @@ impl<N: Sharing, R: Wait + Drop> Shared<N, R> {
     }
 
     /// Publishes what is pending. False: there was no memory, and the board is behind.
-    pub fn refresh(&self, rt: &impl Wait) -> bool {
+    ///
+    /// It may wait for other threads.
+    pub fn refresh(&self, rt: &impl Wait) -> bool
+        ensures all { result ≡ true → (state : State) × IsFollowed N.opening state
+            × (state.board.pending ≡ []) }
+        ensures rest { result ≡ false → (state : State) × IsFollowed N.opening state
+            × (state.board.pending ≢ []) }
+    {
         self.locked.lock(rt).refresh()
     }
 
     /// Folds the journal's past into its opening, as `Guardian::checkpoint` does. Lookers, board
-    /// and seats stay as they are. It may wait for other threads.
-    pub fn checkpoint(&self, rt: &impl Wait) -> Result<(), CheckpointError> {
+    /// and seats stay as they are. `Busy`: an action is live; `Full`: none is, but the next entry's
+    /// number is past the limit; both, and `OutOfMemory`, change nothing.
+    ///
+    /// It may wait for other threads.
+    pub fn checkpoint(&self, rt: &impl Wait) -> Result<(), CheckpointError>
+        ensures { (state : State) × IsFollowed N.opening state
+            × ((result_err result ≡ Some Busy) ↔ (is_quiet state.journal ≡ false))
+            × ((result_err result ≡ Some Full) ↔ ((is_quiet state.journal ≡ true)
+            × (MAX_FIRST_ENTRY < next_number state.journal))) }
+    {
         self.locked.lock(rt).checkpoint()
     }
 

@@ -1,0 +1,82 @@
+-- A shared guardian may be lent to other threads; seats, lookers and receipts may go there: as a set for `search`,
+-- `crosses`.
+use denote.RattleType.{RattleType}
+use denote.Struct.Declared.{shape, row as declared_row}
+use denote.Param.Send.{IsSend, IsSync, recorded_send, sendable, struct_send, view_send}
+use Rattle.argus_actions.proofs.Crossing as actions
+use Rattle.argus_board.proofs.Crossing as board
+use Rattle.argus_board.specs.contracts.looker.Looker.{the_row as looker_row}
+use Rattle.argus_board.specs.declared.board.Board.{Ghosts}
+use Rattle.argus_contents.proofs.Crossing as contents
+use Rattle.argus_entries.proofs.Crossing as entries
+use Rattle.argus_guardian.specs.contracts.guardian.Guardian.{the_row as guardian_row}
+use Rattle.argus_guardian.specs.contracts.guardian.Guardian.TheInside.{the_type as guardian_inside}
+use Rattle.argus_journal.proofs.Crossing as journal
+use Rattle.argus_journal.specs.contracts.legal_journal.LegalJournal.{the_field as legal_field}
+use Rattle.argus_memory.proofs.Crossing as memory
+use Rattle.argus_memory.proofs.limited.Limited.TheSendSync.{the_field_send as heap_field_sends}
+use Rattle.argus_objects.proofs.Crossing as objects
+use Rattle.argus_objects.proofs.holdings.Holdings.TheSendSync.{the_field_send as holdings_field_sends}
+use Rattle.argus_receipts.specs.contracts.receipt.Receipt.{the_row as receipt_row}
+use Rattle.argus_sharing.specs.contracts.locked.Locked.TheInside.{the_type as inside}
+use Rattle.argus_sharing.specs.contracts.locked.Locked.{the_row as locked_row}
+use Rattle.argus_sharing.specs.contracts.seat.Seat.{the_row as seat_row}
+use Rattle.argus_sharing.specs.contracts.shared.Shared.{the_row as shared_row}
+use Rattle.argus_sharing.specs.contracts.shown_guardian.ShownGuardian.{the_field as shown_field, the_type as shown_type}
+use Rattle.argus_sharing.specs.declared.sharing.Sharing.{Ghosts as Named}
+use Rattle.argus_steps.specs.contracts.atomic_object.AtomicObject.{the_row as object_row}
+use Rattle.argus_steps.specs.contracts.parts.Parts.{the_field as parts_field, the_type as parts_type}
+use Rattle.core.proofs.ledger.Book.TheSendSync.{the_send as book_sends}
+use Rattle.core.proofs.ledger.Share.TheSendSync.{the_send as share_sends}
+use Rattle.core.specs.declared.ledger.Ledger.{Ghosts as Ledgered}
+use Rattle.std.proofs.Crossing.{crosses as std_crosses, send}
+use Rattle.std.specs.contracts.alloc.Global.{the_row as global}
+use Rattle.std.specs.contracts.vec.Vec.{the_row as list_row}
+
+object_sends : IsSend object_row
+object_sends = search (sendable, contents.crosses, objects.crosses) depth 40
+
+objects_sends : IsSend (list_row object_row memory.heap memory.rests)
+objects_sends = memory.list_sends object_row object_sends
+
+legal_field_sends : IsSend legal_field.row
+legal_field_sends = search (sendable, journal.objects_sends, journal.entries_sends) depth 40 fits 20000
+
+parts_field_sends : IsSend parts_field.row
+parts_field_sends = struct_send (shape parts_type) (
+  heap_field_sends global send,
+  (actions.tree_sends, (objects_sends, (holdings_field_sends, (legal_field_sends, tt)))),
+)
+
+guardian_inside_sends : IsSend (declared_row guardian_inside)
+guardian_inside_sends = let t = guardian_inside in
+    recorded_send _ t.D t.to t.to_one (struct_send (shape t) (parts_field_sends, tt))
+
+pub guardian_sends : IsSend guardian_row
+guardian_sends = view_send _ _ _ _ _ guardian_inside_sends
+
+-- a guardian with its board
+shown_field_sends : (N R : RattleType) (g : Ghosts N.Denot) → IsSend R → IsSend (shown_field N R g).row
+shown_field_sends N R g s = struct_send (shape (shown_type N R g)) (guardian_sends, (board.writer_sends N R g s, tt))
+
+module _ (N R : RattleType) (a : Named N.Denot) (l : Ledgered N.Denot) (g : Ghosts N.Denot) (s : IsSend R) where
+  locked_inside_sends : IsSend (declared_row (inside N R a l g))
+  locked_inside_sends = let t = inside N R a l g in
+      recorded_send _ t.D t.to t.to_one (struct_send (shape t) (
+        heap_field_sends global send,
+        (shown_field_sends N R g s, (book_sends N l, (search sendable, tt))),
+      ))
+
+  pub locked_sends : IsSend (locked_row N R a l g)
+  locked_sends = view_send _ _ _ _ _ locked_inside_sends
+
+  pub shared_sends : IsSend (shared_row N R a l g)
+  shared_sends = search (sendable, std_crosses, locked_sends) depth 40
+
+  pub shared_syncs : IsSync (shared_row N R a l g)
+  shared_syncs = search (sendable, std_crosses, locked_sends) depth 40
+
+pub receipt_sends : IsSend receipt_row
+receipt_sends = search (sendable, entries.call_field_sends, entries.reply_field_sends) depth 40
+
+pub ruleset crosses = (memory.crosses, guardian_sends, locked_sends, shared_sends, shared_syncs, receipt_sends)
