@@ -34,7 +34,8 @@ pub(crate) fn work<R: Threads + Wait + Print + Copy + Drop + Send + Sync>(
 ) -> Result<()> {
     let heap = setting.texts;
     let guardian = with_accounts(heap)?;
-    let _guardian = share(rt, setting, false, guardian, SEATS, LOOKERS, &mut Crowd { heap })?;
+    let mut task = Task::Crowd(heap);
+    let _guardian = share(rt, setting, false, guardian, SEATS, LOOKERS, &mut task)?;
     Ok(())
 }
 
@@ -59,46 +60,38 @@ fn call(guardian: &mut Guardian, heap: Heap, text: &str) -> Result<()> {
     Ok(())
 }
 
-/// The work of all seats and lookers.
-#[derive(Drop)]
-struct Crowd {
+/// The work of all seats and lookers, and the settlement.
+pub(crate) fn have_all_work<
+    N: Sharing + Send + Sync,
+    R: Threads + Wait + Print + Copy + Drop + Send + Sync,
+>(
+    rt: R,
+    parts: Parts<N, R>,
     heap: Heap,
-}
-
-impl Task for Crowd {
-    fn perform<
-        N: Sharing + Send + Sync,
-        R: Threads + Wait + Print + Copy + Drop + Send + Sync,
-    >(
-        &mut self,
-        rt: R,
-        parts: Parts<N, R>,
-    ) -> Result<Guardian> {
-        let Parts {
-            shared,
-            seats,
-            lookers,
-        } = parts;
-        let heap = self.heap;
-        let seats = numbered(heap, seats)?;
-        let is_over = AtomicBool::new(false);
-        let (watched, called) = join(
-            &rt,
-            || map_vec(&rt, lookers, &|looker| look_often(rt, heap, looker, &is_over)),
-            || {
-                let called = map_vec(&rt, seats, &|(count, seat)| {
-                    call_often(rt, heap, &shared, seat, count)
-                });
-                is_over.store(true, Ordering::SeqCst);
-                called
-            },
-        );
-        see(rt, heap, &shared, watched?)?;
-        let (seats, receipts) = gathered(heap, called?)?;
-        match shared.settle(seats, receipts.as_slice()) {
-            Ok(guardian) => Ok(guardian),
-            Err(unsettled) => bail!("the work isn't settled: {}", unsettled.fault),
-        }
+) -> Result<Guardian> {
+    let Parts {
+        shared,
+        seats,
+        lookers,
+    } = parts;
+    let seats = numbered(heap, seats)?;
+    let is_over = AtomicBool::new(false);
+    let (watched, called) = join(
+        &rt,
+        || map_vec(&rt, lookers, &|looker| look_often(rt, heap, looker, &is_over)),
+        || {
+            let called = map_vec(&rt, seats, &|(count, seat)| {
+                call_often(rt, heap, &shared, seat, count)
+            });
+            is_over.store(true, Ordering::SeqCst);
+            called
+        },
+    );
+    see(rt, heap, &shared, watched?)?;
+    let (seats, receipts) = gathered(heap, called?)?;
+    match shared.settle(seats, receipts.as_slice()) {
+        Ok(guardian) => Ok(guardian),
+        Err(unsettled) => bail!("the work isn't settled: {}", unsettled.fault),
     }
 }
 

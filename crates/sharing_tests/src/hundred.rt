@@ -25,8 +25,8 @@ pub(crate) fn commit_within_budgets<R: Threads + Wait + Print + Copy + Drop + Se
 ) -> Result<()> {
     let (parent, child) = (ActionId(0), ActionId(1));
     let guardian = with_objects(setting.heap)?;
-    let guardian = commit(rt, setting, guardian, child, 202, Some(child))?;
-    let guardian = commit(rt, setting, guardian, parent, 203, Some(parent))?;
+    let guardian = commit_at_last(rt, setting, guardian, child, 202, Some(child))?;
+    let guardian = commit_at_last(rt, setting, guardian, parent, 203, Some(parent))?;
     ensure!(stands(&guardian, 204, None), "a commit leaves something else");
     Ok(())
 }
@@ -54,7 +54,7 @@ fn call(guardian: &mut Guardian, heap: Heap, text: &str) -> Result<()> {
 
 // The action commits, within as many allocations as it takes. Until then the journal has this length
 // and each object this holder.
-fn commit<R: Threads + Wait + Print + Copy + Drop + Send + Sync>(
+fn commit_at_last<R: Threads + Wait + Print + Copy + Drop + Send + Sync>(
     rt: R,
     setting: Setting,
     guardian: Guardian,
@@ -65,13 +65,13 @@ fn commit<R: Threads + Wait + Print + Copy + Drop + Send + Sync>(
     let mut guardian = guardian;
     for allowed in budgets(true) {
         ensure!(stands(&guardian, length, holder), "a refused commit changes something");
-        let mut commit = Commit {
+        let mut task = Task::Commit(OneCommit {
             setting: setting.allowing(allowed),
             a,
             is_made: false,
-        };
-        guardian = share(rt, setting, false, guardian, 1, 0, &mut commit)?;
-        if commit.is_made {
+        });
+        guardian = share(rt, setting, false, guardian, 1, 0, &mut task)?;
+        if matches!(&task, Task::Commit(commit) if commit.is_made) {
             return Ok(guardian);
         }
     }
@@ -80,39 +80,35 @@ fn commit<R: Threads + Wait + Print + Copy + Drop + Send + Sync>(
 
 /// A commit by one seat, with a settlement by its receipt, or by none where it was refused memory.
 #[derive(Drop)]
-struct Commit {
+pub(crate) struct OneCommit {
     setting: Setting,
     a: ActionId,
     is_made: bool,
 }
 
-impl Task for Commit {
-    fn perform<
-        N: Sharing + Send + Sync,
-        R: Threads + Wait + Print + Copy + Drop + Send + Sync,
-    >(
-        &mut self,
-        rt: R,
-        parts: Parts<N, R>,
-    ) -> Result<Guardian> {
-        let Parts {
-            shared, mut seats, ..
-        } = parts;
-        let Some(seat) = seats.first_mut() else {
-            bail!("no seat");
-        };
-        self.setting.limit();
-        let receipt = shared.call(&rt, seat, Call::Commit(self.a));
-        self.setting.lift();
-        let mut receipts = Vec::new(self.setting.texts);
-        if let Ok(receipt) = receipt {
-            receipts.push(receipt)?;
-            self.is_made = true;
-        }
-        match shared.settle(seats, receipts.as_slice()) {
-            Ok(guardian) => Ok(guardian),
-            Err(unsettled) => bail!("a commit isn't settled: {}", unsettled.fault),
-        }
+/// Makes the commit, and settles.
+pub(crate) fn commit_once<N: Sharing, R: Wait + Drop>(
+    rt: R,
+    parts: Parts<N, R>,
+    commit: &mut OneCommit,
+) -> Result<Guardian> {
+    let Parts {
+        shared, mut seats, ..
+    } = parts;
+    let Some(seat) = seats.first_mut() else {
+        bail!("no seat");
+    };
+    commit.setting.limit();
+    let receipt = shared.call(&rt, seat, Call::Commit(commit.a));
+    commit.setting.lift();
+    let mut receipts = Vec::new(commit.setting.texts);
+    if let Ok(receipt) = receipt {
+        receipts.push(receipt)?;
+        commit.is_made = true;
+    }
+    match shared.settle(seats, receipts.as_slice()) {
+        Ok(guardian) => Ok(guardian),
+        Err(unsettled) => bail!("a commit isn't settled: {}", unsettled.fault),
     }
 }
 

@@ -4,7 +4,6 @@ use crate::reading::row_of;
 use crate::session::Session;
 use crate::sharing::budgets;
 use crate::tally::Tally;
-use crate::task::Task;
 use anyhow::{Result, bail};
 use argus_guardian::Guardian;
 use argus_memory::Heap;
@@ -18,8 +17,8 @@ use test_rows::{RowFault, Setting};
 /// each row is refused in turn, where that is asked for.
 ///
 /// ```text
-/// let mut play = Play { setting, is_tight: false, rows: "settle -> done", tally };
-/// let guardian = share(rt, setting, false, guardian, 1, 0, &mut play)?;
+/// let play = Play { setting, is_tight: false, rows: "settle -> done", tally };
+/// let guardian = share(rt, setting, false, guardian, 1, 0, &mut Task::Play(play))?;
 /// ```
 #[derive(Drop)]
 pub(crate) struct Play<'a> {
@@ -29,35 +28,37 @@ pub(crate) struct Play<'a> {
     pub(crate) tally: Tally,
 }
 
-impl Task for Play<'_> {
-    fn perform<
-        N: Sharing + Send + Sync,
-        R: Threads + Wait + Print + Copy + Drop + Send + Sync,
-    >(
-        &mut self,
-        rt: R,
-        parts: Parts<N, R>,
-    ) -> Result<Guardian> {
-        let mut session = Session::new(self.setting.texts, parts);
-        for row in self.rows.lines() {
-            if row.starts_with('#') {
-                continue;
-            }
-            let (asked, _) = row.split_once(" -> ").unwrap_or((row, ""));
-            if asked.starts_with("settle") {
-                let (answer, settled) = session.settle(self.setting, self.is_tight, asked);
-                self.tally.compare(&rt, row, answer)?;
-                session = match settled {
-                    Ok(guardian) => return Ok(guardian),
-                    Err(session) => session,
-                };
-            } else {
-                let answer = answer(rt, self.setting, self.is_tight, &mut session, asked);
-                self.tally.compare(&rt, row, answer)?;
-            }
+/// Tells the rows to the shared guardian, the last of which has to be a settlement.
+pub(crate) fn play_rows<
+    N: Sharing + Send + Sync,
+    R: Threads + Wait + Print + Copy + Drop + Send + Sync,
+>(
+    rt: R,
+    parts: Parts<N, R>,
+    play: &mut Play<'_>,
+) -> Result<Guardian> {
+    let Play {
+        setting,
+        is_tight,
+        rows,
+        tally,
+    } = play;
+    let mut session = Session::new(setting.texts, parts);
+    for row in rows.lines().filter(|row| !row.starts_with('#')) {
+        let (asked, _) = row.split_once(" -> ").unwrap_or((row, ""));
+        if asked.starts_with("settle") {
+            let (answer, settled) = session.settle(*setting, *is_tight, asked);
+            tally.compare(&rt, row, answer)?;
+            session = match settled {
+                Ok(guardian) => return Ok(guardian),
+                Err(session) => session,
+            };
+        } else {
+            let answer = answer(rt, *setting, *is_tight, &mut session, asked);
+            tally.compare(&rt, row, answer)?;
         }
-        bail!("a guardian isn't settled")
     }
+    bail!("a guardian isn't settled")
 }
 
 // After a refusal lookers see what they saw before.

@@ -6,7 +6,7 @@ use crate::telling::{tell_checkpoint, tell_fault, tell_look, tell_receipt, tell_
 use crate::waiting::{Meanwhile, wait_meanwhile};
 use argus_board::Looker;
 use argus_contents::ObjId;
-use argus_entries::Call;
+use argus_entries::{Call, Reply};
 use argus_guardian::Guardian;
 use argus_memory::Heap;
 use argus_sharing::{Parts, Receipt, Seat, SettleFault, Shared, Sharing, Unsettled};
@@ -64,22 +64,13 @@ impl<
                 call,
             } => self.call(rt, seat, patience, call, &mut out)?,
             Row::Look { looker, objects } => {
-                let looker = at(&mut self.lookers, looker)?;
-                tell_look(looker, setting.heap, objects.as_slice(), &mut out)?;
+                self.look(setting.heap, looker, objects.as_slice(), &mut out)?;
             }
-            Row::Brief { looker } => {
-                let Session {
-                    shared, lookers, ..
-                } = self;
-                tell_shown(shared.brief(&rt, at(lookers, looker)?), &mut out)?;
-            }
+            Row::Brief { looker } => self.brief(rt, looker, &mut out)?,
             Row::Refresh => tell_shown(self.shared.refresh(&rt), &mut out)?,
             Row::Checkpoint => tell_checkpoint(self.shared.checkpoint(&rt), &mut out)?,
-            Row::Made { seat } => tell_number(at(&mut self.seats, seat)?.made(), &mut out)?,
-            Row::Forge { receipt, reply } => {
-                at(&mut self.receipts, receipt)?.reply = reply;
-                tell_word("done", &mut out)?;
-            }
+            Row::Made { seat } => self.made(seat, &mut out)?,
+            Row::Forge { receipt, reply } => self.forge(receipt, reply, &mut out)?,
             Row::While {
                 calls,
                 patience,
@@ -103,7 +94,9 @@ impl<
             receipts,
             ..
         } = self;
-        let seat = at(seats, seat)?;
+        let Some(seat) = seats.get_mut(seat) else {
+            return Err(RowFault::NotSpelled);
+        };
         let receipt = match patience {
             None => shared.call(&rt, seat, call)?,
             Some(patience) => shared.call_waiting(&rt, seat, call, patience)?,
@@ -111,6 +104,49 @@ impl<
         tell_receipt(&receipt, out)?;
         receipts.push(receipt)?;
         Ok(())
+    }
+
+    fn look(
+        &mut self,
+        heap: Heap,
+        looker: usize,
+        objects: &[ObjId],
+        out: &mut String<Heap>,
+    ) -> Result<(), RowFault> {
+        match self.lookers.get_mut(looker) {
+            Some(looker) => tell_look(looker, heap, objects, out),
+            None => Err(RowFault::NotSpelled),
+        }
+    }
+
+    fn brief(&mut self, rt: R, looker: usize, out: &mut String<Heap>) -> Result<(), RowFault> {
+        let Session {
+            shared, lookers, ..
+        } = self;
+        match lookers.get_mut(looker) {
+            Some(looker) => tell_shown(shared.brief(&rt, looker), out),
+            None => Err(RowFault::NotSpelled),
+        }
+    }
+
+    fn made(&self, seat: usize, out: &mut String<Heap>) -> Result<(), RowFault> {
+        match self.seats.get(seat) {
+            Some(seat) => Ok(tell_number(seat.made(), out)?),
+            None => Err(RowFault::NotSpelled),
+        }
+    }
+
+    fn forge(
+        &mut self,
+        receipt: usize,
+        reply: Reply,
+        out: &mut String<Heap>,
+    ) -> Result<(), RowFault> {
+        let Some(receipt) = self.receipts.get_mut(receipt) else {
+            return Err(RowFault::NotSpelled);
+        };
+        receipt.reply = reply;
+        Ok(tell_word("done", out)?)
     }
 
     // The sharing has two seats.
@@ -228,10 +264,6 @@ impl<
             }
         }
     }
-}
-
-fn at<T>(list: &mut Vec<T, Heap>, place: usize) -> Result<&mut T, RowFault> {
-    list.get_mut(place).ok_or(RowFault::NotSpelled)
 }
 
 fn copied(texts: Heap, receipt: &Receipt) -> Result<Receipt, RowFault> {

@@ -6,7 +6,7 @@ ghost use Rattle.argus_journal.specs.Opening.{content_in};
 ghost use Rattle.argus_sharing.specs.Following.{bases_told, effects_told};
 ghost use Rattle.argus_sharing.specs.Locked.{next_number};
 
-use crate::task::Task;
+use crate::task::{Task, perform};
 use anyhow::{Result, bail};
 use argus_board::Keeper;
 use argus_guardian::Guardian;
@@ -34,20 +34,20 @@ pub(crate) fn budgets(is_tight: bool) -> Range<u64> {
 
 /// Shares the guardian among so many seats and lookers for the task. Each allocation of the sharing
 /// is refused in turn, where that is asked for.
-pub(crate) fn share<R: Threads + Wait + Print + Copy + Drop + Send + Sync, T: Task>(
+pub(crate) fn share<R: Threads + Wait + Print + Copy + Drop + Send + Sync>(
     rt: R,
     setting: Setting,
     is_tight: bool,
     guardian: Guardian,
     seats: u8,
     lookers: u8,
-    task: &mut T,
+    task: &mut Task<'_>,
 ) -> Result<Guardian> {
     let mut guardian = guardian;
     for allowed in budgets(is_tight) {
         let blank = Blank::new(u64::from(seats));
         let setting = setting.allowing(allowed);
-        let shared = share_as::<Brand, R, T>(
+        let shared = share_as::<Brand, R>(
             rt,
             setting,
             guardian,
@@ -68,7 +68,6 @@ pub(crate) fn share<R: Threads + Wait + Print + Copy + Drop + Send + Sync, T: Ta
 fn share_as<
     N: Sharing + Send + Sync,
     R: Threads + Wait + Print + Copy + Drop + Send + Sync,
-    T: Task,
 >(
     rt: R,
     setting: Setting,
@@ -77,7 +76,7 @@ fn share_as<
     lookers: u8,
     blank: Blank,
     keeper: Keeper,
-    task: &mut T,
+    task: &mut Task<'_>,
 ) -> Result<Result<Guardian, NotShared>>
     requires name { blank.name ≡ N.name }
     requires parts { (blank.parts ≡ N.parts) × (blank.parts ≡ seats) }
@@ -92,7 +91,7 @@ fn share_as<
     let parts = Shared::<N, R>::new(rt, setting.heap, guardian, seats, lookers, blank, keeper);
     setting.lift();
     match parts {
-        Ok(parts) => Ok(Ok(task.perform::<N, R>(rt, parts)?)),
+        Ok(parts) => Ok(Ok(perform(rt, parts, task)?)),
         Err(not_shared) => Ok(Err(not_shared)),
     }
 }

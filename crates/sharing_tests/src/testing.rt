@@ -4,6 +4,7 @@ use crate::alone::answer_alone;
 use crate::playing::Play;
 use crate::sharing::share;
 use crate::tally::Tally;
+use crate::task::Task;
 use anyhow::{Result, bail};
 use argus_guardian::Guardian;
 use std::io::Print;
@@ -88,14 +89,16 @@ fn run_section<R: Threads + Wait + Print + Copy + Drop + Send + Sync>(
     let (rows, after) = rows.split_once("alone\n").unwrap_or((rows, ""));
     let (seats, lookers) = heading.split_once(' ').unwrap_or((heading, "0"));
     let (seats, lookers) = (seats.parse::<u8>()?, lookers.parse::<u8>()?);
-    let mut play = Play {
+    let mut task = Task::Play(Play {
         setting,
         is_tight,
         rows,
         tally: *tally,
-    };
-    let mut guardian = share(rt, setting, is_tight, guardian, seats, lookers, &mut play)?;
-    *tally = play.tally;
+    });
+    let mut guardian = share(rt, setting, is_tight, guardian, seats, lookers, &mut task)?;
+    if let Task::Play(play) = &task {
+        *tally = play.tally;
+    }
     run_alone(rt, setting, &mut guardian, after, tally)?;
     Ok(guardian)
 }

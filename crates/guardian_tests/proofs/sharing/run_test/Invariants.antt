@@ -3,7 +3,7 @@ use Rattle.argus_board.specs.Keeper.{history_of, root_of}
 use Rattle.argus_journal.specs.Opening.{content_in}
 use Rattle.argus_sharing.specs.Following.{bases_told, effects_told}
 use Rattle.argus_sharing.specs.Locked.{next_number}
-use Rattle.sharing_tests.proofs.shared.a_guardian_is_shared.Given as goal
+use Rattle.guardian_tests.proofs.sharing.run_test.Given as goal
 
 abbrev pub ghosts-share-N-Ledger : goal.ghosts-share-N-Ledger
 ghosts-share-N-Ledger g a = record { name = a.blank.name; parts = a.blank.parts }
