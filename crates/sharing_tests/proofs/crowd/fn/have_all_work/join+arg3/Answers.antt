@@ -1,10 +1,10 @@
--- Seats may cross to other threads, and receipts come back.
+-- What is shared may be lent to other threads, and seats and receipts come back.
 use denote.Param.Send.{sendable}
 use Rattle.argus_sharing.proofs.Crossing.{crosses}
 use Rattle.sharing_tests.proofs.crowd.fn.have_all_work.join+arg3.Goals as goal
 
-pub map_vec-requires-send-J : goal.map_vec-requires-send-J
-map_vec-requires-send-J g c κs within = search (sendable, crosses) depth 40
+pub map_vec-called-requires-send-X : goal.map_vec-called-requires-send-X
+map_vec-called-requires-send-X g c κs within = search (sendable, crosses) depth 40
 
-pub map_vec-requires-send-X : goal.map_vec-requires-send-X
-map_vec-requires-send-X g c κs within = search (sendable, crosses) depth 40
+pub map_vec-called-requires-sync-F : goal.map_vec-called-requires-sync-F
+map_vec-called-requires-sync-F g c κs within = search (sendable, crosses) depth 40
