@@ -41,10 +41,7 @@ fn main(rt: HostRuntime) -> Result<()> {
 }
 
 // Shares the guardian, and settles with all receipts. The conditions say which sharing this is.
-fn pay_from_threads<
-    N: Sharing + Send + Sync,
-    R: Threads + Wait + Copy + Drop + Send + Sync,
->(
+fn pay_from_threads<N: Sharing + Send + Sync, R: Threads + Wait + Copy + Drop + Send + Sync>(
     rt: R,
     heap: Heap,
     guardian: Guardian,
@@ -60,7 +57,11 @@ fn pay_from_threads<
     requires first { N.first ≡ bases_told guardian }
 {
     let parts = Shared::<N, R>::new(rt, heap, guardian, 2, 0, blank, keeper);
-    let Parts { shared, mut seats, .. } = parts.map_err(|_| OutOfMemory)?;
+    let Parts {
+        shared,
+        mut seats,
+        ..
+    } = parts.map_err(|_| OutOfMemory)?;
     let second = seats.pop().ok_or(OutOfMemory)?;
     let first = seats.pop().ok_or(OutOfMemory)?;
     let (one, other) = join(

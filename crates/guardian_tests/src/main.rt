@@ -53,7 +53,10 @@ fn main(rt: HostRuntime) -> Result<()> {
         wrong = wrong.saturating_add(sharing::run_shared_text(rt, heap, text.as_str())?);
     }
     println!(rt; "the same calls on shared guardians: {wrong} wrong answers")?;
-    ensure!(wrong == 0, "not all calls are answered so on shared guardians");
+    ensure!(
+        wrong == 0,
+        "not all calls are answered so on shared guardians"
+    );
     ensure!(tester.is_content(), "not all rows are answered as they say");
     Ok(())
 }

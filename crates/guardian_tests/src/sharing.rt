@@ -77,8 +77,7 @@ fn run_test<R: Wait + Print + Copy + Drop>(
 ) -> Result<u32> {
     let (blank, keeper) = (Blank::new(1), Keeper::new());
     let guardian = Guardian::new(heap);
-    let (guardian, wrong) =
-        share::<Brand, R>(rt, heap, guardian, blank, keeper, rows, patience)?;
+    let (guardian, wrong) = share::<Brand, R>(rt, heap, guardian, blank, keeper, rows, patience)?;
     Ok(wrong.saturating_add(ask_at_the_end(rt, heap, &guardian, rows)?))
 }
 
@@ -100,9 +99,13 @@ fn share<N: Sharing, R: Wait + Print + Copy + Drop>(
     requires first { N.first ≡ bases_told guardian }
 {
     let parts = Shared::<N, R>::new(rt, heap, guardian, 1, 0, blank, keeper);
-    let Ok(Parts {
-        shared, mut seats, ..
-    }) = parts
+    let Ok(
+        Parts {
+            shared,
+            mut seats,
+            ..
+        },
+    ) = parts
     else {
         bail!("a guardian isn't shared");
     };

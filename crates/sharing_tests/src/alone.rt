@@ -1,10 +1,13 @@
 //! Rows that are told to a guardian while it isn't shared.
 
 use crate::telling::tell_reply;
+use anyhow::bail;
 use argus_contents::ObjId;
 use argus_guardian::Guardian;
 use argus_memory::Heap;
-use test_rows::{RowFault, Setting, call_of, first_word, object, tell_content, tell_number, tell_word};
+use test_rows::{
+    RowFault, Setting, call_of, first_word, object, tell_content, tell_number, tell_word,
+};
 
 /// Makes the call, or asks for the length of the journal, or for what is in an object for good.
 pub(crate) fn answer_alone(
@@ -40,5 +43,16 @@ fn make_call(
     match guardian.journal().journal().get(at) {
         Some(entry) => Ok(tell_reply(entry, out)?),
         None => Ok(tell_word("no entry", out)?),
+    }
+}
+
+/// Makes the call that the text spells, whatever the reply.
+pub(crate) fn make(guardian: &mut Guardian, heap: Heap, text: &str) -> anyhow::Result<()> {
+    match call_of(heap, text) {
+        Ok(call) => {
+            let _reply = guardian.call(call)?;
+            Ok(())
+        }
+        Err(fault) => bail!("{}", fault.as_str()),
     }
 }

@@ -71,14 +71,18 @@ impl<'a, N: Sharing, R: Wait + Drop> Caller<'a, N, R> {
             return Ok(());
         };
         let (from, to) = accounts(turn.wrapping_add(self.count.0));
-        // The locks are taken in the order of the accounts, so that no two seats wait for each other.
+        // The locks are taken in the order of the accounts, so no two seats wait for each other.
         self.alter(a, from, Change::Touch)?;
         self.alter(a, to, Change::Touch)?;
         self.add(a, from, -1)?;
         self.add(a, to, 1)?;
         let count = self.count;
         self.alter(a, count, Change::SetField(0, Value::Int(i64::from(turn))))?;
-        let end = if turn % 5 == 0 { Call::Abort(a) } else { Call::Commit(a) };
+        let end = if turn % 5 == 0 {
+            Call::Abort(a)
+        } else {
+            Call::Commit(a)
+        };
         let _reply = self.make(end)?;
         Ok(())
     }

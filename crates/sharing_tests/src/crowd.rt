@@ -1,10 +1,11 @@
 //! Eight seats and four lookers, each in a thread of its own, and a settlement with all receipts.
 
+use crate::alone::make;
 use crate::caller::{ACCOUNTS, Caller};
 use crate::sharing::share;
 use crate::task::Task;
 use crate::watching::{Watched, count_seen, look_often};
-use anyhow::{Result, anyhow, bail, ensure};
+use anyhow::{Result, bail, ensure};
 use argus_contents::ObjId;
 use argus_guardian::Guardian;
 use argus_memory::{Heap, OutOfMemory};
@@ -13,7 +14,7 @@ use std::io::Print;
 use std::sync::Wait;
 use std::sync::atomic::{AtomicBool, Ordering};
 use std::thread::{Threads, join, map_vec};
-use test_rows::{Setting, call_of};
+use test_rows::Setting;
 
 const SEATS: u8 = 8;
 
@@ -43,32 +44,22 @@ pub(crate) fn work<R: Threads + Wait + Print + Copy + Drop + Send + Sync>(
 fn with_accounts(heap: Heap) -> Result<Guardian> {
     let mut guardian = Guardian::new(heap);
     for _ in 0..ACCOUNTS + u32::from(SEATS) {
-        call(&mut guardian, heap, "declare atomic_record[n:int]")?;
+        make(&mut guardian, heap, "declare atomic_record[n:int]")?;
     }
-    call(&mut guardian, heap, "begin_top")?;
+    make(&mut guardian, heap, "begin_top")?;
     for number in 0..ACCOUNTS {
         let text = format!(in heap; "alter a0 o{number} create {{0}}")?;
-        call(&mut guardian, heap, text.as_str())?;
+        make(&mut guardian, heap, text.as_str())?;
     }
-    call(&mut guardian, heap, "commit a0")?;
+    make(&mut guardian, heap, "commit a0")?;
     Ok(guardian)
-}
-
-fn call(guardian: &mut Guardian, heap: Heap, text: &str) -> Result<()> {
-    let call = call_of(heap, text).map_err(|fault| anyhow!("{}", fault.as_str()))?;
-    let _reply = guardian.call(call)?;
-    Ok(())
 }
 
 /// The work of all seats and lookers, and the settlement.
 pub(crate) fn have_all_work<
     N: Sharing + Send + Sync,
     R: Threads + Wait + Print + Copy + Drop + Send + Sync,
->(
-    rt: R,
-    parts: Parts<N, R>,
-    heap: Heap,
-) -> Result<Guardian> {
+>(rt: R, parts: Parts<N, R>, heap: Heap) -> Result<Guardian> {
     let Parts {
         shared,
         seats,
@@ -78,11 +69,17 @@ pub(crate) fn have_all_work<
     let is_over = AtomicBool::new(false);
     let (watched, called) = join(
         &rt,
-        || map_vec(&rt, lookers, &|looker| look_often(rt, heap, looker, &is_over)),
+        || map_vec(
+            &rt,
+            lookers,
+            &|looker| look_often(rt, heap, looker, &is_over),
+        ),
         || {
-            let called = map_vec(&rt, seats, &|(count, seat)| {
-                call_often(rt, heap, &shared, seat, count)
-            });
+            let called = map_vec(
+                &rt,
+                seats,
+                &|(count, seat)| { call_often(rt, heap, &shared, seat, count) },
+            );
             is_over.store(true, Ordering::SeqCst);
             called
         },
@@ -155,7 +152,10 @@ fn see<N: Sharing, R: Wait + Drop>(
         ensure!(agrees, "two looks disagree");
         ensure!(shared.brief(&rt, &mut looker), "a looker isn't briefed");
         let count = count_seen(&mut looker, heap);
-        ensure!(count == Some(ALL_COMMITTED), "a look shows other counts: {count:?}");
+        ensure!(
+            count == Some(ALL_COMMITTED),
+            "a look shows other counts: {count:?}"
+        );
     }
     Ok(())
 }

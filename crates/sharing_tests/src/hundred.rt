@@ -1,8 +1,9 @@
 //! Commits of a hundred objects through a shared guardian, with each allocation refused in turn.
 
+use crate::alone::make;
 use crate::sharing::{budgets, share};
 use crate::task::Task;
-use anyhow::{Result, anyhow, bail, ensure};
+use anyhow::{Result, bail, ensure};
 use argus_actions::ActionId;
 use argus_contents::{Content, ObjId, Value};
 use argus_entries::Call;
@@ -12,7 +13,7 @@ use argus_sharing::{Parts, Sharing};
 use std::io::Print;
 use std::sync::Wait;
 use std::thread::Threads;
-use test_rows::{Setting, call_of};
+use test_rows::Setting;
 
 const OBJECTS: u32 = 100;
 
@@ -27,7 +28,10 @@ pub(crate) fn commit_within_budgets<R: Threads + Wait + Print + Copy + Drop + Se
     let guardian = with_objects(setting.heap)?;
     let guardian = commit_at_last(rt, setting, guardian, child, 202, Some(child))?;
     let guardian = commit_at_last(rt, setting, guardian, parent, 203, Some(parent))?;
-    ensure!(stands(&guardian, 204, None), "a commit leaves something else");
+    ensure!(
+        stands(&guardian, 204, None),
+        "a commit leaves something else"
+    );
     Ok(())
 }
 
@@ -35,25 +39,19 @@ pub(crate) fn commit_within_budgets<R: Threads + Wait + Print + Copy + Drop + Se
 fn with_objects(heap: Heap) -> Result<Guardian> {
     let mut guardian = Guardian::new(heap);
     for _ in 0..OBJECTS {
-        call(&mut guardian, heap, "declare atomic_record[n:int]")?;
+        make(&mut guardian, heap, "declare atomic_record[n:int]")?;
     }
-    call(&mut guardian, heap, "begin_top")?;
-    call(&mut guardian, heap, "begin_sub a0")?;
+    make(&mut guardian, heap, "begin_top")?;
+    make(&mut guardian, heap, "begin_sub a0")?;
     for number in 0..OBJECTS {
         let text = format!(in heap; "alter a1 o{number} create {{0}}")?;
-        call(&mut guardian, heap, text.as_str())?;
+        make(&mut guardian, heap, text.as_str())?;
     }
     Ok(guardian)
 }
 
-fn call(guardian: &mut Guardian, heap: Heap, text: &str) -> Result<()> {
-    let call = call_of(heap, text).map_err(|fault| anyhow!("{}", fault.as_str()))?;
-    let _reply = guardian.call(call)?;
-    Ok(())
-}
-
-// The action commits, within as many allocations as it takes. Until then the journal has this length
-// and each object this holder.
+// The action commits, within as many allocations as it takes. Until then the journal has this
+// length and each object this holder.
 fn commit_at_last<R: Threads + Wait + Print + Copy + Drop + Send + Sync>(
     rt: R,
     setting: Setting,
@@ -64,7 +62,10 @@ fn commit_at_last<R: Threads + Wait + Print + Copy + Drop + Send + Sync>(
 ) -> Result<Guardian> {
     let mut guardian = guardian;
     for allowed in budgets(true) {
-        ensure!(stands(&guardian, length, holder), "a refused commit changes something");
+        ensure!(
+            stands(&guardian, length, holder),
+            "a refused commit changes something"
+        );
         let mut task = Task::Commit(OneCommit {
             setting: setting.allowing(allowed),
             a,
@@ -93,7 +94,9 @@ pub(crate) fn commit_once<N: Sharing, R: Wait + Drop>(
     commit: &mut OneCommit,
 ) -> Result<Guardian> {
     let Parts {
-        shared, mut seats, ..
+        shared,
+        mut seats,
+        ..
     } = parts;
     let Some(seat) = seats.first_mut() else {
         bail!("no seat");
@@ -115,8 +118,11 @@ pub(crate) fn commit_once<N: Sharing, R: Wait + Drop>(
 // Whether the journal has this length, and each of the objects one version, of this holder, or none
 // and a base; a 0 in each, and no readers.
 fn stands(guardian: &Guardian, length: u64, holder: Option<ActionId>) -> bool {
-    let are_all = (0..OBJECTS).all(|number| is_held(guardian, ObjId(number), holder));
-    are_all && guardian.journal().journal().len() == length
+    let mut stands = guardian.journal().journal().len() == length;
+    for number in 0..OBJECTS {
+        stands = stands && is_held(guardian, ObjId(number), holder);
+    }
+    stands
 }
 
 fn is_held(guardian: &Guardian, o: ObjId, holder: Option<ActionId>) -> bool {

@@ -1,6 +1,6 @@
-//! Shared guardians worked out: makes the calls, looks and settlements of the rows in data/, refuses
-//! the commits of many objects memory, and has eight seats and four lookers work at once. A row that
-//! isn't answered as it says is told, and the status is then 1.
+//! Shared guardians worked out: makes the calls, looks and settlements of the rows in data/,
+//! refuses the commits of many objects memory, and has eight seats and four lookers work at once. A
+//! row that isn't answered as it says is told, and the status is then 1.
 #![tactic(auto)]
 
 mod alone;

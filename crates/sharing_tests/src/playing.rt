@@ -32,11 +32,7 @@ pub(crate) struct Play<'a> {
 pub(crate) fn play_rows<
     N: Sharing + Send + Sync,
     R: Threads + Wait + Print + Copy + Drop + Send + Sync,
->(
-    rt: R,
-    parts: Parts<N, R>,
-    play: &mut Play<'_>,
-) -> Result<Guardian> {
+>(rt: R, parts: Parts<N, R>, play: &mut Play<'_>) -> Result<Guardian> {
     let Play {
         setting,
         is_tight,
@@ -44,7 +40,10 @@ pub(crate) fn play_rows<
         tally,
     } = play;
     let mut session = Session::new(setting.texts, parts);
-    for row in rows.lines().filter(|row| !row.starts_with('#')) {
+    for row in rows.lines() {
+        if row.starts_with('#') {
+            continue;
+        }
         let (asked, _) = row.split_once(" -> ").unwrap_or((row, ""));
         if asked.starts_with("settle") {
             let (answer, settled) = session.settle(*setting, *is_tight, asked);

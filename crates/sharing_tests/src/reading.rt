@@ -82,8 +82,10 @@ fn waiting_of(setting: Setting, text: &str) -> Result<Row, RowFault> {
         return Err(RowFault::NotSpelled);
     };
     let mut calls = Vec::new(setting.texts);
-    for call in made.split(", ").filter(|call| *call != "others end") {
-        calls.push(call_of(setting.heap, call)?)?;
+    for call in made.split(", ") {
+        if call != "others end" {
+            calls.push(call_of(setting.heap, call)?)?;
+        }
     }
     match waiting_call_of(setting.heap, waiting)? {
         (Some(patience), waiting) => Ok(Row::While {

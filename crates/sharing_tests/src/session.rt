@@ -31,10 +31,7 @@ pub(crate) struct Session<N: Sharing, R: Wait + Drop> {
 /// What came of a settlement: the guardian, or the session with the fault.
 pub(crate) type Settled<N, R> = Result<Guardian, (Session<N, R>, SettleFault)>;
 
-impl<
-    N: Sharing + Send + Sync,
-    R: Threads + Wait + Copy + Drop + Send + Sync,
-> Session<N, R> {
+impl<N: Sharing + Send + Sync, R: Threads + Wait + Copy + Drop + Send + Sync> Session<N, R> {
     pub(crate) fn new(texts: Heap, parts: Parts<N, R>) -> Session<N, R> {
         let Parts {
             shared,
@@ -121,7 +118,9 @@ impl<
 
     fn brief(&mut self, rt: R, looker: usize, out: &mut String<Heap>) -> Result<(), RowFault> {
         let Session {
-            shared, lookers, ..
+            shared,
+            lookers,
+            ..
         } = self;
         match lookers.get_mut(looker) {
             Some(looker) => tell_shown(shared.brief(&rt, looker), out),
@@ -200,7 +199,10 @@ impl<
             }
             return Ok(shown);
         }
-        for word in words.split(' ').filter(|word| !word.is_empty()) {
+        if words.is_empty() {
+            return Ok(shown);
+        }
+        for word in words.split(' ') {
             let receipt = self.receipts.get(word.parse::<usize>()?);
             shown.push(copied(texts, receipt.ok_or(RowFault::NotSpelled)?)?)?;
         }
@@ -215,7 +217,10 @@ impl<
         setting: Setting,
         is_tight: bool,
         asked: &str,
-    ) -> (Result<String<Heap>, RowFault>, Result<Guardian, Session<N, R>>) {
+    ) -> (
+        Result<String<Heap>, RowFault>,
+        Result<Guardian, Session<N, R>>,
+    ) {
         let (word, words) = first_word(asked);
         let shown = match self.shown(setting.texts, words) {
             Ok(shown) => shown,
@@ -245,11 +250,13 @@ impl<
         let left_out = if is_short { seats.pop() } else { None };
         match shared.settle(seats, shown) {
             Ok(guardian) => Ok(guardian),
-            Err(Unsettled {
-                fault,
-                shared,
-                mut seats,
-            }) => {
+            Err(
+                Unsettled {
+                    fault,
+                    shared,
+                    mut seats,
+                },
+            ) => {
                 if let Some(seat) = left_out {
                     // There was room for it before.
                     let _ = seats.push(seat);

@@ -65,10 +65,7 @@ pub(crate) fn share<R: Threads + Wait + Print + Copy + Drop + Send + Sync>(
     bail!("a guardian is never shared")
 }
 
-fn share_as<
-    N: Sharing + Send + Sync,
-    R: Threads + Wait + Print + Copy + Drop + Send + Sync,
->(
+fn share_as<N: Sharing + Send + Sync, R: Threads + Wait + Print + Copy + Drop + Send + Sync>(
     rt: R,
     setting: Setting,
     guardian: Guardian,

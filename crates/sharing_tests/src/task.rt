@@ -30,11 +30,7 @@ pub(crate) enum Task<'a> {
 pub(crate) fn perform<
     N: Sharing + Send + Sync,
     R: Threads + Wait + Print + Copy + Drop + Send + Sync,
->(
-    rt: R,
-    parts: Parts<N, R>,
-    task: &mut Task<'_>,
-) -> Result<Guardian> {
+>(rt: R, parts: Parts<N, R>, task: &mut Task<'_>) -> Result<Guardian> {
     match task {
         Task::Play(play) => play_rows(rt, parts, play),
         Task::Commit(commit) => commit_once(rt, parts, commit),

@@ -43,10 +43,7 @@ pub(crate) fn tell_look<N: Board>(
     }
 }
 
-fn tell_contents(
-    contents: &[Option<Content>],
-    out: &mut String<Heap>,
-) -> Result<(), OutOfMemory> {
+fn tell_contents(contents: &[Option<Content>], out: &mut String<Heap>) -> Result<(), OutOfMemory> {
     for content in contents {
         tell_content(content, out)?;
     }
