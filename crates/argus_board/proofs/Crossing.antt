@@ -1,4 +1,5 @@
--- What is on a board may cross to another thread, and be looked at from there: as a set for `search`, `crosses`.
+-- What is on a board may cross to another thread, and be looked at from there, and who writes or looks may go there:
+-- as a set for `search`, `crosses`.
 use denote.RattleType.{RattleType}
 use denote.Struct.Declared.{shape, row as declared_row}
 use denote.Struct.Tuple.{Tuple, tuple_type}
@@ -12,6 +13,7 @@ use Rattle.argus_contents.specs.contracts.content.Content.{the_row as content_ro
 use Rattle.argus_contents.specs.contracts.obj_id.ObjId.{the_row as object_row}
 use Rattle.argus_board.proofs.front.Front.TheSendSync.{the_field_send as front_field_sends, the_field_sync as front_field_syncs}
 use Rattle.argus_board.proofs.keeper.Keeper.TheSendSync.{the_field_send as keeper_field_sends}
+use Rattle.left_right.proofs.reader.Reader.TheSendSync.{the_field_send as place_send}
 use Rattle.left_right.proofs.writer.Writer.TheSendSync.{the_field_send as publisher_send}
 use Rattle.argus_board.specs.contracts.front.Front.{the_row as front_row}
 use Rattle.argus_board.specs.contracts.table.Contents.{the_row as contents_row}
@@ -23,6 +25,8 @@ use Rattle.argus_board.specs.contracts.published.View.{the_row as view_row}
 use Rattle.argus_board.specs.contracts.published.Published.{the_row as published_row}
 use Rattle.left_right.specs.contracts.writer.Writer.{the_field as publisher_field}
 use Rattle.argus_board.specs.contracts.board_writer.BoardWriter.TheInside.{the_type as inside}
+use Rattle.argus_board.specs.contracts.looker.Looker.{the_row as looker_row}
+use Rattle.argus_board.specs.contracts.looker.Looker.TheInside.{the_type as looker_inside}
 use Rattle.argus_board.specs.contracts.change.Change.{the_field as change_field, the_row as change_row}
 use Rattle.argus_board.specs.contracts.table.Table.{the_row as table_row}
 
@@ -85,6 +89,17 @@ inside_sends N R g s = let t = inside N R g in
 pub writer_sends : (N R : RattleType) (g : Ghosts N.Denot) → IsSend R → IsSend (writer_row N R g)
 writer_sends N R g s = view_send _ _ _ _ _ (inside_sends N R g s)
 
+looker_inside_sends : (N : RattleType) (g : Ghosts N.Denot) → IsSend (declared_row (looker_inside N g))
+looker_inside_sends N g = let t = looker_inside N g in
+    recorded_send _ t.D t.to t.to_one (struct_send (shape t) (
+      place_send table_row view_row (published_row N) memory.heap (keeps N g no_dict) memory.rests memory.heap_sends
+          table_syncs memory.heap_syncs memory.heap_frees,
+      (front_field_sends, tt),
+    ))
+
+pub looker_sends : (N : RattleType) (g : Ghosts N.Denot) → IsSend (looker_row N g)
+looker_sends N g = view_send _ _ _ _ _ (looker_inside_sends N g)
+
 pub ruleset crosses = (
   memory.crosses,
   effect_sends,
@@ -98,4 +113,5 @@ pub ruleset crosses = (
   change_sends,
   change_syncs,
   writer_sends,
+  looker_sends,
 )

@@ -5,7 +5,6 @@ use denote.Struct.Declared.{shape, row as declared_row}
 use denote.Param.Send.{IsSend, IsSync, recorded_send, sendable, struct_send, view_send}
 use Rattle.argus_actions.proofs.Crossing as actions
 use Rattle.argus_board.proofs.Crossing as board
-use Rattle.argus_board.specs.contracts.looker.Looker.{the_row as looker_row}
 use Rattle.argus_board.specs.declared.board.Board.{Ghosts}
 use Rattle.argus_contents.proofs.Crossing as contents
 use Rattle.argus_entries.proofs.Crossing as entries
@@ -76,7 +75,20 @@ module _ (N R : RattleType) (a : Named N.Denot) (l : Ledgered N.Denot) (g : Ghos
   pub shared_syncs : IsSync (shared_row N R a l g)
   shared_syncs = search (sendable, std_crosses, locked_sends) depth 40
 
+pub seat_sends : (N : RattleType) (a : Named N.Denot) (g : Ghosts N.Denot) (l : Ledgered N.Denot)
+    → IsSend (seat_row N a g l)
+seat_sends N a g l = search (sendable, share_sends) depth 40
+
 pub receipt_sends : IsSend receipt_row
 receipt_sends = search (sendable, entries.call_field_sends, entries.reply_field_sends) depth 40
 
-pub ruleset crosses = (memory.crosses, guardian_sends, locked_sends, shared_sends, shared_syncs, receipt_sends)
+pub ruleset crosses = (
+  memory.crosses,
+  board.looker_sends,
+  guardian_sends,
+  locked_sends,
+  shared_sends,
+  shared_syncs,
+  seat_sends,
+  receipt_sends,
+)
