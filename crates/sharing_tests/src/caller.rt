@@ -17,12 +17,12 @@ const PATIENCE: u32 = 1_000_000;
 /// its transfers.
 ///
 /// ```text
-/// let mut caller = Caller::new(rt, heap, &shared, seat, ObjId(8));
+/// let mut caller = Caller::new(&rt, heap, &shared, seat, ObjId(8));
 /// caller.transfer(1)?;
 /// ```
 #[derive(Drop)]
 pub(crate) struct Caller<'a, N: Sharing, R: Wait + Drop> {
-    rt: R,
+    rt: &'a R,
     heap: Heap,
     shared: &'a Shared<N, R>,
     pub(crate) seat: Seat<N>,
@@ -32,7 +32,7 @@ pub(crate) struct Caller<'a, N: Sharing, R: Wait + Drop> {
 
 impl<'a, N: Sharing, R: Wait + Drop> Caller<'a, N, R> {
     pub(crate) fn new(
-        rt: R,
+        rt: &'a R,
         heap: Heap,
         shared: &'a Shared<N, R>,
         seat: Seat<N>,
@@ -58,7 +58,7 @@ impl<'a, N: Sharing, R: Wait + Drop> Caller<'a, N, R> {
             receipts,
             ..
         } = self;
-        let receipt = shared.call_waiting(&*rt, seat, call, PATIENCE)?;
+        let receipt = shared.call_waiting(*rt, seat, call, PATIENCE)?;
         let reply = receipt.reply.duplicate(*heap)?;
         receipts.push(receipt)?;
         Ok(reply)

@@ -5,11 +5,13 @@ use crate::caller::{ACCOUNTS, Caller};
 use crate::sharing::share;
 use crate::task::Task;
 use crate::watching::{Watched, count_seen, look_often};
-use anyhow::{Result, bail, ensure};
+use anyhow::{bail, ensure};
+use argus_board::Looker;
 use argus_contents::ObjId;
 use argus_guardian::Guardian;
 use argus_memory::{Heap, OutOfMemory};
 use argus_sharing::{Parts, Receipt, Seat, Shared, Sharing};
+use std::alloc::AllocError;
 use std::io::Print;
 use std::sync::Wait;
 use std::sync::atomic::{AtomicBool, Ordering};
@@ -32,7 +34,7 @@ const ALL_COMMITTED: i64 = 8 * 3001;
 pub(crate) fn work<R: Threads + Wait + Print + Copy + Drop + Send + Sync>(
     rt: R,
     setting: Setting,
-) -> Result<()> {
+) -> anyhow::Result<()> {
     let heap = setting.texts;
     let guardian = with_accounts(heap)?;
     let mut task = Task::Crowd(heap);
@@ -41,7 +43,7 @@ pub(crate) fn work<R: Threads + Wait + Print + Copy + Drop + Send + Sync>(
 }
 
 // The accounts, with a 0 in each, and the objects in which seats count, which are absent.
-fn with_accounts(heap: Heap) -> Result<Guardian> {
+fn with_accounts(heap: Heap) -> anyhow::Result<Guardian> {
     let mut guardian = Guardian::new(heap);
     for _ in 0..ACCOUNTS + u32::from(SEATS) {
         make(&mut guardian, heap, "declare atomic_record[n:int]")?;
@@ -59,7 +61,7 @@ fn with_accounts(heap: Heap) -> Result<Guardian> {
 pub(crate) fn have_all_work<
     N: Sharing + Send + Sync,
     R: Threads + Wait + Print + Copy + Drop + Send + Sync,
->(rt: R, parts: Parts<N, R>, heap: Heap) -> Result<Guardian> {
+>(rt: R, parts: Parts<N, R>, heap: Heap) -> anyhow::Result<Guardian> {
     let Parts {
         shared,
         seats,
@@ -67,20 +69,13 @@ pub(crate) fn have_all_work<
     } = parts;
     let seats = numbered(heap, seats)?;
     let is_over = AtomicBool::new(false);
+    let (rt, over) = (&rt, &is_over);
     let (watched, called) = join(
-        &rt,
-        || map_vec(
-            &rt,
-            lookers,
-            &|looker| look_often(rt, heap, looker, &is_over),
-        ),
+        rt,
+        move || watch_all(rt, heap, lookers, over),
         || {
-            let called = map_vec(
-                &rt,
-                seats,
-                &|(count, seat)| { call_often(rt, heap, &shared, seat, count) },
-            );
-            is_over.store(true, Ordering::SeqCst);
+            let called = call_all(rt, heap, &shared, seats);
+            over.store(true, Ordering::SeqCst);
             called
         },
     );
@@ -90,6 +85,28 @@ pub(crate) fn have_all_work<
         Ok(guardian) => Ok(guardian),
         Err(unsettled) => bail!("the work isn't settled: {}", unsettled.fault),
     }
+}
+
+fn watch_all<N: Sharing + Send + Sync, R: Threads + Wait + Drop + Send + Sync>(
+    rt: &R,
+    heap: Heap,
+    lookers: Vec<Looker<N>, Heap>,
+    is_over: &AtomicBool,
+) -> Result<Vec<Watched<N>, Heap>, AllocError> {
+    map_vec(rt, lookers, &|looker| look_often(rt, heap, looker, is_over))
+}
+
+fn call_all<N: Sharing + Send + Sync, R: Threads + Wait + Drop + Send + Sync>(
+    rt: &R,
+    heap: Heap,
+    shared: &Shared<N, R>,
+    seats: Vec<(ObjId, Seat<N>), Heap>,
+) -> Result<Vec<Result<Called<N>, OutOfMemory>, Heap>, AllocError> {
+    map_vec(
+        rt,
+        seats,
+        &|numbered| call_often(rt, heap, shared, numbered),
+    )
 }
 
 // Each seat with the object in which it counts.
@@ -110,11 +127,10 @@ fn numbered<N: Sharing>(
 type Called<N> = (Seat<N>, Vec<Receipt, Heap>);
 
 fn call_often<N: Sharing, R: Wait + Drop>(
-    rt: R,
+    rt: &R,
     heap: Heap,
     shared: &Shared<N, R>,
-    seat: Seat<N>,
-    count: ObjId,
+    (count, seat): (ObjId, Seat<N>),
 ) -> Result<Called<N>, OutOfMemory> {
     let mut caller = Caller::new(rt, heap, shared, seat, count);
     caller.open()?;
@@ -142,15 +158,15 @@ fn gathered<N: Sharing>(
 
 // Each looker has seen what agrees, and sees all once it is briefed.
 fn see<N: Sharing, R: Wait + Drop>(
-    rt: R,
+    rt: &R,
     heap: Heap,
     shared: &Shared<N, R>,
     watched: Vec<Watched<N>, Heap>,
-) -> Result<()> {
+) -> anyhow::Result<()> {
     for one in watched {
         let Watched { mut looker, agrees } = one;
         ensure!(agrees, "two looks disagree");
-        ensure!(shared.brief(&rt, &mut looker), "a looker isn't briefed");
+        ensure!(shared.brief(rt, &mut looker), "a looker isn't briefed");
         let count = count_seen(&mut looker, heap);
         ensure!(
             count == Some(ALL_COMMITTED),

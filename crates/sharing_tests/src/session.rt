@@ -166,7 +166,7 @@ impl<N: Sharing + Send + Sync, R: Threads + Wait + Copy + Drop + Send + Sync> Se
         let (Some(second), Some(first)) = (seats.pop(), seats.pop()) else {
             return Err(RowFault::NotSpelled);
         };
-        let meanwhile = wait_meanwhile(rt, shared, first, second, calls, patience, waiting);
+        let meanwhile = wait_meanwhile(&rt, shared, first, second, calls, patience, waiting);
         let Meanwhile {
             mut made,
             waited,

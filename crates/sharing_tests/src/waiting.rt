@@ -22,39 +22,30 @@ pub(crate) struct Meanwhile<N: Sharing> {
 /// Makes the waiting call by the second seat in a thread of its own. Once that has begun, the first
 /// seat makes the other calls; where there are none, it begins topactions and aborts them until
 /// the waiting call is answered.
-pub(crate) fn wait_meanwhile<
-    N: Sharing + Send + Sync,
-    R: Threads + Wait + Copy + Drop + Send + Sync,
->(
-    rt: R,
+pub(crate) fn wait_meanwhile<N: Sharing + Send + Sync, R: Threads + Wait + Drop + Send + Sync>(
+    rt: &R,
     shared: &Shared<N, R>,
     mut first: Seat<N>,
-    mut second: Seat<N>,
+    second: Seat<N>,
     calls: Vec<Call, Heap>,
     patience: u32,
     waiting: Call,
 ) -> Result<Meanwhile<N>, OutOfMemory> {
-    let has_begun = AtomicBool::new(false);
-    let is_answered = AtomicBool::new(false);
-    let (waited, made) = join(
-        &rt,
+    let (has_begun, is_answered) = (AtomicBool::new(false), AtomicBool::new(false));
+    let (begun, answered) = (&has_begun, &is_answered);
+    let ((waited, second), (made, first)) = join(
+        rt,
+        move || wait_there(rt, shared, second, waiting, patience, begun, answered),
         || {
-            has_begun.store(true, Ordering::SeqCst);
-            let waited = shared.call_waiting(&rt, &mut second, waiting, patience);
-            is_answered.store(true, Ordering::SeqCst);
-            (waited, second)
-        },
-        || {
-            wait_for(rt, &has_begun);
+            wait_for(rt, begun);
             let made = if calls.is_empty() {
-                stir(rt, *calls.allocator(), shared, &mut first, &is_answered)
+                stir(rt, *calls.allocator(), shared, &mut first, answered)
             } else {
                 make_all(rt, shared, &mut first, calls)
             };
             (made, first)
         },
     );
-    let ((waited, second), (made, first)) = (waited, made);
     Ok(Meanwhile {
         made: made?,
         waited: waited?,
@@ -63,8 +54,23 @@ pub(crate) fn wait_meanwhile<
     })
 }
 
+fn wait_there<N: Sharing, R: Wait + Drop>(
+    rt: &R,
+    shared: &Shared<N, R>,
+    mut seat: Seat<N>,
+    waiting: Call,
+    patience: u32,
+    begun: &AtomicBool,
+    answered: &AtomicBool,
+) -> (Result<Receipt, OutOfMemory>, Seat<N>) {
+    begun.store(true, Ordering::SeqCst);
+    let waited = shared.call_waiting(rt, &mut seat, waiting, patience);
+    answered.store(true, Ordering::SeqCst);
+    (waited, seat)
+}
+
 // Yields until the flag is set, and then for some time.
-fn wait_for(rt: impl Wait + Drop, flag: &AtomicBool) {
+fn wait_for(rt: &impl Wait, flag: &AtomicBool) {
     for _ in rt.forever() {
         if flag.load(Ordering::SeqCst) {
             break;
@@ -77,21 +83,21 @@ fn wait_for(rt: impl Wait + Drop, flag: &AtomicBool) {
 }
 
 fn make_all<N: Sharing, R: Wait + Drop>(
-    rt: R,
+    rt: &R,
     shared: &Shared<N, R>,
     seat: &mut Seat<N>,
     calls: Vec<Call, Heap>,
 ) -> Result<Vec<Receipt, Heap>, OutOfMemory> {
     let mut receipts = Vec::new(*calls.allocator());
     for call in calls {
-        receipts.push(shared.call(&rt, seat, call)?)?;
+        receipts.push(shared.call(rt, seat, call)?)?;
     }
     Ok(receipts)
 }
 
 // Begins topactions and aborts them until the flag is set.
 fn stir<N: Sharing, R: Wait + Drop>(
-    rt: R,
+    rt: &R,
     heap: Heap,
     shared: &Shared<N, R>,
     seat: &mut Seat<N>,
@@ -102,9 +108,9 @@ fn stir<N: Sharing, R: Wait + Drop>(
         if flag.load(Ordering::SeqCst) {
             break;
         }
-        let begun = shared.call(&rt, seat, Call::BeginTop)?;
+        let begun = shared.call(rt, seat, Call::BeginTop)?;
         if let Reply::Begun(a) = begun.reply {
-            receipts.push(shared.call(&rt, seat, Call::Abort(a))?)?;
+            receipts.push(shared.call(rt, seat, Call::Abort(a))?)?;
         }
         receipts.push(begun)?;
     }

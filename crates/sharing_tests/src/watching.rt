@@ -39,7 +39,7 @@ pub(crate) struct Watched<N: Sharing> {
 
 /// Looks again and again, until the work is over, and once more.
 pub(crate) fn look_often<N: Sharing>(
-    rt: impl Wait + Drop,
+    rt: &impl Wait,
     heap: Heap,
     mut looker: Looker<N>,
     is_over: &AtomicBool,

@@ -1,6 +1,6 @@
 -- Lookers may cross to another thread, and back.
 use denote.Param.Send.{sendable}
-use Rattle.argus_board.proofs.Crossing.{crosses}
+use Rattle.argus_sharing.proofs.Crossing.{crosses}
 use Rattle.sharing_tests.proofs.crowd.have_all_work.Goals as goal
 
 pub join-watched-requires-send-F : goal.join-watched-requires-send-F
