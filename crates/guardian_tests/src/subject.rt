@@ -116,8 +116,8 @@ impl Subject {
     }
 }
 
-/// An entry's line without the number before it.
-pub(crate) fn entry_text(texts: Heap, entry: &Entry) -> Result<String<Heap>, OutOfMemory> {
+// An entry's line without the number before it.
+fn entry_text(texts: Heap, entry: &Entry) -> Result<String<Heap>, OutOfMemory> {
     let mut line = String::new(texts);
     write_entry(0, entry, &mut line)?;
     match line.as_str().strip_prefix("0 ") {
