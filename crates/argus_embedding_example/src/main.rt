@@ -1,0 +1,97 @@
+//! Two threads pay into one account of a guardian that they share.
+#![tactic(auto)]
+
+ghost use Rattle.std.specs.Prelude.{◌≡◌};
+ghost use Rattle.argus_board.specs.Keeper.{Opens};
+ghost use Rattle.argus_journal.specs.Opening.{content_in};
+ghost use Rattle.argus_sharing.specs.Following.{bases_told, effects_told};
+ghost use Rattle.argus_sharing.specs.Locked.{next_number};
+
+use anyhow::{Result, anyhow};
+use argus_actions::ActionId;
+use argus_board::Keeper;
+use argus_contents::{Change, Content, ObjId, Shape, Ty, Value};
+use argus_entries::{Call, Reply};
+use argus_guardian::Guardian;
+use argus_memory::{Heap, OutOfMemory};
+use argus_sharing::{Parts, Receipt, Seat, Shared, Sharing};
+use std::collections::VecDeque;
+use std::marker::Brand;
+use std::sync::Wait;
+use std::sync::ledger::Blank;
+use std::thread::{Threads, join};
+
+const ACCOUNT: ObjId = ObjId(0);
+
+fn main(rt: HostRuntime) -> Result<()> {
+    let heap = Heap::new(rt.alloc())?;
+    let mut guardian = Guardian::new(heap);
+    let items = VecDeque::new(heap);
+    let empty = Change::Create(Content::Arr { low: 1, items });
+    guardian.call(Call::Declare(Shape::arr(Ty::Int)?))?;
+    guardian.call(Call::BeginTop)?;
+    guardian.call(Call::Alter(ActionId(0), ACCOUNT, empty))?;
+    guardian.call(Call::Commit(ActionId(0)))?;
+    let guardian = pay_from_threads::<Brand, _>(rt, heap, guardian, Blank::new(2), Keeper::new())?;
+    let entries = guardian.journal().journal().len();
+    if let Some(Some(Content::Arr { items, .. })) = guardian.base(ACCOUNT) {
+        println!(rt; "settled: {} payments, {entries} entries", items.len())?;
+    }
+    Ok(())
+}
+
+// Shares the guardian, and settles with all receipts. The conditions say which sharing this is.
+fn pay_from_threads<N: Sharing + Send + Sync, R: Threads + Wait + Copy + Drop + Send + Sync>(
+    rt: R,
+    heap: Heap,
+    guardian: Guardian,
+    blank: Blank,
+    keeper: Keeper,
+) -> Result<Guardian>
+    requires name { blank.name ≡ N.name }
+    requires parts { (blank.parts ≡ N.parts) × (blank.parts ≡ 2) }
+    requires keeper { Opens N.history N.root keeper }
+    requires start { N.start ≡ next_number guardian }
+    requires before { N.before ≡ effects_told guardian }
+    requires opening { N.opening ≡ content_in guardian.opening.objects }
+    requires first { N.first ≡ bases_told guardian }
+{
+    let parts = Shared::<N, R>::new(rt, heap, guardian, 2, 0, blank, keeper);
+    let Parts {
+        shared,
+        mut seats,
+        ..
+    } = parts.map_err(|_| OutOfMemory)?;
+    let second = seats.pop().ok_or(OutOfMemory)?;
+    let first = seats.pop().ok_or(OutOfMemory)?;
+    let (one, other) = join(
+        &rt,
+        || pay(rt, heap, &shared, first, 70),
+        || pay(rt, heap, &shared, second, 30),
+    );
+    let ((first, mut receipts), (second, mut others)) = (one?, other?);
+    receipts.append(&mut others)?;
+    seats.push(first)?;
+    seats.push(second)?;
+    let settled = shared.settle(seats, receipts.as_slice());
+    settled.map_err(|unsettled| anyhow!("{}", unsettled.fault))
+}
+
+// A topaction that adds a payment. Each call that was made has a receipt.
+fn pay<N: Sharing, R: Wait + Drop>(
+    rt: R,
+    heap: Heap,
+    shared: &Shared<N, R>,
+    mut seat: Seat<N>,
+    amount: i64,
+) -> Result<(Seat<N>, Vec<Receipt, Heap>), OutOfMemory> {
+    let mut receipts = Vec::new(heap);
+    let begun = shared.call(&rt, &mut seat, Call::BeginTop)?;
+    if let Reply::Begun(a) = begun.reply {
+        let payment = Call::Alter(a, ACCOUNT, Change::Addh(Value::Int(amount)));
+        receipts.push(shared.call_waiting(&rt, &mut seat, payment, 1000)?)?;
+        receipts.push(shared.call(&rt, &mut seat, Call::Commit(a))?)?;
+    }
+    receipts.push(begun)?;
+    Ok((seat, receipts))
+}

@@ -1,0 +1,45 @@
+//! `Row`: what a row of a shared guardian asks for.
+
+use argus_contents::ObjId;
+use argus_entries::{Call, Reply};
+use argus_memory::Heap;
+
+/// What a row asks for, before its arrow. Seats, lookers and receipts have numbers from 0 on.
+///
+/// ```text
+/// let row = row_of(setting, "wait 3 commit a0")?;         // Row::Call { patience: Some(3), .. }
+/// ```
+#[derive(Drop)]
+pub(crate) enum Row {
+    /// A call by a seat. With a patience it waits while it would be refused `Conflict`.
+    Call {
+        seat: usize,
+        patience: Option<u32>,
+        call: Call,
+    },
+    /// A look at these objects.
+    Look {
+        looker: usize,
+        objects: Vec<ObjId, Heap>,
+    },
+    Brief {
+        looker: usize,
+    },
+    Refresh,
+    Checkpoint,
+    /// How many calls the seat has made.
+    Made {
+        seat: usize,
+    },
+    /// Puts a reply in the place of the receipt's own.
+    Forge {
+        receipt: usize,
+        reply: Reply,
+    },
+    /// A call that seat 1 waits with in another thread, and calls that seat 0 makes meanwhile.
+    While {
+        calls: Vec<Call, Heap>,
+        patience: u32,
+        waiting: Call,
+    },
+}

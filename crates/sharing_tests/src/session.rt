@@ -1,0 +1,291 @@
+//! `Session`: a shared guardian that rows are told to.
+
+use crate::row::Row;
+use crate::sharing::budgets;
+use crate::telling::{tell_checkpoint, tell_fault, tell_look, tell_receipt, tell_shown};
+use crate::waiting::{Meanwhile, wait_meanwhile};
+use argus_board::Looker;
+use argus_contents::ObjId;
+use argus_entries::{Call, Reply};
+use argus_guardian::Guardian;
+use argus_memory::Heap;
+use argus_sharing::{Parts, Receipt, Seat, SettleFault, Shared, Sharing, Unsettled};
+use std::sync::Wait;
+use std::thread::Threads;
+use test_rows::{RowFault, Setting, first_word, tell_number, tell_word};
+
+/// A shared guardian with its seats and lookers, and the receipts of all calls so far.
+///
+/// ```text
+/// let mut session = Session::new(setting.texts, parts);
+/// let text = session.answer(rt, setting, row_of(setting, "begin_top")?)?;        // ` a0`
+/// ```
+#[derive(Drop)]
+pub(crate) struct Session<N: Sharing, R: Wait + Drop> {
+    shared: Shared<N, R>,
+    seats: Vec<Seat<N>, Heap>,
+    lookers: Vec<Looker<N>, Heap>,
+    receipts: Vec<Receipt, Heap>,
+}
+
+/// What came of a settlement: the guardian, or the session with the fault.
+pub(crate) type Settled<N, R> = Result<Guardian, (Session<N, R>, SettleFault)>;
+
+impl<N: Sharing + Send + Sync, R: Threads + Wait + Copy + Drop + Send + Sync> Session<N, R> {
+    pub(crate) fn new(texts: Heap, parts: Parts<N, R>) -> Session<N, R> {
+        let Parts {
+            shared,
+            seats,
+            lookers,
+        } = parts;
+        Session {
+            shared,
+            seats,
+            lookers,
+            receipts: Vec::new(texts),
+        }
+    }
+
+    /// What the row is answered, as text.
+    pub(crate) fn answer(
+        &mut self,
+        rt: R,
+        setting: Setting,
+        row: Row,
+    ) -> Result<String<Heap>, RowFault> {
+        let mut out = String::new(setting.texts);
+        match row {
+            Row::Call {
+                seat,
+                patience,
+                call,
+            } => self.call(rt, seat, patience, call, &mut out)?,
+            Row::Look { looker, objects } => {
+                self.look(setting.heap, looker, objects.as_slice(), &mut out)?;
+            }
+            Row::Brief { looker } => self.brief(rt, looker, &mut out)?,
+            Row::Refresh => tell_shown(self.shared.refresh(&rt), &mut out)?,
+            Row::Checkpoint => tell_checkpoint(self.shared.checkpoint(&rt), &mut out)?,
+            Row::Made { seat } => self.made(seat, &mut out)?,
+            Row::Forge { receipt, reply } => self.forge(receipt, reply, &mut out)?,
+            Row::While {
+                calls,
+                patience,
+                waiting,
+            } => self.wait(rt, calls, patience, waiting, &mut out)?,
+        }
+        Ok(out)
+    }
+
+    fn call(
+        &mut self,
+        rt: R,
+        seat: usize,
+        patience: Option<u32>,
+        call: Call,
+        out: &mut String<Heap>,
+    ) -> Result<(), RowFault> {
+        let Session {
+            shared,
+            seats,
+            receipts,
+            ..
+        } = self;
+        let Some(seat) = seats.get_mut(seat) else {
+            return Err(RowFault::NotSpelled);
+        };
+        let receipt = match patience {
+            None => shared.call(&rt, seat, call)?,
+            Some(patience) => shared.call_waiting(&rt, seat, call, patience)?,
+        };
+        tell_receipt(&receipt, out)?;
+        receipts.push(receipt)?;
+        Ok(())
+    }
+
+    fn look(
+        &mut self,
+        heap: Heap,
+        looker: usize,
+        objects: &[ObjId],
+        out: &mut String<Heap>,
+    ) -> Result<(), RowFault> {
+        match self.lookers.get_mut(looker) {
+            Some(looker) => tell_look(looker, heap, objects, out),
+            None => Err(RowFault::NotSpelled),
+        }
+    }
+
+    fn brief(&mut self, rt: R, looker: usize, out: &mut String<Heap>) -> Result<(), RowFault> {
+        let Session {
+            shared,
+            lookers,
+            ..
+        } = self;
+        match lookers.get_mut(looker) {
+            Some(looker) => tell_shown(shared.brief(&rt, looker), out),
+            None => Err(RowFault::NotSpelled),
+        }
+    }
+
+    fn made(&self, seat: usize, out: &mut String<Heap>) -> Result<(), RowFault> {
+        match self.seats.get(seat) {
+            Some(seat) => Ok(tell_number(seat.made(), out)?),
+            None => Err(RowFault::NotSpelled),
+        }
+    }
+
+    fn forge(
+        &mut self,
+        receipt: usize,
+        reply: Reply,
+        out: &mut String<Heap>,
+    ) -> Result<(), RowFault> {
+        let Some(receipt) = self.receipts.get_mut(receipt) else {
+            return Err(RowFault::NotSpelled);
+        };
+        receipt.reply = reply;
+        Ok(tell_word("done", out)?)
+    }
+
+    // The sharing has two seats.
+    fn wait(
+        &mut self,
+        rt: R,
+        calls: Vec<Call, Heap>,
+        patience: u32,
+        waiting: Call,
+        out: &mut String<Heap>,
+    ) -> Result<(), RowFault> {
+        let Session {
+            shared,
+            seats,
+            receipts,
+            ..
+        } = self;
+        let (Some(second), Some(first)) = (seats.pop(), seats.pop()) else {
+            return Err(RowFault::NotSpelled);
+        };
+        let meanwhile = wait_meanwhile(&rt, shared, first, second, calls, patience, waiting);
+        let Meanwhile {
+            mut made,
+            waited,
+            first,
+            second,
+        } = meanwhile?;
+        seats.push(first)?;
+        seats.push(second)?;
+        tell_receipt(&waited, out)?;
+        receipts.append(&mut made)?;
+        receipts.push(waited)?;
+        Ok(())
+    }
+
+    /// What all lookers see of the first three objects.
+    pub(crate) fn seen(&mut self, texts: Heap) -> Result<String<Heap>, RowFault> {
+        let mut out = String::new(texts);
+        for looker in self.lookers.iter_mut() {
+            tell_look(looker, texts, &[ObjId(0), ObjId(1), ObjId(2)], &mut out)?;
+        }
+        Ok(out)
+    }
+
+    /// The receipts that the words name: `all`, or numbers.
+    fn shown(&self, texts: Heap, words: &str) -> Result<Vec<Receipt, Heap>, RowFault> {
+        let mut shown = Vec::new(texts);
+        if words == "all" {
+            for receipt in &self.receipts {
+                shown.push(copied(texts, receipt)?)?;
+            }
+            return Ok(shown);
+        }
+        if words.is_empty() {
+            return Ok(shown);
+        }
+        for word in words.split(' ') {
+            let receipt = self.receipts.get(word.parse::<usize>()?);
+            shown.push(copied(texts, receipt.ok_or(RowFault::NotSpelled)?)?)?;
+        }
+        Ok(shown)
+    }
+
+    /// Settles as `settle all`, `settle 0 0` or `settle_short all` say: with these receipts, and
+    /// with all seats or without the last. Each allocation is refused in turn, where that is asked
+    /// for.
+    pub(crate) fn settle(
+        self,
+        setting: Setting,
+        is_tight: bool,
+        asked: &str,
+    ) -> (
+        Result<String<Heap>, RowFault>,
+        Result<Guardian, Session<N, R>>,
+    ) {
+        let (word, words) = first_word(asked);
+        let shown = match self.shown(setting.texts, words) {
+            Ok(shown) => shown,
+            Err(fault) => return (Err(fault), Err(self)),
+        };
+        let mut session = self;
+        for allowed in budgets(is_tight) {
+            setting.allowing(allowed).limit();
+            let settled = session.settled(word == "settle_short", shown.as_slice());
+            setting.lift();
+            session = match settled {
+                Ok(guardian) => return (told(setting.texts, None), Ok(guardian)),
+                Err((session, SettleFault::OutOfMemory)) => session,
+                Err((session, fault)) => return (told(setting.texts, Some(fault)), Err(session)),
+            };
+        }
+        (Err(RowFault::NeverAnswered), Err(session))
+    }
+
+    fn settled(self, is_short: bool, shown: &[Receipt]) -> Settled<N, R> {
+        let Session {
+            shared,
+            mut seats,
+            lookers,
+            receipts,
+        } = self;
+        let left_out = if is_short { seats.pop() } else { None };
+        match shared.settle(seats, shown) {
+            Ok(guardian) => Ok(guardian),
+            Err(
+                Unsettled {
+                    fault,
+                    shared,
+                    mut seats,
+                },
+            ) => {
+                if let Some(seat) = left_out {
+                    // There was room for it before.
+                    let _ = seats.push(seat);
+                }
+                let session = Session {
+                    shared,
+                    seats,
+                    lookers,
+                    receipts,
+                };
+                Err((session, fault))
+            }
+        }
+    }
+}
+
+fn copied(texts: Heap, receipt: &Receipt) -> Result<Receipt, RowFault> {
+    Ok(Receipt {
+        at: receipt.at,
+        call: receipt.call.duplicate(texts)?,
+        reply: receipt.reply.duplicate(texts)?,
+    })
+}
+
+fn told(texts: Heap, fault: Option<SettleFault>) -> Result<String<Heap>, RowFault> {
+    let mut out = String::new(texts);
+    match fault {
+        None => tell_word("done", &mut out)?,
+        Some(fault) => tell_fault(fault, &mut out)?,
+    }
+    Ok(out)
+}

@@ -1,0 +1,87 @@
+//! What is answered, as text.
+
+use argus_board::{Board, LookFault, Looker};
+use argus_contents::{Content, ObjId};
+use argus_entries::{Entry, write_entry};
+use argus_guardian::CheckpointError;
+use argus_memory::{Heap, OutOfMemory};
+use argus_sharing::{Receipt, SettleFault};
+use std::fmt::Write;
+use test_rows::{RowFault, tell_content, tell_word};
+
+/// Adds the reply of the entry, as its line has it.
+pub(crate) fn tell_reply(entry: &Entry, out: &mut String<Heap>) -> Result<(), OutOfMemory> {
+    let mut line = String::new(*out.allocator());
+    write_entry(0, entry, &mut line)?;
+    match line.as_str().split_once(" -> ") {
+        Some((_, reply)) => tell_word(reply, out),
+        None => tell_word("no reply", out),
+    }
+}
+
+/// Adds the reply of the receipt.
+pub(crate) fn tell_receipt(receipt: &Receipt, out: &mut String<Heap>) -> Result<(), OutOfMemory> {
+    let texts = *out.allocator();
+    let entry = Entry {
+        call: receipt.call.duplicate(texts)?,
+        reply: receipt.reply.duplicate(texts)?,
+    };
+    tell_reply(&entry, out)
+}
+
+/// Adds what the looker finds in these objects, in copies of this heap.
+pub(crate) fn tell_look<N: Board>(
+    looker: &mut Looker<N>,
+    heap: Heap,
+    objects: &[ObjId],
+    out: &mut String<Heap>,
+) -> Result<(), RowFault> {
+    match looker.look(heap, objects) {
+        Ok(found) => Ok(tell_contents(found.as_slice(), out)?),
+        Err(LookFault::Memory) => Err(RowFault::OutOfMemory),
+        Err(LookFault::Closed) => Ok(tell_word("closed", out)?),
+    }
+}
+
+fn tell_contents(contents: &[Option<Content>], out: &mut String<Heap>) -> Result<(), OutOfMemory> {
+    for content in contents {
+        tell_content(content, out)?;
+    }
+    Ok(())
+}
+
+/// Adds `true`. False would be want of memory.
+pub(crate) fn tell_shown(is_shown: bool, out: &mut String<Heap>) -> Result<(), RowFault> {
+    if is_shown {
+        Ok(tell_word("true", out)?)
+    } else {
+        Err(RowFault::OutOfMemory)
+    }
+}
+
+/// Adds what came of a checkpoint.
+pub(crate) fn tell_checkpoint(
+    outcome: Result<(), CheckpointError>,
+    out: &mut String<Heap>,
+) -> Result<(), RowFault> {
+    match outcome {
+        Ok(()) => Ok(tell_word("done", out)?),
+        Err(CheckpointError::Busy) => Ok(tell_word("Busy", out)?),
+        Err(CheckpointError::Full) => Ok(tell_word("Full", out)?),
+        Err(CheckpointError::OutOfMemory) => Err(RowFault::OutOfMemory),
+    }
+}
+
+/// Adds the fault.
+pub(crate) fn tell_fault(fault: SettleFault, out: &mut String<Heap>) -> Result<(), RowFault> {
+    match fault {
+        SettleFault::OutOfMemory => Err(RowFault::OutOfMemory),
+        SettleFault::NotThere(_)
+        | SettleFault::Twice(_)
+        | SettleFault::Count { .. }
+        | SettleFault::Folded(_) => {
+            write!(out, " {fault}")?;
+            Ok(())
+        }
+    }
+}
