@@ -4,7 +4,7 @@ use argus_entries::{Call, Reply};
 use argus_memory::{Heap, OutOfMemory};
 use argus_sharing::{Receipt, Seat, Shared, Sharing};
 use std::sync::Wait;
-use std::sync::atomic::{AtomicBool, Ordering};
+use std::sync::atomic::{AtomicU64, Ordering};
 use std::thread::{Threads, join, yield_now};
 
 // How often the first thread yields, so that the second one may begin to wait.
@@ -31,7 +31,7 @@ pub(crate) fn wait_meanwhile<N: Sharing + Send + Sync, R: Threads + Wait + Drop 
     patience: u32,
     waiting: Call,
 ) -> Result<Meanwhile<N>, OutOfMemory> {
-    let (has_begun, is_answered) = (AtomicBool::new(false), AtomicBool::new(false));
+    let (has_begun, is_answered) = (AtomicU64::new(0), AtomicU64::new(0));
     let (begun, answered) = (&has_begun, &is_answered);
     let ((waited, second), (made, first)) = join(
         rt,
@@ -60,19 +60,19 @@ fn wait_there<N: Sharing, R: Wait + Drop>(
     mut seat: Seat<N>,
     waiting: Call,
     patience: u32,
-    begun: &AtomicBool,
-    answered: &AtomicBool,
+    begun: &AtomicU64,
+    answered: &AtomicU64,
 ) -> (Result<Receipt, OutOfMemory>, Seat<N>) {
-    begun.store(true, Ordering::SeqCst);
+    begun.store(1, Ordering::SeqCst);
     let waited = shared.call_waiting(rt, &mut seat, waiting, patience);
-    answered.store(true, Ordering::SeqCst);
+    answered.store(1, Ordering::SeqCst);
     (waited, seat)
 }
 
 // Yields until the flag is set, and then for some time.
-fn wait_for(rt: &impl Wait, flag: &AtomicBool) {
+fn wait_for(rt: &impl Wait, flag: &AtomicU64) {
     for _ in rt.forever() {
-        if flag.load(Ordering::SeqCst) {
+        if flag.load(Ordering::SeqCst) == 1 {
             break;
         }
         yield_now();
@@ -101,11 +101,11 @@ fn stir<N: Sharing, R: Wait + Drop>(
     heap: Heap,
     shared: &Shared<N, R>,
     seat: &mut Seat<N>,
-    flag: &AtomicBool,
+    flag: &AtomicU64,
 ) -> Result<Vec<Receipt, Heap>, OutOfMemory> {
     let mut receipts = Vec::new(heap);
     for _ in rt.forever() {
-        if flag.load(Ordering::SeqCst) {
+        if flag.load(Ordering::SeqCst) == 1 {
             break;
         }
         let begun = shared.call(rt, seat, Call::BeginTop)?;

@@ -6,7 +6,7 @@ use Rattle.std.proofs.Crossing.{crosses as std_crosses}
 use Rattle.sharing_tests.proofs.waiting.wait_meanwhile.Goals as goal
 
 pub join-waited-requires-send-F : goal.join-waited-requires-send-F
-join-waited-requires-send-F g c κs within = search (sendable, std_crosses, crosses, entries.crosses) depth 40
+join-waited-requires-send-F g c κs within = search (sendable, std_crosses, crosses, entries.call_field_sends, entries.call_sends) depth 60 fits 20000
 
 pub join-waited-requires-send-A : goal.join-waited-requires-send-A
-join-waited-requires-send-A g c κs within = search (sendable, std_crosses, crosses, entries.crosses) depth 40
+join-waited-requires-send-A g c κs within = search (sendable, std_crosses, crosses, entries.call_field_sends, entries.call_sends) depth 60 fits 20000
