@@ -87,12 +87,14 @@ fn waiting_of(setting: Setting, text: &str) -> Result<Row, RowFault> {
             calls.push(call_of(setting.heap, call)?)?;
         }
     }
-    match waiting_call_of(setting.heap, waiting)? {
-        (Some(patience), waiting) => Ok(Row::While {
-            calls,
-            patience,
-            waiting,
-        }),
-        (None, _) => Err(RowFault::NotSpelled),
-    }
+    let Some(waiting) = waiting.strip_prefix("wait ") else {
+        return Err(RowFault::NotSpelled);
+    };
+    let (patience, waiting) = first_word(waiting);
+    let _call = call_of(setting.heap, waiting)?;
+    Ok(Row::While {
+        calls,
+        patience: patience.parse::<u32>()?,
+        waiting: String::from_str(setting.texts, waiting)?,
+    })
 }

@@ -36,10 +36,11 @@ pub(crate) enum Row {
         receipt: usize,
         reply: Reply,
     },
-    /// A call that seat 1 waits with in another thread, and calls that seat 0 makes meanwhile.
+    /// A call, as text, that seat 1 waits with in another thread, and calls that seat 0 makes
+    /// meanwhile.
     While {
         calls: Vec<Call, Heap>,
         patience: u32,
-        waiting: Call,
+        waiting: String<Heap>,
     },
 }

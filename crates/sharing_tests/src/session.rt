@@ -72,7 +72,7 @@ impl<N: Sharing + Send + Sync, R: Threads + Wait + Copy + Drop + Send + Sync> Se
                 calls,
                 patience,
                 waiting,
-            } => self.wait(rt, calls, patience, waiting, &mut out)?,
+            } => self.wait(rt, calls, patience, waiting.as_str(), &mut out)?,
         }
         Ok(out)
     }
@@ -154,7 +154,7 @@ impl<N: Sharing + Send + Sync, R: Threads + Wait + Copy + Drop + Send + Sync> Se
         rt: R,
         calls: Vec<Call, Heap>,
         patience: u32,
-        waiting: Call,
+        waiting: &str,
         out: &mut String<Heap>,
     ) -> Result<(), RowFault> {
         let Session {

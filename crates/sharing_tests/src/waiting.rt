@@ -6,6 +6,7 @@ use argus_sharing::{Receipt, Seat, Shared, Sharing};
 use std::sync::Wait;
 use std::sync::atomic::{AtomicU64, Ordering};
 use std::thread::{Threads, join, yield_now};
+use test_rows::call_of;
 
 // How often the first thread yields, so that the second one may begin to wait.
 const YIELDS: u32 = 1000;
@@ -29,17 +30,18 @@ pub(crate) fn wait_meanwhile<N: Sharing + Send + Sync, R: Threads + Wait + Drop 
     second: Seat<N>,
     calls: Vec<Call, Heap>,
     patience: u32,
-    waiting: Call,
+    waiting: &str,
 ) -> Result<Meanwhile<N>, OutOfMemory> {
     let (has_begun, is_answered) = (AtomicU64::new(0), AtomicU64::new(0));
     let (begun, answered) = (&has_begun, &is_answered);
+    let heap = *calls.allocator();
     let ((waited, second), (made, first)) = join(
         rt,
-        move || wait_there(rt, shared, second, waiting, patience, begun, answered),
+        move || wait_there(rt, heap, shared, second, waiting, patience, begun, answered),
         || {
             wait_for(rt, begun);
             let made = if calls.is_empty() {
-                stir(rt, *calls.allocator(), shared, &mut first, answered)
+                stir(rt, heap, shared, &mut first, answered)
             } else {
                 make_all(rt, shared, &mut first, calls)
             };
@@ -56,15 +58,20 @@ pub(crate) fn wait_meanwhile<N: Sharing + Send + Sync, R: Threads + Wait + Drop 
 
 fn wait_there<N: Sharing, R: Wait + Drop>(
     rt: &R,
+    heap: Heap,
     shared: &Shared<N, R>,
     mut seat: Seat<N>,
-    waiting: Call,
+    waiting: &str,
     patience: u32,
     begun: &AtomicU64,
     answered: &AtomicU64,
 ) -> (Result<Receipt, OutOfMemory>, Seat<N>) {
     begun.store(1, Ordering::SeqCst);
-    let waited = shared.call_waiting(rt, &mut seat, waiting, patience);
+    let waited = match call_of(heap, waiting) {
+        Ok(call) => shared.call_waiting(rt, &mut seat, call, patience),
+        // It was read before.
+        Err(_) => Err(OutOfMemory),
+    };
     answered.store(1, Ordering::SeqCst);
     (waited, seat)
 }
