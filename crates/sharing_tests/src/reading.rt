@@ -1,6 +1,7 @@
 //! What a row of a shared guardian spells before its arrow.
 
 use crate::row::Row;
+use crate::waiting::WAITING;
 use argus_contents::ObjId;
 use argus_entries::Call;
 use argus_memory::Heap;
@@ -91,10 +92,11 @@ fn waiting_of(setting: Setting, text: &str) -> Result<Row, RowFault> {
         return Err(RowFault::NotSpelled);
     };
     let (patience, waiting) = first_word(waiting);
-    let _call = call_of(setting.heap, waiting)?;
+    if waiting != WAITING {
+        return Err(RowFault::NotSpelled);
+    }
     Ok(Row::While {
         calls,
         patience: patience.parse::<u32>()?,
-        waiting: String::from_str(setting.texts, waiting)?,
     })
 }
