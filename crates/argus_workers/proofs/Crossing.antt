@@ -1,4 +1,4 @@
--- What a team has in common and the arms of a coenter may be looked at from other threads, and what arms left may go
+-- What all workers are given may be looked at from other threads, and what arms left may go
 -- there.
 use denote.RattleType.{RattleType}
 use denote.Ref.{NamedLft}
@@ -16,8 +16,7 @@ use Rattle.argus_receipts.specs.contracts.receipt.Receipt.{the_row as receipt_ro
 use Rattle.argus_runs.specs.contracts.stopped.Stopped.{the_row as stopped_row}
 use Rattle.argus_sharing.proofs.Crossing as sharing
 use Rattle.argus_sharing.specs.declared.sharing.Sharing.{Ghosts as Named}
-use Rattle.argus_workers.specs.contracts.handing_out.Arms.{the_row as arms_row}
-use Rattle.argus_workers.specs.contracts.team.Team.{the_row as team_row, the_type as team_type}
+use Rattle.argus_workers.specs.contracts.handing_out.Handed.{the_row as handed_row, the_type as handed_type}
 use Rattle.core.specs.declared.ledger.Ledger.{Ghosts as Ledgered}
 use Rattle.std.proofs.Crossing.{sync}
 use Rattle.std.specs.contracts.alloc.Global.{the_row as global}
@@ -51,15 +50,16 @@ object_syncs = search sendable depth 40
 pub begun_syncs : IsSync (option_row action_row)
 begun_syncs = search sendable depth 40
 
-pub arms_syncs : (a : NamedLft) → IsSync (arms_row a)
-arms_syncs a = search (sendable, begun_syncs, object_syncs, step_syncs) depth 40 fits 20000
-
 module _ (t : NamedLft) (N R G : RattleType) (a : Named N.Denot) (l : Ledgered N.Denot) (b : Ghosts N.Denot) where
-  pub team_syncs : IsSend R → IsSync R → IsSync G → IsSync (team_row t N R G a l b)
-  team_syncs send_r sync_r sync_g = let team = team_type t N R G a l b in
-      recorded_sync _ team.D team.to team.to_one (struct_sync (shape team) (
+  pub handed_syncs : IsSend R → IsSync R → IsSync G → IsSync (handed_row t N R G a l b)
+  handed_syncs send_r sync_r sync_g = let handed = handed_type t N R G a l b in
+      recorded_sync _ handed.D handed.to handed.to_one (struct_sync (shape handed) (
         search (sendable, sync_r) depth 40,
         (heap_field_syncs global sync,
           (search (sendable, sharing.shared_syncs, send_r) depth 40,
-            (search (sendable, sync_g) depth 40, (search sendable, tt)))),
+            (search (sendable, sync_g) depth 40,
+              (search sendable,
+                (search (sendable, step_syncs) depth 40,
+                  (search (sendable, begun_syncs) depth 40,
+                    (search (sendable, object_syncs) depth 40, (search sendable, tt)))))))),
       ))

@@ -12,7 +12,8 @@ use argus_contents::ObjId;
 use argus_memory::Heap;
 use argus_receipts::Receipt;
 use argus_runs::Stopped;
-use argus_sharing::{Seat, Sharing};
+use argus_sharing::{Seat, Shared, Sharing};
+use std::alloc::AllocError;
 use std::sync::Wait;
 use std::thread;
 use std::thread::Threads;
@@ -28,11 +29,16 @@ struct Job<'a, N: Sharing> {
     left: Vec<Left, Heap>,
 }
 
-// The arms of a coenter: their steps, the actions that were begun for them, and the numbers of the
-// script's objects.
+// What all workers are given: what the team has in common, the arms' steps, the actions that were
+// begun for them, the numbers of the script's objects, and how many workers there are.
 #[derive(Drop)]
-struct Arms<'a> {
-    steps: &'a [Step],
+struct Handed<'a, N: Sharing, R: Wait + Drop, G: Gate> {
+    rt: &'a R,
+    heap: Heap,
+    shared: &'a Shared<N, R>,
+    gate: &'a G,
+    patience: u32,
+    arms: &'a [Step],
     begun: &'a [Option<ActionId>],
     numbers: &'a [ObjId],
     workers: usize,
@@ -51,19 +57,32 @@ pub(crate) fn hand_out<
     arms: &[Step],
     begun: &[Option<ActionId>],
 ) -> Result<Vec<Receipt, Heap>, Stopped> {
-    let handed = Arms {
-        steps: arms,
+    let handed = Handed {
+        rt: team.rt,
+        heap: team.heap,
+        shared: team.shared,
+        gate: team.gate,
+        patience: team.patience,
+        arms,
         begun,
         numbers,
         workers: seats.len(),
     };
     let jobs = jobs_for(team.heap, seats, arms.len())?;
-    let left = thread::map_vec(
-        team.rt,
-        jobs,
-        &|job: Job<N>| -> Vec<Left, Heap> { work(team, &handed, job) },
-    )?;
+    let left = run_all(&handed, jobs)?;
     gathered(team.heap, left, arms.len())
+}
+
+// Runs each worker's arms on a thread of its own.
+fn run_all<N: Sharing + Send + Sync, R: Threads + Wait + Drop + Send + Sync, G: Gate + Sync>(
+    handed: &Handed<N, R, G>,
+    jobs: Vec<Job<N>, Heap>,
+) -> Result<Vec<Vec<Left, Heap>, Heap>, AllocError> {
+    thread::map_vec(
+        handed.rt,
+        jobs,
+        &move |job: Job<N>| -> Vec<Left, Heap> { work(handed, job) },
+    )
 }
 
 fn jobs_for<'a, N: Sharing>(
@@ -82,8 +101,7 @@ fn jobs_for<'a, N: Sharing>(
 
 // Runs one worker's arms, and tells what each left.
 fn work<N: Sharing, R: Wait + Drop, G: Gate>(
-    team: &Team<N, R, G>,
-    arms: &Arms<'_>,
+    handed: &Handed<N, R, G>,
     job: Job<N>,
 ) -> Vec<Left, Heap> {
     let Job {
@@ -91,9 +109,9 @@ fn work<N: Sharing, R: Wait + Drop, G: Gate>(
         seat,
         mut left,
     } = job;
-    for (k, (arm, action)) in arms.steps.iter().zip(arms.begun).enumerate() {
-        if arms.workers > 0 && k % arms.workers == number {
-            let done = run_one(team, seat, arms.numbers, arm, *action, k);
+    for (k, (arm, action)) in handed.arms.iter().zip(handed.begun).enumerate() {
+        if handed.workers > 0 && k % handed.workers == number {
+            let done = run_one(handed, seat, arm, *action, k);
             if left.push(done).is_err() {
                 return left;
             }
@@ -104,24 +122,23 @@ fn work<N: Sharing, R: Wait + Drop, G: Gate>(
 
 // The receipts of an arm, if it was begun.
 fn run_one<N: Sharing, R: Wait + Drop, G: Gate>(
-    team: &Team<N, R, G>,
+    handed: &Handed<N, R, G>,
     seat: &mut Seat<N>,
-    numbers: &[ObjId],
     arm: &Step,
     action: Option<ActionId>,
     k: usize,
 ) -> Left {
-    let heap = team.heap;
+    let heap = handed.heap;
     let mut worker = Worker {
-        rt: team.rt,
+        rt: handed.rt,
         heap,
-        shared: team.shared,
-        patience: team.patience,
+        shared: handed.shared,
+        patience: handed.patience,
         seat,
         receipts: Vec::new(heap),
     };
     if let (Step::Block(Opening::Arm(_), body), Some(action), Ok(arm)) = (arm, action, u32::try_from(k)) {
-        run_arm(heap, &mut worker, team.gate, numbers, body, action, arm)?;
+        run_arm(heap, &mut worker, handed.gate, handed.numbers, body, action, arm)?;
     }
     let Worker { receipts, .. } = worker;
     Ok(receipts)
