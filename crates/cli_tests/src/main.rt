@@ -7,31 +7,29 @@ ghost use Rattle.argus_streams.specs.Watched.{has_failed};
 
 mod command_lines;
 mod failing;
-mod full;
 mod row;
 mod trial;
 
-use anyhow::{Result, ensure};
+use anyhow::{Result, bail, ensure};
 use argus_cli::{CliFault, Options, options};
-use argus_memory::{Budget, Heap, Limited, OutOfMemory};
+use argus_memory::OutOfMemory;
 use command_lines::{check_command_lines, words_of};
 use row::Row;
 use std::alloc::Global;
 use std::fs;
+use test_rows::Setting;
 use trial::{check_listing, check_memory, check_reader, check_writer};
 
 // The files of scripts in data/.
 const TEXTS: [&str; 3] = ["listings.rows", "faults.rows", "limits.rows"];
 
 fn main(rt: HostRuntime) -> Result<()> {
-    let heap = Heap::new(rt.alloc())?;
-    let budget = Budget::new(rt.alloc())?;
-    let tight = Limited::with_budget(rt.alloc(), budget);
+    let setting = Setting::new(rt.alloc())?;
     check_statuses()?;
     let mut refused = 0u64;
     for name in TEXTS {
         let text = fs::read_to_string(&rt, name)?;
-        refused = refused.saturating_add(check_text(&rt, heap, tight, budget, text.as_str())?);
+        refused = refused.saturating_add(check_text(&rt, setting, text.as_str())?);
     }
     ensure!(refused > 100, "too few allocations are refused");
     let text = fs::read_to_string(&rt, "command_lines.rows")?;
@@ -43,36 +41,33 @@ fn main(rt: HostRuntime) -> Result<()> {
 }
 
 // Runs the scripts of a text. Answers how many allocations were refused.
-fn check_text(
-    rt: &(impl Print + AllocGlobal),
-    heap: Heap,
-    tight: Heap,
-    budget: Budget,
-    text: &str,
-) -> Result<u64> {
+fn check_text(rt: &(impl Print + AllocGlobal), setting: Setting, text: &str) -> Result<u64> {
     let mut refused = 0u64;
     for block in text.split("\n\n") {
-        let row = Row::of_block(heap, block)?;
-        if !row.name.is_empty() {
-            rt.print(format_args!("{}:", row.name))?;
-            let here = check_row(rt.alloc(), heap, tight, budget, &row)?;
-            rt.println(format_args!(" {} lines", row.listing.lines().count()))?;
-            refused = refused.saturating_add(here);
+        match Row::of_block(setting.texts, block) {
+            Ok(Some(row)) => {
+                rt.print(format_args!("{}:", row.name))?;
+                let here = check_row(rt.alloc(), setting, &row)?;
+                rt.println(format_args!(" {} lines", row.lines))?;
+                refused = refused.saturating_add(here);
+            }
+            Ok(None) => {}
+            Err(_) => bail!("lines that are no test"),
         }
     }
     Ok(refused)
 }
 
 // Runs the row's script in all ways. Answers how many allocations were refused in turn.
-fn check_row(alloc: Global, heap: Heap, tight: Heap, budget: Budget, row: &Row<'_>) -> Result<u64> {
+fn check_row(alloc: Global, setting: Setting, row: &Row<'_>) -> Result<u64> {
     let asked = asked_by(alloc, row)?;
-    check_listing(alloc, heap, row, asked)?;
-    if row.large {
+    check_listing(alloc, setting.texts, row, asked)?;
+    if row.is_large {
         return Ok(0);
     }
-    check_reader(heap, row, asked)?;
-    check_writer(heap, row, asked)?;
-    check_memory(heap, tight, budget, row, asked)
+    check_reader(setting.texts, row, asked)?;
+    check_writer(setting.texts, row, asked)?;
+    check_memory(setting, row, asked)
 }
 
 fn asked_by(alloc: Global, row: &Row<'_>) -> Result<Options> {

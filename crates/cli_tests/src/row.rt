@@ -1,63 +1,69 @@
 //! `Row`: a script with a command line, and what comes of it.
 
-use argus_memory::{Heap, OutOfMemory};
+use argus_memory::Heap;
+use test_rows::{Block, RowFault, block_of, spell_line};
 
-// A script, the words with which the program is called, and what comes of it: its listing, or the
-// fault's text. A large one is run with ample memory alone.
+// A script, the words with which the program is called, and what comes of it: its listing, with the
+// number of its lines, or the fault's text. A large one is run with ample memory alone.
 #[derive(Drop)]
 pub(crate) struct Row<'a> {
     pub(crate) name: &'a str,
-    pub(crate) large: bool,
+    pub(crate) is_large: bool,
     pub(crate) words: &'a str,
     pub(crate) fault: &'a str,
-    pub(crate) script: String<Heap>,
-    pub(crate) listing: String<Heap>,
+    pub(crate) script: Vec<u8, Heap>,
+    pub(crate) listing: Vec<u8, Heap>,
+    pub(crate) lines: u32,
 }
 
 impl<'a> Row<'a> {
-    // The row that a block of text has; its name is empty where the block is none.
-    pub(crate) fn of_block(heap: Heap, block: &'a str) -> Result<Row<'a>, OutOfMemory> {
+    // The row that a block of text has; None where the block is none.
+    pub(crate) fn of_block(heap: Heap, block: &'a str) -> Result<Option<Row<'a>>, RowFault> {
+        match block_of(block) {
+            Block::Test {
+                name,
+                is_large,
+                lines,
+            } => Ok(Some(Row::of_lines(heap, name, is_large, lines)?)),
+            Block::Comment => Ok(None),
+            Block::Unheaded => Err(RowFault::NotSpelled),
+        }
+    }
+
+    fn of_lines(
+        heap: Heap,
+        name: &'a str,
+        is_large: bool,
+        lines: &'a str,
+    ) -> Result<Row<'a>, RowFault> {
         let mut row = Row {
-            name: "",
-            large: false,
+            name,
+            is_large,
             words: "",
             fault: "",
-            script: String::new(heap),
-            listing: String::new(heap),
+            script: Vec::new(heap),
+            listing: Vec::new(heap),
+            lines: 0,
         };
-        for line in block.lines() {
+        for line in lines.lines() {
             row.add(line)?;
         }
         Ok(row)
     }
 
-    fn add(&mut self, line: &'a str) -> Result<(), OutOfMemory> {
-        if let Some(name) = line.strip_prefix("test ") {
-            self.name = name;
-        } else if let Some(name) = line.strip_prefix("large test ") {
-            self.name = name;
-            self.large = true;
-        } else if let Some(words) = line.strip_prefix("argus ") {
+    fn add(&mut self, line: &'a str) -> Result<(), RowFault> {
+        if let Some(words) = line.strip_prefix("argus ") {
             self.words = words;
         } else if let Some(fault) = line.strip_prefix("! ") {
             self.fault = fault;
         } else if let Some(text) = line.strip_prefix("| ") {
-            append_line(text, &mut self.script)?;
+            spell_line(text, &mut self.script)?;
         } else if let Some(text) = line.strip_prefix("= ") {
-            append_line(text, &mut self.listing)?;
+            spell_line(text, &mut self.listing)?;
+            self.lines = self.lines.saturating_add(1);
+        } else {
+            return Err(RowFault::NotSpelled);
         }
         Ok(())
     }
-}
-
-// Appends a line: without its line feed where it is marked as cut.
-fn append_line(text: &str, out: &mut String<Heap>) -> Result<(), OutOfMemory> {
-    match text.strip_suffix("<cut>") {
-        Some(front) => out.push_str(front)?,
-        None => {
-            out.push_str(text)?;
-            out.push_str("\n")?;
-        }
-    }
-    Ok(())
 }

@@ -4,13 +4,13 @@ ghost use Rattle.std.specs.Prelude.{◌≡◌, false};
 ghost use Rattle.argus_streams.specs.Watched.{has_failed};
 
 use crate::failing::Failing;
-use crate::full::Full;
 use crate::row::Row;
 use anyhow::{Result, ensure};
 use argus_cli::{CliFault, Options, run};
-use argus_memory::{Budget, Heap};
+use argus_memory::Heap;
 use argus_streams::Watched;
 use std::alloc::Global;
+use test_rows::{Full, Setting};
 
 // More allocations, and more reads, than any run here makes.
 const MANY: u64 = 5_000;
@@ -22,7 +22,7 @@ pub(crate) fn check_listing(
     row: &Row<'_>,
     asked: Options,
 ) -> Result<()> {
-    let mut reader = Watched::new(row.script.as_bytes());
+    let mut reader = Watched::new(row.script.as_slice());
     let mut writer = Watched::new(Vec::new(heap));
     match run(heap, &mut reader, &mut writer, asked) {
         Ok(()) => ensure!(row.fault.is_empty(), "a fault is lacking"),
@@ -35,7 +35,7 @@ pub(crate) fn check_listing(
         }
     }
     ensure!(
-        writer.get_ref().as_slice() == row.listing.as_bytes(),
+        writer.get_ref().as_slice() == row.listing.as_slice(),
         "another listing"
     );
     Ok(())
@@ -45,7 +45,7 @@ pub(crate) fn check_listing(
 pub(crate) fn check_reader(heap: Heap, row: &Row<'_>, asked: Options) -> Result<()> {
     for reads in 0..MANY {
         let mut reader = Watched::new(Failing {
-            rest: row.script.as_bytes(),
+            rest: row.script.as_slice(),
             reads_left: reads,
             reads_behind: 0,
         });
@@ -53,7 +53,7 @@ pub(crate) fn check_reader(heap: Heap, row: &Row<'_>, asked: Options) -> Result<
         let result = run(heap, &mut reader, &mut writer, asked);
         if !reader.has_failed() {
             ensure!(
-                writer.get_ref().as_slice() == row.listing.as_bytes(),
+                writer.get_ref().as_slice() == row.listing.as_slice(),
                 "another listing"
             );
             return Ok(());
@@ -73,7 +73,7 @@ pub(crate) fn check_reader(heap: Heap, row: &Row<'_>, asked: Options) -> Result<
 // tried again.
 pub(crate) fn check_writer(heap: Heap, row: &Row<'_>, asked: Options) -> Result<()> {
     for room in 0..row.listing.len() {
-        let mut reader = Watched::new(row.script.as_bytes());
+        let mut reader = Watched::new(row.script.as_slice());
         let mut writer = Watched::new(Full {
             taken: Vec::new(heap),
             room,
@@ -93,7 +93,7 @@ pub(crate) fn check_writer(heap: Heap, row: &Row<'_>, asked: Options) -> Result<
         ensure!(writer.get_ref().taken.len() == room, "bytes are lacking");
         ensure!(
             row.listing
-                .as_bytes()
+                .as_slice()
                 .starts_with(writer.get_ref().taken.as_slice()),
             "other bytes"
         );
@@ -103,22 +103,16 @@ pub(crate) fn check_writer(heap: Heap, row: &Row<'_>, asked: Options) -> Result<
 
 // Each allocation is refused in turn: the front of the listing was written, if anything. Answers
 // how many there are.
-pub(crate) fn check_memory(
-    heap: Heap,
-    tight: Heap,
-    budget: Budget,
-    row: &Row<'_>,
-    asked: Options,
-) -> Result<u64> {
+pub(crate) fn check_memory(setting: Setting, row: &Row<'_>, asked: Options) -> Result<u64> {
     for n in 0..MANY {
-        let mut reader = Watched::new(row.script.as_bytes());
-        let mut writer = Watched::new(Vec::new(heap));
-        budget.allow(n);
-        let result = run(tight, &mut reader, &mut writer, asked);
-        budget.lift();
+        let mut reader = Watched::new(row.script.as_slice());
+        let mut writer = Watched::new(Vec::new(setting.texts));
+        setting.allowing(n).limit();
+        let result = run(setting.heap, &mut reader, &mut writer, asked);
+        setting.lift();
         ensure!(
             row.listing
-                .as_bytes()
+                .as_slice()
                 .starts_with(writer.get_ref().as_slice()),
             "other bytes"
         );

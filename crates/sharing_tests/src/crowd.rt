@@ -14,7 +14,7 @@ use argus_sharing::{Parts, Receipt, Seat, Shared, Sharing};
 use std::alloc::AllocError;
 use std::io::Print;
 use std::sync::Wait;
-use std::sync::atomic::{AtomicBool, Ordering};
+use std::sync::atomic::{AtomicU64, Ordering};
 use std::thread::{Threads, join, map_vec};
 use test_rows::Setting;
 
@@ -68,14 +68,14 @@ pub(crate) fn have_all_work<
         lookers,
     } = parts;
     let seats = numbered(heap, seats)?;
-    let is_over = AtomicBool::new(false);
+    let is_over = AtomicU64::new(0);
     let (rt, over) = (&rt, &is_over);
     let (watched, called) = join(
         rt,
         move || watch_all(rt, heap, lookers, over),
         || {
             let called = call_all(rt, heap, &shared, seats);
-            over.store(true, Ordering::SeqCst);
+            over.store(1, Ordering::SeqCst);
             called
         },
     );
@@ -91,7 +91,7 @@ fn watch_all<N: Sharing + Send + Sync, R: Threads + Wait + Drop + Send + Sync>(
     rt: &R,
     heap: Heap,
     lookers: Vec<Looker<N>, Heap>,
-    is_over: &AtomicBool,
+    is_over: &AtomicU64,
 ) -> Result<Vec<Watched<N>, Heap>, AllocError> {
     map_vec(rt, lookers, &|looker| look_often(rt, heap, looker, is_over))
 }

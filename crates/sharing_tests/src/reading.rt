@@ -1,6 +1,7 @@
 //! What a row of a shared guardian spells before its arrow.
 
 use crate::row::Row;
+use crate::waiting::WAITING;
 use argus_contents::ObjId;
 use argus_entries::Call;
 use argus_memory::Heap;
@@ -87,12 +88,15 @@ fn waiting_of(setting: Setting, text: &str) -> Result<Row, RowFault> {
             calls.push(call_of(setting.heap, call)?)?;
         }
     }
-    match waiting_call_of(setting.heap, waiting)? {
-        (Some(patience), waiting) => Ok(Row::While {
-            calls,
-            patience,
-            waiting,
-        }),
-        (None, _) => Err(RowFault::NotSpelled),
+    let Some(waiting) = waiting.strip_prefix("wait ") else {
+        return Err(RowFault::NotSpelled);
+    };
+    let (patience, waiting) = first_word(waiting);
+    if waiting != WAITING {
+        return Err(RowFault::NotSpelled);
     }
+    Ok(Row::While {
+        calls,
+        patience: patience.parse::<u32>()?,
+    })
 }

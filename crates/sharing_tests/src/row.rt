@@ -36,10 +36,9 @@ pub(crate) enum Row {
         receipt: usize,
         reply: Reply,
     },
-    /// A call that seat 1 waits with in another thread, and calls that seat 0 makes meanwhile.
+    /// Calls that seat 0 makes while seat 1 waits in another thread.
     While {
         calls: Vec<Call, Heap>,
         patience: u32,
-        waiting: Call,
     },
 }

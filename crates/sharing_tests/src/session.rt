@@ -68,11 +68,7 @@ impl<N: Sharing + Send + Sync, R: Threads + Wait + Copy + Drop + Send + Sync> Se
             Row::Checkpoint => tell_checkpoint(self.shared.checkpoint(&rt), &mut out)?,
             Row::Made { seat } => self.made(seat, &mut out)?,
             Row::Forge { receipt, reply } => self.forge(receipt, reply, &mut out)?,
-            Row::While {
-                calls,
-                patience,
-                waiting,
-            } => self.wait(rt, calls, patience, waiting, &mut out)?,
+            Row::While { calls, patience } => self.wait(rt, calls, patience, &mut out)?,
         }
         Ok(out)
     }
@@ -154,7 +150,6 @@ impl<N: Sharing + Send + Sync, R: Threads + Wait + Copy + Drop + Send + Sync> Se
         rt: R,
         calls: Vec<Call, Heap>,
         patience: u32,
-        waiting: Call,
         out: &mut String<Heap>,
     ) -> Result<(), RowFault> {
         let Session {
@@ -166,7 +161,7 @@ impl<N: Sharing + Send + Sync, R: Threads + Wait + Copy + Drop + Send + Sync> Se
         let (Some(second), Some(first)) = (seats.pop(), seats.pop()) else {
             return Err(RowFault::NotSpelled);
         };
-        let meanwhile = wait_meanwhile(&rt, shared, first, second, calls, patience, waiting);
+        let meanwhile = wait_meanwhile(&rt, shared, first, second, calls, patience);
         let Meanwhile {
             mut made,
             waited,

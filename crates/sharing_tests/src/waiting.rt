@@ -1,14 +1,24 @@
 //! A call that waits in one thread, and what another thread does meanwhile.
 
+use argus_actions::ActionId;
+use argus_contents::{Change, ObjId, Value};
 use argus_entries::{Call, Reply};
 use argus_memory::{Heap, OutOfMemory};
 use argus_sharing::{Receipt, Seat, Shared, Sharing};
 use std::sync::Wait;
-use std::sync::atomic::{AtomicBool, Ordering};
+use std::sync::atomic::{AtomicU64, Ordering};
 use std::thread::{Threads, join, yield_now};
 
 // How often the first thread yields, so that the second one may begin to wait.
 const YIELDS: u32 = 1000;
+
+/// The call that waits.
+pub(crate) const WAITING: &str = "alter a2 o0 set_field 0 1";
+
+// How far the thread has come that waits: a word, 0 at first.
+const BEGUN: u64 = 1;
+
+const ANSWERED: u64 = 2;
 
 /// What came of a call that waited, and of those that were made meanwhile.
 #[derive(Drop)]
@@ -29,17 +39,17 @@ pub(crate) fn wait_meanwhile<N: Sharing + Send + Sync, R: Threads + Wait + Drop 
     second: Seat<N>,
     calls: Vec<Call, Heap>,
     patience: u32,
-    waiting: Call,
 ) -> Result<Meanwhile<N>, OutOfMemory> {
-    let (has_begun, is_answered) = (AtomicBool::new(false), AtomicBool::new(false));
-    let (begun, answered) = (&has_begun, &is_answered);
+    let word = AtomicU64::new(0);
+    let state = &word;
+    let heap = *calls.allocator();
     let ((waited, second), (made, first)) = join(
         rt,
-        move || wait_there(rt, shared, second, waiting, patience, begun, answered),
+        move || wait_there(rt, shared, second, patience, state),
         || {
-            wait_for(rt, begun);
+            wait_for(rt, state);
             let made = if calls.is_empty() {
-                stir(rt, *calls.allocator(), shared, &mut first, answered)
+                stir(rt, heap, shared, &mut first, state)
             } else {
                 make_all(rt, shared, &mut first, calls)
             };
@@ -58,21 +68,20 @@ fn wait_there<N: Sharing, R: Wait + Drop>(
     rt: &R,
     shared: &Shared<N, R>,
     mut seat: Seat<N>,
-    waiting: Call,
     patience: u32,
-    begun: &AtomicBool,
-    answered: &AtomicBool,
+    state: &AtomicU64,
 ) -> (Result<Receipt, OutOfMemory>, Seat<N>) {
-    begun.store(true, Ordering::SeqCst);
-    let waited = shared.call_waiting(rt, &mut seat, waiting, patience);
-    answered.store(true, Ordering::SeqCst);
+    state.store(BEGUN, Ordering::SeqCst);
+    let call = Call::Alter(ActionId(2), ObjId(0), Change::SetField(0, Value::Int(1)));
+    let waited = shared.call_waiting(rt, &mut seat, call, patience);
+    state.store(ANSWERED, Ordering::SeqCst);
     (waited, seat)
 }
 
-// Yields until the flag is set, and then for some time.
-fn wait_for(rt: &impl Wait, flag: &AtomicBool) {
+// Yields until the other thread has begun, and then for some time.
+fn wait_for(rt: &impl Wait, state: &AtomicU64) {
     for _ in rt.forever() {
-        if flag.load(Ordering::SeqCst) {
+        if state.load(Ordering::SeqCst) >= BEGUN {
             break;
         }
         yield_now();
@@ -95,17 +104,17 @@ fn make_all<N: Sharing, R: Wait + Drop>(
     Ok(receipts)
 }
 
-// Begins topactions and aborts them until the flag is set.
+// Begins topactions and aborts them until the other thread is answered.
 fn stir<N: Sharing, R: Wait + Drop>(
     rt: &R,
     heap: Heap,
     shared: &Shared<N, R>,
     seat: &mut Seat<N>,
-    flag: &AtomicBool,
+    state: &AtomicU64,
 ) -> Result<Vec<Receipt, Heap>, OutOfMemory> {
     let mut receipts = Vec::new(heap);
     for _ in rt.forever() {
-        if flag.load(Ordering::SeqCst) {
+        if state.load(Ordering::SeqCst) == ANSWERED {
             break;
         }
         let begun = shared.call(rt, seat, Call::BeginTop)?;

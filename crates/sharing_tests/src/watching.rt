@@ -5,7 +5,7 @@ use argus_contents::{Content, ObjId, Value};
 use argus_memory::Heap;
 use argus_sharing::Sharing;
 use std::sync::Wait;
-use std::sync::atomic::{AtomicBool, Ordering};
+use std::sync::atomic::{AtomicU64, Ordering};
 
 // How many of the objects that are looked at are accounts.
 const ACCOUNTS: usize = 8;
@@ -42,12 +42,12 @@ pub(crate) fn look_often<N: Sharing>(
     rt: &impl Wait,
     heap: Heap,
     mut looker: Looker<N>,
-    is_over: &AtomicBool,
+    is_over: &AtomicU64,
 ) -> Watched<N> {
     let mut agrees = true;
     let mut counted = 0;
     for _ in rt.forever() {
-        let is_last = is_over.load(Ordering::SeqCst);
+        let is_last = is_over.load(Ordering::SeqCst) == 1;
         match count_seen(&mut looker, heap) {
             Some(count) if counted <= count => counted = count,
             Some(_) | None => agrees = false,

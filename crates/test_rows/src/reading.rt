@@ -1,11 +1,19 @@
 //! The words of rows.
 
+ghost use Rattle.std.specs.Prelude.{◌≡◌, ◌==◌};
+ghost use Rattle.std.specs.Int.{w64};
+ghost use Rattle.std.specs.List.{after_first, before_first};
+ghost use Rattle.std.specs.Str.Parse.{ParsesSigned, ParsesUnsigned};
+
 use crate::row_fault::RowFault;
 use argus_actions::ActionId;
 use argus_contents::ObjId;
 
-/// The first word, and what comes after it.
-pub fn first_word<'a>(text: &'a str) -> (&'a str, &'a str) {
+/// The first word, and what comes after it: a space, whose code is 32, parts them.
+pub fn first_word<'a>(text: &'a str) -> (&'a str, &'a str)
+    ensures word { result.0.now ≡ before_first (λ b. b == 32) text.now }
+    ensures rest { result.1.now ≡ after_first (λ b. b == 32) text.now }
+{
     match text.split_once(' ') {
         Some((word, rest)) => (word, rest),
         None => (text, ""),
@@ -37,11 +45,15 @@ pub fn pair(text: &str) -> Result<(ActionId, ObjId), RowFault> {
 }
 
 /// An index, or a bound.
-pub fn place(text: &str) -> Result<i64, RowFault> {
+pub fn place(text: &str) -> Result<i64, RowFault>
+    ensures { ParsesSigned w64 10 text.now result }
+{
     Ok(text.parse::<i64>()?)
 }
 
 /// A field, or a tag.
-pub fn part(text: &str) -> Result<u8, RowFault> {
+pub fn part(text: &str) -> Result<u8, RowFault>
+    ensures { ParsesUnsigned 8 10 text.now result }
+{
     Ok(text.parse::<u8>()?)
 }
