@@ -85,8 +85,8 @@ fn make<C: Caller>(caller: &mut C, call: Call) -> Result<Flow, Stopped>
     Ok(flow_of(&reply))
 }
 
-// The call of an `if`.
-pub(crate) fn call_to_test(lock: Lock, action: ActionId, object: ObjId) -> Call
+/// The call of an `if`.
+pub fn call_to_test(lock: Lock, action: ActionId, object: ObjId) -> Call
     ensures { plain_call result ≡ test_call lock action object.0 }
 {
     match lock {
@@ -95,8 +95,8 @@ pub(crate) fn call_to_test(lock: Lock, action: ActionId, object: ObjId) -> Call
     }
 }
 
-// Whether a test was answered yes.
-pub(crate) fn is_yes(reply: &Reply) -> bool
+/// Whether a test was answered yes.
+pub fn is_yes(reply: &Reply) -> bool
     ensures { result ≡ says_yes (plain_reply reply.now) }
 {
     match reply {
@@ -112,8 +112,8 @@ pub(crate) fn is_yes(reply: &Reply) -> bool
     }
 }
 
-// How a block goes on after the reply to an access or a test.
-pub(crate) fn flow_of(reply: &Reply) -> Flow
+/// How a block goes on after the reply to an access or a test.
+pub fn flow_of(reply: &Reply) -> Flow
     ensures { result ≡ flow_after (plain_reply reply.now) }
 {
     match reply {

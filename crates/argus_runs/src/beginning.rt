@@ -15,8 +15,8 @@ use argus_commands::{ActionKind, Opening, Step};
 use argus_entries::{Call, Reply};
 use argus_memory::Heap;
 
-// The action of a block or an arm, if it was begun.
-pub(crate) fn begin<C: Caller>(
+/// Begins a block or an arm: its action, if it was begun.
+pub fn begin<C: Caller>(
     caller: &mut C,
     kind: ActionKind,
     within: Option<ActionId>,
@@ -73,8 +73,8 @@ fn begin_arm<C: Caller>(
     }
 }
 
-// All arms are begun, before any of them runs.
-pub(crate) fn begin_arms<C: Caller>(
+/// Begins all arms of a coenter, before any of them runs: the action of each that was begun.
+pub fn begin_arms<C: Caller>(
     heap: Heap,
     caller: &mut C,
     arms: &[Step],

@@ -14,8 +14,8 @@ use crate::stopped::Stopped;
 use argus_actions::ActionId;
 use argus_entries::{Call, Refusal, Reply};
 
-// The end of a block or an arm that went on so.
-pub(crate) fn finish_block<C: Caller>(
+/// The end of a block or an arm that went on so.
+pub fn finish_block<C: Caller>(
     caller: &mut C,
     action: ActionId,
     flow: Flow,

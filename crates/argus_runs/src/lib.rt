@@ -26,3 +26,12 @@ pub use running_serially::run_serial;
 pub use stepping::run_steps;
 pub use stopped::Stopped;
 pub use unwritten::run_unwritten;
+
+/// The pieces of a run, for who runs the arms of coenters in another way.
+pub mod pieces {
+    pub use crate::accessing::{call_to_test, flow_of, is_yes};
+    pub use crate::beginning::{begin, begin_arms};
+    pub use crate::ending::finish_block;
+    pub use crate::numbers::object_at;
+    pub use crate::running::declare;
+}

@@ -11,8 +11,8 @@ use argus_entries::Reply;
 // The number that no object has.
 const UNDECLARED: ObjId = ObjId(MAX_OBJECTS);
 
-// The object that the script numbers x, where its names stand for these numbers.
-pub(crate) fn object_at(numbers: &[ObjId], x: u32) -> ObjId
+/// The object that the script numbers x, where its names stand for these numbers.
+pub fn object_at(numbers: &[ObjId], x: u32) -> ObjId
     ensures { result.0 ≡ named numbers.now x }
 {
     match numbers.get(x as usize) {

@@ -71,7 +71,9 @@ fn run_at_top<C: Caller>(
     }
 }
 
-fn declare<C: Caller>(
+/// Declares the next object of the script, of these shapes, and adds the number for which its name
+/// stands: 65,535, which no object has, where the declaration was refused.
+pub fn declare<C: Caller>(
     heap: Heap,
     caller: &mut C,
     shapes: &[Shape],

@@ -1,7 +1,7 @@
 //! `Stopped`: a run came to a stop before its end.
 
 use argus_memory::OutOfMemory;
-use std::alloc::AllocFailed;
+use std::alloc::{AllocError, AllocFailed};
 
 /// The run came to a stop before its end: memory is wanting, or whoever makes its calls can't go
 /// on.
@@ -17,6 +17,12 @@ pub struct Stopped;
 
 impl From<OutOfMemory> for Stopped {
     fn from(_refused: OutOfMemory) -> Stopped {
+        Stopped
+    }
+}
+
+impl From<AllocError> for Stopped {
+    fn from(_refused: AllocError) -> Stopped {
         Stopped
     }
 }

@@ -1,0 +1,16 @@
+//! `Gate`: where the arms of a run may be held up.
+
+/// Where the arms of a run may be held up, so that a test can force their order.
+///
+/// ```text
+/// impl Gate for Turns {
+///     fn pass(&self, arm: u32, step: u32) {
+///         ..                                      // waits until the other arm has come here, too
+///     }
+/// }
+/// ```
+pub trait Gate {
+    /// Is called by an arm's worker before each step that stands directly in an arm of an outermost
+    /// coenter. Arms and steps are counted from 0.
+    fn pass(&self, arm: u32, step: u32);
+}

@@ -1,0 +1,117 @@
+//! `run_shared`: a script, run by several workers on a shared guardian.
+
+ghost use Rattle.std.specs.Prelude.{IfErr, IfOk, IfSome, length, map, sum_by, ◌+◌, ◌≡◌, ◌≤◌};
+ghost use Rattle.argus_commands.specs.Script.{plain_script};
+ghost use Rattle.argus_receipts.specs.Receipt.{plain_receipt};
+ghost use Rattle.argus_runs.specs.declared.run_fault.RunFault.TheVariants.{Memory};
+ghost use Rattle.argus_shown.specs.Shown.{IsShown};
+
+use crate::gate::Gate;
+use crate::run_report::RunReport;
+use crate::team::Team;
+use crate::walking::walk;
+use argus_commands::Script;
+use argus_memory::{Heap, OutOfMemory};
+use argus_receipts::Receipt;
+use argus_runs::RunFault;
+use argus_sharing::{Seat, Shared, Sharing};
+use argus_shown::shown;
+use std::sync::Wait;
+use std::thread::Threads;
+
+/// Runs a script by workers, each on a thread of its own. Seat 0 makes the calls outside outermost
+/// coenters and begins their arms; arm k of an outermost coenter is run by worker k mod workers,
+/// with the seat behind its number, each worker's arms in order. A coenter inside an arm is run by
+/// that arm's worker. Accesses wait for their locks, for at most `patience` wake-ups.
+///
+/// On Ok the receipts, in script order, tell the run, of two calls that aren't made by two arms of
+/// one coenter the earlier has the lower number, and the outcomes are what they show (`shown`); the
+/// seats made as many calls as there are receipts (`made`). All this is tested once the workers are
+/// done.
+///
+/// | Error | When |
+/// |---|---|
+/// | `Memory` | memory is wanting, for seat 0 or in an arm, whose siblings then go on to their end; a worker can't be started; or a test of the receipts fails. What each seat did is told by its `made` |
+///
+/// `RunFault::Write` never comes. There is one seat more than workers, and at least one worker. It
+/// may wait for other threads, for ever where two wait for each other.
+///
+/// ```text
+/// let report = run_shared(&rt, heap, &shared, &mut seats, &script, &NoGate, 2, 0)?;
+/// ```
+pub fn run_shared<
+    N: Sharing + Send + Sync,
+    R: Threads + Wait + Drop + Send + Sync,
+    G: Gate + Sync,
+>(
+    rt: &R,
+    heap: Heap,
+    shared: &Shared<N, R>,
+    seats: &mut [Seat<N>],
+    script: &Script,
+    gate: &G,
+    workers: u32,
+    patience: u32,
+) -> Result<RunReport, RunFault>
+    requires workers { 1 ≤ workers }
+    requires seats { length seats.old ≡ workers + 1 }
+    ensures shown { IfOk result (λ report. IsShown (plain_script script.now)
+        (map plain_receipt report.receipts.items) report.outcomes.items) }
+    ensures made { IfOk result (λ report. sum_by (λ seat. seat.made) seats.new
+        ≡ sum_by (λ seat. seat.made) seats.old + length report.receipts.items) }
+    ensures memory { IfErr result (λ fault. fault ≡ Memory) }
+{
+    let team = Team {
+        rt,
+        heap,
+        shared,
+        gate,
+        patience,
+    };
+    let Some(before) = made_by(seats) else {
+        return Err(RunFault::Memory);
+    };
+    let Ok(receipts) = walk(&team, seats, script) else {
+        return Err(RunFault::Memory);
+    };
+    let Some(after) = made_by(seats) else {
+        return Err(RunFault::Memory);
+    };
+    let Some(wanted) = before.checked_add(receipts.len() as u128) else {
+        return Err(RunFault::Memory);
+    };
+    if after != wanted {
+        return Err(RunFault::Memory);
+    }
+    match reported(heap, script, receipts) {
+        Ok(Some(report)) => Ok(report),
+        Ok(None) | Err(OutOfMemory) => Err(RunFault::Memory),
+    }
+}
+
+// How many calls the seats made; None where they are too many to be counted.
+fn made_by<N: Sharing>(seats: &[Seat<N>]) -> Option<u128>
+    ensures { IfSome result (λ n. n ≡ sum_by (λ seat. seat.made) seats.now) }
+{
+    let mut made: u128 = 0;
+    for seat in seats {
+        made = made.checked_add(u128::from(seat.made()))?;
+    }
+    Some(made)
+}
+
+// The receipts with what they show; None where they don't tell a run of the script.
+fn reported(
+    heap: Heap,
+    script: &Script,
+    receipts: Vec<Receipt, Heap>,
+) -> Result<Option<RunReport>, OutOfMemory>
+    ensures shown { IfOk result (λ found. IfSome found (λ report. IsShown (plain_script script.now)
+        (map plain_receipt report.receipts.items) report.outcomes.items)) }
+    ensures same { IfOk result (λ found. IfSome found (λ report. report.receipts ≡ receipts)) }
+{
+    match shown(heap, script, receipts.as_slice())? {
+        Some(outcomes) => Ok(Some(RunReport { outcomes, receipts })),
+        None => Ok(None),
+    }
+}

@@ -1,0 +1,97 @@
+//! `Worker`: makes calls by one seat.
+
+use argus_actions::ActionId;
+use argus_commands::Step;
+use argus_contents::ObjId;
+use argus_entries::{Call, Reply};
+use argus_memory::{Heap, OutOfMemory};
+use argus_receipts::Receipt;
+use argus_runs::{Caller, Stopped};
+use argus_sharing::{Seat, Shared, Sharing};
+use std::sync::Wait;
+
+/// Makes calls by one seat, and keeps their receipts. Accesses wait for their locks, as long as the
+/// patience lasts.
+#[derive(Drop)]
+pub(crate) struct Worker<'a, N: Sharing, R: Wait + Drop> {
+    pub(crate) rt: &'a R,
+    pub(crate) heap: Heap,
+    pub(crate) shared: &'a Shared<N, R>,
+    pub(crate) patience: u32,
+    pub(crate) seat: &'a mut Seat<N>,
+    pub(crate) receipts: Vec<Receipt, Heap>,
+}
+
+// Its replies come from other threads' calls, too, so no clause can say what a run comes to: the
+// receipts show it afterwards.
+impl<N: Sharing, R: Wait + Drop> Caller for Worker<'_, N, R> {
+    ghost use Rattle.std.specs.Prelude.{None, false, ⊤};
+    ghost use Rattle.std.proofs.Common.{rules};
+    ghost use Rattle.argus_runs.specs.Comes.{stops};
+
+    ghost State = { ⊤ };
+
+    ghost state = { λ _. tt };
+
+    ghost reply = { λ _ _. stops };
+
+    ghost hand = { None };
+
+    ghost keeps = { λ _ _. ⊤ };
+
+    ghost known = { false };
+
+    ghost begins = { λ _ _. ⊤ };
+
+    ghost adds = { false };
+
+    ghost plain = { Prim.search rules };
+
+    ghost begins_same = { Prim.search rules };
+
+    ghost begins_on = { Prim.search rules };
+
+    ghost grows = { Prim.search rules };
+
+    ghost keeps_same = { Prim.search rules };
+
+    ghost keeps_on = { Prim.search rules };
+
+    fn call(&mut self, call: Call) -> Result<Reply, Stopped> {
+        self.receipts.reserve(1)?;
+        let receipt = if is_access(&call) {
+            self.shared.call_waiting(self.rt, self.seat, call, self.patience)?
+        } else {
+            self.shared.call(self.rt, self.seat, call)?
+        };
+        let reply = receipt.reply.duplicate(self.heap);
+        self.receipts.push_reserved(receipt);
+        Ok(reply?)
+    }
+
+    fn arms(
+        &mut self,
+        _heap: Heap,
+        _numbers: &[ObjId],
+        _arms: &[Step],
+        _begun: &[Option<ActionId>],
+    ) -> Result<bool, Stopped> {
+        Ok(false)
+    }
+}
+
+// Whether the call asks or alters an object.
+fn is_access(call: &Call) -> bool {
+    match call {
+        Call::Ask(_, _, _) | Call::Alter(_, _, _) => true,
+        Call::Declare(_)
+        | Call::BeginTop
+        | Call::BeginSub(_)
+        | Call::BeginNested(_)
+        | Call::Commit(_)
+        | Call::Abort(_)
+        | Call::AbortOthers(_)
+        | Call::TestRead(_, _)
+        | Call::TestWrite(_, _) => false,
+    }
+}
