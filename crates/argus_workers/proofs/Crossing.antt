@@ -55,11 +55,23 @@ module _ (t : NamedLft) (N R G : RattleType) (a : Named N.Denot) (l : Ledgered N
   handed_syncs send_r sync_r sync_g = let handed = handed_type t N R G a l b in
       recorded_sync _ handed.D handed.to handed.to_one (struct_sync (shape handed) (
         search (sendable, sync_r) depth 40,
-        (heap_field_syncs global sync,
-          (search (sendable, sharing.shared_syncs, send_r) depth 40,
-            (search (sendable, sync_g) depth 40,
-              (search sendable,
-                (search (sendable, step_syncs) depth 40,
-                  (search (sendable, begun_syncs) depth 40,
-                    (search (sendable, object_syncs) depth 40, (search sendable, tt)))))))),
+        (
+          heap_field_syncs global sync,
+          (
+            search (sendable, sharing.shared_syncs, send_r) depth 40,
+            (
+              search (sendable, sync_g) depth 40,
+              (
+                search sendable,
+                (
+                  search (sendable, step_syncs) depth 40,
+                  (
+                    search (sendable, begun_syncs) depth 40,
+                    (search (sendable, object_syncs) depth 40, (search sendable, tt)),
+                  ),
+                ),
+              ),
+            ),
+          ),
+        ),
       ))

@@ -137,8 +137,20 @@ fn run_one<N: Sharing, R: Wait + Drop, G: Gate>(
         seat,
         receipts: Vec::new(heap),
     };
-    if let (Step::Block(Opening::Arm(_), body), Some(action), Ok(arm)) = (arm, action, u32::try_from(k)) {
-        run_arm(heap, &mut worker, handed.gate, handed.numbers, body, action, arm)?;
+    if let (Step::Block(Opening::Arm(_), body), Some(action), Ok(arm)) = (
+        arm,
+        action,
+        u32::try_from(k),
+    ) {
+        run_arm(
+            heap,
+            &mut worker,
+            handed.gate,
+            handed.numbers,
+            body,
+            action,
+            arm,
+        )?;
     }
     let Worker { receipts, .. } = worker;
     Ok(receipts)

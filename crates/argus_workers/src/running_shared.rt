@@ -39,11 +39,7 @@ use std::thread::Threads;
 /// ```text
 /// let report = run_shared(&rt, heap, &shared, &mut seats, &script, &NoGate, 2, 0)?;
 /// ```
-pub fn run_shared<
-    N: Sharing + Send + Sync,
-    R: Threads + Wait + Drop + Send + Sync,
-    G: Gate + Sync,
->(
+pub fn run_shared<N: Sharing + Send + Sync, R: Threads + Wait + Drop + Send + Sync, G: Gate + Sync>(
     rt: &R,
     heap: Heap,
     shared: &Shared<N, R>,

@@ -1,8 +1,8 @@
 //! `Team`: what all threads of a run have in common.
 
+use crate::gate::Gate;
 use argus_memory::Heap;
 use argus_sharing::{Shared, Sharing};
-use crate::gate::Gate;
 use std::sync::Wait;
 
 /// What all threads of a run have in common.

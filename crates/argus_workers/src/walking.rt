@@ -13,8 +13,9 @@ use argus_commands::{Lock, Opening, Script, Step};
 use argus_contents::ObjId;
 use argus_memory::Heap;
 use argus_receipts::Receipt;
-use argus_runs::pieces::{begin, begin_arms, call_to_test, declare, finish_block, flow_of, is_yes};
-use argus_runs::pieces::object_at;
+use argus_runs::pieces::{
+    begin, begin_arms, call_to_test, declare, finish_block, flow_of, is_yes, object_at,
+};
 use argus_runs::{Caller, Flow, Stopped, run_steps};
 use argus_sharing::{Seat, Sharing};
 use std::slice;
@@ -55,11 +56,7 @@ pub(crate) fn walk<
 }
 
 #[cycle(walk)]
-fn walk_steps<
-    N: Sharing + Send + Sync,
-    R: Threads + Wait + Drop + Send + Sync,
-    G: Gate + Sync,
->(
+fn walk_steps<N: Sharing + Send + Sync, R: Threads + Wait + Drop + Send + Sync, G: Gate + Sync>(
     team: &Team<N, R, G>,
     first: &mut Worker<N, R>,
     others: &mut [Seat<N>],
@@ -77,11 +74,7 @@ fn walk_steps<
 }
 
 #[cycle(walk)]
-fn walk_step<
-    N: Sharing + Send + Sync,
-    R: Threads + Wait + Drop + Send + Sync,
-    G: Gate + Sync,
->(
+fn walk_step<N: Sharing + Send + Sync, R: Threads + Wait + Drop + Send + Sync, G: Gate + Sync>(
     team: &Team<N, R, G>,
     first: &mut Worker<N, R>,
     others: &mut [Seat<N>],

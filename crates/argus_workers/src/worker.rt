@@ -60,7 +60,8 @@ impl<N: Sharing, R: Wait + Drop> Caller for Worker<'_, N, R> {
     fn call(&mut self, call: Call) -> Result<Reply, Stopped> {
         self.receipts.reserve(1)?;
         let receipt = if is_access(&call) {
-            self.shared.call_waiting(self.rt, self.seat, call, self.patience)?
+            self.shared
+                .call_waiting(self.rt, self.seat, call, self.patience)?
         } else {
             self.shared.call(self.rt, self.seat, call)?
         };
