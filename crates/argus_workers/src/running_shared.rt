@@ -31,7 +31,10 @@ use std::thread::Threads;
 ///
 /// | Error | When |
 /// |---|---|
-/// | `Memory` | memory is wanting, for seat 0 or in an arm, whose siblings then go on to their end; a worker can't be started; or a test of the receipts fails. What each seat did is told by its `made` |
+/// | `Memory` | memory is wanting, a worker can't be started, or a test of the receipts fails |
+///
+/// Want of memory for seat 0 is answered at once; in an arm it stops that arm, and the others go on
+/// to their end. What each seat did is told by its `made`.
 ///
 /// `RunFault::Write` never comes. There is one seat more than workers, and at least one worker. It
 /// may wait for other threads, for ever where two wait for each other.
