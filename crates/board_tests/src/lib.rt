@@ -1,4 +1,4 @@
-//! Worked examples of `argus_board` with threads, and refused allocations: what no contract says.
+//! A worked example of `argus_board` with threads: what no contract says.
 #![tactic(auto)]
 
 #[cfg(test)]
