@@ -38,7 +38,7 @@ abbrev pub Fits : List (Option PlainContent) → Book → List (Option PlainCont
     → List Effect → Type 0
 Fits first own contents book effects = (contents ≡ left_by first effects) × (book ≡ own)
 
--- the rule: what is published are the contents of its effects, and each place saw a beginning
+-- the rule: the table has the contents of its effects, and each place saw a beginning of these
 abbrev pub Keeps : List (Option PlainContent) → Book → ℕ → Table → List (List Effect) → Type 0
 Keeps first own root table views =
     Fits first own (plain_contents table.contents.items) table.front.seen.book

@@ -75,7 +75,8 @@ pub record CutShort (options : Options) (limit : ℕ)
   pub count : ℕ
   pub written : Appends writer writer' (take count text)
 
--- A run that failed, after which the reader, the writer have failed or not.
+-- What a run has read and written that failed so; the two flags say whether the reader and the
+-- writer have failed.
 abbrev pub Failed : CliFault → Options → ℕ → Option (List ℕ) → Option (List ℕ) → Bool
     → Option (List ℕ) → Option (List ℕ) → Bool → Type 0
 Failed (fault.Script f) options limit r r' reader_failed w w' writer_failed =

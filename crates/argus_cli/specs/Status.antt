@@ -17,7 +17,7 @@ abbrev pub EndsWith0Or2 : NoOptions → Type 0
 EndsWith0Or2 (no.Usage status text) = (status ≡ 0) ⊎ (status ≡ 2)
 EndsWith0Or2 no.OutOfMemory = Unit {0}
 
--- a fault of a listing, after which the writer has failed or not: want of memory, or a failed write
+-- a fault that a listing may have: want of memory; or a failed write, if the writer has failed
 abbrev pub IsListingFault : CliFault → Bool → Type 0
 IsListingFault (fault.Script f) failed = ⊥
 IsListingFault fault.Memory failed = Unit {0}

@@ -1,4 +1,4 @@
-//! Every limit of the product, by name.
+//! The limits of contents, actions and objects, by name.
 //!
 //! | What | Limit |
 //! |---|---|

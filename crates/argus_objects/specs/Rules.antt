@@ -39,8 +39,8 @@ are_related tree x y = is_ancestor tree x.0 y.0 || is_ancestor tree y.0 x.0
 abbrev pub is_related : Tree → List ActionId → ActionId → Bool
 is_related tree ids x = list_all (λ y. are_related tree x y) ids
 
--- holders of versions are distinct and each is an ancestor of those after it; of a reader and a
--- version's holder one is an ancestor of the other
+-- holders of versions, the newest first, are distinct, and those after one are its ancestors; of a
+-- reader and a version's holder one is an ancestor of the other
 abbrev pub is_lawful : Tree → Object → Bool
 is_lawful tree object = is_chain tree (holders object.versions)
     && list_all (is_related tree (holders object.versions)) object.readers

@@ -17,7 +17,8 @@ use Rattle.argus_steps.specs.Step.{Said}
 abbrev pub effects_told : Said → List Effect
 effects_told said = effects_of said.opening said.entries
 
--- some effects, which leave the contents of the journal's opening, and then those of its entries
+-- the effects are some that leave the contents of the journal's opening, and then those of its
+-- entries
 abbrev pub Follows : (ℕ → Option PlainContent) → Said → List Effect → Type 0
 Follows opening said effects = (earlier : List Effect)
     × ((o : ℕ) → table opening earlier o ≡ content_in said.opening.objects o)

@@ -42,7 +42,7 @@ found_over (object o) = false
 found_over (begun a) = false
 found_over (answered x) = false
 
--- an arm ends with an abort, or with a commit
+-- how an arm has ended by its last call, where its action wasn't over: by an abort, or by a commit
 abbrev pub ended_with : PlainCall → Ended
 ended_with (abort a) = ended.Aborted
 ended_with (declare shape) = ended.Committed

@@ -42,7 +42,7 @@ seen_at t a objects o d =
 abbrev pub IsAltered : Tree → ActionId → PlainChange → Object → Object → Type 0
 IsAltered t a change old new = IsWritten t a (changed t a change old).0 old new
 
--- R came to the object, which is on a's list now
+-- the object has changed by R, and is on a's list now
 pub record IsAccessed (R : Object → Object → Type 0) (a : ActionId) (o : ObjId)
     (old new : List AtomicObject) (held held' : Holdings) : Type 0 where
   pub objects : AreChanged R (o ∷ []) old new
