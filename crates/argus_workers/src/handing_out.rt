@@ -73,7 +73,7 @@ pub(crate) fn hand_out<
     gathered(team.heap, left, arms.len())
 }
 
-// Runs each worker's arms on a thread of its own.
+// Runs each worker's arms on a thread of its own where one can be made, else one after another.
 fn run_all<N: Sharing + Send + Sync, R: Threads + Wait + Drop + Send + Sync, G: Gate + Sync>(
     handed: &Handed<N, R, G>,
     jobs: Vec<Job<N>, Heap>,

@@ -19,22 +19,24 @@ use argus_shown::shown;
 use std::sync::Wait;
 use std::thread::Threads;
 
-/// Runs a script by workers, each on a thread of its own. Seat 0 makes the calls outside outermost
-/// coenters and begins their arms; arm k of an outermost coenter is run by worker k mod workers,
-/// with the seat behind its number, each worker's arms in order. A coenter inside an arm is run by
-/// that arm's worker. Accesses wait for their locks, for at most `patience` wake-ups.
+/// Runs a script by workers, each on a thread of its own where one can be made. Seat 0 makes the
+/// calls outside outermost coenters and begins their arms; arm k of an outermost coenter is run by
+/// worker k mod workers, with the seat behind its number, each worker's arms in order. A coenter
+/// inside an arm is run by that arm's worker. Accesses wait for their locks, for at most `patience`
+/// wake-ups.
 ///
 /// On Ok the receipts, in script order, tell the run, of two calls that aren't made by two arms of
-/// one coenter the earlier has the lower number, and the outcomes are what they show (`shown`); the
-/// seats made as many calls as there are receipts (`made`). All this is tested once the workers are
-/// done.
+/// one outermost coenter the earlier has the lower number, and the outcomes are what they show
+/// (`shown`); the seats made as many calls as there are receipts (`made`). All this is tested once
+/// the workers are done.
 ///
 /// | Error | When |
 /// |---|---|
-/// | `Memory` | memory is wanting, a worker can't be started, or a test of the receipts fails |
+/// | `Memory` | memory is wanting, for a worker's start too, or a test of the receipts fails |
 ///
-/// Want of memory for seat 0 is answered at once; in an arm it stops that arm, and the others go on
-/// to their end. What each seat did is told by its `made`.
+/// Want of memory for seat 0 is answered at once; in an arm it stops that arm, whose action stays
+/// live with its locks, and the others go on to their end. What each seat did is told by its
+/// `made`. Where the machine gives no thread, workers run one after another.
 ///
 /// `RunFault::Write` never comes. There is one seat more than workers, and at least one worker. It
 /// may wait for other threads, for ever where two wait for each other.
