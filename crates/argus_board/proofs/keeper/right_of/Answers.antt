@@ -1,3 +1,4 @@
+-- The rule of the history lets a right be made at any time.
 use Rattle.std.proofs.Common.{sym, ◌∙◌, ap}
 use Rattle.argus_board.proofs.History.{grow_moves}
 use Rattle.argus_board.proofs.keeper.right_of.Goals as goal

@@ -1,3 +1,4 @@
+-- The rule of the board lets a new place learn all that the writer has seen.
 use Rattle.argus_board.proofs.Rule.{admits, forks, merges}
 use Rattle.argus_board.proofs.publishing.informed.Goals as goal
 

@@ -1,3 +1,4 @@
+-- The rule of the board lets the table grow by what is pending.
 use Rattle.std.proofs.Common.{List, Option, ap, subst, sym, ◌∙◌, ◌≡◌}
 use mathlib.Core.List.{IsPrefix}
 use Rattle.argus_contents.specs.Content.{PlainContent}

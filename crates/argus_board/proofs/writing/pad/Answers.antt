@@ -1,3 +1,4 @@
+-- Absent contents were added, as many as were missing.
 use Rattle.std.proofs.Common.{arith, ap, ◌∙◌, List, replicate, None, ◌++◌, Option}
 use Rattle.argus_contents.specs.declared.content.Content.{Content}
 use Rattle.argus_board.proofs.Contents.{pad_is}

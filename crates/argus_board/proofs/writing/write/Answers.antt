@@ -1,3 +1,4 @@
+-- The effect's last pair is written first, so that of two pairs of one object the first counts.
 use Rattle.std.proofs.Common.{List, Option, ap, arith, length, ◌++◌, ◌∙◌, ◌∷◌, ◌≡◌, []}
 use Rattle.std.specs.Option.{option_to_list}
 use lib.ListN.{length-set}

@@ -1,3 +1,4 @@
+-- Where a script was read but not run, nothing was written; the fault is the script's, or memory was wanting.
 use Rattle.std.proofs.Common.{◌+◌}
 use Rattle.argus_commands.specs.declared.limits.TheConstants.{MAX_SCRIPT_BYTES}
 use Rattle.argus_streams.specs.Watched.{has_failed, inner_of}

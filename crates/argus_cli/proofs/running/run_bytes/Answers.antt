@@ -1,3 +1,4 @@
+-- What was run, on a new guardian, is the script that the bytes spell.
 use Rattle.std.proofs.Common.{subst}
 use Rattle.argus_commands.specs.Script.{plain_script}
 use Rattle.argus_runs.specs.Played.{IsPlay}

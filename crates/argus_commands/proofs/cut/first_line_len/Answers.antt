@@ -1,3 +1,4 @@
+-- The first line ends at the first line feed, or with the bytes.
 use Rattle.argus_commands.proofs.Cutting.{pass, meet, reach_end}
 use Rattle.argus_commands.proofs.cut.first_line_len.Goals as goal
 

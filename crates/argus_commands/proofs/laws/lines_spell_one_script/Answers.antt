@@ -1,3 +1,4 @@
+-- Lines spell one script at most.
 use Rattle.argus_commands.proofs.Unambiguous.{one-script}
 use Rattle.argus_commands.proofs.laws.lines_spell_one_script.Goals as goal
 

@@ -1,3 +1,4 @@
+-- The folded parts are what the fold says, with all shapes and bases; `Busy` and `Full` come where they are due.
 use Rattle.std.proofs.Common.{ap, arith, false, refl, ◌∙◌, ◌≡◌}
 use Rattle.std.proofs.lemmas.Bool.{both_ways}
 use Rattle.argus_guardian.specs.Checkpoint.{is_quiet}

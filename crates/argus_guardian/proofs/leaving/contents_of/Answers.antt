@@ -1,3 +1,4 @@
+-- One object more is copied as the action's version of it, until all are.
 use Rattle.std.proofs.Common.{ap, get_or, map, ◌∙◌}
 use Rattle.std.proofs.lemmas.List.{get_or_default, take_all}
 use Rattle.std.specs.Option.{unwrap_or}

@@ -1,3 +1,4 @@
+-- The objects that a live action has written, sorted, are its effect; an action that isn't live has none.
 use Rattle.std.proofs.Common.{None, Some, ap, cond, subst, sym, ◌∙◌}
 use Rattle.std.specs.List.Sorted.{IsPermutation}
 use Rattle.argus_guardian.specs.Leaving.{effect_of}

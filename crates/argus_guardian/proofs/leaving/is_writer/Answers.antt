@@ -1,3 +1,4 @@
+-- An action has a version exactly where one of it is found.
 use Rattle.std.proofs.Common.{ap, sym, ◌∙◌}
 use Rattle.std.specs.Option.{is_some}
 use Rattle.argus_contents.specs.Content.{plain_option}

@@ -1,3 +1,4 @@
+-- One object more of the list is noted, where the action has a version of it.
 use Rattle.std.proofs.Common.{[], ap, cond, get_or, sym, take, ◌++◌, ◌∙◌, ◌∷◌}
 use Rattle.std.proofs.lemmas.List.{get_or_default}
 use Rattle.argus_guardian.specs.Leaving.{written_in}

@@ -1,3 +1,4 @@
+-- What the writes leave when they are run again is what the journal says, in each line of the audit.
 use Rattle.argus_listings.proofs.Audits.{audit_same, base_same, versions_same}
 use Rattle.argus_listings.proofs.laws.audits_agree_with_stacks.Goals as goal
 

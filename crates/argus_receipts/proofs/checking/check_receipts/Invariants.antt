@@ -1,3 +1,4 @@
+-- What is at fault in all receipts is at fault in those that are left.
 use Rattle.argus_journal.specs.Journal.{entries_of, opening_of}
 use Rattle.argus_receipts.proofs.Receipts.{FaultFrom}
 use Rattle.argus_receipts.proofs.checking.check_receipts.Given as goal

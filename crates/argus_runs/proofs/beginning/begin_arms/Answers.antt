@@ -1,3 +1,4 @@
+-- Where the begin of an arm stops, its state is a beginning of what the begin of all comes to.
 use Rattle.argus_commands.specs.Part.{plain_steps}
 use Rattle.argus_runs.specs.Running.{begin_all}
 use Rattle.argus_runs.proofs.Early.{begins_early, on_err}

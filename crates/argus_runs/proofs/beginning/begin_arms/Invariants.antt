@@ -1,3 +1,4 @@
+-- The begin of all arms is the begin of those that are left, behind those so far.
 use Rattle.std.proofs.Common.{drop, length, true, ◌≡◌}
 use Rattle.argus_commands.specs.Part.{plain_steps}
 use Rattle.argus_runs.specs.Running.{begin_all, with_front}

@@ -1,3 +1,4 @@
+-- The entries that a run adds tell the run.
 use Rattle.argus_runs.proofs.Plays.{plays-tell}
 use Rattle.argus_runs.proofs.laws.plays_tell.Goals as goal
 

@@ -1,3 +1,4 @@
+-- Where a step stops, its state is a beginning of what the whole script comes to.
 use Rattle.argus_commands.specs.Script.{plain_script}
 use Rattle.argus_runs.specs.Running.{run_script}
 use Rattle.argus_runs.proofs.Early.{on_err, tops_early}

@@ -1,3 +1,4 @@
+-- The run of the script is the run of the steps that are left, from the state so far.
 use Rattle.std.proofs.Common.{drop, true, ◌≡◌}
 use Rattle.argus_commands.specs.Part.{plain_steps}
 use Rattle.argus_commands.specs.Script.{plain_script}

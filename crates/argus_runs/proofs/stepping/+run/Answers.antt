@@ -1,3 +1,4 @@
+-- Where a step, an arm, a begin or a test stops, its state is a beginning of what the whole comes to.
 use Rattle.std.proofs.Common.{Some}
 use Rattle.argus_commands.specs.Part.{block, plain_steps}
 use Rattle.argus_commands.specs.declared.opening.Opening.TheVariants as opening

@@ -1,3 +1,4 @@
+-- The run of the steps, or of the arms, is the run of those that are left, from the state so far.
 use Rattle.std.proofs.Common.{drop, true, ◌≡◌}
 use Rattle.argus_commands.specs.Part.{plain_steps}
 use Rattle.argus_runs.specs.Running.{run_arms, run_parts}

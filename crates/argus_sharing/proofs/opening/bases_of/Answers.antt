@@ -1,3 +1,4 @@
+-- One object more is copied, until all that are declared are.
 use Rattle.std.proofs.Common.{ap, arith, map, ◌≡◌, ◌∙◌}
 use Rattle.std.specs.List.{range_with_len}
 use Rattle.argus_journal.specs.Objects.{declared}

@@ -1,3 +1,4 @@
+-- What is in the guardian's objects for good is what the effects of its journal leave.
 use Rattle.argus_sharing.proofs.Bases.{bases_lead}
 use Rattle.argus_sharing.proofs.opening.board_of.Goals as goal
 

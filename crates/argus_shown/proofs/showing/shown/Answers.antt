@@ -1,8 +1,8 @@
+-- Receipts that were told whole and in order show the run.
 use Rattle.std.proofs.Common.{refl}
 use Rattle.argus_shown.specs.State.{seen_by}
 use Rattle.argus_shown.proofs.showing.shown.Goals as goal
 
--- src/showing.rt:41:1
 pub returns-then-is_whole : goal.returns-then-is_whole
 returns-then-is_whole c = (
   c.in-Ok._numbers.items,

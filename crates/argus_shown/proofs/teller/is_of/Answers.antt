@@ -1,3 +1,4 @@
+-- The test tells where the receipt's call is this call.
 use Rattle.argus_entries.specs.Call.{plain_call}
 use Rattle.argus_entries.specs.Decided.{call_answered}
 use Rattle.argus_shown.proofs.teller.is_of.Goals as goal

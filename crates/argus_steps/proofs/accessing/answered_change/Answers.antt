@@ -1,3 +1,4 @@
+-- What a granted change leaves and is answered, at what the action sees, is what the journal says.
 use Rattle.std.proofs.Common.{None, ap, length, refl, sym, ◌∙◌, ◌≡◌}
 use Rattle.argus_contents.specs.Change.{Outcome, plain_change}
 use Rattle.argus_contents.specs.Fitting.{change_suits}

@@ -1,3 +1,4 @@
+-- What a granted query is answered, at what the action sees, is the reply that the journal gives.
 use Rattle.std.proofs.Common.{None, ap, refl, sym, ◌∙◌, ◌≡◌}
 use Rattle.argus_contents.specs.Fitting.{query_suits}
 use Rattle.argus_entries.specs.Call.{ask}

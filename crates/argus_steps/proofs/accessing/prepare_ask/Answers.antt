@@ -1,3 +1,4 @@
+-- A query is refused as the journal refuses it; else its object is there, and making room changes nothing of that.
 use Rattle.std.proofs.Common.{None, subst, sym, ◌∙◌, ◌≡◌}
 use Rattle.argus_entries.specs.Call.{ask}
 use Rattle.argus_steps.specs.Step.{Said, refusal_to}

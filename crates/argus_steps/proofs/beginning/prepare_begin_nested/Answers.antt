@@ -1,3 +1,4 @@
+-- The tree refuses a nested topaction as the journal does, or has room for it at the number that is answered.
 use Rattle.std.proofs.Common.{refl, sym, ◌∙◌}
 use Rattle.argus_actions.specs.Refusals.{begin_nested_refusal}
 use Rattle.argus_actions.specs.declared.origin.Origin.TheVariants.{Nested}

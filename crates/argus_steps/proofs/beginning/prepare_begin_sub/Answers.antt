@@ -1,3 +1,4 @@
+-- The tree refuses a subaction as the journal does, or has room for it at the number that the journal answers.
 use Rattle.std.proofs.Common.{refl, sym, ◌∙◌}
 use Rattle.argus_actions.specs.Refusals.{begin_sub_refusal}
 use Rattle.argus_actions.specs.declared.origin.Origin.TheVariants.{Sub}

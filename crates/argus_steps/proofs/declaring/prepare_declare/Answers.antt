@@ -1,3 +1,4 @@
+-- The journal refuses a declaration where there are too many objects, or answers the next number.
 use Rattle.std.proofs.Common.{ap, arith, length, refl, sym, ◌<◌, ◌≤◌, ◌∙◌, ◌≡◌}
 use Rattle.argus_contents.specs.declared.limits.TheConstants.{MAX_OBJECTS}
 use Rattle.argus_entries.specs.Call.{declare}

@@ -1,3 +1,4 @@
+-- An action was begun under its parent, or else under its creator.
 use Rattle.std.proofs.Common.{ap, sym, ◌∙◌}
 use Rattle.std.specs.Option.{option_map}
 use Rattle.argus_actions.specs.Tree.{row_of}

@@ -1,3 +1,4 @@
+-- An action whose siblings may be aborted was begun under another.
 use Rattle.argus_actions.specs.Rows.{under_at}
 use Rattle.argus_steps.proofs.Under.{named_under, none_under, others_under}
 use Rattle.argus_steps.proofs.discarding.discard_others.Goals as goal

@@ -1,3 +1,4 @@
+-- The tree refuses an abort as the journal does, or the journal grants it.
 use Rattle.std.proofs.Common.{refl, sym, ◌∙◌}
 use Rattle.argus_actions.specs.Refusals.{abort_refusal}
 use Rattle.argus_entries.specs.Call.{abort}

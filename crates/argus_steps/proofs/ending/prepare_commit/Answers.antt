@@ -1,3 +1,4 @@
+-- The tree refuses a commit as the journal does, or the journal grants it: to a parent, or for good.
 use Rattle.std.proofs.Common.{refl, sym, ◌∙◌}
 use Rattle.argus_actions.specs.Refusals.{commit_refusal}
 use Rattle.argus_entries.specs.Call.{commit}

@@ -1,3 +1,4 @@
+-- Room for a lock changes nothing that the journal speaks of.
 use Rattle.std.proofs.Common.{arith, length, ◌≡◌}
 use Rattle.std.proofs.lemmas.List.{with_items_is}
 use Rattle.argus_steps.proofs.Accessed.{kept_locks}

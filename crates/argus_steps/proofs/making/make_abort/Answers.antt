@@ -1,3 +1,4 @@
+-- After an abort, which visits all that the ended actions hold, the parts are what the longer journal says.
 use Rattle.std.proofs.Common.{arith, length, subst, sym, ◌∷◌, ◌≡◌}
 use Rattle.std.proofs.lemmas.List.{with_items_is}
 use Rattle.argus_entries.specs.Entry.{PlainEntry}

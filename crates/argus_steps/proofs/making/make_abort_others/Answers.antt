@@ -1,3 +1,4 @@
+-- After the abort of all live siblings the parts are what the longer journal says.
 use Rattle.std.proofs.Common.{arith, length, subst, sym, ◌∷◌, ◌≡◌}
 use Rattle.std.proofs.lemmas.List.{with_items_is}
 use Rattle.argus_entries.specs.Entry.{PlainEntry}

@@ -1,3 +1,4 @@
+-- After the begin of a nested topaction the parts are what the longer journal says.
 use Rattle.argus_actions.specs.Refusals.{begin_nested_refusal}
 use Rattle.argus_actions.specs.declared.origin.Origin.TheVariants.{Nested}
 use Rattle.argus_entries.specs.Call.{begin_nested}

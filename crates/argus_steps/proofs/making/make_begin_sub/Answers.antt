@@ -1,3 +1,4 @@
+-- After the begin of a subaction the parts are what the longer journal says.
 use Rattle.argus_actions.specs.Refusals.{begin_sub_refusal}
 use Rattle.argus_actions.specs.declared.origin.Origin.TheVariants.{Sub}
 use Rattle.argus_entries.specs.Call.{begin_sub}

@@ -1,3 +1,4 @@
+-- After the begin of a topaction the parts are what the longer journal says.
 use Rattle.argus_actions.specs.Refusals.{begin_top_refusal}
 use Rattle.argus_actions.specs.declared.origin.Origin.TheVariants.{Top}
 use Rattle.argus_entries.specs.Call.{begin_top}

@@ -1,3 +1,4 @@
+-- After a declaration the parts are what the longer journal says: one object more, absent and free.
 use Rattle.std.proofs.Common.{[], length, refl, subst, sym, ◌++◌, ◌∷◌}
 use Rattle.argus_entries.specs.Entry.{PlainEntry}
 use Rattle.argus_steps.specs.Keeping.{IsKept}

@@ -1,3 +1,4 @@
+-- After a subaction's commit, by which its parent has what it held, the parts are what the longer journal says.
 use Rattle.std.proofs.Common.{arith, length, refl, subst, sym, ◌∷◌, ◌≡◌}
 use Rattle.std.proofs.lemmas.List.{with_items_is}
 use Rattle.argus_entries.specs.Entry.{PlainEntry}

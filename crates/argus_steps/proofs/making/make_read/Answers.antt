@@ -1,3 +1,4 @@
+-- After a granted read, whose action is then a reader, the parts are what the longer journal says.
 use Rattle.std.proofs.Common.{arith, length, ◌≡◌}
 use Rattle.std.proofs.lemmas.List.{with_items_is}
 use Rattle.argus_entries.specs.Entry.{plain_entry}

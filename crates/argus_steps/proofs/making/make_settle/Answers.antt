@@ -1,3 +1,4 @@
+-- After a topaction's commit, whose versions are the bases, the parts are what the longer journal says.
 use Rattle.std.proofs.Common.{arith, length, refl, subst, sym, ◌∷◌, ◌≡◌}
 use Rattle.std.proofs.lemmas.List.{with_items_is}
 use Rattle.argus_entries.specs.Entry.{PlainEntry}

@@ -1,3 +1,4 @@
+-- After a granted write, whose action then has this version, the parts are what the longer journal says.
 use Rattle.std.proofs.Common.{arith, length, ◌≡◌}
 use Rattle.std.proofs.lemmas.List.{with_items_is}
 use Rattle.argus_entries.specs.Entry.{plain_entry}

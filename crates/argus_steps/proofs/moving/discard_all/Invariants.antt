@@ -1,3 +1,4 @@
+-- In the objects so far what the ended actions held is discarded; the others are as before.
 use Rattle.std.proofs.Common.{take}
 use Rattle.argus_steps.specs.Moving.{AreChanged, IsEnded}
 use Rattle.argus_actions.specs.Tree.{is_ancestor}

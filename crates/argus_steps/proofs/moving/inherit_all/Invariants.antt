@@ -1,3 +1,4 @@
+-- The objects so far are inherited by the parent; the others are as before.
 use Rattle.std.proofs.Common.{take}
 use Rattle.argus_steps.specs.Moving.{AreChanged, IsInherited}
 use Rattle.argus_steps.proofs.moving.inherit_all.Given as goal

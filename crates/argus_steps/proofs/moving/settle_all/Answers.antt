@@ -1,3 +1,4 @@
+-- The next object on the list stands as it was, since none is listed twice, and then is settled.
 use Rattle.std.proofs.Common.{ap, get_or, ◌∙◌}
 use Rattle.argus_contents.specs.declared.obj_id.ObjId.{ObjId}
 use Rattle.argus_steps.specs.Moving.{IsSettled}

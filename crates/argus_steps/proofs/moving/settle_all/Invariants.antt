@@ -1,3 +1,4 @@
+-- The objects so far are settled; the others are as before.
 use Rattle.std.proofs.Common.{take}
 use Rattle.argus_steps.specs.Moving.{AreChanged, IsSettled}
 use Rattle.argus_steps.proofs.moving.settle_all.Given as goal

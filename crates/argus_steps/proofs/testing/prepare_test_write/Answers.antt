@@ -1,3 +1,4 @@
+-- The journal refuses the test likewise, or answers whether the write lock could be had; a yes takes it.
 use Rattle.std.proofs.Common.{false, refl, subst, sym, true, ◌∙◌, ◌≡◌}
 use Rattle.argus_contents.specs.Answer.{flag}
 use Rattle.argus_entries.specs.Call.{test_write}

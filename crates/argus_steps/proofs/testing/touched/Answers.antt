@@ -1,3 +1,4 @@
+-- A test for writing that says yes leaves what the action sees, as a version of its own.
 use Rattle.std.proofs.Common.{ap, refl, sym}
 use Rattle.argus_contents.specs.Change.{Outcome}
 use Rattle.argus_steps.proofs.FreeLocks.{test_write_free, writer_limits, writer_reads}

@@ -1,3 +1,4 @@
+-- A change is refused as the journal refuses it, or made where the journal grants it, with its answer.
 use Rattle.std.proofs.Common.{ap, refl, sym, ◌∙◌}
 use Rattle.argus_contents.specs.Change.{plain_change}
 use Rattle.argus_entries.specs.Call.{alter}

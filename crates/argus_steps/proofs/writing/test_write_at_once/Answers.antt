@@ -1,3 +1,4 @@
+-- The journal refuses the test likewise, or says no with nothing changed, or yes with the lock taken.
 use Rattle.std.proofs.Common.{false, refl, sym, true, ◌∙◌}
 use Rattle.argus_steps.proofs.WriteTests.{test_write_refused, test_write_right, write_accepted, write_low}
 use Rattle.argus_steps.proofs.writing.test_write_at_once.Goals as goal

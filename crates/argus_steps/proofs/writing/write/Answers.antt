@@ -1,3 +1,4 @@
+-- After a granted change the parts are what the longer journal says; where memory is wanting, nothing changed.
 use Rattle.std.proofs.Common.{arith, length, ◌≡◌}
 use Rattle.std.proofs.lemmas.List.{with_items_is}
 use Rattle.argus_contents.specs.Change.{plain_change}

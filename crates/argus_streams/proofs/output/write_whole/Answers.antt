@@ -1,3 +1,4 @@
+-- Each write goes on where the one before it stopped.
 use Rattle.std.proofs.Common.{length-drop, arith}
 use Rattle.std.proofs.lemmas.List.{take_rest}
 use Rattle.argus_streams.proofs.Bytes.{appends_more}

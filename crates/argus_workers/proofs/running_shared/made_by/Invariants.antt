@@ -1,3 +1,4 @@
+-- The calls so far are those that the seats so far made.
 use Rattle.std.proofs.Common.{sum_by, take, ◌≡◌}
 use Rattle.argus_workers.proofs.running_shared.made_by.Given as goal
 

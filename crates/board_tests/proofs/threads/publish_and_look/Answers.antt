@@ -1,3 +1,4 @@
+-- The board's writer may cross to another thread, and back.
 use denote.Param.Send.{sendable}
 use Rattle.argus_board.proofs.Crossing.{crosses}
 use Rattle.board_tests.proofs.threads.publish_and_look.Goals as goal

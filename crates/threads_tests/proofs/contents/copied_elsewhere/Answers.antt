@@ -1,3 +1,4 @@
+-- A content may cross to another thread, and its copy back.
 use denote.Param.Send.{sendable}
 use Rattle.argus_contents.proofs.Crossing.{crosses}
 use Rattle.threads_tests.proofs.contents.copied_elsewhere.Goals as goal

@@ -1,3 +1,4 @@
+-- A shape and a change may cross to another thread, and back.
 use denote.Param.Send.{sendable}
 use Rattle.argus_contents.proofs.Crossing.{crosses}
 use Rattle.threads_tests.proofs.contents.fits_elsewhere.Goals as goal

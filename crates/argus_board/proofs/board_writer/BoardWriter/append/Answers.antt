@@ -1,3 +1,4 @@
+-- One effect more is pending, the newest of the history; what is published stays.
 use Rattle.std.proofs.Common.{[], ap, drop, refl, sym, ◌++◌, ◌∙◌, ◌∷◌, ◌≡◌}
 use Rattle.argus_board.specs.Board.{Shown}
 use Rattle.argus_board.specs.Effects.{plain_effect}

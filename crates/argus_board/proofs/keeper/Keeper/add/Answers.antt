@@ -1,3 +1,4 @@
+-- Who holds the newest right of a line may add a page, by which the line has one effect more and a new right.
 use Rattle.std.proofs.Common.{◌++◌, ◌∷◌, [], ℕ, List, sym, ◌∙◌, ap}
 use Rattle.argus_board.proofs.History.{add_moves, line_adds}
 use Rattle.argus_board.specs.Effects.{Effect}

@@ -1,3 +1,4 @@
+-- While the right is unused, all that anyone saw of the line is a beginning of it.
 use Rattle.std.proofs.Common.{ap, List, subst, sym, ℕ, ◌∙◌}
 use mathlib.Core.List.{IsPrefix}
 use Rattle.argus_board.proofs.History.{hold_moves, line_begins, line_stands}

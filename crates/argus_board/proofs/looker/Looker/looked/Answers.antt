@@ -1,3 +1,4 @@
+-- The place sees all that is published, and what was copied is what these effects leave.
 use Rattle.std.proofs.Common.{List, Option, ap, map, sym, ◌++◌, ◌∙◌, ◌≡◌}
 use Rattle.argus_contents.specs.Content.{PlainContent}
 use Rattle.argus_contents.specs.declared.content.Content.{Content}

@@ -1,3 +1,4 @@
+-- One name more, in the map with its number, keeps map and lists in step.
 use Rattle.std.proofs.Common.{◌≡◌, ◌∙◌, ap, subst, ◌∷◌, [], ◌++◌, length, Some, rules}
 use Rattle.std.specs.BTreeMap.{UpdatesBy}
 use Rattle.std.specs.Cmp.Lexicographic.{slice_cmp}

@@ -1,3 +1,4 @@
+-- A block that ended is one step more of the block around it, with its lines, which are those so far.
 use Rattle.argus_commands.proofs.Growing.{close-lines, close-sound}
 use Rattle.argus_commands.proofs.reading.Reading.close.Goals as goal
 

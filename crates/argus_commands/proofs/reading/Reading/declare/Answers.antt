@@ -1,3 +1,4 @@
+-- With one shape more that can be made, all can be made.
 use Rattle.std.proofs.Common.{◌∙◌, ap}
 use Rattle.argus_commands.specs.Objects.{AllMakeable}
 use Rattle.argus_commands.proofs.Growing.{makeable-more, on-ok}

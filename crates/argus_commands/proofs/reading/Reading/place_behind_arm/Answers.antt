@@ -1,3 +1,4 @@
+-- Around an arm is its coenter.
 use Rattle.std.proofs.Common.{sym, reverse}
 use Rattle.argus_commands.proofs.Growing.{behind-arm}
 use Rattle.argus_commands.proofs.reading.Reading.place_behind_arm.Goals as goal

@@ -1,3 +1,4 @@
+-- With one step more, its lines come behind those so far, and all steps may stand where they do.
 use Rattle.argus_commands.proofs.Growing.{push-lines, push-sound}
 use Rattle.argus_commands.proofs.reading.Reading.push.Goals as goal
 

@@ -1,3 +1,4 @@
+-- A line that passes no limit has room for what it says.
 use Rattle.std.proofs.Common.{◌≡◌, sym, ◌∙◌, subst, rules}
 use Rattle.argus_commands.specs.Command.{says}
 use Rattle.argus_commands.specs.Fault.{position_at}

@@ -1,3 +1,4 @@
+-- A query or a change is refused as the journal refuses it.
 use Rattle.std.proofs.Common.{ap, sym, ◌∙◌}
 use Rattle.argus_contents.specs.Change.{plain_change}
 use Rattle.argus_entries.specs.Call.{alter, ask, plain_call}

@@ -1,3 +1,4 @@
+-- What is in an object for good fits its shape, since the journal is legal.
 use Rattle.argus_guardian.proofs.guardian.Guardian.base.Goals as goal
 use Rattle.argus_journal.proofs.Contents.{content_fits}
 use Rattle.argus_journal.specs.Events.{history}

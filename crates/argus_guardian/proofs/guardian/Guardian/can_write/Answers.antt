@@ -1,3 +1,4 @@
+-- The journal answers a test for writing by a refusal, or by whether the lock could be had.
 use Rattle.std.proofs.Common.{sym, ◌∙◌}
 use Rattle.argus_entries.specs.Call.{test_write}
 use Rattle.argus_guardian.proofs.Told.{granted_where, not_granted}

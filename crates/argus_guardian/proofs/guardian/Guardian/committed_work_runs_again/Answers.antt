@@ -1,3 +1,4 @@
+-- Committed work, run again, gives its answers again and leaves the bases: a law of a guardian's legal journal.
 use Rattle.argus_guardian.proofs.guardian.Guardian.committed_work_runs_again.Goals as goal
 use Rattle.argus_journal.specs.LegalJournal.{entries_in, opening_in}
 

@@ -1,3 +1,4 @@
+-- Bases, and what actions see, fit the objects' shapes: a law of a guardian's legal journal.
 use Rattle.argus_guardian.proofs.guardian.Guardian.contents_fit.Goals as goal
 use Rattle.argus_journal.specs.LegalJournal.{entries_in, opening_in}
 

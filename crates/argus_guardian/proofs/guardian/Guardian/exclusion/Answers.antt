@@ -1,3 +1,4 @@
+-- Of a writer and any other holder one is the other's ancestor: a law of a guardian's legal journal.
 use Rattle.argus_guardian.proofs.guardian.Guardian.exclusion.Goals as goal
 use Rattle.argus_journal.specs.LegalJournal.{entries_in, opening_in}
 

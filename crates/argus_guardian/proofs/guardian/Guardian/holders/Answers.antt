@@ -1,3 +1,4 @@
+-- The readers in the object's cell are those of the journal.
 use Rattle.std.proofs.Common.{Some, ap, map, ◌∙◌, ◌≡◌}
 use Rattle.argus_actions.specs.declared.action_id.ActionId.{ActionId}
 use Rattle.argus_guardian.proofs.Told.{cell_there, there}

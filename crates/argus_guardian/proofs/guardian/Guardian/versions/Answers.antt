@@ -1,3 +1,4 @@
+-- The versions in the object's cell are those of the journal.
 use Rattle.std.proofs.Common.{Some, ap, map, sym, ◌∙◌, ◌≡◌}
 use Rattle.argus_guardian.proofs.Told.{cell_there, in_order, there}
 use Rattle.argus_guardian.proofs.guardian.Guardian.versions.Goals as goal

@@ -1,3 +1,4 @@
+-- The commit of a subaction adds no effect, that of a topaction the action's own.
 use Rattle.std.proofs.Common.{None, ap, subst, sym, ◌∙◌}
 use Rattle.std.specs.Option.{option_to_list}
 use Rattle.argus_entries.specs.Call.{commit}

@@ -1,3 +1,4 @@
+-- A block may be given back on any thread, where the inner allocator's may.
 use mir.Syntax.{Dict}
 use denote.RattleType.{RattleType}
 use denote.Param.Send.{Frees}

@@ -1,3 +1,4 @@
+-- A call that was made has its line written, whole or cut; one that wasn't made left the journal as it was.
 use Rattle.argus_entries.specs.Call.{plain_call}
 use Rattle.argus_runs.specs.Adding.{asked_grows}
 use Rattle.argus_runs.proofs.LastLine.{lacking_one, written_one}

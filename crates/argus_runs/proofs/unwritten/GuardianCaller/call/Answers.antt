@@ -1,3 +1,4 @@
+-- A call that found no memory left the journal as it was: a beginning of what the call comes to.
 use Rattle.argus_entries.specs.Call.{plain_call}
 use Rattle.argus_runs.specs.Adding.{asked_grows}
 use Rattle.argus_runs.proofs.unwritten.GuardianCaller.call.Goals as goal

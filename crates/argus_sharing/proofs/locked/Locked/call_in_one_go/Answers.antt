@@ -1,10 +1,10 @@
+-- A call that is no commit adds no effect, so the board follows the longer journal, and its seat counted it.
 use Rattle.std.proofs.Common.{ap, arith, ◌+◌, ◌++◌, ◌∙◌, ◌≡◌}
 use Rattle.argus_entries.specs.Call.{plain_call}
 use Rattle.argus_sharing.proofs.Follow.{follows_other}
 use Rattle.argus_sharing.proofs.locked.Locked.call_in_one_go.Goals as goal
 use Rattle.argus_sharing.specs.Locked.{next_number}
 
--- src/calling.rt:49:5
 pub returns-clause-board : goal.returns-clause-board
 returns-clause-board g c =
     let inv = c.self.invariant in
@@ -13,7 +13,6 @@ returns-clause-board g c =
     (was.board.published ++ was.board.pending) c.requires c.journal_is_legal.ensures.legal inv.2
     c.in_ok-reply.ensures.ok
 
--- src/calling.rt:49:5
 pub invariant_of-self-2 : goal.invariant_of-self-2
 invariant_of-self-2 g c =
     let inv = c.self.invariant in

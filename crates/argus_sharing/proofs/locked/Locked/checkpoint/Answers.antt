@@ -1,8 +1,8 @@
+-- After a checkpoint, made or refused, the board follows the journal still, and the next number is the same.
 use Rattle.std.proofs.Common.{arith, ◌++◌}
 use Rattle.argus_sharing.proofs.Follow.{checkpoint_number, follows_checkpoint}
 use Rattle.argus_sharing.proofs.locked.Locked.checkpoint.Goals as goal
 
--- src/looking.rt:57:5
 pub returns-clause-board : goal.returns-clause-board
 returns-clause-board g c =
     let was = c.self.inside.shown in
@@ -10,7 +10,6 @@ returns-clause-board g c =
     (was.board.published ++ was.board.pending) c.journal_is_legal.ensures.sound c.journal_is_legal.ensures.legal
     c.self.invariant.2 c.checkpoint.ensures.ok c.checkpoint.ensures.err
 
--- src/looking.rt:57:5
 pub invariant_of-self : goal.invariant_of-self
 invariant_of-self g c =
     let inv = c.self.invariant in

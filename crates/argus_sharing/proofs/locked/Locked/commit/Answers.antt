@@ -1,10 +1,10 @@
+-- The effect that a commit adds is on the board, published or pending, and its seat counted the call.
 use Rattle.std.proofs.Common.{ap, arith, ◌+◌, ◌∙◌, ◌≡◌}
 use Rattle.argus_entries.specs.Call.{commit}
 use Rattle.argus_sharing.proofs.Follow.{follows_commit, published_same}
 use Rattle.argus_sharing.proofs.locked.Locked.commit.Goals as goal
 use Rattle.argus_sharing.specs.Locked.{next_number}
 
--- src/calling.rt:77:5
 pub returns-clause-board : goal.returns-clause-board
 returns-clause-board g c =
     let inv = c.self.invariant in
@@ -16,7 +16,6 @@ returns-clause-board g c =
     c.in_ok-reply.ensures.ok.1
     (published_same c.publish-shown.result with_effect now c.publish-shown.ensures.ok c.publish-shown.ensures.err)
 
--- src/calling.rt:77:5
 pub invariant_of-self-2 : goal.invariant_of-self-2
 invariant_of-self-2 g c =
     let inv = c.self.invariant in

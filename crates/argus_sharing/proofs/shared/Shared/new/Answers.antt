@@ -1,3 +1,4 @@
+-- Each looker has seen the effects of the journal so far.
 use Rattle.std.proofs.Common.{◌∙◌}
 use Rattle.argus_sharing.proofs.shared.Shared.new.Goals as goal
 

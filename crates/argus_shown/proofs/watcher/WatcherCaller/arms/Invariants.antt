@@ -1,3 +1,4 @@
+-- What all arms tell is what the arms that are left tell behind those so far.
 use Rattle.std.proofs.Common.{drop, ◌≡◌}
 use Rattle.argus_commands.specs.Part.{plain_steps}
 use Rattle.argus_shown.specs.Shown.{tell_arms}
