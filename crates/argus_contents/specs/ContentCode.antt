@@ -39,6 +39,7 @@ int_back (pos n) = refl
 int_back (negsuc n) = refl
 
 abbrev mutual
+  -- a value as it is stored: its kind, and its parts
   pub value_code : PlainValue → Gv
   value_code value.null = gcons (gnum 0) gnil
   value_code (value.bool b) = gcons (gnum 1) (bool_code b)

@@ -29,6 +29,7 @@ both : (s t : Bool) → (s && t) ≡ true → (s ≡ true) × (t ≡ true)
 both s t e = and_parts s t e
 
 mutual
+  -- values that the test finds the same are equal
   value_told : (a b : PlainValue) → same_value a b ≡ true → a ≡ b
   value_told value.null value.null e = refl
   value_told (value.bool a) (value.bool b) e = ap value.bool ((booleans_Decides a b).0 e)
@@ -42,6 +43,7 @@ mutual
       ap (λ x. value.choice x a) (eqb-true t u q.0) ∙ ap (value.choice u) (value_told a b q.1)
   value_told _ _ e = absurd (false≢true e)
 
+  -- and so are lists of them, in their plain form
   values_told : (a b : PlainValues) → same_values a b ≡ true → a ≡ b
   values_told value.none value.none e = refl
   values_told (value.more a rest) (value.more b others) e =
@@ -51,6 +53,7 @@ mutual
   values_told _ _ e = absurd (false≢true e)
 
 mutual
+  -- the test finds each value the same as itself
   value_itself : (a : PlainValue) → same_value a a ≡ true
   value_itself value.null = refl
   value_itself (value.bool a) = (booleans_Decides a a).1 refl
@@ -62,12 +65,14 @@ mutual
   value_itself (value.choice t a) =
       and_from (t == t) (same_value a a) (eq-eqb t t refl) (value_itself a)
 
+  -- and each list of them, in its plain form
   values_itself : (a : PlainValues) → same_values a a ≡ true
   values_itself value.none = refl
   values_itself (value.more a rest) =
       and_from (same_value a a) (same_values rest rest) (value_itself a) (values_itself rest)
 
 mutual
+  -- types that the test finds the same are equal
   ty_told : (a b : PlainTy) → same_ty a b ≡ true → a ≡ b
   ty_told ty.null ty.null e = refl
   ty_told ty.bool ty.bool e = refl
@@ -79,6 +84,7 @@ mutual
   ty_told (ty.choice a) (ty.choice b) e = ap ty.choice (fields_told a b e)
   ty_told _ _ e = absurd (false≢true e)
 
+  -- and so are lists of names with types
   fields_told : (a b : PlainFields) → same_fields a b ≡ true → a ≡ b
   fields_told ty.none ty.none e = refl
   fields_told (ty.more m a rest) (ty.more n b others) e =
@@ -90,6 +96,7 @@ mutual
   fields_told _ _ e = absurd (false≢true e)
 
 mutual
+  -- the test finds each type the same as itself
   ty_itself : (a : PlainTy) → same_ty a a ≡ true
   ty_itself ty.null = refl
   ty_itself ty.bool = refl
@@ -100,6 +107,7 @@ mutual
   ty_itself (ty.fields a) = fields_itself a
   ty_itself (ty.choice a) = fields_itself a
 
+  -- and each list of names with types
   fields_itself : (a : PlainFields) → same_fields a a ≡ true
   fields_itself ty.none = refl
   fields_itself (ty.more m a rest) =
@@ -107,12 +115,14 @@ mutual
       ((bytes_decides m m).1 refl)
       (and_from (same_ty a a) (same_fields rest rest) (ty_itself a) (fields_itself rest))
 
+-- shapes that the test finds the same are equal
 shape_told : (a b : PlainShape) → same_shape a b ≡ true → a ≡ b
 shape_told (shape.rec a) (shape.rec b) e = ap shape.rec (fields_told a b e)
 shape_told (shape.arr a) (shape.arr b) e = ap shape.arr (ty_told a b e)
 shape_told (shape.var a) (shape.var b) e = ap shape.var (fields_told a b e)
 shape_told _ _ e = absurd (false≢true e)
 
+-- the test finds each shape the same as itself
 shape_itself : (a : PlainShape) → same_shape a a ≡ true
 shape_itself (shape.rec a) = fields_itself a
 shape_itself (shape.arr a) = ty_itself a
@@ -123,14 +133,17 @@ abbrev unlisted : PlainValues → List PlainValue
 unlisted value.none = []
 unlisted (value.more v vs) = v ∷ unlisted vs
 
+-- a list of values comes back from its plain form
 listed_back : (vs : List PlainValue) → unlisted (listed vs) ≡ vs
 listed_back [] = refl
 listed_back (v ∷ vs) = ap (λ u. v ∷ u) (listed_back vs)
 
+-- lists of values that the test finds the same are equal
 list_told : (a b : List PlainValue) → same_values (listed a) (listed b) ≡ true → a ≡ b
 list_told a b e =
     sym (listed_back a) ∙ ap unlisted (values_told (listed a) (listed b) e) ∙ listed_back b
 
+-- contents that the test finds the same are equal
 content_told : (a b : PlainContent) → same_content a b ≡ true → a ≡ b
 content_told (content.rec a) (content.rec b) e = ap content.rec (list_told a b e)
 content_told (content.arr low a) (content.arr bound b) e =
@@ -142,6 +155,7 @@ content_told (content.var t a) (content.var u b) e =
     ap (λ x. content.var x a) (eqb-true t u q.0) ∙ ap (content.var u) (value_told a b q.1)
 content_told _ _ e = absurd (false≢true e)
 
+-- the test finds each content the same as itself
 content_itself : (a : PlainContent) → same_content a a ≡ true
 content_itself (content.rec a) = values_itself (listed a)
 content_itself (content.arr low a) = and_from (int_eq low low) (same_values (listed a) (listed a))
@@ -149,6 +163,7 @@ content_itself (content.arr low a) = and_from (int_eq low low) (same_values (lis
 content_itself (content.var t a) =
     and_from (t == t) (same_value a a) (eq-eqb t t refl) (value_itself a)
 
+-- changes that the test finds the same are equal
 change_told : (a b : PlainChange) → same_change a b ≡ true → a ≡ b
 change_told (change.create a) (change.create b) e = ap change.create (content_told a b e)
 change_told (change.set_field i a) (change.set_field j b) e =
@@ -174,6 +189,7 @@ change_told (change.change_tag t a) (change.change_tag u b) e =
 change_told change.touch change.touch e = refl
 change_told _ _ e = absurd (false≢true e)
 
+-- the test finds each change the same as itself
 change_itself : (a : PlainChange) → same_change a a ≡ true
 change_itself (change.create a) = content_itself a
 change_itself (change.set_field i a) =
@@ -191,6 +207,7 @@ change_itself (change.change_tag t a) =
     and_from (t == t) (same_value a a) (eq-eqb t t refl) (value_itself a)
 change_itself change.touch = refl
 
+-- signals that the test finds the same are equal
 signal_told : (a b : Signal) → same_signal a b ≡ true → a ≡ b
 signal_told signal.Absent signal.Absent e = refl
 signal_told signal.Exists signal.Exists e = refl
@@ -200,6 +217,7 @@ signal_told signal.NegativeSize signal.NegativeSize e = refl
 signal_told signal.Limits signal.Limits e = refl
 signal_told _ _ e = absurd (false≢true e)
 
+-- the test finds each signal the same as itself
 signal_itself : (a : Signal) → same_signal a a ≡ true
 signal_itself signal.Absent = refl
 signal_itself signal.Exists = refl
@@ -208,6 +226,7 @@ signal_itself signal.WrongTag = refl
 signal_itself signal.NegativeSize = refl
 signal_itself signal.Limits = refl
 
+-- answers that the test finds the same are equal
 answer_told : (a b : PlainAnswer) → same_answer a b ≡ true → a ≡ b
 answer_told answer.done answer.done e = refl
 answer_told (answer.val a) (answer.val b) e = ap answer.val (value_told a b e)
@@ -217,6 +236,7 @@ answer_told (answer.body a) (answer.body b) e = ap answer.body (content_told a b
 answer_told (answer.signal a) (answer.signal b) e = ap answer.signal (signal_told a b e)
 answer_told _ _ e = absurd (false≢true e)
 
+-- the test finds each answer the same as itself
 answer_itself : (a : PlainAnswer) → same_answer a a ≡ true
 answer_itself answer.done = refl
 answer_itself (answer.val a) = value_itself a

@@ -36,6 +36,7 @@ bytes_back [] = refl
 bytes_back (b ∷ bs) = ap (λ rest. b ∷ rest) (bytes_back bs)
 
 abbrev mutual
+  -- a type as it is stored: its kind, and its part
   pub ty_code : PlainTy → Gv
   ty_code ty.null = gcons (gnum 0) gnil
   ty_code ty.bool = gcons (gnum 1) gnil

@@ -17,6 +17,7 @@ use Rattle.argus_entries.specs.Same.{same_call, same_entry, same_query, same_ref
 use Rattle.argus_entries.specs.declared.refusal.Refusal.{Refusal}
 use Rattle.argus_entries.specs.declared.refusal.Refusal.TheVariants as refusal
 
+-- queries that the test finds the same are equal
 query_told : (a b : Query) → same_query a b ≡ true → a ≡ b
 query_told query.Whole query.Whole e = refl
 query_told (query.Field i) (query.Field j) e = ap query.Field (eqb-true i j e)
@@ -30,6 +31,7 @@ query_told (query.IsTag t) (query.IsTag u) e = ap query.IsTag (eqb-true t u e)
 query_told (query.TagValue t) (query.TagValue u) e = ap query.TagValue (eqb-true t u e)
 query_told _ _ e = absurd (false≢true e)
 
+-- the test finds each query the same as itself
 query_itself : (a : Query) → same_query a a ≡ true
 query_itself query.Whole = refl
 query_itself (query.Field i) = eq-eqb i i refl
@@ -42,6 +44,7 @@ query_itself query.Top = refl
 query_itself (query.IsTag t) = eq-eqb t t refl
 query_itself (query.TagValue t) = eq-eqb t t refl
 
+-- calls that the test finds the same are equal
 call_told : (a b : PlainCall) → same_call a b ≡ true → a ≡ b
 call_told (call.declare s) (call.declare t) e = ap call.declare ((shape_decided s t).0 e)
 call_told call.begin_top call.begin_top e = refl
@@ -68,6 +71,7 @@ call_told (call.test_write x o) (call.test_write y p) e =
     ap (λ z. call.test_write z o) (eqb-true x y s.0) ∙ ap (call.test_write y) (eqb-true o p s.1)
 call_told _ _ e = absurd (false≢true e)
 
+-- the test finds each call the same as itself
 call_itself : (a : PlainCall) → same_call a a ≡ true
 call_itself (call.declare s) = (shape_decided s s).1 refl
 call_itself call.begin_top = refl
@@ -84,6 +88,7 @@ call_itself (call.alter x o c) =
 call_itself (call.test_read x o) = and_from (x == x) (o == o) (eq-eqb x x refl) (eq-eqb o o refl)
 call_itself (call.test_write x o) = and_from (x == x) (o == o) (eq-eqb x x refl) (eq-eqb o o refl)
 
+-- refusals that the test finds the same are equal
 refusal_told : (a b : Refusal) → same_refusal a b ≡ true → a ≡ b
 refusal_told refusal.NoAction refusal.NoAction e = refl
 refusal_told refusal.Over refusal.Over e = refl
@@ -96,6 +101,7 @@ refusal_told refusal.TooMany refusal.TooMany e = refl
 refusal_told refusal.NoSiblings refusal.NoSiblings e = refl
 refusal_told _ _ e = absurd (false≢true e)
 
+-- the test finds each refusal the same as itself
 refusal_itself : (a : Refusal) → same_refusal a a ≡ true
 refusal_itself refusal.NoAction = refl
 refusal_itself refusal.Over = refl
@@ -107,6 +113,7 @@ refusal_itself refusal.TooDeep = refl
 refusal_itself refusal.TooMany = refl
 refusal_itself refusal.NoSiblings = refl
 
+-- replies that the test finds the same are equal
 reply_told : (a b : PlainReply) → same_reply a b ≡ true → a ≡ b
 reply_told (reply.object o) (reply.object p) e = ap reply.object (eqb-true o p e)
 reply_told (reply.begun a) (reply.begun b) e = ap reply.begun (eqb-true a b e)
@@ -114,12 +121,14 @@ reply_told (reply.answered a) (reply.answered b) e = ap reply.answered ((answer_
 reply_told (reply.refused r) (reply.refused q) e = ap reply.refused (refusal_told r q e)
 reply_told _ _ e = absurd (false≢true e)
 
+-- the test finds each reply the same as itself
 reply_itself : (a : PlainReply) → same_reply a a ≡ true
 reply_itself (reply.object o) = eq-eqb o o refl
 reply_itself (reply.begun a) = eq-eqb a a refl
 reply_itself (reply.answered a) = (answer_decided a a).1 refl
 reply_itself (reply.refused r) = refusal_itself r
 
+-- entries that the test finds the same are equal
 entry_told : (a b : PlainEntry) → same_entry a b ≡ true → a ≡ b
 entry_told a b e =
     let s = and_parts (same_call a.call b.call) (same_reply a.reply b.reply) e in
@@ -127,6 +136,7 @@ entry_told a b e =
     let by_reply : PlainReply → PlainEntry = λ r. record { call = b.call; reply = r } in
     ap by_call (call_told a.call b.call s.0) ∙ ap by_reply (reply_told a.reply b.reply s.1)
 
+-- the test finds each entry the same as itself
 entry_itself : (a : PlainEntry) → same_entry a a ≡ true
 entry_itself a = and_from (same_call a.call a.call) (same_reply a.reply a.reply)
     (call_itself a.call) (reply_itself a.reply)

@@ -10,10 +10,12 @@ use Rattle.argus_runs.specs.Adding.{extended_more}
 use Rattle.argus_runs.specs.Lines.{KeepsText, Lacking, Written, line_of, lines, next_number}
 use Rattle.argus_runs.specs.Within.{extended, with_entry}
 
+-- a text that stays has nothing appended
 appends_nothing : (a : Option (List ℕ)) → Appends a a []
 appends_nothing None = tt
 appends_nothing (Some x) = sym (append-nil x)
 
+-- what is appended in two parts is appended as one
 appends_on : (a b c : Option (List ℕ)) (xs ys zs : List ℕ) → zs ≡ xs ++ ys → Appends a b xs
     → Appends b c ys → Appends a c zs
 appends_on None b c xs ys zs e p q = tt
@@ -22,6 +24,7 @@ appends_on (Some x) (Some y) None xs ys zs e p q = absurd q
 appends_on (Some x) (Some y) (Some z) xs ys zs e p q =
     q ∙ ap (λ t. t ++ ys) p ∙ append_assoc x xs ys ∙ ap (λ t. x ++ t) (sym e)
 
+-- the lines of two lists of entries are those of the first and, numbered on, those of the second
 lines-append : (k : ℕ) (xs ys : List PlainEntry)
     → lines k (xs ++ ys) ≡ lines k xs ++ lines (k + length xs) ys
 lines-append k [] ys = ap (λ n. lines n ys) (let h : k ≡ k + 0 = omega arith in h)
@@ -30,14 +33,17 @@ lines-append k (x ∷ xs) ys = ap (λ t. line_of k x ++ t) (lines-append (k + 1)
     (let h : (k + 1) + length xs ≡ k + length (x ∷ xs) = omega arith in h)
     ∙ sym (append_assoc (line_of k x) (lines (k + 1) xs) (lines (k + length (x ∷ xs)) ys))
 
+-- the next number grows by as many entries as are added
 next-extended : (j : Said) (made : List PlainEntry)
     → next_number (extended j made) ≡ next_number j + length made
 next-extended j [] = omega arith
 next-extended j (e ∷ es) = omega (arith, next-extended (with_entry j e) es)
 
+-- where no entry is added, and nothing written, all lines are written
 written_same : (j : Said) (t : Option (List ℕ)) → Written j t j t
 written_same j t = ([], refl, appends_nothing t)
 
+-- what was written whole, and then what was written whole behind it
 written_on : (j k l : Said) (t u v : Option (List ℕ)) → Written j t k u → Written k u l v
     → Written j t l v
 written_on j k l t u v (m, e, p) (n, f, q) = (
@@ -50,6 +56,7 @@ written_on j k l t u v (m, e, p) (n, f, q) = (
       m))) p q,
 )
 
+-- what was written whole, and then what lacks the end of its last line
 lacking_on : (j k l : Said) (t u v : Option (List ℕ)) → Written j t k u → Lacking k u l v
     → Lacking j t l v
 lacking_on j k l t u v (m, e, p) (n, last, i, f, q) =
@@ -78,10 +85,12 @@ lacking_on j k l t u v (m, e, p) (n, last, i, f, q) =
           p q,
     )
 
+-- a run that adds and writes nothing keeps what runs keep
 pub keeps_same : (f : Bool) (j : Said) (t : Option (List ℕ)) → KeepsText f j t f j t
 keeps_same false j t = written_same j t
 keeps_same true j t = (refl, refl, refl)
 
+-- two runs, one behind the other, keep what runs keep
 pub keeps_on : (f g h : Bool) (j k l : Said) (t u v : Option (List ℕ)) → KeepsText f j t g k u
     → KeepsText g k u h l v → KeepsText f j t h l v
 keeps_on false false false j k l t u v p q = written_on j k l t u v p q
