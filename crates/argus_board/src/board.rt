@@ -4,6 +4,23 @@ use std::marker::Brand;
 
 /// One board: its history, and what stood on it at first. Who opens a board picks these in a proof;
 /// code is generic in it.
+///
+/// ```text
+/// fn publish_and_look<N: Board, R: Wait + Drop>(
+///     rt: R,
+///     heap: Heap,
+///     keeper: Keeper,
+/// ) -> Result<(), OutOfMemory>
+///     requires keeper { Opens N.history N.root keeper }
+///     requires first { N.first ≡ [] }
+///     requires leads { Leads N.opening N.before N.first }
+/// {
+///     let board = BoardWriter::<N, R>::new(rt, heap, Vec::new(heap), keeper, 1)?;
+///     ..
+/// }
+///
+/// publish_and_look::<Brand, _>(rt, heap, Keeper::new())?;
+/// ```
 pub trait Board {
     ghost use Rattle.std.specs.Prelude.{List, Option, ℕ};
     ghost use Rattle.logbook.specs.Pages.{Book};

@@ -11,6 +11,12 @@ use argus_memory::{Heap, OutOfMemory};
 ///
 /// Source: at a topaction's commit its versions become the bases (Argus Reference Manual,
 /// MIT/LCS/TR-400, 1987).
+///
+/// ```text
+/// let mut effect = Vec::new(heap);
+/// effect.push((ObjId(0), Some(content)))?;
+/// board.append(effect)?;
+/// ```
 pub type Effect = Vec<(ObjId, Option<Content>), Heap>;
 
 /// An effect equal to this one. `OutOfMemory`: nothing was copied.

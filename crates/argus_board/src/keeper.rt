@@ -17,6 +17,10 @@ use std::snapshot::Snapshot;
 /// changes: the history itself exists in contracts alone.
 ///
 /// Make one for each board, before the board: a contract names the board's history by it.
+///
+/// ```text
+/// publish_and_look::<Brand, _>(rt, heap, Keeper::new())?;     // the function of `Board`
+/// ```
 #[derive(Drop)]
 pub struct Keeper {
     head: Word<Page, u64, Law>,

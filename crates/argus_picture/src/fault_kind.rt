@@ -14,6 +14,10 @@ use thiserror::Error;
 ///
 /// No guardian answers so where the action isn't live, the object isn't declared, an action that
 /// was begun by it is live at its commit, or a change doesn't suit its object.
+///
+/// ```text
+/// fault.kind == FaultKind::BadNumber          // `0 begin_top -> a1`: the first action is a0
+/// ```
 #[derive(Clone, Copy, Debug, PartialEq, Eq, Error)]
 pub enum FaultKind {
     #[error("TooLong")]

@@ -6,6 +6,29 @@ use std::sync::ledger::Ledger;
 
 /// One sharing of a guardian: its ledger, its board, and where the journal stood at its start. Who
 /// shares a guardian picks these in a proof; code is generic in it.
+///
+/// ```text
+/// fn share<N: Sharing, R: Wait + Drop>(
+///     rt: R,
+///     heap: Heap,
+///     guardian: Guardian,
+///     blank: Blank,
+///     keeper: Keeper,
+/// ) -> Result<Guardian, NotShared>
+///     requires name { blank.name ≡ N.name }
+///     requires parts { (blank.parts ≡ N.parts) × (blank.parts ≡ 2) }
+///     requires keeper { Opens N.history N.root keeper }
+///     requires start { N.start ≡ next_number guardian }
+///     requires before { N.before ≡ effects_told guardian }
+///     requires opening { N.opening ≡ content_in guardian.opening.objects }
+///     requires first { N.first ≡ bases_told guardian }
+/// {
+///     let parts = Shared::<N, R>::new(rt, heap, guardian, 2, 0, blank, keeper)?;
+///     ..                                          // two seats call, and settle
+/// }
+///
+/// let guardian = share::<Brand, _>(rt, heap, guardian, Blank::new(2), Keeper::new())?;
+/// ```
 pub trait Sharing: Ledger + Board {
     ghost use Rattle.std.specs.Prelude.{ℕ};
 

@@ -9,6 +9,16 @@ use argus_objects::Holdings;
 /// What a guardian keeps: the actions, the objects, what each action holds, and the journal.
 ///
 /// `Keeps` says that all of it stands to the journal; a call is prepared and made where it does.
+///
+/// ```text
+/// let mut parts = Parts {
+///     heap,
+///     tree: ActionTree::new(heap),
+///     objects: Vec::new(heap),
+///     holdings: Holdings::new(heap),
+///     journal: LegalJournal::new(heap),
+/// };
+/// ```
 #[derive(Drop)]
 pub struct Parts {
     pub heap: Heap,

@@ -4,6 +4,11 @@ use argus_actions::ActionId;
 use argus_contents::{Content, ObjId, Shape};
 
 /// What a prepared call is going to change, beside the journal.
+///
+/// ```text
+/// let prepared = prepare_begin_top(&mut parts)?;
+/// assert!(rt; matches!(&prepared.step, Step::BeginTop));
+/// ```
 #[derive(Drop)]
 pub enum Step {
     /// Nothing: the call is refused, or is a test that says no.
