@@ -94,6 +94,7 @@ report() {
 mkdir -p "$top/build"
 (cd "$top/crates/argus_bench" && rt run > "$top/build/argus_bench.log")
 touch "$figures/lines"
+# W1 to W7 are the peer program's own arguments: the names that it gives its workloads.
 for _ in $(seq "$reps"); do
     beside W1 90000 flat
     beside W2 45000 nested
