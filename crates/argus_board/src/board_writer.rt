@@ -114,7 +114,8 @@ impl<N: Board, R: Wait + Drop> BoardWriter<N, R> {
         })
     }
 
-    /// A place for a looker, which has seen what stood on the board at first.
+    /// A place for a looker, which has seen what stood on the board at first. `OutOfMemory`: memory
+    /// is wanting, or no place is left.
     pub fn looker(&self) -> Result<Looker<N>, OutOfMemory>
         ensures { IfOk result (λ looker. looker ≡ N.before) }
     {

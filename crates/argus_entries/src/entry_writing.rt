@@ -23,7 +23,7 @@ use argus_contents::{Answer, ObjId, Signal};
 use argus_memory::{Heap, OutOfMemory};
 
 /// Appends the line of the entry with this number, without a line end: the number, the call, an
-/// arrow and the reply. Where memory runs out the text is cut back to what it was.
+/// arrow and the reply. At `OutOfMemory` the text is cut back to what it was.
 ///
 /// ```text
 /// write_entry(4, &entry, &mut out)?;       // 4 ask a0 o0 field 0 -> val 7

@@ -21,7 +21,8 @@ use argus_steps::{AtomicObject, Parts, is_live};
 impl Guardian {
     /// What a live action would leave for good if it committed now, as a topaction or by all its
     /// ancestors: each object that it or a committed subaction has written, in increasing number,
-    /// with what it sees there. None where the action isn't live. Nothing changes.
+    /// with what it sees there. None where the action isn't live. Nothing changes. `OutOfMemory`:
+    /// there was no memory for the list or for the copies in it.
     ///
     /// Source: at a topaction's commit its versions become the bases (Argus Reference Manual,
     /// MIT/LCS/TR-400, 1987).

@@ -73,6 +73,7 @@ impl Guardian {
 impl ReadyCommit {
     /// What the commit leaves for good: of a topaction each object that it has written, in
     /// increasing number, with its content; None of a subaction, and where the commit is refused.
+    /// `OutOfMemory`: there was no memory for the list or for the copies in it.
     pub fn effect(&self) -> Result<Option<Vec<(ObjId, Option<Content>), Heap>>, OutOfMemory>
         ensures { IfOk result (λ effect. option_to_list (option_map (λ pairs.
             effect_told pairs.items) effect)

@@ -25,7 +25,8 @@ use argus_memory::{Heap, OutOfMemory};
 /// whose owner is the action or an ancestor of it. Absent where the object isn't declared.
 ///
 /// The journal has to be legal, as a guardian's is. All entries are gone through, and for a write
-/// of the object those after it until its last owner is known; this is for audits.
+/// of the object those after it until its last owner is known; this is for audits. `OutOfMemory`:
+/// there was no memory for a copy of what the opening or a change has, or for a longer array.
 pub fn replay_for(
     heap: Heap,
     journal: &Journal,
@@ -42,7 +43,8 @@ pub fn replay_for(
 /// What is in the object for good. Absent where the object isn't declared.
 ///
 /// The journal has to be legal, as a guardian's is. All entries are gone through, and for a write
-/// of the object those after it until its last owner is known; this is for audits.
+/// of the object those after it until its last owner is known; this is for audits. `OutOfMemory`:
+/// there was no memory for a copy of what the opening or a change has, or for a longer array.
 pub fn replay_base(heap: Heap, journal: &Journal, o: ObjId) -> Result<Option<Content>, OutOfMemory>
     requires { Legal (opening_of journal.now) (entries_of journal.now) }
     ensures { IfOk result (λ content. plain_option content

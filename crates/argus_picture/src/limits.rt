@@ -15,9 +15,10 @@ pub(crate) const MAX_LANES: u32 = 64;
 /// So many locks on one object have room in its lane at a time.
 pub(crate) const MAX_STRIPS: usize = 3;
 
-/// So many letters of a content stand at a commit, and so many in its title.
+/// So many letters of a content stand at a commit.
 pub(crate) const MAX_CONTENT_LETTERS: usize = 24;
 
+/// So many letters of a content stand in the title of a commit's sign.
 pub(crate) const MAX_TITLE_LETTERS: usize = 500;
 
 /// So many letters of a shape have room in front of its lane.

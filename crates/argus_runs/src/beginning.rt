@@ -16,6 +16,8 @@ use argus_entries::{Call, Reply};
 use argus_memory::Heap;
 
 /// Begins a block or an arm: its action, if it was begun.
+///
+/// `Stopped`: the caller stopped at the begin.
 pub fn begin<C: Caller>(
     caller: &mut C,
     kind: ActionKind,
@@ -74,6 +76,9 @@ fn begin_arm<C: Caller>(
 }
 
 /// Begins all arms of a coenter, before any of them runs: the action of each that was begun.
+///
+/// `Stopped`: the caller stopped at a begin, or memory is wanting for the list. What was begun by
+/// then stays begun.
 pub fn begin_arms<C: Caller>(
     heap: Heap,
     caller: &mut C,

@@ -56,7 +56,7 @@ pub trait Caller {
     /// Whether each call adds to the state, also one that stops after its reply.
     ghost adds: { Bool };
 
-    /// Makes a call.
+    /// Makes a call. `Stopped`: the caller couldn't make it, or can't go on behind it.
     fn call(&mut self, call: Call) -> Result<Reply, Stopped>
         requires { ready self.old }
         ensures ready { ready self.new }
@@ -67,7 +67,7 @@ pub trait Caller {
             → Within begins (state self.new) (reply (plain_call call) (state self.old))) };
 
     /// Runs the arms of a coenter where it has a way of its own, or answers false. `begun` has the
-    /// action of each arm that was begun.
+    /// action of each arm that was begun. `Stopped`: the caller can't go on.
     fn arms(
         &mut self,
         heap: Heap,

@@ -14,7 +14,9 @@ use crate::stopped::Stopped;
 use argus_actions::ActionId;
 use argus_entries::{Call, Refusal, Reply};
 
-/// The end of a block or an arm that went on so.
+/// The end of a block or an arm that went on so: how the block around it goes on.
+///
+/// `Stopped`: the caller stopped at the commit or at an abort.
 pub fn finish_block<C: Caller>(
     caller: &mut C,
     action: ActionId,

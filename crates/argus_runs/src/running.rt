@@ -19,7 +19,8 @@ use argus_memory::Heap;
 /// Runs a whole script, and answers for which numbers of objects its names stand, in the order of
 /// their declarations: 65,535, which no object has, where a declaration was refused.
 ///
-/// Its clauses are those of `run_steps`.
+/// Its clauses are those of `run_steps`. `Stopped` comes as there, and where memory is wanting for
+/// a copy of a shape or for a number.
 pub fn run_script<C: Caller>(
     heap: Heap,
     caller: &mut C,
@@ -73,6 +74,9 @@ fn run_at_top<C: Caller>(
 
 /// Declares the next object of the script, of these shapes, and adds the number for which its name
 /// stands: 65,535, which no object has, where the declaration was refused.
+///
+/// `Stopped`: the caller stopped at the declaration, or memory is wanting for a copy of the shape
+/// or for the number.
 pub fn declare<C: Caller>(
     heap: Heap,
     caller: &mut C,

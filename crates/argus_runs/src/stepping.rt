@@ -25,6 +25,9 @@ use argus_memory::Heap;
 /// `told`: what the run comes to, and the state after it, are what the definition gives. `early`:
 /// where it stops before its end, the state is a beginning of what the run comes to. `kept`: what
 /// the caller's calls keep, the run keeps.
+///
+/// `Stopped`: the caller stopped, or memory is wanting, for a copy of a change or for the begun
+/// arms of a coenter. No call is made after that.
 #[cycle(run)]
 pub fn run_steps<C: Caller>(
     heap: Heap,

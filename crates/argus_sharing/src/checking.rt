@@ -14,7 +14,8 @@ use std::sync::Wait;
 impl<N: Sharing, R: Wait + Drop> Locked<N, R> {
     /// Whether receipts and seats tell the journal: each receipt's entry stands there at its
     /// number, no two receipts have one number, and the seats made as many calls as came since the
-    /// sharing began. The first fault is answered, as `argus_receipts::check` orders them.
+    /// sharing began. The first fault is answered, as `argus_receipts::check` orders them;
+    /// `OutOfMemory` may come in place of any answer.
     pub fn check(&self, seats: &[Seat<N>], receipts: &[Receipt]) -> Result<(), SettleFault>
         ensures stand { OnOk result
             (All (Stands self.now.journal.opening self.now.journal.entries)

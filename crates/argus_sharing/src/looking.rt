@@ -58,7 +58,8 @@ impl<N: Sharing, R: Wait + Drop> Locked<N, R> {
     }
 
     /// Folds the journal's past into its opening, as `Guardian::checkpoint` does: nothing is lost
-    /// from view, since the board stays as it is.
+    /// from view, since the board stays as it is. `Busy`: an action is live; `Full`: none is, but
+    /// the next entry's number is past the limit; both, and `OutOfMemory`, change nothing.
     pub fn checkpoint(&mut self) -> Result<(), CheckpointError>
         ensures ok { OnOk result (self.new.journal ≡ after_checkpoint self.old.journal) }
         ensures busy { (result_err result ≡ Some Busy) ↔ (is_quiet self.old.journal ≡ false) }

@@ -125,7 +125,7 @@ impl<N: Sharing, R: Wait + Drop> Shared<N, R> {
 
     /// Makes a call, as the seat's, once it wouldn't be refused `Conflict`, or after so many
     /// wake-ups: all that wait are woken after each end of actions that was done, and a wake-up
-    /// without cause counts too. Then it is `call`.
+    /// without cause counts too. Then it is `call`, also in what `OutOfMemory` leaves.
     pub fn call_waiting(
         &self,
         rt: &impl Wait,
@@ -197,7 +197,8 @@ impl<N: Sharing, R: Wait + Drop> Shared<N, R> {
     /// Gives the guardian back and ends the board, if these receipts and seats tell the journal:
     /// each receipt's call and reply are those of the entry at its number, no number comes twice,
     /// and the seats made as many calls as entries came since the sharing began. Any part of the
-    /// receipts may be handed in. `Unsettled` hands all back.
+    /// receipts may be handed in. `Unsettled` has the first fault, or want of memory, and hands all
+    /// back.
     ///
     /// It may wait for lookers that are inside.
     ///

@@ -20,7 +20,9 @@ use argus_contents::{Change, ObjId, Query};
 use argus_entries::{Call, Entry};
 use argus_memory::OutOfMemory;
 
-/// Prepares a query.
+/// Prepares a query, or its refusal. The journal stays, whatever is answered.
+///
+/// `OutOfMemory`: there was no memory for its entry, its lock or its answer.
 pub fn prepare_ask(
     parts: &mut Parts,
     a: ActionId,
@@ -68,7 +70,10 @@ fn answered_query(
     })
 }
 
-/// Prepares a change.
+/// Prepares a change, or its refusal. The journal stays, whatever is answered.
+///
+/// `OutOfMemory`: there was no memory for its entry, its lock, its answer or what it leaves. The
+/// change is spent.
 pub fn prepare_alter(
     parts: &mut Parts,
     a: ActionId,

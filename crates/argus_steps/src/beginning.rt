@@ -14,7 +14,9 @@ use argus_actions::ActionId;
 use argus_entries::{Call, Entry, Reply};
 use argus_memory::OutOfMemory;
 
-/// Prepares the begin of a topaction.
+/// Prepares the begin of a topaction, or its refusal. The journal stays, whatever is answered.
+///
+/// `OutOfMemory`: there was no memory for its entry or for the action.
 pub fn prepare_begin_top(parts: &mut Parts) -> Result<Prepared, OutOfMemory>
     requires { Keeps parts.old }
     ensures kept { Keeps parts.new }
@@ -39,7 +41,9 @@ pub fn prepare_begin_top(parts: &mut Parts) -> Result<Prepared, OutOfMemory>
     })
 }
 
-/// Prepares the begin of a subaction.
+/// Prepares the begin of a subaction, or its refusal. The journal stays, whatever is answered.
+///
+/// `OutOfMemory`: there was no memory for its entry or for the action.
 pub fn prepare_begin_sub(parts: &mut Parts, parent: ActionId) -> Result<Prepared, OutOfMemory>
     requires { Keeps parts.old }
     ensures kept { Keeps parts.new }
@@ -67,7 +71,10 @@ pub fn prepare_begin_sub(parts: &mut Parts, parent: ActionId) -> Result<Prepared
     })
 }
 
-/// Prepares the begin of a nested topaction.
+/// Prepares the begin of a nested topaction, or its refusal. The journal stays, whatever is
+/// answered.
+///
+/// `OutOfMemory`: there was no memory for its entry or for the action.
 pub fn prepare_begin_nested(parts: &mut Parts, creator: ActionId) -> Result<Prepared, OutOfMemory>
     requires { Keeps parts.old }
     ensures kept { Keeps parts.new }

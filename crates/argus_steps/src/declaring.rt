@@ -14,7 +14,10 @@ use argus_contents::{ObjId, Shape};
 use argus_entries::{Call, Entry, Refusal, Reply};
 use argus_memory::OutOfMemory;
 
-/// Prepares a declaration.
+/// Prepares a declaration, or its refusal. The journal stays, whatever is answered.
+///
+/// `OutOfMemory`: there was no memory for its entry, for the object or for a copy of the shape,
+/// which is spent.
 pub fn prepare_declare(parts: &mut Parts, shape: Shape) -> Result<Prepared, OutOfMemory>
     requires { Keeps parts.old }
     ensures kept { Keeps parts.new }

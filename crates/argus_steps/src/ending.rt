@@ -14,7 +14,9 @@ use argus_actions::ActionId;
 use argus_entries::Call;
 use argus_memory::OutOfMemory;
 
-/// Prepares a commit.
+/// Prepares a commit, or its refusal. The journal stays, whatever is answered.
+///
+/// `OutOfMemory`: there was no memory for its entry or, of a subaction, on its parent's list.
 pub fn prepare_commit(parts: &mut Parts, a: ActionId) -> Result<Prepared, OutOfMemory>
     requires { Keeps parts.old }
     ensures kept { Keeps parts.new }
@@ -36,7 +38,9 @@ pub fn prepare_commit(parts: &mut Parts, a: ActionId) -> Result<Prepared, OutOfM
     }
 }
 
-/// Prepares an abort.
+/// Prepares an abort, or its refusal. The journal stays, whatever is answered.
+///
+/// `OutOfMemory`: there was no memory for its entry.
 pub fn prepare_abort(parts: &mut Parts, a: ActionId) -> Result<Prepared, OutOfMemory>
     requires { Keeps parts.old }
     ensures kept { Keeps parts.new }
@@ -52,7 +56,9 @@ pub fn prepare_abort(parts: &mut Parts, a: ActionId) -> Result<Prepared, OutOfMe
     Ok(done(Step::Abort(a), Call::Abort(a)))
 }
 
-/// Prepares an abort of all live siblings.
+/// Prepares an abort of all live siblings, or its refusal. The journal stays, whatever is answered.
+///
+/// `OutOfMemory`: there was no memory for its entry.
 pub fn prepare_abort_others(parts: &mut Parts, a: ActionId) -> Result<Prepared, OutOfMemory>
     requires { Keeps parts.old }
     ensures kept { Keeps parts.new }

@@ -21,7 +21,9 @@ use argus_contents::{Change, ObjId};
 use argus_entries::Call;
 use argus_memory::OutOfMemory;
 
-/// Prepares a test of a read lock.
+/// Prepares a test of a read lock, or its refusal. The journal stays, whatever is answered.
+///
+/// `OutOfMemory`: there was no memory for its entry or for the lock.
 pub fn prepare_test_read(parts: &mut Parts, a: ActionId, o: ObjId) -> Result<Prepared, OutOfMemory>
     requires { Keeps parts.old }
     ensures kept { Keeps parts.new }
@@ -42,7 +44,9 @@ pub fn prepare_test_read(parts: &mut Parts, a: ActionId, o: ObjId) -> Result<Pre
     Ok(flagged(Step::Read(a, o), Call::TestRead(a, o), true))
 }
 
-/// Prepares a test of a write lock.
+/// Prepares a test of a write lock, or its refusal. The journal stays, whatever is answered.
+///
+/// `OutOfMemory`: there was no memory for its entry, for the lock or for what the action sees.
 pub fn prepare_test_write(parts: &mut Parts, a: ActionId, o: ObjId) -> Result<Prepared, OutOfMemory>
     requires { Keeps parts.old }
     ensures kept { Keeps parts.new }

@@ -24,7 +24,9 @@ use argus_contents::{Answer, Change, ObjId};
 use argus_entries::{Call, Entry, Reply};
 use argus_memory::OutOfMemory;
 
-/// Changes the object for the action, and makes it a writer.
+/// Changes the object for the action, and makes it a writer; or records the refusal.
+///
+/// `OutOfMemory` may come in place of any reply: the journal stays, and the change is spent.
 pub fn alter_at_once(
     parts: &mut Parts,
     a: ActionId,
@@ -55,7 +57,10 @@ pub fn alter_at_once(
     Ok(reply)
 }
 
-/// Tests whether the action may write the object, and makes it a writer if so.
+/// Tests whether the action may write the object, and makes it a writer if so; or records the
+/// refusal.
+///
+/// `OutOfMemory` may come in place of any reply: the journal stays.
 pub fn test_write_at_once(parts: &mut Parts, a: ActionId, o: ObjId) -> Result<Reply, OutOfMemory>
     requires { Keeps parts.old }
     ensures kept { Keeps parts.new }

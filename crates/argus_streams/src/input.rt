@@ -15,6 +15,9 @@ const CHUNK: usize = 16_384;
 
 /// All that the reader has, at most `limit` bytes of it. A read that fails isn't tried again.
 ///
+/// `Read`: a read failed. `OutOfMemory`: memory is wanting for the bytes. After both, what was read
+/// is lost.
+///
 /// ```text
 /// let mut reader = Watched::new(rt.stdin());
 /// let bytes = read_up_to(heap, &mut reader, 4_096)?;

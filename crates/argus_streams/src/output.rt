@@ -18,6 +18,8 @@ use std::io::Write;
 pub struct NotWritten;
 
 /// Writes all the bytes. A write that fails or takes nothing isn't tried again.
+///
+/// `NotWritten` comes where one did, and only then; what was written is a front of the bytes.
 pub fn write_whole<W: Write + Drop>(writer: &mut Watched<W>, bytes: &[u8]) -> Result<(), NotWritten>
     requires { has_failed writer.old ≡ false }
     ensures ok { OnOk result (Appends (W.contents (inner_of writer.old))

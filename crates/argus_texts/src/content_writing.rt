@@ -13,8 +13,8 @@ use argus_contents::{Content, Value};
 use argus_memory::{Heap, OutOfMemory};
 use std::collections::VecDeque;
 
-/// Appends the written form of the content, whatever its depth. Where memory runs out the text is
-/// cut back to what it was.
+/// Appends the written form of the content, whatever its depth. At `OutOfMemory` the text is cut
+/// back to what it was.
 pub fn write_content(content: &Content, out: &mut String<Heap>) -> Result<(), OutOfMemory>
     ensures written { OnOk result
         (string_bytes out.new

@@ -10,8 +10,7 @@ use crate::writing::append;
 use argus_contents::{Name, Shape, ShapeView, Ty};
 use argus_memory::{Heap, OutOfMemory};
 
-/// Appends the written form of the shape. Where memory runs out the text is cut back to what it
-/// was.
+/// Appends the written form of the shape. At `OutOfMemory` the text is cut back to what it was.
 ///
 /// ```text
 /// write_shape(&shape, &mut out)?;          // atomic_record[balance:int]

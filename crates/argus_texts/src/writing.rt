@@ -13,8 +13,8 @@ use crate::scan::split_ascii;
 use argus_contents::Value;
 use argus_memory::{Heap, OutOfMemory};
 
-/// Appends the written form of the value, whatever its depth. Where memory runs out the text is cut
-/// back to what it was.
+/// Appends the written form of the value, whatever its depth. At `OutOfMemory` the text is cut back
+/// to what it was.
 pub fn write_value(value: &Value, out: &mut String<Heap>) -> Result<(), OutOfMemory>
     ensures written { OnOk result
         (string_bytes out.new ≡ string_bytes out.old ++ spelling (plain_value value.now)) }
