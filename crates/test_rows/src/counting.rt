@@ -42,7 +42,7 @@ impl Counted<'_> {
     }
 
     /// The row so many steps after the first one: `%` stands for the number that is counted, up or
-    /// down, and `^` for the number below it.
+    /// down, and `^` for the number below it. `OutOfMemory`: there was no memory for its text.
     pub fn row_at(&self, texts: Heap, step: u32) -> Result<String<Heap>, OutOfMemory> {
         let number = if self.first <= self.last {
             self.first.saturating_add(step)

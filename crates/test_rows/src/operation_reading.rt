@@ -1,4 +1,5 @@
-//! Operations, as a journal's lines spell them.
+//! Operations, as a journal's lines spell them. A text that spells none is `NotSpelled`;
+//! `OutOfMemory` comes where there is no memory for a value of it.
 
 use crate::reading::{first_word, part, place};
 use crate::row_fault::RowFault;

@@ -1,4 +1,4 @@
-//! The words of rows.
+//! The words of rows. A text that is no such word is `NotSpelled`.
 
 ghost use Rattle.std.specs.Prelude.{◌≡◌, ◌==◌};
 ghost use Rattle.std.specs.Int.{w64};

@@ -1,4 +1,5 @@
-//! Replies, as a journal's lines spell them.
+//! Replies, as a journal's lines spell them. A text that spells none is `NotSpelled`; `OutOfMemory`
+//! comes where there is no memory for a value of it.
 
 use crate::reading::{action, first_word, object, place};
 use crate::row_fault::RowFault;

@@ -15,6 +15,7 @@ use std::num::ParseIntError;
 pub enum RowFault {
     /// What stands before the arrow asks for nothing.
     NotSpelled,
+    /// Memory is wanting.
     OutOfMemory,
     /// After a refused allocation something wasn't as before.
     Changed,

@@ -22,7 +22,7 @@ pub struct Setting {
 }
 
 impl Setting {
-    /// Any number of allocations is allowed.
+    /// Any number of allocations is allowed. `AllocError`: there was no memory for the budgets.
     pub fn new(alloc: Global) -> Result<Setting, AllocError> {
         let budget = Budget::new(alloc)?;
         Ok(Setting {

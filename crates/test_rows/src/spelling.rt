@@ -1,4 +1,5 @@
-//! The bytes that lines of rows stand for.
+//! The bytes that lines of rows stand for. A mark that is none, and a row that isn't UTF-8, is
+//! `NotSpelled`; after that and after `OutOfMemory` some of the bytes may have been added.
 
 use crate::counting::{Counted, counted_of};
 use crate::row_fault::RowFault;

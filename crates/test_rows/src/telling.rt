@@ -1,4 +1,5 @@
-//! What is answered, as text: each item with a space before it.
+//! What is answered, as text: each item with a space before it. After `OutOfMemory` a front of the
+//! item may have been added.
 
 use argus_actions::ActionId;
 use argus_contents::{Answer, Content, ObjId, Signal};

@@ -41,7 +41,7 @@ pub struct Tester<S: Subject> {
 }
 
 impl<S: Subject> Tester<S> {
-    /// No test was run.
+    /// No test was run. `AllocError`: there was no memory for the setting.
     pub fn new(alloc: Global) -> Result<Tester<S>, AllocError> {
         let setting = Setting::new(alloc)?;
         Ok(Tester {
@@ -57,7 +57,8 @@ impl<S: Subject> Tester<S> {
     }
 
     /// Runs each test of the text, and tells how many rows it has. The text may have one heading of
-    /// rows that come before those of each test below it.
+    /// rows that come before those of each test below it. An error comes where it can't be told, or
+    /// memory is wanting; a wrong answer is told and counted, and is none.
     pub fn run_text(&mut self, rt: &impl Print, text: &str) -> Result<()> {
         match text.split_once("before each test\n") {
             None => self.run_blocks(rt, "", text),
@@ -245,7 +246,7 @@ impl<S: Subject> Tester<S> {
     }
 
     /// Tells which kinds of rows were refused memory, how many tests there are, and how many wrong
-    /// answers.
+    /// answers. An error comes where it can't be told.
     pub fn tell_counts(&self, rt: &impl Print) -> Result<()> {
         rt.println("refused memory, and then answered as with it:")?;
         for word in self.refused.iter() {
