@@ -1,4 +1,4 @@
--- The calls so far are in order, and the next is held against them.
+-- The calls so far are in order, and bound the number that the next may have.
 use Rattle.argus_shown.proofs.Ordered.{UpTo}
 use Rattle.argus_shown.proofs.ordering.in_order.Given as goal
 

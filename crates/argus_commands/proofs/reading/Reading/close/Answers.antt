@@ -1,4 +1,4 @@
--- A block that ended is one step more of the block around it, with its lines, which are those so far.
+-- A block that ended is one step more of the block around it; to the lines so far comes its end.
 use Rattle.argus_commands.proofs.Growing.{close-lines, close-sound}
 use Rattle.argus_commands.proofs.reading.Reading.close.Goals as goal
 
