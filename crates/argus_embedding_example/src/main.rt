@@ -86,12 +86,26 @@ fn pay<N: Sharing, R: Wait + Drop>(
     amount: i64,
 ) -> Result<(Seat<N>, Vec<Receipt, Heap>), OutOfMemory> {
     let mut receipts = Vec::new(heap);
-    let begun = shared.call(&rt, &mut seat, Call::BeginTop)?;
-    if let Reply::Begun(a) = begun.reply {
+    if let Some(a) = begin(&rt, shared, &mut seat, &mut receipts)? {
         let payment = Call::Alter(a, ACCOUNT, Change::Addh(Value::Int(amount)));
         receipts.push(shared.call_waiting(&rt, &mut seat, payment, 1000)?)?;
         receipts.push(shared.call(&rt, &mut seat, Call::Commit(a))?)?;
     }
-    receipts.push(begun)?;
     Ok((seat, receipts))
+}
+
+// Begins a topaction. None where that is refused.
+fn begin<N: Sharing, R: Wait + Drop>(
+    rt: &R,
+    shared: &Shared<N, R>,
+    seat: &mut Seat<N>,
+    receipts: &mut Vec<Receipt, Heap>,
+) -> Result<Option<ActionId>, OutOfMemory> {
+    let begun = shared.call(rt, seat, Call::BeginTop)?;
+    let action = match begun.reply {
+        Reply::Begun(a) => Some(a),
+        _ => None,
+    };
+    receipts.push(begun)?;
+    Ok(action)
 }
