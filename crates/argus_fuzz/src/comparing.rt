@@ -1,0 +1,136 @@
+//! What a guardian tells of its objects, held against its journal.
+
+use crate::difference::{Difference, must};
+use crate::family::Family;
+use crate::story::{declared, holders, may_have, seen, shape_of};
+use argus_actions::ActionId;
+use argus_contents::{Content, ObjId, Shape, fits};
+use argus_guardian::Guardian;
+use argus_journal::{owner_of, replay_base, replay_for};
+use argus_memory::Heap;
+use argus_objects::Version;
+
+/// Each object has the shape, the holders, the versions and the base that the entries tell.
+pub(crate) fn compare_objects(
+    heap: Heap,
+    guardian: &Guardian,
+    family: &Family,
+) -> Result<(), Difference> {
+    let objects = guardian.objects();
+    must(objects == declared(guardian.journal().journal()), Difference::Shape)?;
+    for o in 0..objects {
+        compare_object(heap, guardian, family, objects, ObjId(o))?;
+    }
+    Ok(())
+}
+
+fn compare_object(
+    heap: Heap,
+    guardian: &Guardian,
+    family: &Family,
+    objects: u32,
+    o: ObjId,
+) -> Result<(), Difference> {
+    let journal = guardian.journal().journal();
+    let (Some(told), Some(shape)) = (guardian.shape(o), shape_of(journal, o)) else {
+        return Err(Difference::Shape);
+    };
+    must(told == shape, Difference::Shape)?;
+    let base = seen(heap, journal, family, None, o)?;
+    must(guardian.base(o) == Some(&base), Difference::Base)?;
+    must(is_of_shape(shape, objects, &base), Difference::Unfit)?;
+    let readers = holders(heap, journal, family, o, false)?;
+    must(guardian.holders(o) == Some(readers.as_slice()), Difference::Readers)?;
+    let writers = holders(heap, journal, family, o, true)?;
+    match guardian.versions(o) {
+        Some(versions) => {
+            compare_versions(heap, guardian, family, o, versions, writers.as_slice())
+        }
+        None => Err(Difference::Writers),
+    }
+}
+
+// It is absent, or fits where so many objects are declared.
+fn is_of_shape(shape: &Shape, objects: u32, content: &Option<Content>) -> bool {
+    match content {
+        Some(content) => fits(shape, objects, content),
+        None => true,
+    }
+}
+
+// Each writer has one version, which is what it sees.
+fn compare_versions(
+    heap: Heap,
+    guardian: &Guardian,
+    family: &Family,
+    o: ObjId,
+    versions: &[Version],
+    writers: &[ActionId],
+) -> Result<(), Difference> {
+    let journal = guardian.journal().journal();
+    must(versions.len() == writers.len(), Difference::Writers)?;
+    for (version, writer) in versions.iter().zip(writers) {
+        must(version.holder == *writer, Difference::Writers)?;
+        let content = seen(heap, journal, family, Some(writer.0), o)?;
+        must(version.content == content, Difference::Version)?;
+    }
+    Ok(())
+}
+
+/// Whether a lock could be had is told without an entry.
+pub(crate) fn compare_tests(
+    guardian: &Guardian,
+    family: &Family,
+    a: ActionId,
+    o: ObjId,
+) -> Result<(), Difference> {
+    let journal = guardian.journal().journal();
+    let is_declared = shape_of(journal, o).is_some();
+    let is_free = is_declared && family.is_live(a.0) && !family.has_live_child(a.0);
+    let may_read = is_free && may_have(journal, family, a.0, o, false);
+    let may_write = is_free && may_have(journal, family, a.0, o, true);
+    must(guardian.can_read(a, o) == may_read, Difference::Free)?;
+    must(guardian.can_write(a, o) == may_write, Difference::Free)
+}
+
+/// What the journal's own audits tell: who answers for each action, and what is in each object, for
+/// good and for each action.
+pub(crate) fn compare_audits(
+    heap: Heap,
+    guardian: &Guardian,
+    family: &Family,
+) -> Result<(), Difference> {
+    let journal = guardian.journal().journal();
+    for a in 0..=family.next() {
+        must(owner_of(journal, ActionId(a)) == family.owner(a), Difference::Owner)?;
+    }
+    for o in 0..guardian.objects() {
+        compare_replays(heap, guardian, family, ObjId(o))?;
+    }
+    Ok(())
+}
+
+fn compare_replays(
+    heap: Heap,
+    guardian: &Guardian,
+    family: &Family,
+    o: ObjId,
+) -> Result<(), Difference> {
+    let journal = guardian.journal().journal();
+    let base = seen(heap, journal, family, None, o)?;
+    must(replay_base(heap, journal, o)? == base, Difference::Replay)?;
+    for a in journal.first_action()..family.next() {
+        let content = seen(heap, journal, family, Some(a), o)?;
+        must(replay_for(heap, journal, ActionId(a), o)? == content, Difference::Replay)?;
+    }
+    Ok(())
+}
+
+/// Both guardians have the same in their objects for good.
+pub(crate) fn compare_bases(one: &Guardian, other: &Guardian) -> Result<(), Difference> {
+    must(one.objects() == other.objects(), Difference::Checkpoint)?;
+    for o in 0..one.objects() {
+        must(one.base(ObjId(o)) == other.base(ObjId(o)), Difference::Checkpoint)?;
+    }
+    Ok(())
+}

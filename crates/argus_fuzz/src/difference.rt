@@ -1,0 +1,72 @@
+//! `Difference`: what is another than the definitions say.
+
+use argus_commands::ParseError;
+use argus_memory::OutOfMemory;
+use argus_runs::RunFault;
+use std::alloc::{AllocError, AllocFailed};
+
+/// What is another than the definitions say.
+#[derive(Clone, Copy, Debug, PartialEq, Eq)]
+pub(crate) enum Difference {
+    /// Of a call: its reply, or the entries that it adds.
+    Reply,
+    Entries,
+    /// Of an object: what it was declared as, what is there for good, its holders, their versions.
+    Shape,
+    Base,
+    Readers,
+    Writers,
+    Version,
+    /// A content doesn't fit its shape.
+    Unfit,
+    /// Whether a lock could be had.
+    Free,
+    /// What the journal's audits tell.
+    Owner,
+    Replay,
+    /// What committed work, run one after another, leaves or answers.
+    Serial,
+    /// Whether a checkpoint is made, and what it leaves.
+    Checkpoint,
+    /// A call without memory has changed something, or one with memory hasn't got it.
+    Memory,
+    /// A right script is refused, or its run makes other calls.
+    Script,
+    /// The lines of a run.
+    Lines,
+}
+
+/// Nothing, where it holds.
+pub(crate) fn must(holds: bool, difference: Difference) -> Result<(), Difference> {
+    if holds { Ok(()) } else { Err(difference) }
+}
+
+impl From<OutOfMemory> for Difference {
+    fn from(_refused: OutOfMemory) -> Difference {
+        Difference::Memory
+    }
+}
+
+impl From<AllocError> for Difference {
+    fn from(_refused: AllocError) -> Difference {
+        Difference::Memory
+    }
+}
+
+impl<T: Drop> From<AllocFailed<T>> for Difference {
+    fn from(_refused: AllocFailed<T>) -> Difference {
+        Difference::Memory
+    }
+}
+
+impl From<ParseError> for Difference {
+    fn from(_refused: ParseError) -> Difference {
+        Difference::Script
+    }
+}
+
+impl From<RunFault> for Difference {
+    fn from(_refused: RunFault) -> Difference {
+        Difference::Lines
+    }
+}

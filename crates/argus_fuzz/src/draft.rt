@@ -1,0 +1,137 @@
+//! `Draft`: a script as if by chance, line by line.
+
+use crate::chance::Chance;
+use crate::line::{Deed, Kind, Line};
+use argus_memory::{Heap, OutOfMemory};
+
+// Where the next line of a draft stands.
+#[derive(Clone, Copy, Debug, PartialEq, Eq)]
+enum Place {
+    Enter,
+    If,
+    // Directly in a coenter and before its first arm, and in an arm; whether the coenter stands in
+    // an action.
+    Coenter(bool),
+    Arm(bool),
+}
+
+/// A script as if by chance, line by line; each line may stand where it does.
+#[derive(Drop)]
+pub(crate) struct Draft {
+    objects: u32,
+    places: Vec<Place, Heap>,
+    lines: Vec<Line, Heap>,
+}
+
+impl Draft {
+    /// The lines of a script that declares some objects and has some ten lines more.
+    pub(crate) fn any(heap: Heap, chance: &mut Chance) -> Result<Vec<Line, Heap>, OutOfMemory> {
+        let mut draft = Draft {
+            objects: 1 + chance.below(3),
+            places: Vec::new(heap),
+            lines: Vec::new(heap),
+        };
+        for _ in 0..draft.objects {
+            draft.put(Line::Declare)?;
+        }
+        for _ in 0..10 + chance.below(40) {
+            draft.add(chance)?;
+        }
+        draft.close()
+    }
+
+    // Ends all blocks that are open.
+    fn close(mut self) -> Result<Vec<Line, Heap>, OutOfMemory> {
+        for place in self.places.as_slice() {
+            match place {
+                Place::Enter | Place::If | Place::Coenter(_) => self.lines.push(Line::End)?,
+                Place::Arm(_) => {}
+            }
+        }
+        Ok(self.lines)
+    }
+
+    fn add(&mut self, chance: &mut Chance) -> Result<(), OutOfMemory> {
+        match self.places.last().copied() {
+            None if chance.once_in(3) => self.open(Line::Coenter, Place::Coenter(false)),
+            None => self.open(Line::Enter(Kind::Top), Place::Enter),
+            Some(Place::Coenter(inside)) => self.add_arm(chance, inside),
+            Some(place) => self.add_step(chance, place),
+        }
+    }
+
+    fn open(&mut self, line: Line, place: Place) -> Result<(), OutOfMemory> {
+        self.places.push(place)?;
+        self.put(line)
+    }
+
+    // An arm, seldom of the other kind; outside actions all are topactions.
+    fn add_arm(&mut self, chance: &mut Chance, inside: bool) -> Result<(), OutOfMemory> {
+        let kind = if inside && !chance.once_in(4) { Kind::Sub } else { Kind::Top };
+        self.open(Line::Arm(kind), Place::Arm(inside))
+    }
+
+    fn add_step(&mut self, chance: &mut Chance, place: Place) -> Result<(), OutOfMemory> {
+        match chance.below(24) {
+            0 | 1 => self.open(Line::Enter(Kind::Sub), Place::Enter),
+            2 => self.open(Line::Enter(Kind::Top), Place::Enter),
+            3 => self.open(Line::Coenter, Place::Coenter(true)),
+            4 | 5 => {
+                let object = chance.below(self.objects);
+                self.open(Line::If(chance.once_in(2), object), Place::If)
+            }
+            6 => self.put(Line::Leave),
+            7 => self.put(Line::AbortLeave),
+            8 if self.may_leave_all() => self.put(Line::LeaveAll),
+            9 | 10 | 11 | 12 => self.end(chance, place),
+            _ => self.add_access(chance),
+        }
+    }
+
+    fn put(&mut self, line: Line) -> Result<(), OutOfMemory> {
+        self.lines.push(line)?;
+        Ok(())
+    }
+
+    // Ends a block. Behind an arm comes another, or its coenter ends.
+    fn end(&mut self, chance: &mut Chance, place: Place) -> Result<(), OutOfMemory> {
+        let _ended = self.places.pop();
+        match place {
+            Place::Enter | Place::If | Place::Coenter(_) => self.put(Line::End),
+            Place::Arm(inside) if chance.once_in(2) => self.add_arm(chance, inside),
+            Place::Arm(_) => {
+                let _coenter = self.places.pop();
+                self.put(Line::End)
+            }
+        }
+    }
+
+    // Only `if` blocks stand between here and an arm of a coenter that stands in an action.
+    fn may_leave_all(&self) -> bool {
+        for place in self.places.iter().rev() {
+            match place {
+                Place::If => {}
+                Place::Arm(inside) => return *inside,
+                Place::Enter | Place::Coenter(_) => return false,
+            }
+        }
+        false
+    }
+
+    fn add_access(&mut self, chance: &mut Chance) -> Result<(), OutOfMemory> {
+        let number = i64::from(chance.below(10));
+        let deeds = [
+            Deed::Create(number),
+            Deed::Create(number),
+            Deed::Set(number),
+            Deed::Set(number),
+            Deed::Get,
+            Deed::Get,
+            Deed::Read,
+            Deed::Touch,
+        ];
+        let deed = chance.one_of(&deeds, Deed::Get);
+        let deed = if chance.once_in(20) { Deed::Spoil } else { deed };
+        self.put(Line::Access(chance.below(self.objects), deed))
+    }
+}
