@@ -35,18 +35,24 @@ fn compare_object(
     let (Some(told), Some(shape)) = (guardian.shape(o), shape_of(journal, o)) else {
         return Err(Difference::Shape);
     };
-    must(told == shape, Difference::Shape)?;
+    must(*told == *shape, Difference::Shape)?;
     let base = seen(heap, journal, family, None, o)?;
-    must(guardian.base(o) == Some(&base), Difference::Base)?;
+    must(is_told(guardian.base(o), &base), Difference::Base)?;
     must(is_of_shape(shape, objects, &base), Difference::Unfit)?;
-    let readers = holders(heap, journal, family, o, false)?;
-    must(guardian.holders(o) == Some(readers.as_slice()), Difference::Readers)?;
+    let (Some(readers), Some(versions)) = (guardian.holders(o), guardian.versions(o)) else {
+        return Err(Difference::Readers);
+    };
+    let wanted = holders(heap, journal, family, o, false)?;
+    must(readers == wanted.as_slice(), Difference::Readers)?;
     let writers = holders(heap, journal, family, o, true)?;
-    match guardian.versions(o) {
-        Some(versions) => {
-            compare_versions(heap, guardian, family, o, versions, writers.as_slice())
-        }
-        None => Err(Difference::Writers),
+    compare_versions(heap, guardian, family, o, versions, writers.as_slice())
+}
+
+/// Whether this content is told.
+pub(crate) fn is_told(told: Option<&Option<Content>>, content: &Option<Content>) -> bool {
+    match told {
+        Some(told) => *told == *content,
+        None => false,
     }
 }
 
@@ -130,7 +136,10 @@ fn compare_replays(
 pub(crate) fn compare_bases(one: &Guardian, other: &Guardian) -> Result<(), Difference> {
     must(one.objects() == other.objects(), Difference::Checkpoint)?;
     for o in 0..one.objects() {
-        must(one.base(ObjId(o)) == other.base(ObjId(o)), Difference::Checkpoint)?;
+        let Some(base) = one.base(ObjId(o)) else {
+            return Err(Difference::Checkpoint);
+        };
+        must(is_told(other.base(ObjId(o)), base), Difference::Checkpoint)?;
     }
     Ok(())
 }

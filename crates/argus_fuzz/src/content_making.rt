@@ -15,7 +15,7 @@ const SHAPES: [&str; 5] = [
     "atomic_variant[ok:int,bad:text]",
 ];
 
-const INTS: [i64; 6] = [0, 1, 2, -1, 9223372036854775807, -9223372036854775808];
+const INTS: [i64; 6] = [0, 1, 2, -1, i64::MAX, i64::MIN];
 
 // Around the first items of arrays, which begin at 0, 1 or 2 most of the time.
 const INDICES: [i64; 6] = [0, 1, 2, 3, -1, 4];

@@ -34,7 +34,8 @@ impl Draft {
         for _ in 0..draft.objects {
             draft.put(Line::Declare)?;
         }
-        for _ in 0..10 + chance.below(40) {
+        let length = 10 + chance.below(40);
+        for _ in 0..length {
             draft.add(chance)?;
         }
         draft.close()
@@ -132,6 +133,7 @@ impl Draft {
         ];
         let deed = chance.one_of(&deeds, Deed::Get);
         let deed = if chance.once_in(20) { Deed::Spoil } else { deed };
-        self.put(Line::Access(chance.below(self.objects), deed))
+        let object = chance.below(self.objects);
+        self.put(Line::Access(object, deed))
     }
 }

@@ -71,7 +71,10 @@ impl Follower {
                 Ok(())
             }
             Line::Enter(kind) => self.enter(kind),
-            Line::Coenter => self.push(Block::Coenter, self.action(), self.runs()),
+            Line::Coenter => {
+                let (action, runs) = (self.action(), self.runs());
+                self.push(Block::Coenter, action, runs)
+            }
             Line::Arm(_) => self.next_arm(),
             Line::If(writes, object) => self.test(writes, ObjId(object)),
             Line::End => self.end(),
@@ -186,8 +189,9 @@ impl Follower {
     }
 
     fn test(&mut self, writes: bool, o: ObjId) -> Result<(), Difference> {
-        let (Some(a), true) = (self.action(), self.runs()) else {
-            return self.push(Block::If, self.action(), false);
+        let action = self.action();
+        let (Some(a), true) = (action, self.runs()) else {
+            return self.push(Block::If, action, false);
         };
         let call = if writes { Call::TestWrite(a, o) } else { Call::TestRead(a, o) };
         let reply = self.checked.call(call)?;

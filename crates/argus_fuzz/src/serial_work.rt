@@ -2,6 +2,7 @@
 
 use crate::access::Access;
 use crate::answering::asked;
+use crate::comparing::is_told;
 use crate::difference::{Difference, must};
 use crate::family::Family;
 use crate::story::{altered, opening_content};
@@ -86,7 +87,7 @@ fn compare_object(
     let journal = guardian.journal().journal();
     let start = opening_content(heap, journal, o)?;
     let base = run_part(heap, journal, work, None, o, start)?;
-    must(guardian.base(o) == Some(&base), Difference::Serial)?;
+    must(is_told(guardian.base(o), &base), Difference::Serial)?;
     for a in live {
         run_line(heap, journal, family, work, *a, o)?;
     }

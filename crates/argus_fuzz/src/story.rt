@@ -67,13 +67,13 @@ pub(crate) fn holders(
     o: ObjId,
     writes: bool,
 ) -> Result<Vec<ActionId, Heap>, OutOfMemory> {
-    let mut holders = BTreeSet::new(heap);
+    let mut found = BTreeSet::new(heap);
     for at in journal.first_entry()..journal.len() {
         if let Some(holder) = holder_by(journal, family, at, o, writes) {
-            holders.insert(holder)?;
+            found.insert(holder)?;
         }
     }
-    in_order(heap, &holders)
+    in_order(heap, &found)
 }
 
 fn in_order(
@@ -121,7 +121,8 @@ pub(crate) fn seen(
         if let Some(change) = change_by(journal, at, o)
             && is_kept(journal, family, at, reader)
         {
-            content = altered(heap, journal, o, &content, change)?.0;
+            let (left, _answer) = altered(heap, journal, o, &content, change)?;
+            content = left;
         }
     }
     Ok(content)
@@ -158,10 +159,12 @@ pub(crate) fn altered(
 pub(crate) fn is_fit(journal: &Journal, o: ObjId, content: &Option<Content>) -> bool
     ensures { result ≡ true → KeepsLimits (plain_option content.now) }
 {
-    match (content, shape_of(journal, o)) {
-        (None, _) => true,
-        (Some(content), Some(shape)) => fits(shape, MAX_OBJECTS, content),
-        (Some(_), None) => false,
+    match content {
+        None => true,
+        Some(held) => match shape_of(journal, o) {
+            Some(shape) => fits(shape, MAX_OBJECTS, held),
+            None => false,
+        },
     }
 }
 
