@@ -18,7 +18,7 @@ wrong=0
 run() {
     local crate=$top/crates/$1 words=() input=/dev/null wanted=0 status
     [ -f "$crate/args" ] && mapfile -t words < "$crate/args"
-    [ "$1" = argus_fuzz ] && words=(--sequences 20 --scripts 20)
+    [ "$1" = argus_fuzz ] && words=(20 20)
     [ -f "$crate/stdin" ] && input=$crate/stdin
     [ -f "$crate/status" ] && wanted=$(cat "$crate/status")
     cd "$crate/data" 2> /dev/null || cd "$work"

@@ -4,7 +4,6 @@ use crate::answering::answer_to;
 use crate::comparing::{compare_audits, compare_objects};
 use crate::difference::{Difference, must};
 use crate::family::Family;
-use crate::serial_work::compare_serial;
 use argus_entries::{Call, Reply};
 use argus_guardian::{CheckpointError, Guardian};
 use argus_memory::{Budget, Heap, OutOfMemory};
@@ -48,7 +47,11 @@ impl Checked {
     }
 
     /// The same with so many allocations; None where these aren't enough, and all is as before.
-    pub(crate) fn call_within(&mut self, allowed: u64, call: Call) -> Result<Option<Reply>, Difference> {
+    pub(crate) fn call_within(
+        &mut self,
+        allowed: u64,
+        call: Call,
+    ) -> Result<Option<Reply>, Difference> {
         let family = self.family()?;
         let journal = self.guardian.journal().journal();
         let wanted = answer_to(self.heap, journal, &family, &call)?;
@@ -95,10 +98,8 @@ impl Checked {
         self.compare()
     }
 
-    /// The audits of its journal, and a run of its work one after another.
+    /// The audits of its journal.
     pub(crate) fn audit(&self) -> Result<(), Difference> {
-        let family = self.family()?;
-        compare_audits(self.heap, &self.guardian, &family)?;
-        compare_serial(self.heap, &self.guardian, &family)
+        compare_audits(self.heap, &self.guardian, &self.family()?)
     }
 }

@@ -2,11 +2,11 @@
 
 use crate::difference::{Difference, must};
 use crate::family::Family;
-use crate::story::{declared, holders, may_have, seen, shape_of};
+use crate::story::{declared, is_holder, may_have, seen, shape_of};
 use argus_actions::ActionId;
 use argus_contents::{Content, ObjId, Shape, fits};
 use argus_guardian::Guardian;
-use argus_journal::{owner_of, replay_base, replay_for};
+use argus_journal::{Journal, owner_of, replay_base, replay_for};
 use argus_memory::Heap;
 use argus_objects::Version;
 
@@ -42,14 +42,46 @@ fn compare_object(
     let (Some(readers), Some(versions)) = (guardian.holders(o), guardian.versions(o)) else {
         return Err(Difference::Readers);
     };
-    let wanted = holders(heap, journal, family, o, false)?;
-    must(readers == wanted.as_slice(), Difference::Readers)?;
-    let writers = holders(heap, journal, family, o, true)?;
-    compare_versions(heap, guardian, family, o, versions, writers.as_slice())
+    must(are_readers(journal, family, readers, o), Difference::Readers)?;
+    must(are_writers(journal, family, versions, o), Difference::Writers)?;
+    for version in versions {
+        let content = seen(heap, journal, family, Some(version.holder.0), o)?;
+        must(version.content == content, Difference::Version)?;
+    }
+    Ok(())
 }
 
-/// Whether this content is told.
-pub(crate) fn is_told(told: Option<&Option<Content>>, content: &Option<Content>) -> bool {
+// Those that hold the object for reading, in increasing number.
+fn are_readers(journal: &Journal, family: &Family, told: &[ActionId], o: ObjId) -> bool {
+    let mut place = 0usize;
+    for a in journal.first_action()..family.next() {
+        if is_holder(journal, family, a, o, false) {
+            match told.get(place) {
+                Some(reader) if reader.0 == a => place = place.saturating_add(1),
+                Some(_) | None => return false,
+            }
+        }
+    }
+    place == told.len()
+}
+
+// Those that hold the object for writing, in increasing number: so ancestors stand before those
+// below them.
+fn are_writers(journal: &Journal, family: &Family, told: &[Version], o: ObjId) -> bool {
+    let mut place = 0usize;
+    for a in journal.first_action()..family.next() {
+        if is_holder(journal, family, a, o, true) {
+            match told.get(place) {
+                Some(version) if version.holder.0 == a => place = place.saturating_add(1),
+                Some(_) | None => return false,
+            }
+        }
+    }
+    place == told.len()
+}
+
+// Whether this content is told.
+fn is_told(told: Option<&Option<Content>>, content: &Option<Content>) -> bool {
     match told {
         Some(told) => *told == *content,
         None => false,
@@ -62,25 +94,6 @@ fn is_of_shape(shape: &Shape, objects: u32, content: &Option<Content>) -> bool {
         Some(content) => fits(shape, objects, content),
         None => true,
     }
-}
-
-// Each writer has one version, which is what it sees.
-fn compare_versions(
-    heap: Heap,
-    guardian: &Guardian,
-    family: &Family,
-    o: ObjId,
-    versions: &[Version],
-    writers: &[ActionId],
-) -> Result<(), Difference> {
-    let journal = guardian.journal().journal();
-    must(versions.len() == writers.len(), Difference::Writers)?;
-    for (version, writer) in versions.iter().zip(writers) {
-        must(version.holder == *writer, Difference::Writers)?;
-        let content = seen(heap, journal, family, Some(writer.0), o)?;
-        must(version.content == content, Difference::Version)?;
-    }
-    Ok(())
 }
 
 /// Whether a lock could be had is told without an entry.

@@ -4,6 +4,7 @@ use argus_commands::ParseError;
 use argus_memory::OutOfMemory;
 use argus_runs::RunFault;
 use std::alloc::{AllocError, AllocFailed};
+use test_rows::RowFault;
 
 /// What is another than the definitions say.
 #[derive(Clone, Copy, Debug, PartialEq, Eq)]
@@ -11,7 +12,7 @@ pub(crate) enum Difference {
     /// Of a call: its reply, or the entries that it adds.
     Reply,
     Entries,
-    /// Of an object: what it was declared as, what is there for good, its holders, their versions.
+    /// Of an object: what it was declared as, what is there for good, who holds it, their versions.
     Shape,
     Base,
     Readers,
@@ -24,13 +25,11 @@ pub(crate) enum Difference {
     /// What the journal's audits tell.
     Owner,
     Replay,
-    /// What committed work, run one after another, leaves or answers.
-    Serial,
     /// Whether a checkpoint is made, and what it leaves.
     Checkpoint,
     /// A call without memory has changed something, or one with memory hasn't got it.
     Memory,
-    /// A right script is refused, or its run makes other calls.
+    /// A call or a script isn't read as it was made, or its run makes other calls.
     Script,
     /// The lines of a run.
     Lines,
@@ -59,14 +58,20 @@ impl<T: Drop> From<AllocFailed<T>> for Difference {
     }
 }
 
+impl From<RowFault> for Difference {
+    fn from(_fault: RowFault) -> Difference {
+        Difference::Script
+    }
+}
+
 impl From<ParseError> for Difference {
-    fn from(_refused: ParseError) -> Difference {
+    fn from(_fault: ParseError) -> Difference {
         Difference::Script
     }
 }
 
 impl From<RunFault> for Difference {
-    fn from(_refused: RunFault) -> Difference {
+    fn from(_fault: RunFault) -> Difference {
         Difference::Lines
     }
 }

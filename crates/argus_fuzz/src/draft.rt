@@ -1,7 +1,7 @@
 //! `Draft`: a script as if by chance, line by line.
 
 use crate::chance::Chance;
-use crate::line::{Deed, Kind, Line};
+use crate::line::{ACCESSES, Kind, Line, OBJECTS};
 use argus_memory::{Heap, OutOfMemory};
 
 // Where the next line of a draft stands.
@@ -18,21 +18,19 @@ enum Place {
 /// A script as if by chance, line by line; each line may stand where it does.
 #[derive(Drop)]
 pub(crate) struct Draft {
-    objects: u32,
     places: Vec<Place, Heap>,
     lines: Vec<Line, Heap>,
 }
 
 impl Draft {
-    /// The lines of a script that declares some objects and has some ten lines more.
+    /// The lines of a script that declares its objects and has some ten lines more.
     pub(crate) fn any(heap: Heap, chance: &mut Chance) -> Result<Vec<Line, Heap>, OutOfMemory> {
         let mut draft = Draft {
-            objects: 1 + chance.below(3),
             places: Vec::new(heap),
             lines: Vec::new(heap),
         };
-        for _ in 0..draft.objects {
-            draft.put(Line::Declare)?;
+        for o in 0..OBJECTS {
+            draft.put(Line::Declare(o))?;
         }
         let length = 10 + chance.below(40);
         for _ in 0..length {
@@ -78,7 +76,7 @@ impl Draft {
             2 => self.open(Line::Enter(Kind::Top), Place::Enter),
             3 => self.open(Line::Coenter, Place::Coenter(true)),
             4 | 5 => {
-                let object = chance.below(self.objects);
+                let object = chance.below(OBJECTS);
                 self.open(Line::If(chance.once_in(2), object), Place::If)
             }
             6 => self.put(Line::Leave),
@@ -120,20 +118,7 @@ impl Draft {
     }
 
     fn add_access(&mut self, chance: &mut Chance) -> Result<(), OutOfMemory> {
-        let number = i64::from(chance.below(10));
-        let deeds = [
-            Deed::Create(number),
-            Deed::Create(number),
-            Deed::Set(number),
-            Deed::Set(number),
-            Deed::Get,
-            Deed::Get,
-            Deed::Read,
-            Deed::Touch,
-        ];
-        let deed = chance.one_of(&deeds, Deed::Get);
-        let deed = if chance.once_in(20) { Deed::Spoil } else { deed };
-        let object = chance.below(self.objects);
-        self.put(Line::Access(object, deed))
+        let count = u32::try_from(ACCESSES.len()).unwrap_or(0);
+        self.put(Line::Access(chance.below(count)))
     }
 }

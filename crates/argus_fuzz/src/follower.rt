@@ -2,12 +2,12 @@
 
 use crate::checked::Checked;
 use crate::difference::Difference;
-use crate::line::{Kind, Line};
-use crate::saying::{call_of, shape};
+use crate::line::{Kind, Line, access};
 use argus_actions::ActionId;
 use argus_contents::{Answer, ObjId};
 use argus_entries::{Call, Refusal, Reply};
 use argus_memory::Heap;
+use test_rows::{call_of, first_word};
 
 // What a block is: one that its own action ends with, an arm, a coenter, or an `if`.
 #[derive(Clone, Copy, Debug, PartialEq, Eq)]
@@ -66,10 +66,7 @@ impl Follower {
 
     fn follow_line(&mut self, line: Line) -> Result<(), Difference> {
         match line {
-            Line::Declare => {
-                let _reply = self.checked.call(Call::Declare(shape(self.heap)?))?;
-                Ok(())
-            }
+            Line::Declare(_) => self.declare(),
             Line::Enter(kind) => self.enter(kind),
             Line::Coenter => {
                 let (action, runs) = (self.action(), self.runs());
@@ -78,10 +75,14 @@ impl Follower {
             Line::Arm(_) => self.next_arm(),
             Line::If(writes, object) => self.test(writes, ObjId(object)),
             Line::End => self.end(),
-            Line::Access(_, _) | Line::Leave | Line::AbortLeave | Line::LeaveAll => {
-                self.step(line)
-            }
+            Line::Access(_) | Line::Leave | Line::AbortLeave | Line::LeaveAll => self.step(line),
         }
+    }
+
+    fn declare(&mut self) -> Result<(), Difference> {
+        let call = call_of(self.heap, "declare atomic_record[n:int]")?;
+        let _reply = self.checked.call(call)?;
+        Ok(())
     }
 
     // The action of the innermost block.
@@ -99,7 +100,12 @@ impl Follower {
         }
     }
 
-    fn push(&mut self, block: Block, action: Option<ActionId>, runs: bool) -> Result<(), Difference> {
+    fn push(
+        &mut self,
+        block: Block,
+        action: Option<ActionId>,
+        runs: bool,
+    ) -> Result<(), Difference> {
         self.open.push(Open {
             block,
             action,
@@ -137,7 +143,7 @@ impl Follower {
                 Line::Enter(_) | Line::Coenter | Line::If(_, _) => depth = depth.saturating_add(1),
                 Line::End if depth == 0 => break,
                 Line::End => depth = depth.saturating_sub(1),
-                Line::Arm(_) | Line::Declare | Line::Access(_, _) => {}
+                Line::Arm(_) | Line::Declare(_) | Line::Access(_) => {}
                 Line::Leave | Line::AbortLeave | Line::LeaveAll => {}
             }
         }
@@ -206,11 +212,7 @@ impl Follower {
             return Ok(());
         };
         match line {
-            Line::Access(object, deed) => {
-                let call = call_of(self.heap, a, ObjId(object), deed)?;
-                let reply = self.checked.call(call)?;
-                self.heed(a, &reply)
-            }
+            Line::Access(place) => self.access(a, place),
             Line::Leave => self.leave(a),
             Line::AbortLeave => {
                 let _reply = self.checked.call(Call::Abort(a))?;
@@ -218,9 +220,16 @@ impl Follower {
                 Ok(())
             }
             Line::LeaveAll => self.leave_all(a),
-            Line::Declare | Line::Enter(_) | Line::Coenter | Line::Arm(_) => Ok(()),
+            Line::Declare(_) | Line::Enter(_) | Line::Coenter | Line::Arm(_) => Ok(()),
             Line::If(_, _) | Line::End => Ok(()),
         }
+    }
+
+    fn access(&mut self, a: ActionId, place: u32) -> Result<(), Difference> {
+        let (verb, rest) = first_word(access(place).1);
+        let text = format!(in self.heap; "{verb} a{} {rest}", a.0)?;
+        let reply = self.checked.call(call_of(self.heap, text.as_str())?)?;
+        self.heed(a, &reply)
     }
 
     fn leave_all(&mut self, a: ActionId) -> Result<(), Difference> {

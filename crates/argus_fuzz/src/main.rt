@@ -1,4 +1,4 @@
-//! Calls and scripts as if by chance: `argus_fuzz --sequences N --scripts N --seed N`.
+//! Calls and scripts as if by chance: `argus_fuzz SEQUENCES SCRIPTS SEED`.
 //!
 //! Each sequence of calls and each script has a seed of its own, from the one given on. What a
 //! guardian answers and tells is held against the definitions, worked out anew from its journal. A
@@ -11,27 +11,26 @@ mod call_making;
 mod chance;
 mod checked;
 mod comparing;
-mod content_making;
 mod difference;
 mod draft;
 mod family;
 mod follower;
 mod line;
-mod plan;
-mod saying;
 mod script_trial;
 mod sequence;
-mod serial_work;
 mod story;
 
 use anyhow::{Result, ensure};
 use argus_memory::{Budget, Heap, Limited};
-use plan::Plan;
 use script_trial::run_script;
 use sequence::Sequence;
-use std::alloc::{AllocError, Global};
+use std::env;
 use std::io;
 use std::io::Print;
+
+// How many are tried where nothing else is said.
+const SEQUENCES: u64 = 500;
+const SCRIPTS: u64 = 500;
 
 // The heaps in which all is tried, and the budget of the tight one.
 #[derive(Clone, Copy)]
@@ -41,33 +40,39 @@ struct Heaps {
     budget: Budget,
 }
 
-impl Heaps {
-    fn new(alloc: Global) -> Result<Heaps, AllocError> {
-        let budget = Budget::new(alloc)?;
-        Ok(Heaps {
-            heap: Heap::new(alloc)?,
-            tight: Limited::with_budget(alloc, budget),
-            budget,
-        })
-    }
-}
-
 fn main(rt: HostRuntime) -> Result<()> {
-    let plan = Plan::given(&rt)?;
-    let heaps = Heaps::new(rt.alloc())?;
-    let sequences = try_sequences(&rt, heaps, plan)?;
-    println!(rt; "call sequences: {}, {sequences} with a difference", plan.sequences)?;
-    let scripts = try_scripts(&rt, heaps, plan)?;
-    println!(rt; "scripts: {}, {scripts} with a difference", plan.scripts)?;
-    ensure!(sequences == 0 && scripts == 0, "there are differences");
+    let mut words = env::args(&rt)?;
+    let _program = words.next();
+    let sequences = number_in(words.next(), SEQUENCES)?;
+    let scripts = number_in(words.next(), SCRIPTS)?;
+    let seed = number_in(words.next(), 1)?;
+    let budget = Budget::new(rt.alloc())?;
+    let heaps = Heaps {
+        heap: Heap::new(rt.alloc())?,
+        tight: Limited::with_budget(rt.alloc(), budget),
+        budget,
+    };
+    let calls = try_sequences(&rt, heaps, sequences, seed)?;
+    println!(rt; "call sequences: {sequences}, {calls} with a difference")?;
+    let runs = try_scripts(&rt, heaps, scripts, seed)?;
+    println!(rt; "scripts: {scripts}, {runs} with a difference")?;
+    ensure!(calls == 0 && runs == 0, "there are differences");
     Ok(())
 }
 
+// The number that the word is; `otherwise` where there is none.
+fn number_in(word: Option<String>, otherwise: u64) -> Result<u64> {
+    match word {
+        Some(word) => Ok(word.as_str().parse::<u64>()?),
+        None => Ok(otherwise),
+    }
+}
+
 // Answers how many show a difference.
-fn try_sequences(rt: &impl Print, heaps: Heaps, plan: Plan) -> io::Result<u64> {
+fn try_sequences(rt: &impl Print, heaps: Heaps, count: u64, first: u64) -> io::Result<u64> {
     let mut wrong = 0u64;
-    for number in 0..plan.sequences {
-        let seed = plan.seed.wrapping_add(number);
+    for number in 0..count {
+        let seed = first.wrapping_add(number);
         let mut sequence = Sequence::new(heaps.heap, heaps.tight, heaps.budget, seed);
         if let Err(difference) = sequence.run() {
             wrong = wrong.saturating_add(1);
@@ -78,10 +83,10 @@ fn try_sequences(rt: &impl Print, heaps: Heaps, plan: Plan) -> io::Result<u64> {
 }
 
 // Answers how many show a difference.
-fn try_scripts(rt: &impl Print, heaps: Heaps, plan: Plan) -> io::Result<u64> {
+fn try_scripts(rt: &impl Print, heaps: Heaps, count: u64, first: u64) -> io::Result<u64> {
     let mut wrong = 0u64;
-    for number in 0..plan.scripts {
-        let seed = plan.seed.wrapping_add(number);
+    for number in 0..count {
+        let seed = first.wrapping_add(number);
         if let Err(difference) = run_script(heaps.heap, heaps.tight, heaps.budget, seed) {
             wrong = wrong.saturating_add(1);
             println!(rt; "script with seed {seed}: {difference:?}")?;

@@ -5,7 +5,7 @@ use crate::checked::Checked;
 use crate::difference::{Difference, must};
 use crate::draft::Draft;
 use crate::follower::Follower;
-use crate::saying::text_of;
+use crate::line::text_of;
 use argus_commands::parse;
 use argus_entries::write_entry;
 use argus_guardian::Guardian;
@@ -18,7 +18,12 @@ use argus_streams::Watched;
 /// which is held against the definitions: both journals have to have the same entries, and what the
 /// run writes are their lines. The script is parsed from its text, and the calls are made from what
 /// the text was made of.
-pub(crate) fn run_script(heap: Heap, tight: Heap, budget: Budget, seed: u64) -> Result<(), Difference> {
+pub(crate) fn run_script(
+    heap: Heap,
+    tight: Heap,
+    budget: Budget,
+    seed: u64,
+) -> Result<(), Difference> {
     let lines = Draft::any(heap, &mut Chance::new(seed))?;
     let text = text_of(heap, lines.as_slice())?;
     let script = parse(heap, text.as_bytes())?;

@@ -12,7 +12,6 @@ use argus_contents::{Answer, Change, Content, ObjId, Shape, alter, fits};
 use argus_entries::{Call, Reply};
 use argus_journal::{Journal, Owner};
 use argus_memory::{Heap, OutOfMemory};
-use std::collections::BTreeSet;
 
 /// The shape with which the object was declared; none where it wasn't.
 pub(crate) fn shape_of(journal: &Journal, o: ObjId) -> Option<&Shape> {
@@ -58,33 +57,20 @@ fn holder_by(
     }
 }
 
-/// Who holds the object, for writing or for reading, in increasing number: so each ancestor stands
-/// before those below it.
-pub(crate) fn holders(
-    heap: Heap,
+/// Whether the action holds the object, for writing or for reading.
+pub(crate) fn is_holder(
     journal: &Journal,
     family: &Family,
+    a: u32,
     o: ObjId,
     writes: bool,
-) -> Result<Vec<ActionId, Heap>, OutOfMemory> {
-    let mut found = BTreeSet::new(heap);
+) -> bool {
     for at in journal.first_entry()..journal.len() {
-        if let Some(holder) = holder_by(journal, family, at, o, writes) {
-            found.insert(holder)?;
+        if holder_by(journal, family, at, o, writes) == Some(ActionId(a)) {
+            return true;
         }
     }
-    in_order(heap, &found)
-}
-
-fn in_order(
-    heap: Heap,
-    actions: &BTreeSet<ActionId, Heap>,
-) -> Result<Vec<ActionId, Heap>, OutOfMemory> {
-    let mut list = Vec::new(heap);
-    for a in actions.iter() {
-        list.push(*a)?;
-    }
-    Ok(list)
+    false
 }
 
 /// Whether the lock rule gives the action this lock: for reading where all that hold the object for
@@ -118,9 +104,7 @@ pub(crate) fn seen(
 ) -> Result<Option<Content>, Difference> {
     let mut content = opening_content(heap, journal, o)?;
     for at in journal.first_entry()..journal.len() {
-        if let Some(change) = change_by(journal, at, o)
-            && is_kept(journal, family, at, reader)
-        {
+        if let Some(change) = kept_by(journal, family, at, o, reader) {
             let (left, _answer) = altered(heap, journal, o, &content, change)?;
             content = left;
         }
@@ -128,8 +112,7 @@ pub(crate) fn seen(
     Ok(content)
 }
 
-/// What was in the object at the opening.
-pub(crate) fn opening_content(
+fn opening_content(
     heap: Heap,
     journal: &Journal,
     o: ObjId,
@@ -168,28 +151,31 @@ pub(crate) fn is_fit(journal: &Journal, o: ObjId, content: &Option<Content>) -> 
     }
 }
 
-/// The change of the object that the entry made. A test that was answered yes leaves all as it is.
-pub(crate) fn change_by(journal: &Journal, at: u64, o: ObjId) -> Option<&Change> {
+// The change of the object that the entry made, where it counts for the reader. A test that was
+// answered yes leaves all as it is.
+fn kept_by<'a>(
+    journal: &'a Journal,
+    family: &Family,
+    at: u64,
+    o: ObjId,
+    reader: Option<u32>,
+) -> Option<&'a Change> {
     let entry = journal.get(at)?;
     match (&entry.call, &entry.reply) {
-        (Call::Alter(_, object, change), Reply::Answered(_)) if *object == o => Some(change),
+        (Call::Alter(a, object, change), Reply::Answered(_))
+            if *object == o && counts(family, *a, reader) =>
+        {
+            Some(change)
+        }
         _ => None,
     }
 }
 
-// Who answers for the access that the entry is.
-fn owner_by(journal: &Journal, family: &Family, at: u64) -> Option<Owner> {
-    let access = Access::of(journal.get(at)?)?;
-    family.owner(access.action)
-}
-
-fn is_kept(journal: &Journal, family: &Family, at: u64, reader: Option<u32>) -> bool {
-    match owner_by(journal, family, at) {
-        Some(Owner::Base) => true,
-        Some(Owner::Held(holder)) => match reader {
-            Some(reader) => family.is_above(holder.0, reader),
-            None => false,
-        },
-        Some(Owner::Folded) | Some(Owner::Gone) | None => false,
+// What the action did is there for good, or its owner is the reader or an ancestor of it.
+fn counts(family: &Family, a: ActionId, reader: Option<u32>) -> bool {
+    match (family.owner(a.0), reader) {
+        (Some(Owner::Base), _) => true,
+        (Some(Owner::Held(holder)), Some(reader)) => family.is_above(holder.0, reader),
+        _ => false,
     }
 }
