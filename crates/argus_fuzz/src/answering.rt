@@ -2,10 +2,10 @@
 
 use crate::difference::Difference;
 use crate::family::Family;
-use crate::story::{altered, declared, is_fit, may_have, seen, shape_of};
+use crate::story::{declared, is_fit, may_have, seen, shape_of};
 use argus_actions::ActionId;
 use argus_contents::limits::{MAX_ACTION_DEPTH, MAX_ACTIONS, MAX_OBJECTS};
-use argus_contents::{Answer, Change, Content, ObjId, Query, ask, change_fits, query_fits};
+use argus_contents::{Answer, Change, ObjId, Query, ask, change_answer, change_fits, query_fits};
 use argus_entries::{Call, Refusal, Reply};
 use argus_journal::Journal;
 use argus_memory::Heap;
@@ -102,7 +102,10 @@ fn conflict(
     o: ObjId,
     writes: bool,
 ) -> Option<Refusal> {
-    when(!may_have(journal, family, a.0, o, writes), Refusal::Conflict)
+    when(
+        !may_have(journal, family, a.0, o, writes),
+        Refusal::Conflict,
+    )
 }
 
 fn when(applies: bool, refusal: Refusal) -> Option<Refusal> {
@@ -124,12 +127,11 @@ fn granted(
             Ok(Reply::Answered(Answer::Done))
         }
         Call::Ask(a, o, query) => {
-            let content = seen(heap, journal, family, Some(a.0), *o)?;
-            Ok(Reply::Answered(asked(heap, journal, *o, &content, query)?))
+            let answer = asked(heap, journal, family, *a, *o, query)?;
+            Ok(Reply::Answered(answer))
         }
         Call::Alter(a, o, change) => {
-            let content = seen(heap, journal, family, Some(a.0), *o)?;
-            let (_left, answer) = altered(heap, journal, *o, &content, change)?;
+            let answer = changed(heap, journal, family, *a, *o, change)?;
             Ok(Reply::Answered(answer))
         }
         Call::TestRead(a, o) => Ok(test(journal, family, *a, *o, false)),
@@ -141,16 +143,35 @@ fn test(journal: &Journal, family: &Family, a: ActionId, o: ObjId, writes: bool)
     Reply::Answered(Answer::Flag(may_have(journal, family, a.0, o, writes)))
 }
 
-/// What the query answers of the object's content.
-pub(crate) fn asked(
+// What the query answers of what the action sees.
+fn asked(
     heap: Heap,
     journal: &Journal,
+    family: &Family,
+    a: ActionId,
     o: ObjId,
-    content: &Option<Content>,
     query: &Query,
 ) -> Result<Answer, Difference> {
-    if is_fit(journal, o, content) {
-        Ok(ask(heap, content, query)?)
+    let content = seen(heap, journal, family, Some(a.0), o)?;
+    if is_fit(journal, o, &content) {
+        Ok(ask(heap, &content, query)?)
+    } else {
+        Err(Difference::Unfit)
+    }
+}
+
+// What the change answers at what the action sees.
+fn changed(
+    heap: Heap,
+    journal: &Journal,
+    family: &Family,
+    a: ActionId,
+    o: ObjId,
+    change: &Change,
+) -> Result<Answer, Difference> {
+    let content = seen(heap, journal, family, Some(a.0), o)?;
+    if is_fit(journal, o, &content) {
+        Ok(change_answer(heap, &content, change)?)
     } else {
         Err(Difference::Unfit)
     }

@@ -1,15 +1,13 @@
 //! Calls as if by chance: most of them may be granted, some of each kind may not.
 
 use crate::chance::Chance;
-use crate::difference::Difference;
 use crate::family::Family;
 use crate::story::{declared, shape_of};
-use argus_actions::ActionId;
 use argus_contents::{ObjId, Shape, ShapeView};
-use argus_entries::Call;
 use argus_journal::Journal;
 use argus_memory::{Heap, OutOfMemory};
-use test_rows::{call_of, first_word};
+use std::fmt::Write;
+use test_rows::first_word;
 
 /// From so many actions on, each is begun below the last one.
 pub(crate) const DEEP: u32 = 100;
@@ -39,6 +37,7 @@ const RECORD: [&str; 16] = [
     "alter set_field 2 1",
     "alter touch",
 ];
+
 const ARRAY: [&str; 31] = [
     "test_read",
     "test_write",
@@ -72,6 +71,7 @@ const ARRAY: [&str; 31] = [
     "alter trim 9 1",
     "alter touch",
 ];
+
 const VARIANT: [&str; 15] = [
     "test_read",
     "test_write",
@@ -90,79 +90,102 @@ const VARIANT: [&str; 15] = [
     "alter touch",
 ];
 
-/// A next call behind this journal; so many actions are live beside each other at most.
-pub(crate) fn any_call(
-    heap: Heap,
+/// Adds a next call behind this journal, as a journal's line spells it; so many actions are live
+/// beside each other at most.
+pub(crate) fn add_call(
     chance: &mut Chance,
     journal: &Journal,
     family: &Family,
     crowd: u32,
-) -> Result<Call, Difference> {
+    out: &mut String<Heap>,
+) -> Result<(), OutOfMemory> {
     let objects = declared(journal);
     if objects == 0 || (objects < 4 && chance.once_in(10)) || chance.once_in(60) {
-        return Ok(call_of(heap, chance.one_of(&SHAPES, "declare atomic_array[int]"))?);
+        out.push_str(chance.one_of(&SHAPES, "declare atomic_array[int]"))?;
+        return Ok(());
     }
-    let live = family.live(heap, false)?;
-    let last = live.last().copied().unwrap_or(0);
-    if live.is_empty() && !chance.once_in(6) {
-        return Ok(Call::BeginTop);
+    let live = family.count_live(false);
+    if live == 0 && !chance.once_in(6) {
+        out.push_str("begin_top")?;
+        return Ok(());
     }
     if crowd >= DEEP && !chance.once_in(20) {
-        return Ok(Call::BeginSub(ActionId(last)));
+        let last = family.live_at(live.saturating_sub(1), false);
+        return add_verb("begin_sub", last, out);
     }
-    let is_crowded = u32::try_from(live.len()).unwrap_or(u32::MAX) >= crowd;
-    let a = any_action(chance, family, live.as_slice());
-    match chance.below(20) {
-        0 if !is_crowded => Ok(Call::BeginTop),
-        1 | 2 | 3 if !is_crowded => Ok(Call::BeginSub(a)),
-        4 if !is_crowded => Ok(Call::BeginNested(a)),
-        5 => Ok(Call::Abort(a)),
-        6 => Ok(Call::AbortOthers(a)),
-        0 | 1 | 2 | 3 | 4 | 7 | 8 => Ok(Call::Commit(any_alone(heap, chance, family)?)),
-        _ => any_access(heap, chance, journal, family, objects),
+    if chance.once_in(2) {
+        let a = any_action(chance, family, true);
+        return add_access(chance, journal, a, objects, out);
+    }
+    let verb = any_verb(chance, live >= crowd);
+    let a = any_action(chance, family, verb == "commit");
+    add_verb(verb, a, out)
+}
+
+// What begins or ends actions; nothing more is begun where there are enough.
+fn any_verb(chance: &mut Chance, is_crowded: bool) -> &'static str {
+    match chance.below(10) {
+        0 => "abort",
+        1 => "abort_others",
+        2 | 3 => "commit",
+        _ if is_crowded => "commit",
+        4 => "begin_nested",
+        5 | 6 | 7 => "begin_sub",
+        _ => "begin_top",
     }
 }
 
-// One of these, seldom one that is over or was never begun.
-fn any_action(chance: &mut Chance, family: &Family, these: &[u32]) -> ActionId {
+fn add_verb(verb: &str, a: u32, out: &mut String<Heap>) -> Result<(), OutOfMemory> {
+    out.push_str(verb)?;
+    if verb != "begin_top" {
+        write!(out, " a{a}")?;
+    }
+    Ok(())
+}
+
+// A live one, without live children if that is asked for; seldom one that is over or was never
+// begun, or has live children all the same.
+fn any_action(chance: &mut Chance, family: &Family, alone: bool) -> u32 {
     let next = family.next();
     match chance.below(24) {
-        0 => ActionId(next.saturating_add(chance.below(2))),
-        1 => ActionId(chance.below(next)),
-        _ => ActionId(chance.one_of(these, next)),
+        0 => next.saturating_add(chance.below(2)),
+        1 => chance.below(next),
+        2 => family.live_at(chance.below(family.count_live(false)), false),
+        _ => family.live_at(chance.below(family.count_live(alone)), alone),
     }
 }
 
-// A live one, most of the time without live children.
-fn any_alone(heap: Heap, chance: &mut Chance, family: &Family) -> Result<ActionId, OutOfMemory> {
-    let these = family.live(heap, !chance.once_in(12))?;
-    Ok(any_action(chance, family, these.as_slice()))
-}
-
-fn any_access(
-    heap: Heap,
+fn add_access(
     chance: &mut Chance,
     journal: &Journal,
-    family: &Family,
+    a: u32,
     objects: u32,
-) -> Result<Call, Difference> {
-    let a = any_alone(heap, chance, family)?;
-    let o = if chance.once_in(30) { objects } else { chance.below(objects) };
-    let (verb, operation) = first_word(any_operation(chance, shape_of(journal, ObjId(o))));
-    let text = format!(in heap; "{verb} a{} o{o} {operation}", a.0)?;
-    Ok(call_of(heap, text.as_str())?)
+    out: &mut String<Heap>,
+) -> Result<(), OutOfMemory> {
+    let o = if chance.once_in(30) {
+        objects
+    } else {
+        chance.below(objects)
+    };
+    let kind = any_kind(chance, shape_of(journal, ObjId(o)));
+    let (verb, operation) = first_word(any_operation(chance, kind));
+    write!(out, "{verb} a{a} o{o} {operation}")?;
+    Ok(())
 }
 
-// One that suits the shape, seldom another.
-fn any_operation(chance: &mut Chance, shape: Option<&Shape>) -> &'static str {
-    let kind = match shape {
+// The shape's, seldom another.
+fn any_kind(chance: &mut Chance, shape: Option<&Shape>) -> u32 {
+    match shape {
         Some(shape) if !chance.once_in(20) => match shape.view() {
             ShapeView::Rec(_) => 0,
             ShapeView::Arr(_) => 1,
             ShapeView::Var(_) => 2,
         },
         Some(_) | None => chance.below(3),
-    };
+    }
+}
+
+fn any_operation(chance: &mut Chance, kind: u32) -> &'static str {
     match kind {
         0 => chance.one_of(&RECORD, "ask whole"),
         1 => chance.one_of(&ARRAY, "ask whole"),

@@ -17,7 +17,10 @@ pub(crate) fn compare_objects(
     family: &Family,
 ) -> Result<(), Difference> {
     let objects = guardian.objects();
-    must(objects == declared(guardian.journal().journal()), Difference::Shape)?;
+    must(
+        objects == declared(guardian.journal().journal()),
+        Difference::Shape,
+    )?;
     for o in 0..objects {
         compare_object(heap, guardian, family, objects, ObjId(o))?;
     }
@@ -36,19 +39,55 @@ fn compare_object(
         return Err(Difference::Shape);
     };
     must(*told == *shape, Difference::Shape)?;
-    let base = seen(heap, journal, family, None, o)?;
-    must(is_told(guardian.base(o), &base), Difference::Base)?;
-    must(is_of_shape(shape, objects, &base), Difference::Unfit)?;
-    let (Some(readers), Some(versions)) = (guardian.holders(o), guardian.versions(o)) else {
-        return Err(Difference::Readers);
+    let (Some(base), Some(readers)) = (guardian.base(o), guardian.holders(o)) else {
+        return Err(Difference::Base);
     };
-    must(are_readers(journal, family, readers, o), Difference::Readers)?;
-    must(are_writers(journal, family, versions, o), Difference::Writers)?;
+    must(is_of_shape(shape, objects, base), Difference::Unfit)?;
+    must(
+        is_seen(heap, journal, family, None, o, base)?,
+        Difference::Base,
+    )?;
+    must(
+        are_readers(journal, family, readers, o),
+        Difference::Readers,
+    )?;
+    match guardian.versions(o) {
+        Some(versions) => compare_versions(heap, journal, family, versions, o),
+        None => Err(Difference::Writers),
+    }
+}
+
+// Each writer has one version, which is what it sees.
+fn compare_versions(
+    heap: Heap,
+    journal: &Journal,
+    family: &Family,
+    versions: &[Version],
+    o: ObjId,
+) -> Result<(), Difference> {
+    must(
+        are_writers(journal, family, versions, o),
+        Difference::Writers,
+    )?;
     for version in versions {
-        let content = seen(heap, journal, family, Some(version.holder.0), o)?;
-        must(version.content == content, Difference::Version)?;
+        let holder = Some(version.holder.0);
+        let is_right = is_seen(heap, journal, family, holder, o, &version.content)?;
+        must(is_right, Difference::Version)?;
     }
     Ok(())
+}
+
+// Whether this is what the reader sees, or what is there for good.
+fn is_seen(
+    heap: Heap,
+    journal: &Journal,
+    family: &Family,
+    reader: Option<u32>,
+    o: ObjId,
+    content: &Option<Content>,
+) -> Result<bool, Difference> {
+    let wanted = seen(heap, journal, family, reader, o)?;
+    Ok(*content == wanted)
 }
 
 // Those that hold the object for reading, in increasing number.
@@ -78,14 +117,6 @@ fn are_writers(journal: &Journal, family: &Family, told: &[Version], o: ObjId) -
         }
     }
     place == told.len()
-}
-
-// Whether this content is told.
-fn is_told(told: Option<&Option<Content>>, content: &Option<Content>) -> bool {
-    match told {
-        Some(told) => *told == *content,
-        None => false,
-    }
 }
 
 // It is absent, or fits where so many objects are declared.
@@ -121,7 +152,10 @@ pub(crate) fn compare_audits(
 ) -> Result<(), Difference> {
     let journal = guardian.journal().journal();
     for a in 0..=family.next() {
-        must(owner_of(journal, ActionId(a)) == family.owner(a), Difference::Owner)?;
+        must(
+            owner_of(journal, ActionId(a)) == family.owner(a),
+            Difference::Owner,
+        )?;
     }
     for o in 0..guardian.objects() {
         compare_replays(heap, guardian, family, ObjId(o))?;
@@ -136,23 +170,35 @@ fn compare_replays(
     o: ObjId,
 ) -> Result<(), Difference> {
     let journal = guardian.journal().journal();
-    let base = seen(heap, journal, family, None, o)?;
-    must(replay_base(heap, journal, o)? == base, Difference::Replay)?;
+    let base = replay_base(heap, journal, o)?;
+    must(
+        is_seen(heap, journal, family, None, o, &base)?,
+        Difference::Replay,
+    )?;
     for a in journal.first_action()..family.next() {
-        let content = seen(heap, journal, family, Some(a), o)?;
-        must(replay_for(heap, journal, ActionId(a), o)? == content, Difference::Replay)?;
+        let replayed = replay_for(heap, journal, ActionId(a), o)?;
+        must(
+            is_seen(heap, journal, family, Some(a), o, &replayed)?,
+            Difference::Replay,
+        )?;
     }
     Ok(())
 }
 
-/// Both guardians have the same in their objects for good.
-pub(crate) fn compare_bases(one: &Guardian, other: &Guardian) -> Result<(), Difference> {
+/// Both guardians have the same last entry, and the same in their objects for good.
+pub(crate) fn compare_guardians(one: &Guardian, other: &Guardian) -> Result<(), Difference> {
+    let (journal, folded) = (one.journal().journal(), other.journal().journal());
+    must(journal.len() == folded.len(), Difference::Entries)?;
+    let last = journal.len().saturating_sub(1);
+    if let (Some(entry), Some(told)) = (journal.get(last), folded.get(last)) {
+        must(*entry == *told, Difference::Reply)?;
+    }
     must(one.objects() == other.objects(), Difference::Checkpoint)?;
     for o in 0..one.objects() {
-        let Some(base) = one.base(ObjId(o)) else {
+        let (Some(base), Some(told)) = (one.base(ObjId(o)), other.base(ObjId(o))) else {
             return Err(Difference::Checkpoint);
         };
-        must(is_told(other.base(ObjId(o)), base), Difference::Checkpoint)?;
+        must(*base == *told, Difference::Checkpoint)?;
     }
     Ok(())
 }

@@ -7,7 +7,7 @@ use std::alloc::{AllocError, AllocFailed};
 use test_rows::RowFault;
 
 /// What is another than the definitions say.
-#[derive(Clone, Copy, Debug, PartialEq, Eq)]
+#[derive(Clone, Copy)]
 pub(crate) enum Difference {
     /// Of a call: its reply, or the entries that it adds.
     Reply,
@@ -33,6 +33,28 @@ pub(crate) enum Difference {
     Script,
     /// The lines of a run.
     Lines,
+}
+
+impl Difference {
+    pub(crate) fn as_str(self) -> &'static str {
+        match self {
+            Difference::Reply => "another reply",
+            Difference::Entries => "other entries",
+            Difference::Shape => "another shape",
+            Difference::Base => "another base",
+            Difference::Readers => "other readers",
+            Difference::Writers => "other writers",
+            Difference::Version => "another version",
+            Difference::Unfit => "a content that doesn't fit",
+            Difference::Free => "a lock is told otherwise",
+            Difference::Owner => "another owner",
+            Difference::Replay => "another replay",
+            Difference::Checkpoint => "another checkpoint",
+            Difference::Memory => "memory",
+            Difference::Script => "another script",
+            Difference::Lines => "other lines",
+        }
+    }
 }
 
 /// Nothing, where it holds.

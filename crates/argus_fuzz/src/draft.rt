@@ -5,7 +5,7 @@ use crate::line::{ACCESSES, Kind, Line, OBJECTS};
 use argus_memory::{Heap, OutOfMemory};
 
 // Where the next line of a draft stands.
-#[derive(Clone, Copy, Debug, PartialEq, Eq)]
+#[derive(Clone, Copy)]
 enum Place {
     Enter,
     If,
@@ -40,14 +40,15 @@ impl Draft {
     }
 
     // Ends all blocks that are open.
-    fn close(mut self) -> Result<Vec<Line, Heap>, OutOfMemory> {
-        for place in self.places.as_slice() {
+    fn close(self) -> Result<Vec<Line, Heap>, OutOfMemory> {
+        let Draft { places, mut lines } = self;
+        for place in places.as_slice() {
             match place {
-                Place::Enter | Place::If | Place::Coenter(_) => self.lines.push(Line::End)?,
+                Place::Enter | Place::If | Place::Coenter(_) => lines.push(Line::End)?,
                 Place::Arm(_) => {}
             }
         }
-        Ok(self.lines)
+        Ok(lines)
     }
 
     fn add(&mut self, chance: &mut Chance) -> Result<(), OutOfMemory> {
@@ -66,7 +67,11 @@ impl Draft {
 
     // An arm, seldom of the other kind; outside actions all are topactions.
     fn add_arm(&mut self, chance: &mut Chance, inside: bool) -> Result<(), OutOfMemory> {
-        let kind = if inside && !chance.once_in(4) { Kind::Sub } else { Kind::Top };
+        let kind = if inside && !chance.once_in(4) {
+            Kind::Sub
+        } else {
+            Kind::Top
+        };
         self.open(Line::Arm(kind), Place::Arm(inside))
     }
 

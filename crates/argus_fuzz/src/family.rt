@@ -178,15 +178,33 @@ impl Family {
         false
     }
 
-    /// Those that are live, in increasing number; without live children, if that is asked for.
-    pub(crate) fn live(&self, heap: Heap, alone: bool) -> Result<Vec<u32, Heap>, OutOfMemory> {
-        let mut live = Vec::new(heap);
+    // Whether it is live, and without live children, if that is asked for.
+    fn is_of(&self, a: u32, alone: bool) -> bool {
+        self.is_live(a) && !(alone && self.has_live_child(a))
+    }
+
+    /// How many are live; without live children, if that is asked for.
+    pub(crate) fn count_live(&self, alone: bool) -> u32 {
+        let mut count = 0u32;
         for a in self.first..self.next() {
-            if self.is_live(a) && !(alone && self.has_live_child(a)) {
-                live.push(a)?;
+            count = count.saturating_add(u32::from(self.is_of(a, alone)));
+        }
+        count
+    }
+
+    /// The live one that has so many live ones before it; the next action to be begun where there
+    /// is none.
+    pub(crate) fn live_at(&self, place: u32, alone: bool) -> u32 {
+        let mut left = place;
+        for a in self.first..self.next() {
+            if self.is_of(a, alone) {
+                if left == 0 {
+                    return a;
+                }
+                left = left.saturating_sub(1);
             }
         }
-        Ok(live)
+        self.next()
     }
 
     // Nobody where it is undone, else the nearest of its ancestors that hasn't committed.

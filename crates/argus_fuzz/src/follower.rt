@@ -3,14 +3,13 @@
 use crate::checked::Checked;
 use crate::difference::Difference;
 use crate::line::{Kind, Line, access};
+use crate::told::Told;
 use argus_actions::ActionId;
-use argus_contents::{Answer, ObjId};
-use argus_entries::{Call, Refusal, Reply};
 use argus_memory::Heap;
-use test_rows::{call_of, first_word};
+use test_rows::first_word;
 
 // What a block is: one that its own action ends with, an arm, a coenter, or an `if`.
-#[derive(Clone, Copy, Debug, PartialEq, Eq)]
+#[derive(Clone, Copy)]
 enum Block {
     Enter,
     Arm,
@@ -56,33 +55,30 @@ impl Follower {
     /// Makes the calls of these lines, which are those of a whole script.
     pub(crate) fn follow(&mut self, lines: &[Line]) -> Result<(), Difference> {
         for (number, line) in lines.iter().enumerate() {
-            if *line == Line::Coenter && self.runs() {
-                self.begin_arms(lines, number)?;
-            }
-            self.follow_line(*line)?;
+            self.follow_line(lines, number, *line)?;
         }
         Ok(())
     }
 
-    fn follow_line(&mut self, line: Line) -> Result<(), Difference> {
+    fn follow_line(&mut self, lines: &[Line], number: usize, line: Line) -> Result<(), Difference> {
         match line {
-            Line::Declare(_) => self.declare(),
-            Line::Enter(kind) => self.enter(kind),
-            Line::Coenter => {
-                let (action, runs) = (self.action(), self.runs());
-                self.push(Block::Coenter, action, runs)
+            Line::Declare(_) => {
+                let _told = self.checked.call("declare atomic_record[n:int]")?;
+                Ok(())
             }
+            Line::Enter(kind) => self.enter(kind),
+            Line::Coenter => self.begin_arms(lines, number),
             Line::Arm(_) => self.next_arm(),
-            Line::If(writes, object) => self.test(writes, ObjId(object)),
-            Line::End => self.end(),
-            Line::Access(_) | Line::Leave | Line::AbortLeave | Line::LeaveAll => self.step(line),
+            Line::If(writes, o) => self.test(writes, o),
+            Line::End => {
+                self.end_arm()?;
+                self.close()
+            }
+            Line::Access(place) => self.access(place),
+            Line::Leave => self.leave("commit"),
+            Line::AbortLeave => self.leave("abort"),
+            Line::LeaveAll => self.leave_all(),
         }
-    }
-
-    fn declare(&mut self) -> Result<(), Difference> {
-        let call = call_of(self.heap, "declare atomic_record[n:int]")?;
-        let _reply = self.checked.call(call)?;
-        Ok(())
     }
 
     // The action of the innermost block.
@@ -100,6 +96,11 @@ impl Follower {
         }
     }
 
+    // The action of the innermost block, where its lines are run.
+    fn running(&self) -> Option<ActionId> {
+        if self.runs() { self.action() } else { None }
+    }
+
     fn push(
         &mut self,
         block: Block,
@@ -114,17 +115,25 @@ impl Follower {
         Ok(())
     }
 
+    // Makes the call of this action; `rest` is what stands behind it.
+    fn call(&mut self, verb: &str, a: ActionId, rest: &str) -> Result<Told, Difference> {
+        let gap = if rest.is_empty() { "" } else { " " };
+        let text = format!(in self.heap; "{verb} a{}{gap}{rest}", a.0)?;
+        self.checked.call(text.as_str())
+    }
+
     // Begins an action of this kind, within the action if there is one.
     fn begin(&mut self, kind: Kind) -> Result<Option<ActionId>, Difference> {
-        let call = match (kind, self.action()) {
-            (Kind::Top, None) => Call::BeginTop,
-            (Kind::Top, Some(a)) => Call::BeginNested(a),
-            (Kind::Sub, Some(a)) => Call::BeginSub(a),
-            (Kind::Sub, None) => return Ok(None),
+        let told = match (kind, self.action()) {
+            (Kind::Top, None) => self.checked.call("begin_top")?,
+            (Kind::Top, Some(a)) => self.call("begin_nested", a, "")?,
+            (Kind::Sub, Some(a)) => self.call("begin_sub", a, "")?,
+            (Kind::Sub, None) => Told::Over,
         };
-        match self.checked.call(call)? {
-            Reply::Begun(a) => Ok(Some(a)),
-            Reply::Object(_) | Reply::Answered(_) | Reply::Refused(_) => Ok(None),
+        match told {
+            Told::Begun(a) => Ok(Some(a)),
+            Told::Yes | Told::Done | Told::Over | Told::Refused => Ok(None),
+            Told::Another | Told::Nothing => Ok(None),
         }
     }
 
@@ -133,13 +142,17 @@ impl Follower {
         self.push(Block::Enter, begun, begun.is_some())
     }
 
-    // Begins the arms of the coenter that this line opens, in order.
+    // Begins the arms of the coenter that this line opens, in order, where its line is run.
     fn begin_arms(&mut self, lines: &[Line], number: usize) -> Result<(), Difference> {
-        let mut begun = Vec::new(self.heap);
+        let (action, runs) = (self.action(), self.runs());
+        let place = self.waiting.len();
         let mut depth = 0u32;
         for line in lines.iter().skip(number).skip(1) {
             match line {
-                Line::Arm(kind) if depth == 0 => begun.push(self.begin(*kind)?)?,
+                Line::Arm(kind) if depth == 0 && runs => {
+                    let begun = self.begin(*kind)?;
+                    self.wait_at(place, begun)?;
+                }
                 Line::Enter(_) | Line::Coenter | Line::If(_, _) => depth = depth.saturating_add(1),
                 Line::End if depth == 0 => break,
                 Line::End => depth = depth.saturating_sub(1),
@@ -147,8 +160,13 @@ impl Follower {
                 Line::Leave | Line::AbortLeave | Line::LeaveAll => {}
             }
         }
-        for arm in begun.iter().rev() {
-            self.waiting.push(*arm)?;
+        self.push(Block::Coenter, action, runs)
+    }
+
+    // The arm waits before those that were begun earlier.
+    fn wait_at(&mut self, place: usize, begun: Option<ActionId>) -> Result<(), Difference> {
+        if place <= self.waiting.len() {
+            self.waiting.insert(place, begun)?;
         }
         Ok(())
     }
@@ -156,30 +174,31 @@ impl Follower {
     // Ends the arm before this one, and runs this one if it was begun.
     fn next_arm(&mut self) -> Result<(), Difference> {
         self.end_arm()?;
-        let arm = if self.runs() { self.waiting.pop().unwrap_or(None) } else { None };
+        let arm = if self.runs() {
+            self.waiting.pop().unwrap_or(None)
+        } else {
+            None
+        };
         self.push(Block::Arm, arm, arm.is_some())
     }
 
     fn end_arm(&mut self) -> Result<(), Difference> {
-        match self.open.last() {
-            Some(open) if open.block == Block::Arm => self.close(),
+        match self.open.last().copied() {
+            Some(
+                Open {
+                    block: Block::Arm,
+                    ..
+                },
+            ) => self.close(),
             Some(_) | None => Ok(()),
         }
     }
 
-    fn end(&mut self) -> Result<(), Difference> {
-        self.end_arm()?;
-        self.close()
-    }
-
     // Closes the innermost block: an `enter` block or an arm that has come to its end commits.
     fn close(&mut self) -> Result<(), Difference> {
-        if let Some(open) = self.open.last().copied()
-            && let Some(a) = open.action
-            && open.runs
-        {
+        if let Some(open) = self.open.last().copied() {
             match open.block {
-                Block::Enter | Block::Arm => self.leave(a)?,
+                Block::Enter | Block::Arm => self.leave("commit")?,
                 Block::Coenter | Block::If => {}
             }
         }
@@ -187,68 +206,55 @@ impl Follower {
         Ok(())
     }
 
-    fn leave(&mut self, a: ActionId) -> Result<(), Difference> {
-        let reply = self.checked.call(Call::Commit(a))?;
-        self.heed(a, &reply)?;
-        self.end_block();
+    // Ends the innermost `enter` block or arm by this call. Where a commit is refused it aborts.
+    fn leave(&mut self, verb: &str) -> Result<(), Difference> {
+        if let Some(a) = self.running() {
+            let told = self.call(verb, a, "")?;
+            self.heed(a, told)?;
+            self.end_block();
+        }
         Ok(())
     }
 
-    fn test(&mut self, writes: bool, o: ObjId) -> Result<(), Difference> {
+    fn leave_all(&mut self) -> Result<(), Difference> {
+        if let Some(a) = self.running() {
+            let told = self.call("abort_others", a, "")?;
+            self.heed(a, told)?;
+        }
+        self.leave("commit")
+    }
+
+    fn test(&mut self, writes: bool, o: u32) -> Result<(), Difference> {
         let action = self.action();
-        let (Some(a), true) = (action, self.runs()) else {
+        let Some(a) = self.running() else {
             return self.push(Block::If, action, false);
         };
-        let call = if writes { Call::TestWrite(a, o) } else { Call::TestRead(a, o) };
-        let reply = self.checked.call(call)?;
-        let is_yes = matches!(&reply, Reply::Answered(Answer::Flag(true)));
-        self.heed(a, &reply)?;
-        self.push(Block::If, Some(a), is_yes)
+        let verb = if writes { "test_write" } else { "test_read" };
+        let rest = if o == 0 { "o0" } else { "o1" };
+        let told = self.call(verb, a, rest)?;
+        self.heed(a, told)?;
+        self.push(Block::If, action, matches!(told, Told::Yes))
     }
 
-    // A step that makes calls of the action around it.
-    fn step(&mut self, line: Line) -> Result<(), Difference> {
-        let (Some(a), true) = (self.action(), self.runs()) else {
-            return Ok(());
-        };
-        match line {
-            Line::Access(place) => self.access(a, place),
-            Line::Leave => self.leave(a),
-            Line::AbortLeave => {
-                let _reply = self.checked.call(Call::Abort(a))?;
-                self.end_block();
-                Ok(())
-            }
-            Line::LeaveAll => self.leave_all(a),
-            Line::Declare(_) | Line::Enter(_) | Line::Coenter | Line::Arm(_) => Ok(()),
-            Line::If(_, _) | Line::End => Ok(()),
+    fn access(&mut self, place: u32) -> Result<(), Difference> {
+        if let Some(a) = self.running() {
+            let (verb, rest) = first_word(access(place).1);
+            let told = self.call(verb, a, rest)?;
+            self.heed(a, told)?;
         }
-    }
-
-    fn access(&mut self, a: ActionId, place: u32) -> Result<(), Difference> {
-        let (verb, rest) = first_word(access(place).1);
-        let text = format!(in self.heap; "{verb} a{} {rest}", a.0)?;
-        let reply = self.checked.call(call_of(self.heap, text.as_str())?)?;
-        self.heed(a, &reply)
-    }
-
-    fn leave_all(&mut self, a: ActionId) -> Result<(), Difference> {
-        let reply = self.checked.call(Call::AbortOthers(a))?;
-        if let Reply::Refused(_) = &reply {
-            return self.heed(a, &reply);
-        }
-        self.leave(a)
+        Ok(())
     }
 
     // What is refused ends the block, by an abort unless its action is over or was never begun.
-    fn heed(&mut self, a: ActionId, reply: &Reply) -> Result<(), Difference> {
-        let Reply::Refused(refusal) = reply else {
-            return Ok(());
-        };
-        if *refusal != Refusal::NoAction && *refusal != Refusal::Over {
-            let _reply = self.checked.call(Call::Abort(a))?;
+    fn heed(&mut self, a: ActionId, told: Told) -> Result<(), Difference> {
+        match told {
+            Told::Refused => {
+                let _told = self.call("abort", a, "")?;
+                self.end_block();
+            }
+            Told::Over => self.end_block(),
+            Told::Begun(_) | Told::Yes | Told::Done | Told::Another | Told::Nothing => {}
         }
-        self.end_block();
         Ok(())
     }
 
@@ -257,8 +263,9 @@ impl Follower {
         for place in (0..self.open.len()).rev() {
             if let Some(open) = self.open.get_mut(place) {
                 open.runs = false;
-                if open.block == Block::Enter || open.block == Block::Arm {
-                    return;
+                match open.block {
+                    Block::Enter | Block::Arm => return,
+                    Block::Coenter | Block::If => {}
                 }
             }
         }

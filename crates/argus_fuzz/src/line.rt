@@ -27,14 +27,14 @@ pub(crate) const ACCESSES: [(&str, &str); 14] = [
 
 /// Which action a block or an arm begins: a topaction, a nested one within an action, or a
 /// subaction.
-#[derive(Clone, Copy, Debug, PartialEq, Eq)]
+#[derive(Clone, Copy)]
 pub(crate) enum Kind {
     Top,
     Sub,
 }
 
 /// A line of a script.
-#[derive(Clone, Copy, Debug, PartialEq, Eq)]
+#[derive(Clone, Copy)]
 pub(crate) enum Line {
     Declare(u32),
     Enter(Kind),

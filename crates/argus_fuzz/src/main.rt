@@ -19,17 +19,19 @@ mod line;
 mod script_trial;
 mod sequence;
 mod story;
+mod told;
 
 use anyhow::{Result, ensure};
 use argus_memory::{Budget, Heap, Limited};
+use difference::Difference;
 use script_trial::run_script;
 use sequence::Sequence;
-use std::env;
-use std::io;
 use std::io::Print;
+use std::{env, io};
 
 // How many are tried where nothing else is said.
 const SEQUENCES: u64 = 500;
+
 const SCRIPTS: u64 = 500;
 
 // The heaps in which all is tried, and the budget of the tight one.
@@ -68,28 +70,39 @@ fn number_in(word: Option<String>, otherwise: u64) -> Result<u64> {
     }
 }
 
-// Answers how many show a difference.
+// Tries so many, and tells each that shows a difference. Answers how many do.
 fn try_sequences(rt: &impl Print, heaps: Heaps, count: u64, first: u64) -> io::Result<u64> {
     let mut wrong = 0u64;
     for number in 0..count {
         let seed = first.wrapping_add(number);
-        let mut sequence = Sequence::new(heaps.heap, heaps.tight, heaps.budget, seed);
-        if let Err(difference) = sequence.run() {
+        if let Some((call, difference)) = difference_in(heaps, seed) {
             wrong = wrong.saturating_add(1);
-            println!(rt; "sequence with seed {seed}, call {}: {difference:?}", sequence.calls)?;
+            println!(rt;
+                "sequence with seed {seed}, call {call}: {}",
+                difference.as_str()
+            )?;
         }
     }
     Ok(wrong)
 }
 
-// Answers how many show a difference.
+// The first difference in the sequence of this seed, with the number of its call.
+fn difference_in(heaps: Heaps, seed: u64) -> Option<(u32, Difference)> {
+    let mut sequence = Sequence::new(heaps.heap, heaps.tight, heaps.budget, seed);
+    match sequence.run() {
+        Ok(()) => None,
+        Err(difference) => Some((sequence.calls, difference)),
+    }
+}
+
+// Tries so many, and tells each that shows a difference. Answers how many do.
 fn try_scripts(rt: &impl Print, heaps: Heaps, count: u64, first: u64) -> io::Result<u64> {
     let mut wrong = 0u64;
     for number in 0..count {
         let seed = first.wrapping_add(number);
         if let Err(difference) = run_script(heaps.heap, heaps.tight, heaps.budget, seed) {
             wrong = wrong.saturating_add(1);
-            println!(rt; "script with seed {seed}: {difference:?}")?;
+            println!(rt; "script with seed {seed}: {}", difference.as_str())?;
         }
     }
     Ok(wrong)

@@ -36,7 +36,10 @@ pub(crate) fn run_script(
     let wanted = follower.checked.guardian.journal().journal();
     compare_journals(guardian.journal().journal(), wanted)?;
     let told = told_lines(heap, wanted)?;
-    must(writer.get_ref().as_slice() == told.as_bytes(), Difference::Lines)
+    must(
+        writer.get_ref().as_slice() == told.as_bytes(),
+        Difference::Lines,
+    )
 }
 
 fn compare_journals(journal: &Journal, wanted: &Journal) -> Result<(), Difference> {

@@ -4,11 +4,11 @@ ghost use Rattle.std.specs.Prelude.{◌≡◌, true};
 ghost use Rattle.argus_contents.specs.Content.{KeepsLimits, plain_option};
 
 use crate::access::Access;
-use crate::family::Family;
 use crate::difference::Difference;
+use crate::family::Family;
 use argus_actions::ActionId;
 use argus_contents::limits::MAX_OBJECTS;
-use argus_contents::{Answer, Change, Content, ObjId, Shape, alter, fits};
+use argus_contents::{Change, Content, ObjId, Shape, alter, fits};
 use argus_entries::{Call, Reply};
 use argus_journal::{Journal, Owner};
 use argus_memory::{Heap, OutOfMemory};
@@ -105,8 +105,7 @@ pub(crate) fn seen(
     let mut content = opening_content(heap, journal, o)?;
     for at in journal.first_entry()..journal.len() {
         if let Some(change) = kept_by(journal, family, at, o, reader) {
-            let (left, _answer) = altered(heap, journal, o, &content, change)?;
-            content = left;
+            content = altered(heap, journal, o, &content, change)?;
         }
     }
     Ok(content)
@@ -123,16 +122,17 @@ fn opening_content(
     }
 }
 
-/// What the change leaves of the object's content, and what it answers.
-pub(crate) fn altered(
+// What the change leaves of the object's content.
+fn altered(
     heap: Heap,
     journal: &Journal,
     o: ObjId,
     content: &Option<Content>,
     change: &Change,
-) -> Result<(Option<Content>, Answer), Difference> {
+) -> Result<Option<Content>, Difference> {
     if is_fit(journal, o, content) {
-        Ok(alter(heap, content, change)?)
+        let (left, _answer) = alter(heap, content, change)?;
+        Ok(left)
     } else {
         Err(Difference::Unfit)
     }
@@ -163,10 +163,7 @@ fn kept_by<'a>(
     let entry = journal.get(at)?;
     match (&entry.call, &entry.reply) {
         (Call::Alter(a, object, change), Reply::Answered(_))
-            if *object == o && counts(family, *a, reader) =>
-        {
-            Some(change)
-        }
+            if *object == o && counts(family, *a, reader) => { Some(change) }
         _ => None,
     }
 }
