@@ -112,7 +112,11 @@ impl Checked {
 // What is told by the answer, where it is the one that is wanted.
 fn told_as(answer: Result<Reply, OutOfMemory>, wanted: &Reply) -> Told {
     match answer {
-        Ok(reply) => if reply == *wanted { Told::of(wanted) } else { Told::Another },
+        Ok(reply) => if reply == *wanted {
+            Told::of(wanted)
+        } else {
+            Told::Another
+        },
         Err(OutOfMemory) => Told::Nothing,
     }
 }

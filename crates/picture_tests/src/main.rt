@@ -1,14 +1,12 @@
 //! Listings by rows: whether a picture is drawn of each, or which line is faulty; then each
-//! allocation is refused in turn, and then the writer is full after some bytes.
+//! allocation is refused in turn.
 #![tactic(auto)]
 
 use anyhow::{Result, bail, ensure};
 use argus_memory::{Budget, Heap, Limited};
-use argus_picture::{DrawError, PictureError, draw, picture};
-use argus_streams::Watched;
+use argus_picture::{DrawError, PictureError, picture};
 use std::alloc::Global;
 use std::fs;
-use test_rows::Full;
 
 // More allocations than a picture of any row takes.
 const MANY: u64 = 10_000;
@@ -21,7 +19,6 @@ fn main(rt: HostRuntime) -> Result<()> {
             let listing = listing_of(rt.alloc(), row)?;
             check_row(rt.alloc(), listing.as_str(), wanted)?;
             check_memory(rt.alloc(), listing.as_bytes())?;
-            check_writer(rt.alloc(), listing.as_bytes())?;
             rows = rows.saturating_add(1);
         }
     }
@@ -59,65 +56,32 @@ fn check_row(alloc: Global, listing: &str, wanted: &str) -> Result<()> {
     Ok(())
 }
 
-// Checks that want of memory is told, whichever allocation is the first to be refused, with nothing
-// written, and that otherwise the answer is as with ample memory.
+// Checks that want of memory is told, whichever allocation is the first to be refused, and that
+// otherwise the answer is as with ample memory.
 fn check_memory(alloc: Global, listing: &[u8]) -> Result<()> {
-    let heap = Heap::new(alloc)?;
-    let wanted = picture(heap, listing);
+    let wanted = picture(Heap::new(alloc)?, listing);
     let budget = Budget::new(alloc)?;
-    let tight = Limited::with_budget(alloc, budget);
     for allowed in 0..MANY {
-        let mut reader = Watched::new(listing);
-        let mut writer = Watched::new(Vec::new(heap));
         budget.allow(allowed);
-        let answer = draw(tight, &mut reader, &mut writer);
-        if answer != Err(DrawError::OutOfMemory) {
-            ensure!(
-                is_same(answer, writer.get_ref().as_slice(), &wanted),
-                "another answer"
-            );
-            return Ok(());
+        match picture(Limited::with_budget(alloc, budget), listing) {
+            Err(PictureError::OutOfMemory) => {}
+            answer => {
+                ensure!(is_same(&answer, &wanted), "another answer");
+                return Ok(());
+            }
         }
-        ensure!(writer.get_ref().is_empty(), "a picture without memory");
     }
     bail!("there is never enough memory")
 }
 
-// Whether this was answered and written as is wanted.
+// Whether two answers are the same.
 fn is_same(
-    answer: Result<(), DrawError>,
-    written: &[u8],
+    answer: &Result<String<Heap>, PictureError>,
     wanted: &Result<String<Heap>, PictureError>,
 ) -> bool {
     match (answer, wanted) {
-        (Ok(()), Ok(text)) => written == text.as_bytes(),
-        (Err(DrawError::Fault(fault)), Err(PictureError::Fault(other))) => {
-            fault == *other && written.is_empty()
-        }
-        _ => false,
+        (Ok(text), Ok(other)) => text.as_str() == other.as_str(),
+        (Err(error), Err(other)) => error == other,
+        (Ok(_), Err(_)) | (Err(_), Ok(_)) => false,
     }
-}
-
-// Checks that a full writer's fault is told, and that it isn't tried again.
-fn check_writer(alloc: Global, listing: &[u8]) -> Result<()> {
-    let heap = Heap::new(alloc)?;
-    for room in 0..9usize {
-        let mut reader = Watched::new(listing);
-        let mut writer = Watched::new(Full {
-            taken: Vec::new(heap),
-            room,
-            fails: room % 2 == 0,
-            writes_behind: 0,
-        });
-        let answer = draw(heap, &mut reader, &mut writer);
-        if !matches!(answer, Err(DrawError::Fault(_))) {
-            ensure!(answer == Err(DrawError::Write), "another fault");
-            ensure!(writer.get_ref().taken.len() == room, "bytes are lacking");
-            ensure!(
-                writer.get_ref().writes_behind == 1,
-                "a write was tried again"
-            );
-        }
-    }
-    Ok(())
 }
