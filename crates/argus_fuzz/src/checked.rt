@@ -1,0 +1,122 @@
+//! `Checked`: a guardian of which each call is held against the definitions.
+
+use crate::answering::answer_to;
+use crate::comparing::{compare_audits, compare_objects};
+use crate::difference::{Difference, must};
+use crate::family::Family;
+use crate::told::Told;
+use argus_entries::{Call, Reply};
+use argus_guardian::{CheckpointError, Guardian};
+use argus_memory::{Budget, Heap, OutOfMemory};
+use test_rows::call_of;
+
+/// A guardian of which each call is held against the definitions, worked out anew from its journal.
+///
+/// ```text
+/// let mut checked = Checked::new(heap, tight, budget);
+/// let told = checked.call("begin_top")?;
+/// ```
+#[derive(Drop)]
+pub(crate) struct Checked {
+    // Always has memory: for what is worked out.
+    heap: Heap,
+    // That of the guardian's heap.
+    budget: Budget,
+    pub(crate) guardian: Guardian,
+}
+
+impl Checked {
+    pub(crate) fn new(heap: Heap, tight: Heap, budget: Budget) -> Checked {
+        Checked {
+            heap,
+            budget,
+            guardian: Guardian::new(tight),
+        }
+    }
+
+    /// What its entries say of actions.
+    pub(crate) fn family(&self) -> Result<Family, OutOfMemory> {
+        Family::of(self.heap, self.guardian.journal().journal())
+    }
+
+    /// Makes the call, which is spelled as in a journal's line. The reply has to be the one that
+    /// the journal before it gives, and the objects have to be as the journal behind it tells.
+    pub(crate) fn call(&mut self, text: &str) -> Result<Told, Difference> {
+        match self.call_within(u64::MAX, text)? {
+            Told::Nothing => Err(Difference::Memory),
+            told => Ok(told),
+        }
+    }
+
+    /// The same with so many allocations; `Nothing` where these aren't enough, and all is as before.
+    pub(crate) fn call_within(&mut self, allowed: u64, text: &str) -> Result<Told, Difference> {
+        let call = call_of(self.heap, text)?;
+        let wanted = self.answer(&call)?;
+        let before = self.length();
+        self.budget.allow(allowed);
+        let answer = self.guardian.call(call);
+        self.budget.lift();
+        let told = told_as(answer, &wanted);
+        let added = if let Told::Nothing = told { 0 } else { 1 };
+        must(
+            self.length() == before.saturating_add(added),
+            Difference::Entries,
+        )?;
+        self.compare()?;
+        match told {
+            Told::Another => Err(Difference::Reply),
+            told => Ok(told),
+        }
+    }
+
+    // The number of the next entry.
+    fn length(&self) -> u64 {
+        self.guardian.journal().journal().len()
+    }
+
+    fn answer(&self, call: &Call) -> Result<Reply, Difference> {
+        let family = self.family()?;
+        answer_to(self.heap, self.guardian.journal().journal(), &family, call)
+    }
+
+    fn compare(&self) -> Result<(), Difference> {
+        compare_objects(self.heap, &self.guardian, &self.family()?)
+    }
+
+    /// Makes a checkpoint where no action is live.
+    pub(crate) fn checkpoint(&mut self) -> Result<(), Difference> {
+        let family = self.family()?;
+        let is_quiet = family.count_live(false) == 0;
+        let next_entry = self.length();
+        let made = self.guardian.checkpoint();
+        match made {
+            Ok(()) => must(is_quiet, Difference::Checkpoint)?,
+            Err(CheckpointError::Busy) => must(!is_quiet, Difference::Checkpoint)?,
+            Err(CheckpointError::Full) => return Err(Difference::Checkpoint),
+            Err(CheckpointError::OutOfMemory) => return Err(Difference::Memory),
+        }
+        let journal = self.guardian.journal().journal();
+        let is_folded = journal.first_entry() == next_entry
+            && journal.first_action() == family.next();
+        must(is_folded || !is_quiet, Difference::Checkpoint)?;
+        must(self.length() == next_entry, Difference::Entries)?;
+        self.compare()
+    }
+
+    /// The audits of its journal.
+    pub(crate) fn audit(&self) -> Result<(), Difference> {
+        compare_audits(self.heap, &self.guardian, &self.family()?)
+    }
+}
+
+// What is told by the answer, where it is the one that is wanted.
+fn told_as(answer: Result<Reply, OutOfMemory>, wanted: &Reply) -> Told {
+    match answer {
+        Ok(reply) => if reply == *wanted {
+            Told::of(wanted)
+        } else {
+            Told::Another
+        },
+        Err(OutOfMemory) => Told::Nothing,
+    }
+}

@@ -1,0 +1,99 @@
+//! `Difference`: what is another than the definitions say.
+
+use argus_commands::ParseError;
+use argus_memory::OutOfMemory;
+use argus_runs::RunFault;
+use std::alloc::{AllocError, AllocFailed};
+use test_rows::RowFault;
+
+/// What is another than the definitions say.
+#[derive(Clone, Copy)]
+pub(crate) enum Difference {
+    /// Of a call: its reply, or the entries that it adds.
+    Reply,
+    Entries,
+    /// Of an object: what it was declared as, what is there for good, who holds it, their versions.
+    Shape,
+    Base,
+    Readers,
+    Writers,
+    Version,
+    /// A content doesn't fit its shape.
+    Unfit,
+    /// Whether a lock could be had.
+    Free,
+    /// What the journal's audits tell.
+    Owner,
+    Replay,
+    /// Whether a checkpoint is made, and what it leaves.
+    Checkpoint,
+    /// A call without memory has changed something, or one with memory hasn't got it.
+    Memory,
+    /// A call or a script isn't read as it was made, or its run makes other calls.
+    Script,
+    /// The lines of a run.
+    Lines,
+}
+
+impl Difference {
+    pub(crate) fn as_str(self) -> &'static str {
+        match self {
+            Difference::Reply => "another reply",
+            Difference::Entries => "other entries",
+            Difference::Shape => "another shape",
+            Difference::Base => "another base",
+            Difference::Readers => "other readers",
+            Difference::Writers => "other writers",
+            Difference::Version => "another version",
+            Difference::Unfit => "a content that doesn't fit",
+            Difference::Free => "a lock is told otherwise",
+            Difference::Owner => "another owner",
+            Difference::Replay => "another replay",
+            Difference::Checkpoint => "another checkpoint",
+            Difference::Memory => "memory",
+            Difference::Script => "another script",
+            Difference::Lines => "other lines",
+        }
+    }
+}
+
+/// Nothing, where it holds.
+pub(crate) fn must(holds: bool, difference: Difference) -> Result<(), Difference> {
+    if holds { Ok(()) } else { Err(difference) }
+}
+
+impl From<OutOfMemory> for Difference {
+    fn from(_refused: OutOfMemory) -> Difference {
+        Difference::Memory
+    }
+}
+
+impl From<AllocError> for Difference {
+    fn from(_refused: AllocError) -> Difference {
+        Difference::Memory
+    }
+}
+
+impl<T: Drop> From<AllocFailed<T>> for Difference {
+    fn from(_refused: AllocFailed<T>) -> Difference {
+        Difference::Memory
+    }
+}
+
+impl From<RowFault> for Difference {
+    fn from(_fault: RowFault) -> Difference {
+        Difference::Script
+    }
+}
+
+impl From<ParseError> for Difference {
+    fn from(_fault: ParseError) -> Difference {
+        Difference::Script
+    }
+}
+
+impl From<RunFault> for Difference {
+    fn from(_fault: RunFault) -> Difference {
+        Difference::Lines
+    }
+}

@@ -1,0 +1,88 @@
+//! `Line`: a line of a script, and what it says.
+
+use argus_memory::{Heap, OutOfMemory};
+use std::fmt::Write;
+
+/// How many objects a script declares.
+pub(crate) const OBJECTS: u32 = 2;
+
+/// The accesses of scripts, as their lines say them and as calls do; each object is a record with
+/// the one field `n`.
+pub(crate) const ACCESSES: [(&str, &str); 14] = [
+    ("create x0 {1}", "alter o0 create {1}"),
+    ("create x1 {2}", "alter o1 create {2}"),
+    ("create x0 {3}", "alter o0 create {3}"),
+    ("create x1 {4}", "alter o1 create {4}"),
+    ("set x0 n 5", "alter o0 set_field 0 5"),
+    ("set x1 n 6", "alter o1 set_field 0 6"),
+    ("set x0 n 7", "alter o0 set_field 0 7"),
+    ("set x1 n \"\"", "alter o1 set_field 0 \"\""),
+    ("get x0 n", "ask o0 field 0"),
+    ("get x1 n", "ask o1 field 0"),
+    ("read x0", "ask o0 whole"),
+    ("read x1", "ask o1 whole"),
+    ("touch x0", "alter o0 touch"),
+    ("touch x1", "alter o1 touch"),
+];
+
+/// Which action a block or an arm begins: a topaction, a nested one within an action, or a
+/// subaction.
+#[derive(Clone, Copy)]
+pub(crate) enum Kind {
+    Top,
+    Sub,
+}
+
+/// A line of a script.
+#[derive(Clone, Copy)]
+pub(crate) enum Line {
+    Declare(u32),
+    Enter(Kind),
+    Coenter,
+    Arm(Kind),
+    /// Whether it is the lock for writing that is tested, and of which object.
+    If(bool, u32),
+    /// One of the accesses, by its place.
+    Access(u32),
+    Leave,
+    AbortLeave,
+    LeaveAll,
+    End,
+}
+
+/// The lines as a script's text.
+pub(crate) fn text_of(heap: Heap, lines: &[Line]) -> Result<String<Heap>, OutOfMemory> {
+    let mut out = String::new(heap);
+    for line in lines {
+        say(*line, &mut out)?;
+        out.push_str("\n")?;
+    }
+    Ok(out)
+}
+
+fn say(line: Line, out: &mut String<Heap>) -> Result<(), OutOfMemory> {
+    match line {
+        Line::Declare(o) => write!(out, "declare x{o} atomic_record[n:int]")?,
+        Line::Enter(Kind::Top) => out.push_str("enter topaction")?,
+        Line::Enter(Kind::Sub) => out.push_str("enter action")?,
+        Line::Coenter => out.push_str("coenter")?,
+        Line::Arm(Kind::Top) => out.push_str("topaction")?,
+        Line::Arm(Kind::Sub) => out.push_str("action")?,
+        Line::If(true, o) => write!(out, "if test_write x{o}")?,
+        Line::If(false, o) => write!(out, "if test_read x{o}")?,
+        Line::Access(place) => out.push_str(access(place).0)?,
+        Line::Leave => out.push_str("leave")?,
+        Line::AbortLeave => out.push_str("abort leave")?,
+        Line::LeaveAll => out.push_str("leave all")?,
+        Line::End => out.push_str("end")?,
+    }
+    Ok(())
+}
+
+/// The access at this place.
+pub(crate) fn access(place: u32) -> (&'static str, &'static str) {
+    match ACCESSES.get(place as usize) {
+        Some(access) => *access,
+        None => ("touch x0", "alter o0 touch"),
+    }
+}

@@ -1,0 +1,109 @@
+//! Calls and scripts as if by chance: `argus_fuzz SEQUENCES SCRIPTS SEED`.
+//!
+//! Each sequence of calls and each script has a seed of its own, from the one given on. What a
+//! guardian answers and tells is held against the definitions, worked out anew from its journal. A
+//! seed that shows a difference is told, and the status is then 1.
+#![tactic(auto)]
+
+mod access;
+mod answering;
+mod call_making;
+mod chance;
+mod checked;
+mod comparing;
+mod difference;
+mod draft;
+mod family;
+mod follower;
+mod line;
+mod script_trial;
+mod sequence;
+mod story;
+mod told;
+
+use anyhow::{Result, ensure};
+use argus_memory::{Budget, Heap, Limited};
+use difference::Difference;
+use script_trial::run_script;
+use sequence::Sequence;
+use std::io::Print;
+use std::{env, io};
+
+// How many are tried where nothing else is said.
+const SEQUENCES: u64 = 500;
+
+const SCRIPTS: u64 = 500;
+
+// The heaps in which all is tried, and the budget of the tight one.
+#[derive(Clone, Copy)]
+struct Heaps {
+    heap: Heap,
+    tight: Heap,
+    budget: Budget,
+}
+
+fn main(rt: HostRuntime) -> Result<()> {
+    let mut words = env::args(&rt)?;
+    let _program = words.next();
+    let sequences = number_in(words.next(), SEQUENCES)?;
+    let scripts = number_in(words.next(), SCRIPTS)?;
+    let seed = number_in(words.next(), 1)?;
+    let budget = Budget::new(rt.alloc())?;
+    let heaps = Heaps {
+        heap: Heap::new(rt.alloc())?,
+        tight: Limited::with_budget(rt.alloc(), budget),
+        budget,
+    };
+    let calls = try_sequences(&rt, heaps, sequences, seed)?;
+    println!(rt; "call sequences: {sequences}, {calls} with a difference")?;
+    let runs = try_scripts(&rt, heaps, scripts, seed)?;
+    println!(rt; "scripts: {scripts}, {runs} with a difference")?;
+    ensure!(calls == 0 && runs == 0, "there are differences");
+    Ok(())
+}
+
+// The number that the word is; `otherwise` where there is none.
+fn number_in(word: Option<String>, otherwise: u64) -> Result<u64> {
+    match word {
+        Some(word) => Ok(word.as_str().parse::<u64>()?),
+        None => Ok(otherwise),
+    }
+}
+
+// Tries so many, and tells each that shows a difference. Answers how many do.
+fn try_sequences(rt: &impl Print, heaps: Heaps, count: u64, first: u64) -> io::Result<u64> {
+    let mut wrong = 0u64;
+    for number in 0..count {
+        let seed = first.wrapping_add(number);
+        if let Some((call, difference)) = difference_in(heaps, seed) {
+            wrong = wrong.saturating_add(1);
+            println!(rt;
+                "sequence with seed {seed}, call {call}: {}",
+                difference.as_str()
+            )?;
+        }
+    }
+    Ok(wrong)
+}
+
+// The first difference in the sequence of this seed, with the number of its call.
+fn difference_in(heaps: Heaps, seed: u64) -> Option<(u32, Difference)> {
+    let mut sequence = Sequence::new(heaps.heap, heaps.tight, heaps.budget, seed);
+    match sequence.run() {
+        Ok(()) => None,
+        Err(difference) => Some((sequence.calls, difference)),
+    }
+}
+
+// Tries so many, and tells each that shows a difference. Answers how many do.
+fn try_scripts(rt: &impl Print, heaps: Heaps, count: u64, first: u64) -> io::Result<u64> {
+    let mut wrong = 0u64;
+    for number in 0..count {
+        let seed = first.wrapping_add(number);
+        if let Err(difference) = run_script(heaps.heap, heaps.tight, heaps.budget, seed) {
+            wrong = wrong.saturating_add(1);
+            println!(rt; "script with seed {seed}: {}", difference.as_str())?;
+        }
+    }
+    Ok(wrong)
+}

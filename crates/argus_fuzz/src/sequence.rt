@@ -1,0 +1,91 @@
+//! `Sequence`: calls as if by chance, made to two guardians.
+
+use crate::call_making::{DEEP, add_call};
+use crate::chance::Chance;
+use crate::checked::Checked;
+use crate::comparing::{compare_guardians, compare_tests};
+use crate::difference::Difference;
+use crate::told::Told;
+use argus_actions::ActionId;
+use argus_contents::ObjId;
+use argus_memory::{Budget, Heap};
+
+/// Calls as if by chance, made to two guardians that are held against the definitions. One of them
+/// is never checkpointed; of the other the journal is folded now and then, and allocations are
+/// refused. Their replies and bases have to be the same.
+///
+/// ```text
+/// let mut sequence = Sequence::new(heap, tight, budget, 1);
+/// sequence.run()?;
+/// ```
+#[derive(Drop)]
+pub(crate) struct Sequence {
+    heap: Heap,
+    chance: Chance,
+    whole: Checked,
+    folded: Checked,
+    /// How many calls were begun.
+    pub(crate) calls: u32,
+}
+
+impl Sequence {
+    /// The budget is that of the tight heap.
+    pub(crate) fn new(heap: Heap, tight: Heap, budget: Budget, seed: u64) -> Sequence {
+        Sequence {
+            heap,
+            chance: Chance::new(seed),
+            whole: Checked::new(heap, tight, budget),
+            folded: Checked::new(heap, tight, budget),
+            calls: 0,
+        }
+    }
+
+    /// Makes some ten calls; seldom a hundred, most of which begin an action below the last one.
+    pub(crate) fn run(&mut self) -> Result<(), Difference> {
+        let (length, crowd) = if self.chance.once_in(50) {
+            (100, DEEP)
+        } else {
+            (20 + self.chance.below(50), 1 + self.chance.below(7))
+        };
+        for _ in 0..length {
+            self.step(crowd)?;
+        }
+        self.whole.audit()?;
+        self.folded.audit()
+    }
+
+    fn step(&mut self, crowd: u32) -> Result<(), Difference> {
+        self.calls = self.calls.saturating_add(1);
+        if self.chance.once_in(8) {
+            self.folded.checkpoint()?;
+        }
+        let mut text = String::new(self.heap);
+        self.add_call(crowd, &mut text)?;
+        let _told = self.whole.call(text.as_str())?;
+        self.call_folded(text.as_str())?;
+        compare_guardians(&self.whole.guardian, &self.folded.guardian)
+    }
+
+    // Adds the next call, and asks whether an action could have the locks of an object.
+    fn add_call(&mut self, crowd: u32, text: &mut String<Heap>) -> Result<(), Difference> {
+        let family = self.whole.family()?;
+        let journal = self.whole.guardian.journal().journal();
+        add_call(&mut self.chance, journal, &family, crowd, text)?;
+        let a = ActionId(self.chance.below(family.next()));
+        let o = ObjId(self.chance.below(5));
+        compare_tests(&self.whole.guardian, &family, a, o)
+    }
+
+    // Sometimes first with few allocations.
+    fn call_folded(&mut self, text: &str) -> Result<(), Difference> {
+        let allowed = if self.chance.once_in(4) {
+            u64::from(self.chance.below(4))
+        } else {
+            u64::MAX
+        };
+        if let Told::Nothing = self.folded.call_within(allowed, text)? {
+            let _told = self.folded.call(text)?;
+        }
+        Ok(())
+    }
+}

@@ -1,0 +1,36 @@
+#!/usr/bin/env bash
+# The program itself on streams that fail: a full device, closed streams, a folder for its input, and
+# a pipe that nobody reads. Each has to end with status 5, told on standard error.
+# The program has to be built (.ci/run or ./argus --prove leaves it). Needs /dev/full.
+set -u
+top=$(cd "$(dirname "$0")/.." && pwd)
+program=$top/crates/argus/out/argus
+script=$top/crates/argus_examples/data/account.argus
+told=$(mktemp)
+trap 'rm -f "$told"' EXIT
+# A write to a pipe that nobody reads is answered, and doesn't end the program.
+trap '' PIPE
+wrong=0
+
+# What is tried, the text that has to be told, and the status that came.
+check() {
+    if [ "$3" = 5 ] && [ "$(cat "$told")" = "$2" ]; then
+        echo "$1: $2"
+    else
+        echo "$1: status $3, $(cat "$told"); wanted: status 5, $2"
+        wrong=1
+    fi
+}
+
+"$program" < "$script" > /dev/full 2> "$told"
+check 'a full device' 'write fault' $?
+"$program" < "$script" >&- 2> "$told"
+check 'closed output' 'write fault' $?
+"$program" < / > /dev/null 2> "$told"
+check 'a folder as input' 'read fault' $?
+"$program" <&- > /dev/null 2> "$told"
+check 'closed input' 'read fault' $?
+{ sleep 1; "$program" < "$script" 2> "$told"; echo $? > "$told.status"; } | true
+check 'a pipe that nobody reads' 'write fault' "$(cat "$told.status")"
+rm -f "$told.status"
+exit $wrong
