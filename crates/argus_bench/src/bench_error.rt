@@ -3,6 +3,7 @@
 use argus_contents::{NameError, ShapeFault};
 use argus_memory::OutOfMemory;
 use std::alloc::{AllocError, AllocFailed};
+use std::io;
 use thiserror::Error;
 
 /// Why a run gave no figure.
@@ -22,8 +23,16 @@ pub(crate) enum BenchError {
     /// million actions at the most, so a run of too many turns ends so.
     #[error("a call wasn't answered as the run needs")]
     OtherReply,
+    #[error("the clock can't be read")]
+    NoClock,
     #[error("out of memory")]
     OutOfMemory,
+}
+
+impl From<io::Error> for BenchError {
+    fn from(_fault: io::Error) -> BenchError {
+        BenchError::NoClock
+    }
 }
 
 impl From<OutOfMemory> for BenchError {

@@ -1,36 +1,32 @@
-//! `Client`: who calls a guardian, and goes by its replies.
+//! `Client`: who makes calls, and goes by their replies.
 
 use crate::bench_error::BenchError;
+use crate::callee::Callee;
 use argus_actions::ActionId;
 use argus_contents::{Answer, Change, Content, Name, ObjId, Query, Shape, Ty, Value};
 use argus_entries::{Call, Reply};
-use argus_guardian::Guardian;
-use argus_journal::replay_base;
 use argus_memory::Heap;
 use std::collections::VecDeque;
 
-/// A guardian with the one who calls it, by values of `Call`. A reply of another kind than the call
-/// asks for is an error.
+/// A guardian, or a seat of a shared one, with the one who calls it by values of `Call`. A reply of
+/// another kind than the call asks for is an error.
 ///
 /// ```text
-/// let mut client = Client::new(heap);
+/// let mut client = Client::of(heap, Guardian::new(heap));
 /// let o = client.declare_record()?;
 /// let a = client.begin_top()?;
 /// client.set(a, o, 7)?;
 /// client.commit(a)?;
 /// ```
 #[derive(Drop)]
-pub(crate) struct Client {
-    heap: Heap,
-    guardian: Guardian,
+pub(crate) struct Client<K: Callee> {
+    pub(crate) heap: Heap,
+    pub(crate) callee: K,
 }
 
-impl Client {
-    pub(crate) fn new(heap: Heap) -> Client {
-        Client {
-            heap,
-            guardian: Guardian::new(heap),
-        }
+impl<K: Callee> Client<K> {
+    pub(crate) fn of(heap: Heap, callee: K) -> Client<K> {
+        Client { heap, callee }
     }
 
     pub(crate) fn begin_top(&mut self) -> Result<ActionId, BenchError> {
@@ -42,7 +38,7 @@ impl Client {
     }
 
     fn begin(&mut self, call: Call) -> Result<ActionId, BenchError> {
-        match self.guardian.call(call)? {
+        match self.callee.answer(call)? {
             Reply::Begun(a) => Ok(a),
             Reply::Object(_) | Reply::Answered(_) | Reply::Refused(_) => {
                 Err(BenchError::OtherReply)
@@ -56,6 +52,14 @@ impl Client {
 
     pub(crate) fn abort(&mut self, a: ActionId) -> Result<(), BenchError> {
         self.have_done(Call::Abort(a))
+    }
+
+    /// Locks the object for a change, once no action of another thread is in the way.
+    pub(crate) fn lock(&mut self, a: ActionId, o: ObjId) -> Result<(), BenchError> {
+        let reply = self
+            .callee
+            .answer_waiting(Call::Alter(a, o, Change::Touch))?;
+        is_done(reply)
     }
 
     /// Sets the integer of a record.
@@ -75,12 +79,8 @@ impl Client {
     }
 
     fn have_done(&mut self, call: Call) -> Result<(), BenchError> {
-        match self.guardian.call(call)? {
-            Reply::Answered(Answer::Done) => Ok(()),
-            Reply::Object(_) | Reply::Begun(_) | Reply::Answered(_) | Reply::Refused(_) => {
-                Err(BenchError::OtherReply)
-            }
-        }
+        let reply = self.callee.answer(call)?;
+        is_done(reply)
     }
 
     /// The integer of a record.
@@ -94,23 +94,11 @@ impl Client {
     }
 
     fn ask(&mut self, a: ActionId, o: ObjId, query: Query) -> Result<i64, BenchError> {
-        match self.guardian.call(Call::Ask(a, o, query))? {
+        match self.callee.answer(Call::Ask(a, o, query))? {
             Reply::Answered(Answer::Val(Value::Int(number))) => Ok(number),
             Reply::Object(_) | Reply::Begun(_) | Reply::Answered(_) | Reply::Refused(_) => {
                 Err(BenchError::OtherReply)
             }
-        }
-    }
-
-    /// The integer that the journal's writes leave in a record for good.
-    pub(crate) fn replay(&self, o: ObjId) -> Result<i64, BenchError> {
-        let replayed = replay_base(self.heap, self.guardian.journal().journal(), o)?;
-        let Some(Content::Rec(values)) = replayed else {
-            return Err(BenchError::OtherReply);
-        };
-        match values.first() {
-            Some(Value::Int(number)) => Ok(*number),
-            Some(_) | None => Err(BenchError::OtherReply),
         }
     }
 
@@ -134,7 +122,7 @@ impl Client {
     }
 
     fn declare(&mut self, shape: Shape, content: Content) -> Result<ObjId, BenchError> {
-        let o = match self.guardian.call(Call::Declare(shape))? {
+        let o = match self.callee.answer(Call::Declare(shape))? {
             Reply::Object(o) => o,
             Reply::Begun(_) | Reply::Answered(_) | Reply::Refused(_) => {
                 return Err(BenchError::OtherReply);
@@ -144,5 +132,14 @@ impl Client {
         self.have_done(Call::Alter(a, o, Change::Create(content)))?;
         self.commit(a)?;
         Ok(o)
+    }
+}
+
+fn is_done(reply: Reply) -> Result<(), BenchError> {
+    match reply {
+        Reply::Answered(Answer::Done) => Ok(()),
+        Reply::Object(_) | Reply::Begun(_) | Reply::Answered(_) | Reply::Refused(_) => {
+            Err(BenchError::OtherReply)
+        }
     }
 }

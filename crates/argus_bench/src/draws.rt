@@ -16,7 +16,12 @@ pub(crate) struct Draws {
 
 impl Draws {
     pub(crate) fn new() -> Draws {
-        Draws { state: 42 }
+        Draws::seeded(42)
+    }
+
+    /// Other numbers for each seed.
+    pub(crate) fn seeded(seed: u64) -> Draws {
+        Draws { state: seed }
     }
 
     /// The next number, which is below `count`; 0 where that is 0.

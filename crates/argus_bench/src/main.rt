@@ -1,15 +1,25 @@
 //! Times a guardian's calls: `argus_bench TURNS WORK..`.
 //!
 //! With no words it makes a small run of each work, and prints what the calls have read and left.
-//! `bench/guardian.sh` prints the figures, beside those of a guardian by hand where there is one.
+//! `bench/guardian.sh` and `bench/shared.sh` print the figures, beside those of a guardian by hand
+//! where there is one.
 #![tactic(auto)]
 
 mod bench_error;
+mod callee;
+mod circle;
 mod client;
+mod counting;
 mod draws;
 mod figure;
+mod looking;
+mod looks;
 mod outcome;
 mod part;
+mod publishing;
+mod seated;
+mod shared_work;
+mod sharing;
 mod timing;
 mod turning;
 mod work;
@@ -17,9 +27,13 @@ mod working;
 
 use anyhow::Result;
 use argus_memory::Heap;
+use outcome::Outcome;
+use shared_work::SharedWork;
 use std::env;
 use std::io::Print;
 use std::rt::Clock;
+use std::sync::Wait;
+use std::thread::Threads;
 use work::Work;
 
 const HELP: &str = "\
@@ -40,37 +54,80 @@ WORK is one of these:
   audit      a topaction that sets 8 of 1,000 records; what is timed is the audit after all
              turns: what the journal's writes leave in each record
 
+or one of these, on a shared guardian of 1,000 records:
+  shared:flat, shared:nested
+             the same topactions, by one seat
+  own:N      N threads, each with a seat and with 250 records of its own, make so many turns
+             in all: a topaction that locks 4 records, reads each and adds 1: 14 calls
+  hot:N      the same, all on the same 10 records
+  busy:N     N lookers look at 2 records again and again, for so many milliseconds, while a
+             topaction after the other sets 2 records: 4 calls; the looks, and the commits
+  idle:N     the same, while nothing happens
+  publishes  no guardian, and the board alone: what a topaction leaves that has set 2 records
+             is published
+
 It prints WORK PART n=N ns_each=NANOSECONDS sum=SUM for each part that is timed. The sum is
-that of what was read and of what the objects then hold, each times its place.";
+that of what was read and of what the objects then hold, each times its place; of own and hot
+that of what the records hold; of busy and idle the looks that didn't show one number twice.";
 
 // The turns of the small runs.
 const SMALL: u32 = 20;
 
-const WORKS: [Work; 8] = [
-    Work::Flat,
-    Work::Nested,
-    Work::Commit(10),
-    Work::Abort(10),
-    Work::Chain,
-    Work::Stores,
-    Work::Reads,
-    Work::Audit,
+const WORKS: [&str; 15] = [
+    "flat",
+    "nested",
+    "commit:10",
+    "abort:10",
+    "chain",
+    "stores",
+    "reads",
+    "audit",
+    "shared:flat",
+    "shared:nested",
+    "own:2",
+    "hot:2",
+    "busy:2",
+    "idle:1",
+    "publishes",
 ];
 
-fn tell<R: Print + Clock>(rt: &R, heap: Heap) -> Result<()> {
-    for work in WORKS {
-        let sum = timing::run(rt, heap, work, SMALL)?.sum;
-        println!(rt; "{work} n={SMALL} sum={sum}")?;
+fn run<R: Threads + Wait + Clock + Copy + Drop + Send + Sync>(
+    rt: R,
+    heap: Heap,
+    word: &str,
+    turns: u32,
+) -> Result<Outcome> {
+    if word == "publishes" {
+        return Ok(publishing::run(rt, heap, turns)?);
+    }
+    if let Ok(work) = word.parse::<SharedWork>() {
+        return Ok(sharing::run(rt, heap, work, turns)?);
+    }
+    timing::run(&rt, heap, word.parse::<Work>()?, turns)
+}
+
+fn tell<R: Print + Threads + Wait + Clock + Copy + Drop + Send + Sync>(
+    rt: R,
+    heap: Heap,
+) -> Result<()> {
+    for word in WORKS {
+        let sum = run(rt, heap, word, SMALL)?.sum;
+        println!(rt; "{word} n={SMALL} sum={sum}")?;
     }
     Ok(())
 }
 
-fn time<R: Print + Clock>(rt: &R, heap: Heap, work: Work, turns: u32) -> Result<()> {
-    let outcome = timing::run(rt, heap, work, turns)?;
+fn time<R: Print + Threads + Wait + Clock + Copy + Drop + Send + Sync>(
+    rt: R,
+    heap: Heap,
+    word: &str,
+    turns: u32,
+) -> Result<()> {
+    let outcome = run(rt, heap, word, turns)?;
     let sum = outcome.sum;
     for figure in &outcome.figures {
         let (part, count, nanos) = (figure.part, figure.count, figure.nanos_each());
-        println!(rt; "{work} {part} n={count} ns_each={nanos:.1} sum={sum}")?;
+        println!(rt; "{word} {part} n={count} ns_each={nanos:.1} sum={sum}")?;
     }
     Ok(())
 }
@@ -80,14 +137,14 @@ fn main(rt: HostRuntime) -> Result<()> {
     let mut words = env::args(&rt)?;
     let _program = words.next();
     let Some(turns) = words.next() else {
-        return tell(&rt, heap);
+        return tell(rt, heap);
     };
     let Ok(turns) = turns.as_str().parse::<u32>() else {
         println!(rt; "{HELP}")?;
         return Ok(());
     };
     for word in words {
-        time(&rt, heap, word.as_str().parse::<Work>()?, turns)?;
+        time(rt, heap, word.as_str(), turns)?;
     }
     Ok(())
 }

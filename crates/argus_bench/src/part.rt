@@ -17,6 +17,12 @@ pub(crate) enum Part {
     Commit,
     /// The contents for good, each by a replay of the journal.
     Replays,
+    /// The topactions of one thread while others look.
+    Commits,
+    /// The looks of all lookers.
+    Looks,
+    /// What is published on a board.
+    Publishes,
 }
 
 impl fmt::Display for Part {
@@ -28,6 +34,9 @@ impl fmt::Display for Part {
             Part::Asks => "asks",
             Part::Commit => "commit",
             Part::Replays => "replays",
+            Part::Commits => "commits",
+            Part::Looks => "looks",
+            Part::Publishes => "publishes",
         })
     }
 }

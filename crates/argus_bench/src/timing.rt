@@ -1,5 +1,7 @@
 //! What runs take, by the clock.
 
+use crate::bench_error::BenchError;
+use crate::callee::Callee;
 use crate::client::Client;
 use crate::draws::Draws;
 use crate::figure::Figure;
@@ -13,6 +15,7 @@ use crate::working::{
 };
 use anyhow::Result;
 use argus_contents::ObjId;
+use argus_guardian::Guardian;
 use argus_memory::Heap;
 use std::rt::Clock;
 use std::time::{Duration, Instant};
@@ -21,7 +24,7 @@ use std::time::{Duration, Instant};
 pub(crate) fn run(rt: &impl Clock, heap: Heap, work: Work, turns: u32) -> Result<Outcome> {
     match work {
         Work::Flat | Work::Nested | Work::Commit(_) | Work::Abort(_) | Work::Chain => {
-            run_turns(rt, heap, work, turns)
+            Ok(run_turns(rt, heap, work, turns)?)
         }
         Work::Stores => run_stores(rt, heap, turns),
         Work::Reads => run_reads(rt, heap, turns),
@@ -29,25 +32,34 @@ pub(crate) fn run(rt: &impl Clock, heap: Heap, work: Work, turns: u32) -> Result
     }
 }
 
-fn run_turns(rt: &impl Clock, heap: Heap, work: Work, turns: u32) -> Result<Outcome> {
-    let records = records_of(work);
-    let mut client = with_records(heap, records)?;
+fn run_turns(rt: &impl Clock, heap: Heap, work: Work, turns: u32) -> Result<Outcome, BenchError> {
+    let mut client = with_records(heap, records_of(work))?;
+    time_turns(rt, &mut client, work, turns)
+}
+
+/// Makes so many turns of the work, with all its records there, and reads what they leave.
+pub(crate) fn time_turns<K: Callee>(
+    rt: &impl Clock,
+    client: &mut Client<K>,
+    work: Work,
+    turns: u32,
+) -> Result<Outcome, BenchError> {
     let start = Instant::now(rt)?;
-    let read = make_turns(&mut client, work, turns)?;
+    let read = make_turns(client, work, turns)?;
     let taken = start.elapsed(rt)?;
-    let mut figures = Vec::new(heap);
+    let mut figures = Vec::new(client.heap);
     figures.push(Figure {
         part: Part::Turns,
         count: turns,
         taken,
     })?;
-    let sum = read.wrapping_add(weigh_records(&mut client, records)?);
+    let sum = read.wrapping_add(weigh_records(client, records_of(work))?);
     Ok(Outcome { figures, sum })
 }
 
 // The first action brings the memory that the second one works in, which is timed.
 fn run_stores(rt: &impl Clock, heap: Heap, turns: u32) -> Result<Outcome> {
-    let mut client = Client::new(heap);
+    let mut client = Client::of(heap, Guardian::new(heap));
     let o = client.declare_array(ITEMS)?;
     let _ = time_stores(rt, heap, &mut client, o, turns)?;
     let figures = time_stores(rt, heap, &mut client, o, turns)?;
@@ -58,7 +70,7 @@ fn run_stores(rt: &impl Clock, heap: Heap, turns: u32) -> Result<Outcome> {
 fn time_stores(
     rt: &impl Clock,
     heap: Heap,
-    client: &mut Client,
+    client: &mut Client<Guardian>,
     o: ObjId,
     turns: u32,
 ) -> Result<Vec<Figure, Heap>> {

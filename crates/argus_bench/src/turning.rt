@@ -1,6 +1,7 @@
 //! The turns of each work: which calls they make, in order.
 
 use crate::bench_error::BenchError;
+use crate::callee::Callee;
 use crate::client::Client;
 use crate::draws::Draws;
 use argus_actions::ActionId;
@@ -26,8 +27,8 @@ fn four(draws: &mut Draws) -> [ObjId; 4] {
 }
 
 /// A topaction that reads and sets four records in turn. The sum of what it read.
-pub(crate) fn turn_flat(
-    client: &mut Client,
+pub(crate) fn turn_flat<K: Callee>(
+    client: &mut Client<K>,
     draws: &mut Draws,
     turn: u32,
 ) -> Result<i64, BenchError> {
@@ -45,8 +46,8 @@ pub(crate) fn turn_flat(
 
 /// A topaction and three levels of subactions below it, each of which sets a record. On each level
 /// but the top a second subaction sets the same record, and aborts. 7 actions, 7 changes.
-pub(crate) fn turn_nested(
-    client: &mut Client,
+pub(crate) fn turn_nested<K: Callee>(
+    client: &mut Client<K>,
     draws: &mut Draws,
     turn: u32,
 ) -> Result<(), BenchError> {
@@ -70,8 +71,8 @@ pub(crate) fn turn_nested(
 }
 
 // A subaction that sets a record, and aborts.
-fn set_in_vain(
-    client: &mut Client,
+fn set_in_vain<K: Callee>(
+    client: &mut Client<K>,
     parent: ActionId,
     o: ObjId,
     number: i64,
@@ -82,8 +83,8 @@ fn set_in_vain(
 }
 
 /// A topaction that sets one of so many records, and commits.
-pub(crate) fn turn_commit(
-    client: &mut Client,
+pub(crate) fn turn_commit<K: Callee>(
+    client: &mut Client<K>,
     draws: &mut Draws,
     count: u16,
     turn: u32,
@@ -95,8 +96,8 @@ pub(crate) fn turn_commit(
 }
 
 /// A topaction that sets one of so many records, and aborts.
-pub(crate) fn turn_abort(
-    client: &mut Client,
+pub(crate) fn turn_abort<K: Callee>(
+    client: &mut Client<K>,
     draws: &mut Draws,
     count: u16,
     turn: u32,
@@ -108,7 +109,7 @@ pub(crate) fn turn_abort(
 }
 
 /// A topaction that sets the next eight of the records in turn to the number of its turn.
-pub(crate) fn turn_eight(client: &mut Client, turn: u32) -> Result<(), BenchError> {
+pub(crate) fn turn_eight<K: Callee>(client: &mut Client<K>, turn: u32) -> Result<(), BenchError> {
     let first = turn % (u32::from(RECORDS) / 8) * 8;
     let a = client.begin_top()?;
     for o in first..first + 8 {
@@ -119,7 +120,7 @@ pub(crate) fn turn_eight(client: &mut Client, turn: u32) -> Result<(), BenchErro
 
 /// A chain of 64 actions, each the subaction of the one before. The last sets a record, and all
 /// commit, the last first.
-pub(crate) fn turn_chain(client: &mut Client, turn: u32) -> Result<(), BenchError> {
+pub(crate) fn turn_chain<K: Callee>(client: &mut Client<K>, turn: u32) -> Result<(), BenchError> {
     let actions = begin_chain(client)?;
     let o = ObjId(turn % u32::from(CHAIN_RECORDS));
     client.set(actions[CHAIN_ACTIONS - 1], o, i64::from(turn))?;
@@ -129,10 +130,43 @@ pub(crate) fn turn_chain(client: &mut Client, turn: u32) -> Result<(), BenchErro
     Ok(())
 }
 
-fn begin_chain(client: &mut Client) -> Result<[ActionId; 64], BenchError> {
+fn begin_chain<K: Callee>(client: &mut Client<K>) -> Result<[ActionId; 64], BenchError> {
     let mut actions = [client.begin_top()?; 64];
     for depth in 1..CHAIN_ACTIONS {
         actions[depth] = client.begin_sub(actions[depth - 1])?;
     }
     Ok(actions)
+}
+
+/// A topaction that locks each of four records, reads it and adds 1 to it: 14 calls. Only the locks
+/// are waited for.
+pub(crate) fn turn_counts<K: Callee>(
+    client: &mut Client<K>,
+    records: [ObjId; 4],
+) -> Result<(), BenchError> {
+    let a = client.begin_top()?;
+    for place in 0..4usize {
+        client.lock(a, records[place])?;
+        let number = client.get(a, records[place])?;
+        client.set(a, records[place], number.wrapping_add(1))?;
+    }
+    client.commit(a)
+}
+
+/// A topaction that sets two records to this number.
+pub(crate) fn turn_pair<K: Callee>(
+    client: &mut Client<K>,
+    pair: [ObjId; 2],
+    number: u32,
+) -> Result<(), BenchError> {
+    let a = client.begin_top()?;
+    client.set(a, pair[0], i64::from(number))?;
+    client.set(a, pair[1], i64::from(number))?;
+    client.commit(a)
+}
+
+/// Two records beside each other, a pair of 500.
+pub(crate) fn pair(draws: &mut Draws) -> [ObjId; 2] {
+    let first = draws.below(RECORDS / 2).wrapping_mul(2);
+    [ObjId(first), ObjId(first.wrapping_add(1))]
 }

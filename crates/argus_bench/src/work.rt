@@ -1,7 +1,6 @@
 //! `Work`: a piece of work whose time is taken.
 
 use crate::bench_error::BenchError;
-use std::fmt;
 use std::str::FromStr;
 
 /// A piece of work whose time is taken; the program's help says what each is.
@@ -50,20 +49,5 @@ fn named(text: &str) -> Result<Work, BenchError> {
         "reads" => Ok(Work::Reads),
         "audit" => Ok(Work::Audit),
         _ => Err(BenchError::UnknownWork),
-    }
-}
-
-impl fmt::Display for Work {
-    fn fmt<W: fmt::Write>(&self, f: &mut fmt::Formatter<W>) -> fmt::Result {
-        match self {
-            Work::Flat => f.write_str("flat"),
-            Work::Nested => f.write_str("nested"),
-            Work::Commit(count) => write!(f, "commit:{count}"),
-            Work::Abort(count) => write!(f, "abort:{count}"),
-            Work::Chain => f.write_str("chain"),
-            Work::Stores => f.write_str("stores"),
-            Work::Reads => f.write_str("reads"),
-            Work::Audit => f.write_str("audit"),
-        }
     }
 }

@@ -1,6 +1,7 @@
 //! The runs: what is there before them, their turns, and what they leave.
 
 use crate::bench_error::BenchError;
+use crate::callee::Callee;
 use crate::client::Client;
 use crate::draws::Draws;
 use crate::turning::{
@@ -8,15 +9,17 @@ use crate::turning::{
 };
 use crate::work::Work;
 use argus_actions::ActionId;
-use argus_contents::ObjId;
+use argus_contents::{Content, ObjId, Value};
+use argus_guardian::Guardian;
+use argus_journal::replay_base;
 use argus_memory::Heap;
 
 /// How many integers the array has into which is stored.
 pub(crate) const ITEMS: u16 = 65_000;
 
 /// A guardian with this many records, of the numbers from 0 on.
-pub(crate) fn with_records(heap: Heap, count: u16) -> Result<Client, BenchError> {
-    let mut client = Client::new(heap);
+pub(crate) fn with_records(heap: Heap, count: u16) -> Result<Client<Guardian>, BenchError> {
+    let mut client = Client::of(heap, Guardian::new(heap));
     for _ in 0..count {
         let _ = client.declare_record()?;
     }
@@ -34,7 +37,11 @@ pub(crate) fn records_of(work: Work) -> u16 {
 }
 
 /// Makes so many turns. The sum of what they read.
-pub(crate) fn make_turns(client: &mut Client, work: Work, turns: u32) -> Result<i64, BenchError> {
+pub(crate) fn make_turns<K: Callee>(
+    client: &mut Client<K>,
+    work: Work,
+    turns: u32,
+) -> Result<i64, BenchError> {
     let mut draws = Draws::new();
     let mut sum = 0i64;
     for turn in 0..turns {
@@ -43,8 +50,8 @@ pub(crate) fn make_turns(client: &mut Client, work: Work, turns: u32) -> Result<
     Ok(sum)
 }
 
-fn make_turn(
-    client: &mut Client,
+fn make_turn<K: Callee>(
+    client: &mut Client<K>,
     work: Work,
     draws: &mut Draws,
     turn: u32,
@@ -62,8 +69,8 @@ fn make_turn(
 }
 
 /// Stores the numbers from `from` on and below `to`, each at a place that is drawn.
-pub(crate) fn store_numbers(
-    client: &mut Client,
+pub(crate) fn store_numbers<K: Callee>(
+    client: &mut Client<K>,
     draws: &mut Draws,
     a: ActionId,
     o: ObjId,
@@ -78,8 +85,8 @@ pub(crate) fn store_numbers(
 }
 
 /// What the action sees in the records, each times its place from 1 on.
-pub(crate) fn read_records(
-    client: &mut Client,
+pub(crate) fn read_records<K: Callee>(
+    client: &mut Client<K>,
     a: ActionId,
     count: u16,
 ) -> Result<i64, BenchError> {
@@ -92,17 +99,33 @@ pub(crate) fn read_records(
 }
 
 /// What the journal's writes leave in the records for good, each times its place from 1 on.
-pub(crate) fn replay_records(client: &Client, count: u16) -> Result<i64, BenchError> {
+pub(crate) fn replay_records(client: &Client<Guardian>, count: u16) -> Result<i64, BenchError> {
     let mut sum = 0i64;
     for number in 0..count {
-        let left = client.replay(ObjId(u32::from(number)))?;
+        let left = replay(client.heap, &client.callee, ObjId(u32::from(number)))?;
         sum = sum.wrapping_add(left.wrapping_mul(i64::from(number) + 1));
     }
     Ok(sum)
 }
 
+// The integer that the journal's writes leave in a record for good.
+fn replay(heap: Heap, guardian: &Guardian, o: ObjId) -> Result<i64, BenchError> {
+    let replayed = replay_base(heap, guardian.journal().journal(), o)?;
+    let Some(Content::Rec(values)) = replayed else {
+        return Err(BenchError::OtherReply);
+    };
+    match values.first() {
+        Some(Value::Int(number)) => Ok(*number),
+        Some(_) | None => Err(BenchError::OtherReply),
+    }
+}
+
 /// What the action sees in the array, each times its place.
-pub(crate) fn read_array(client: &mut Client, a: ActionId, o: ObjId) -> Result<i64, BenchError> {
+pub(crate) fn read_array<K: Callee>(
+    client: &mut Client<K>,
+    a: ActionId,
+    o: ObjId,
+) -> Result<i64, BenchError> {
     let mut sum = 0i64;
     for place in 1..=ITEMS {
         let place = i64::from(place);
@@ -112,15 +135,32 @@ pub(crate) fn read_array(client: &mut Client, a: ActionId, o: ObjId) -> Result<i
 }
 
 /// What is in the records for good, each times its place from 1 on.
-pub(crate) fn weigh_records(client: &mut Client, count: u16) -> Result<i64, BenchError> {
+pub(crate) fn weigh_records<K: Callee>(
+    client: &mut Client<K>,
+    count: u16,
+) -> Result<i64, BenchError> {
     let a = client.begin_top()?;
     let sum = read_records(client, a, count)?;
     client.commit(a)?;
     Ok(sum)
 }
 
+/// What is in the records for good, added up.
+pub(crate) fn add_records<K: Callee>(
+    client: &mut Client<K>,
+    count: u16,
+) -> Result<i64, BenchError> {
+    let mut sum = 0i64;
+    let a = client.begin_top()?;
+    for number in 0..count {
+        sum = sum.wrapping_add(client.get(a, ObjId(u32::from(number)))?);
+    }
+    client.commit(a)?;
+    Ok(sum)
+}
+
 /// What is in the array for good, each times its place.
-pub(crate) fn weigh_array(client: &mut Client, o: ObjId) -> Result<i64, BenchError> {
+pub(crate) fn weigh_array<K: Callee>(client: &mut Client<K>, o: ObjId) -> Result<i64, BenchError> {
     let a = client.begin_top()?;
     let sum = read_array(client, a, o)?;
     client.commit(a)?;

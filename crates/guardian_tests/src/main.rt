@@ -10,15 +10,13 @@ mod picture;
 mod question;
 mod reading;
 mod row;
-mod subject;
 mod telling;
-mod tester;
-mod tight_subject;
-mod trial;
+mod tested_guardian;
 
 use anyhow::{Result, ensure};
 use std::fs;
-use tester::Tester;
+use test_rows::Tester;
+use tested_guardian::TestedGuardian;
 
 // The files in data/.
 const TEXTS: [&str; 9] = [
@@ -34,12 +32,11 @@ const TEXTS: [&str; 9] = [
 ];
 
 fn main(rt: HostRuntime) -> Result<()> {
-    let mut tester = Tester::new(rt.alloc())?;
+    let mut tester = Tester::<TestedGuardian>::new(rt.alloc())?;
     for name in TEXTS {
         let text = fs::read_to_string(&rt, name)?;
         tester.run_text(&rt, text.as_str())?;
     }
-    tester.tell_refused(&rt)?;
     tester.tell_counts(&rt)?;
     ensure!(tester.is_content(), "not all rows are answered as they say");
     Ok(())

@@ -8,18 +8,24 @@ use argus_memory::{Heap, OutOfMemory};
 use test_rows::tell_number;
 
 /// What the guardian tells of its journal and of each object. Two that are the same stand for the
-/// same objects, locks and versions, and a journal of the same length with the same last entry.
+/// same entries, objects, locks and versions.
 pub(crate) fn picture(guardian: &Guardian, texts: Heap) -> Result<String<Heap>, OutOfMemory> {
     let mut out = String::new(texts);
-    let journal = guardian.journal().journal();
-    tell_number(journal.first_entry(), &mut out)?;
-    tell_number(u64::from(journal.first_action()), &mut out)?;
-    tell_number(journal.len(), &mut out)?;
-    tell_entry(guardian, journal.len().saturating_sub(1), &mut out)?;
+    tell_journal(guardian, &mut out)?;
     for number in 0..guardian.objects() {
         tell_all_of(guardian, ObjId(number), &mut out)?;
     }
     Ok(out)
+}
+
+fn tell_journal(guardian: &Guardian, out: &mut String<Heap>) -> Result<(), OutOfMemory> {
+    let journal = guardian.journal().journal();
+    tell_number(journal.first_entry(), out)?;
+    tell_number(u64::from(journal.first_action()), out)?;
+    for at in journal.first_entry()..journal.len() {
+        tell_entry(guardian, at, out)?;
+    }
+    Ok(())
 }
 
 fn tell_all_of(guardian: &Guardian, o: ObjId, out: &mut String<Heap>) -> Result<(), OutOfMemory> {

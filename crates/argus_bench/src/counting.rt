@@ -1,0 +1,126 @@
+//! Topactions of threads, which count in records of a shared guardian.
+
+use crate::bench_error::BenchError;
+use crate::circle::Circle;
+use crate::client::Client;
+use crate::draws::Draws;
+use crate::figure::Figure;
+use crate::outcome::Outcome;
+use crate::part::Part;
+use crate::seated::Seated;
+use crate::turning::{RECORDS, turn_counts};
+use crate::working::add_records;
+use argus_memory::{Heap, OutOfMemory};
+use argus_sharing::{Seat, Shared, Sharing};
+use std::alloc::AllocError;
+use std::rt::Clock;
+use std::sync::Wait;
+use std::thread::{Threads, map_vec};
+use std::time::Instant;
+
+// A thread's number, how many turns it makes, and whether it chooses from the records that all others
+// choose from.
+#[derive(Clone, Copy)]
+struct Job {
+    number: u32,
+    turns: u32,
+    is_hot: bool,
+}
+
+/// So many turns in all, by a thread for each of the seats. What is in the records then is read by
+/// the last seat, and not timed.
+pub(crate) fn time_threads<
+    N: Sharing + Send + Sync,
+    R: Threads + Wait + Clock + Drop + Send + Sync,
+>(
+    rt: &R,
+    heap: Heap,
+    shared: &Shared<N, R>,
+    last: Seat<N>,
+    seats: Vec<Seat<N>, Heap>,
+    is_hot: bool,
+    turns: u32,
+) -> Result<Outcome, BenchError> {
+    let threads = u32::try_from(seats.len()).unwrap_or(u32::MAX);
+    let each = turns.checked_div(threads).unwrap_or(0);
+    let jobs = jobs_for(heap, seats, each, is_hot)?;
+    let start = Instant::now(rt)?;
+    let made = count_all(rt, heap, shared, jobs)?;
+    let taken = start.elapsed(rt)?;
+    let mut figures = Vec::new(heap);
+    figures.push(Figure {
+        part: Part::Turns,
+        count: added_up(made.as_slice()),
+        taken,
+    })?;
+    let mut client = Client::of(heap, Seated::new(rt, shared, last));
+    let sum = add_records(&mut client, RECORDS)?;
+    Ok(Outcome { figures, sum })
+}
+
+// Each seat with its thread's job.
+fn jobs_for<N: Sharing>(
+    heap: Heap,
+    seats: Vec<Seat<N>, Heap>,
+    turns: u32,
+    is_hot: bool,
+) -> Result<Vec<(Job, Seat<N>), Heap>, OutOfMemory> {
+    let mut jobs = Vec::new(heap);
+    let mut number = 0u32;
+    for seat in seats {
+        let job = Job {
+            number,
+            turns,
+            is_hot,
+        };
+        jobs.push((job, seat))?;
+        number = number.wrapping_add(1);
+    }
+    Ok(jobs)
+}
+
+// How many turns each thread has made.
+fn count_all<N: Sharing + Send + Sync, R: Threads + Wait + Drop + Send + Sync>(
+    rt: &R,
+    heap: Heap,
+    shared: &Shared<N, R>,
+    jobs: Vec<(Job, Seat<N>), Heap>,
+) -> Result<Vec<u32, Heap>, AllocError> {
+    map_vec(rt, jobs, &|job| count_often(rt, heap, shared, job))
+}
+
+// How many turns were made: fewer, where a call isn't answered as it has to be.
+fn count_often<N: Sharing, R: Wait + Drop>(
+    rt: &R,
+    heap: Heap,
+    shared: &Shared<N, R>,
+    (job, seat): (Job, Seat<N>),
+) -> u32 {
+    let Job {
+        number,
+        turns,
+        is_hot,
+    } = job;
+    let mut client = Client::of(heap, Seated::new(rt, shared, seat));
+    let mut draws = Draws::seeded(u64::from(number) + 42);
+    let circle = if is_hot {
+        Circle::hot()
+    } else {
+        Circle::own(number)
+    };
+    for turn in 0..turns {
+        let records = circle.four(&mut draws);
+        if turn_counts(&mut client, records).is_err() {
+            return turn;
+        }
+    }
+    turns
+}
+
+fn added_up(numbers: &[u32]) -> u32 {
+    let mut sum = 0u32;
+    for number in numbers {
+        sum = sum.saturating_add(*number);
+    }
+    sum
+}

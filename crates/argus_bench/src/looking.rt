@@ -1,0 +1,212 @@
+//! Lookers at a shared guardian, while a thread commits or while nothing happens.
+
+use crate::bench_error::BenchError;
+use crate::callee::Callee;
+use crate::client::Client;
+use crate::draws::Draws;
+use crate::figure::Figure;
+use crate::looks::Looks;
+use crate::outcome::Outcome;
+use crate::part::Part;
+use crate::seated::Seated;
+use crate::turning::{pair, turn_pair};
+use argus_board::Looker;
+use argus_contents::{Content, Value};
+use argus_memory::{Heap, OutOfMemory};
+use argus_sharing::{Seat, Shared, Sharing};
+use std::alloc::AllocError;
+use std::rt::Clock;
+use std::sync::Wait;
+use std::sync::atomic::{AtomicU64, Ordering};
+use std::thread::{Threads, join, map_vec, sleep};
+use std::time::{Duration, Instant};
+
+// A guardian begins a million actions at the most.
+const BATCHES: u32 = 60_000;
+
+const BATCH: u32 = 16;
+
+/// Looks at pairs of records, by a thread for each looker, for so many milliseconds. Meanwhile the
+/// seat commits topactions that set the two of a pair to one number, or nothing happens.
+pub(crate) fn time_lookers<
+    N: Sharing + Send + Sync,
+    R: Threads + Wait + Clock + Drop + Send + Sync,
+>(
+    rt: &R,
+    heap: Heap,
+    shared: &Shared<N, R>,
+    seat: Seat<N>,
+    lookers: Vec<Looker<N>, Heap>,
+    is_busy: bool,
+    millis: u32,
+) -> Result<Outcome, BenchError> {
+    let word = AtomicU64::new(0);
+    let over = &word;
+    let (looked, commits) = join(
+        rt,
+        move || look_apart(rt, heap, lookers, over),
+        || {
+            let commits = commit_or_sleep(rt, heap, shared, seat, is_busy, millis);
+            over.store(1, Ordering::SeqCst);
+            commits
+        },
+    );
+    let (looked, commits) = (looked?, commits?);
+    outcome_of(heap, looked.as_slice(), commits)
+}
+
+// Each looker looks in a thread of its own, and draws numbers of its own.
+fn look_apart<N: Sharing + Send + Sync, R: Threads + Wait + Drop + Send + Sync>(
+    rt: &R,
+    heap: Heap,
+    lookers: Vec<Looker<N>, Heap>,
+    is_over: &AtomicU64,
+) -> Result<Vec<Looks, Heap>, OutOfMemory> {
+    let lookers = seeded(heap, lookers)?;
+    Ok(look_all(rt, heap, lookers, is_over)?)
+}
+
+// Each looker with the seed of its numbers.
+fn seeded<N: Sharing>(
+    heap: Heap,
+    lookers: Vec<Looker<N>, Heap>,
+) -> Result<Vec<(u64, Looker<N>), Heap>, OutOfMemory> {
+    let mut seeded = Vec::new(heap);
+    let mut seed = 7u64;
+    for looker in lookers {
+        seeded.push((seed, looker))?;
+        seed = seed.wrapping_add(1);
+    }
+    Ok(seeded)
+}
+
+fn look_all<N: Sharing + Send + Sync, R: Threads + Wait + Drop + Send + Sync>(
+    rt: &R,
+    heap: Heap,
+    lookers: Vec<(u64, Looker<N>), Heap>,
+    is_over: &AtomicU64,
+) -> Result<Vec<Looks, Heap>, AllocError> {
+    map_vec(rt, lookers, &|seeded| look_until(rt, heap, seeded, is_over))
+}
+
+fn look_until<N: Sharing>(
+    rt: &impl Wait,
+    heap: Heap,
+    (seed, looker): (u64, Looker<N>),
+    is_over: &AtomicU64,
+) -> Looks {
+    let mut looker = looker;
+    let mut draws = Draws::seeded(seed);
+    let mut looks = Looks::none();
+    for _ in rt.forever() {
+        looks = looks.and(look_often(heap, &mut looker, &mut draws));
+        if is_over.load(Ordering::SeqCst) == 1 {
+            break;
+        }
+    }
+    looks
+}
+
+fn look_often<N: Sharing>(heap: Heap, looker: &mut Looker<N>, draws: &mut Draws) -> Looks {
+    let mut torn = 0u32;
+    for _ in 0..64u32 {
+        if !agrees(heap, looker, draws) {
+            torn = torn.saturating_add(1);
+        }
+    }
+    Looks { made: 64, torn }
+}
+
+// Whether a look shows two records with one number.
+fn agrees<N: Sharing>(heap: Heap, looker: &mut Looker<N>, draws: &mut Draws) -> bool {
+    let objects = pair(draws);
+    match looker.look(heap, &objects) {
+        Ok(found) => {
+            let number = number_at(&found, 0);
+            number.is_some() && number == number_at(&found, 1)
+        }
+        Err(_) => false,
+    }
+}
+
+fn number_at(found: &[Option<Content>], place: usize) -> Option<i64> {
+    let Some(Some(Content::Rec(fields))) = found.get(place) else {
+        return None;
+    };
+    let Some(Value::Int(number)) = fields.first() else {
+        return None;
+    };
+    Some(*number)
+}
+
+fn commit_or_sleep<N: Sharing, R: Wait + Clock + Drop>(
+    rt: &R,
+    heap: Heap,
+    shared: &Shared<N, R>,
+    seat: Seat<N>,
+    is_busy: bool,
+    millis: u32,
+) -> Result<Figure, BenchError> {
+    let limit = Duration::from_millis(u64::from(millis));
+    let start = Instant::now(rt)?;
+    let count = if is_busy {
+        let mut client = Client::of(heap, Seated::new(rt, shared, seat));
+        commit_until(rt, &mut client, &start, limit)?
+    } else {
+        sleep(rt, limit);
+        0
+    };
+    Ok(Figure {
+        part: Part::Commits,
+        count,
+        taken: start.elapsed(rt)?,
+    })
+}
+
+// How many topactions were committed.
+fn commit_until<K: Callee>(
+    rt: &impl Clock,
+    client: &mut Client<K>,
+    start: &Instant,
+    limit: Duration,
+) -> Result<u32, BenchError> {
+    let mut draws = Draws::new();
+    let mut number = 0u32;
+    for _ in 0..BATCHES {
+        if start.elapsed(rt)? >= limit {
+            break;
+        }
+        commit_often(client, &mut draws, number)?;
+        number = number.saturating_add(BATCH);
+    }
+    Ok(number)
+}
+
+fn commit_often<K: Callee>(
+    client: &mut Client<K>,
+    draws: &mut Draws,
+    first: u32,
+) -> Result<(), BenchError> {
+    for number in first..first.saturating_add(BATCH) {
+        turn_pair(client, pair(draws), number)?;
+    }
+    Ok(())
+}
+
+fn outcome_of(heap: Heap, looked: &[Looks], commits: Figure) -> Result<Outcome, BenchError> {
+    let mut looks = Looks::none();
+    for more in looked {
+        looks = looks.and(*more);
+    }
+    let mut figures = Vec::with_capacity(heap, 2)?;
+    figures.push(Figure {
+        part: Part::Looks,
+        count: looks.made,
+        taken: commits.taken,
+    })?;
+    figures.push(commits)?;
+    Ok(Outcome {
+        figures,
+        sum: i64::from(looks.torn),
+    })
+}

@@ -1,0 +1,65 @@
+//! `SharedWork`: a piece of work on a shared guardian whose time is taken.
+
+use crate::bench_error::BenchError;
+use crate::work::Work;
+use std::str::FromStr;
+
+/// A piece of work on a shared guardian whose time is taken; the program's help says what each is.
+///
+/// ```text
+/// let work = "hot:4".parse::<SharedWork>()?;              // SharedWork::Hot(4)
+/// ```
+#[derive(Clone, Copy)]
+pub(crate) enum SharedWork {
+    /// The turns of this work, by one seat.
+    Turns(Work),
+    /// Topactions of so many threads, each on records of its own.
+    Own(u8),
+    /// Topactions of so many threads on the same ten records.
+    Hot(u8),
+    /// So many lookers, while a thread commits.
+    Busy(u8),
+    /// So many lookers, while nothing happens.
+    Idle(u8),
+}
+
+impl FromStr for SharedWork {
+    type Err = BenchError;
+
+    fn from_str(text: &str) -> Result<SharedWork, BenchError> {
+        match text.split_once(':') {
+            Some(("shared", "flat")) => Ok(SharedWork::Turns(Work::Flat)),
+            Some(("shared", "nested")) => Ok(SharedWork::Turns(Work::Nested)),
+            Some(("own", count)) => Ok(SharedWork::Own(count_of(count)?)),
+            Some(("hot", count)) => Ok(SharedWork::Hot(count_of(count)?)),
+            Some(("busy", count)) => Ok(SharedWork::Busy(count_of(count)?)),
+            Some(("idle", count)) => Ok(SharedWork::Idle(count_of(count)?)),
+            Some(_) | None => Err(BenchError::UnknownWork),
+        }
+    }
+}
+
+fn count_of(text: &str) -> Result<u8, BenchError> {
+    match text.parse::<u8>() {
+        Ok(count) => Ok(count),
+        Err(_) => Err(BenchError::BadCount),
+    }
+}
+
+impl SharedWork {
+    /// How many seats it takes: that of what is read at the end, or of all calls, is the last one.
+    pub(crate) fn seats(self) -> u8 {
+        match self {
+            SharedWork::Turns(_) | SharedWork::Busy(_) | SharedWork::Idle(_) => 1,
+            SharedWork::Own(threads) | SharedWork::Hot(threads) => threads.saturating_add(1),
+        }
+    }
+
+    /// How many lookers it takes.
+    pub(crate) fn lookers(self) -> u8 {
+        match self {
+            SharedWork::Turns(_) | SharedWork::Own(_) | SharedWork::Hot(_) => 0,
+            SharedWork::Busy(lookers) | SharedWork::Idle(lookers) => lookers,
+        }
+    }
+}

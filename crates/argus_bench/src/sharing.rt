@@ -1,0 +1,115 @@
+//! Work on a shared guardian.
+
+ghost use Rattle.std.specs.Prelude.{◌≡◌};
+ghost use Rattle.argus_board.specs.Keeper.{Opens};
+ghost use Rattle.argus_journal.specs.Opening.{content_in};
+ghost use Rattle.argus_sharing.specs.Following.{bases_told, effects_told};
+ghost use Rattle.argus_sharing.specs.Locked.{next_number};
+
+use crate::bench_error::BenchError;
+use crate::client::Client;
+use crate::counting::time_threads;
+use crate::looking::time_lookers;
+use crate::outcome::Outcome;
+use crate::seated::Seated;
+use crate::shared_work::SharedWork;
+use crate::timing::time_turns;
+use crate::turning::RECORDS;
+use crate::work::Work;
+use crate::working::with_records;
+use argus_board::Keeper;
+use argus_guardian::Guardian;
+use argus_memory::{Heap, OutOfMemory};
+use argus_sharing::{Parts, Seat, Shared, Sharing};
+use std::marker::Brand;
+use std::rt::Clock;
+use std::sync::Wait;
+use std::sync::ledger::Blank;
+use std::thread::Threads;
+
+/// A run of so many turns; with lookers, of so many milliseconds.
+pub(crate) fn run<R: Threads + Wait + Clock + Copy + Drop + Send + Sync>(
+    rt: R,
+    heap: Heap,
+    work: SharedWork,
+    turns: u32,
+) -> Result<Outcome, BenchError> {
+    let Client {
+        callee: guardian,
+        ..
+    } = with_records(heap, RECORDS)?;
+    let (seats, lookers) = (work.seats(), work.lookers());
+    let blank = Blank::new(u64::from(seats));
+    time_shared::<Brand, R>(
+        rt,
+        heap,
+        guardian,
+        work,
+        turns,
+        seats,
+        lookers,
+        blank,
+        Keeper::new(),
+    )
+}
+
+// The conditions say which sharing this is.
+fn time_shared<N: Sharing + Send + Sync, R: Threads + Wait + Clock + Copy + Drop + Send + Sync>(
+    rt: R,
+    heap: Heap,
+    guardian: Guardian,
+    work: SharedWork,
+    turns: u32,
+    seats: u8,
+    lookers: u8,
+    blank: Blank,
+    keeper: Keeper,
+) -> Result<Outcome, BenchError>
+    requires name { blank.name ≡ N.name }
+    requires parts { (blank.parts ≡ N.parts) × (blank.parts ≡ seats) }
+    requires keeper { Opens N.history N.root keeper }
+    requires start { N.start ≡ next_number guardian }
+    requires before { N.before ≡ effects_told guardian }
+    requires opening { N.opening ≡ content_in guardian.opening.objects }
+    requires first { N.first ≡ bases_told guardian }
+{
+    let (seats, lookers) = (u32::from(seats), u32::from(lookers));
+    let parts = Shared::<N, R>::new(rt, heap, guardian, seats, lookers, blank, keeper);
+    time_parts(&rt, heap, parts.map_err(|_| OutOfMemory)?, work, turns)
+}
+
+fn time_parts<N: Sharing + Send + Sync, R: Threads + Wait + Clock + Drop + Send + Sync>(
+    rt: &R,
+    heap: Heap,
+    parts: Parts<N, R>,
+    work: SharedWork,
+    turns: u32,
+) -> Result<Outcome, BenchError> {
+    let Parts {
+        shared,
+        mut seats,
+        lookers,
+    } = parts;
+    let Some(last) = seats.pop() else {
+        return Err(BenchError::BadCount);
+    };
+    match work {
+        SharedWork::Turns(work) => time_seat(rt, heap, &shared, last, work, turns),
+        SharedWork::Own(_) => time_threads(rt, heap, &shared, last, seats, false, turns),
+        SharedWork::Hot(_) => time_threads(rt, heap, &shared, last, seats, true, turns),
+        SharedWork::Busy(_) => time_lookers(rt, heap, &shared, last, lookers, true, turns),
+        SharedWork::Idle(_) => time_lookers(rt, heap, &shared, last, lookers, false, turns),
+    }
+}
+
+fn time_seat<N: Sharing, R: Wait + Clock + Drop>(
+    rt: &R,
+    heap: Heap,
+    shared: &Shared<N, R>,
+    seat: Seat<N>,
+    work: Work,
+    turns: u32,
+) -> Result<Outcome, BenchError> {
+    let mut client = Client::of(heap, Seated::new(rt, shared, seat));
+    time_turns(rt, &mut client, work, turns)
+}
