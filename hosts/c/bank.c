@@ -78,19 +78,19 @@ static void lock_accounts(store *bank, uint32_t top, const transfer order[TRANSF
 }
 
 /* Carries out an order, or cancels it at its end. */
-static void carry_out(store *bank, const transfer order[TRANSFERS], int is_cancelled, counts *counts) {
+static void carry_out(store *bank, const transfer order[TRANSFERS], int is_cancelled, counts *sum) {
     uint32_t top = store_begin_top(bank), made = 0;
     lock_accounts(bank, top, order);
     for (int at = 0; at < TRANSFERS; at++) made += (uint32_t)make(bank, top, &order[at]);
-    counts->refused += TRANSFERS - made;
+    sum->refused += TRANSFERS - made;
     if (is_cancelled) {
         store_abort(bank, top);
-        counts->cancelled++;
-        counts->made_in_vain += made;
+        sum->cancelled++;
+        sum->made_in_vain += made;
     } else {
         store_commit(bank, top);
-        counts->carried_out++;
-        counts->made += made;
+        sum->carried_out++;
+        sum->made += made;
     }
 }
 

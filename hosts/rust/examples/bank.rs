@@ -107,6 +107,23 @@ impl AddAssign for Counts {
 }
 
 impl Counts {
+    fn print(&self, orders: u32) {
+        println!("accounts {ACCOUNTS}, threads {THREADS}");
+        println!(
+            "orders {}: {} carried out, {} cancelled",
+            THREADS * orders,
+            self.carried_out,
+            self.cancelled
+        );
+        println!(
+            "transfers {}: {} made, {} refused, {} cancelled with their order",
+            THREADS * orders * 4,
+            self.made,
+            self.refused,
+            self.made_in_vain
+        );
+    }
+
     /// Carries out an order, or cancels it at its end.
     fn carry_out(
         &mut self,
@@ -226,21 +243,11 @@ fn main() -> Result<(), Box<dyn std::error::Error>> {
     let taken = start.elapsed().as_secs_f64();
     let mut guardian = bank.into_inner();
     let calls = f64::from(u32::try_from(guardian.entries() - before)?);
-    eprintln!("{calls} calls in {taken:.2} s, {:.0} a second", calls / taken);
-    println!("accounts {ACCOUNTS}, threads {THREADS}");
-    println!(
-        "orders {}: {} carried out, {} cancelled",
-        THREADS * orders,
-        counts.carried_out,
-        counts.cancelled
+    eprintln!(
+        "{calls} calls in {taken:.2} s, {:.0} a second",
+        calls / taken
     );
-    println!(
-        "transfers {}: {} made, {} refused, {} cancelled with their order",
-        THREADS * orders * 4,
-        counts.made,
-        counts.refused,
-        counts.made_in_vain
-    );
+    counts.print(orders);
     println!("audits {AUDITS}, {right} of them find {ALL}");
     print_balances(&mut guardian)?;
     guardian.checkpoint()?;

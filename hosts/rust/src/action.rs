@@ -134,7 +134,8 @@ impl<'g> Action<'g> {
     /// # Ok::<(), argus_guardian::Error>(())
     /// ```
     pub fn set(&mut self, object: ObjId, field: u8, value: impl Into<Value>) -> Result<(), Error> {
-        self.alter(object, Change::SetField(field, value.into()))?.done()
+        self.alter(object, Change::SetField(field, value.into()))?
+            .done()
     }
 
     /// Takes a read lock; false where it isn't to be had.
@@ -241,7 +242,7 @@ impl<'g> Action<'g> {
         self.end(Call::Abort)
     }
 
-    fn end(mut self, how: impl FnOnce(ActionId) -> Call) -> Result<(), Error> {
+    fn end(self, how: impl FnOnce(ActionId) -> Call) -> Result<(), Error> {
         self.guardian.call(&how(self.id))?.answer()?.done()?;
         // It is over: there is nothing to abort, and nothing in it to drop.
         mem::forget(self);

@@ -5,6 +5,7 @@ use crate::answer::Answer;
 use crate::call::Call;
 use crate::checkpoint_error::CheckpointError;
 use crate::content::Content;
+use crate::decoding::{error_of, number_of, one_of, read_as};
 use crate::error::Error;
 use crate::listing::Listing;
 use crate::reader::Reader;
@@ -15,7 +16,6 @@ use crate::sys::{self, Handle, question, status};
 use crate::words::Words;
 use crate::{ActionId, ObjId};
 use std::fmt;
-use std::str::FromStr;
 
 /// Atomic objects and the actions that use them, for one caller at a time; threads share one by a
 /// [`Shared`](crate::Shared), or by a mutex of their own.
@@ -473,36 +473,6 @@ impl Guardian {
             }),
             (status, number) => Err(error_of(status, number)),
         }
-    }
-}
-
-// What the library has written.
-fn read_as<T: FromStr>(status: u32, text: &str) -> Result<T, Error> {
-    text.parse().map_err(|_| Error::Unknown(status))
-}
-
-// A number that the library has for an object or an action.
-fn number_of(status: u32, number: i64) -> Result<u32, Error> {
-    u32::try_from(number).map_err(|_| Error::Unknown(status))
-}
-
-// The one of these that the library numbers so, from 1.
-fn one_of<T: Copy>(all: &[T], status: u32, number: i64) -> Result<T, Error> {
-    let place = usize::try_from(number).ok().and_then(|n| n.checked_sub(1));
-    let one = place.and_then(|place| all.get(place));
-    one.copied().ok_or(Error::Unknown(status))
-}
-
-// Why nothing was called.
-fn error_of(status: u32, number: i64) -> Error {
-    match status {
-        status::NO_MEMORY => Error::OutOfMemory,
-        status::BAD_TEXT => Error::BadText {
-            at: usize::try_from(number).unwrap_or(0),
-        },
-        status::BAD_SHAPE => Error::BadShape,
-        status::NOT_THERE => Error::NotThere,
-        other => Error::Unknown(other),
     }
 }
 

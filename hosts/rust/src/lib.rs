@@ -36,6 +36,7 @@ mod call;
 mod change;
 mod checkpoint_error;
 mod content;
+mod decoding;
 mod error;
 mod guardian;
 mod listing;

@@ -168,6 +168,10 @@ impl<'t> Reader<'t> {
     }
 
     /// A content, or `absent`.
+    #[allow(
+        clippy::option_option,
+        reason = "the outer one says whether it could be read"
+    )]
     pub(crate) fn content_or_absent(&mut self) -> Option<Option<Content>> {
         if self.take("absent").is_some() {
             return Some(None);

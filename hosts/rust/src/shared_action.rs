@@ -90,7 +90,9 @@ impl<'s> SharedAction<'s> {
     /// ```
     pub fn ask(&self, object: ObjId, query: Query) -> Result<Answer, Error> {
         let call = Call::Ask(self.id, object, query);
-        self.shared.call_waiting(&call, self.shared.patience())?.answer()
+        self.shared
+            .call_waiting(&call, self.shared.patience())?
+            .answer()
     }
 
     /// Changes an object. The answer may be a signal.
@@ -110,7 +112,9 @@ impl<'s> SharedAction<'s> {
     /// ```
     pub fn alter(&self, object: ObjId, change: Change) -> Result<Answer, Error> {
         let call = Call::Alter(self.id, object, change);
-        self.shared.call_waiting(&call, self.shared.patience())?.answer()
+        self.shared
+            .call_waiting(&call, self.shared.patience())?
+            .answer()
     }
 
     /// A field of a record.
@@ -151,7 +155,8 @@ impl<'s> SharedAction<'s> {
     /// # Ok::<(), Error>(())
     /// ```
     pub fn set(&self, object: ObjId, field: u8, value: impl Into<Value>) -> Result<(), Error> {
-        self.alter(object, Change::SetField(field, value.into()))?.done()
+        self.alter(object, Change::SetField(field, value.into()))?
+            .done()
     }
 
     /// Takes a read lock; false where it isn't to be had. It doesn't wait.
@@ -251,7 +256,10 @@ impl<'s> SharedAction<'s> {
     /// # Ok::<(), Error>(())
     /// ```
     pub fn abort_others(&self) -> Result<(), Error> {
-        self.shared.call(&Call::AbortOthers(self.id))?.answer()?.done()
+        self.shared
+            .call(&Call::AbortOthers(self.id))?
+            .answer()?
+            .done()
     }
 
     /// Commits. After an error it aborts.

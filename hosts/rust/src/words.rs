@@ -19,37 +19,42 @@ pub(crate) struct Words {
 
 impl Words {
     pub(crate) fn of(call: &Call) -> Words {
-        let of_action = |kind, ActionId(action)| Words { kind, action, ..Words::default() };
-        let of_object = |kind, ActionId(action), ObjId(object)| Words {
-            kind,
-            action,
-            object,
-            ..Words::default()
-        };
         match call {
             Call::Declare(shape) => Words {
                 kind: kind::DECLARE,
                 text: shape.clone(),
                 ..Words::default()
             },
-            Call::BeginTop => of_action(kind::BEGIN_TOP, ActionId(0)),
-            Call::BeginSub(parent) => of_action(kind::BEGIN_SUB, *parent),
-            Call::BeginNested(creator) => of_action(kind::BEGIN_NESTED, *creator),
-            Call::Commit(action) => of_action(kind::COMMIT, *action),
-            Call::Abort(action) => of_action(kind::ABORT, *action),
-            Call::AbortOthers(action) => of_action(kind::ABORT_OTHERS, *action),
-            Call::Ask(action, object, query) => Words {
-                action: action.0,
-                object: object.0,
-                ..Words::of_query(query)
-            },
-            Call::Alter(action, object, change) => Words {
-                action: action.0,
-                object: object.0,
-                ..Words::of_change(change)
-            },
-            Call::TestRead(action, object) => of_object(kind::TEST_READ, *action, *object),
-            Call::TestWrite(action, object) => of_object(kind::TEST_WRITE, *action, *object),
+            Call::BeginTop => Words::of_action(kind::BEGIN_TOP, ActionId(0)),
+            Call::BeginSub(parent) => Words::of_action(kind::BEGIN_SUB, *parent),
+            Call::BeginNested(creator) => Words::of_action(kind::BEGIN_NESTED, *creator),
+            Call::Commit(action) => Words::of_action(kind::COMMIT, *action),
+            Call::Abort(action) => Words::of_action(kind::ABORT, *action),
+            Call::AbortOthers(action) => Words::of_action(kind::ABORT_OTHERS, *action),
+            Call::Ask(action, object, query) => Words::of_query(query).by(*action, *object),
+            Call::Alter(action, object, change) => Words::of_change(change).by(*action, *object),
+            Call::TestRead(action, object) => {
+                Words::of_action(kind::TEST_READ, *action).by(*action, *object)
+            }
+            Call::TestWrite(action, object) => {
+                Words::of_action(kind::TEST_WRITE, *action).by(*action, *object)
+            }
+        }
+    }
+
+    fn of_action(kind: u32, ActionId(action): ActionId) -> Words {
+        Words {
+            kind,
+            action,
+            ..Words::default()
+        }
+    }
+
+    fn by(self, ActionId(action): ActionId, ObjId(object): ObjId) -> Words {
+        Words {
+            action,
+            object,
+            ..self
         }
     }
 
@@ -66,7 +71,11 @@ impl Words {
             Query::IsTag(tag) => (kind::IS_TAG, i64::from(tag)),
             Query::TagValue(tag) => (kind::TAG_VALUE, i64::from(tag)),
         };
-        Words { kind, first, ..Words::default() }
+        Words {
+            kind,
+            first,
+            ..Words::default()
+        }
     }
 
     fn of_change(change: &Change) -> Words {
@@ -87,6 +96,12 @@ impl Words {
             }
             Change::Touch => (kind::TOUCH, 0, 0, String::new()),
         };
-        Words { kind, first, second, text, ..Words::default() }
+        Words {
+            kind,
+            first,
+            second,
+            text,
+            ..Words::default()
+        }
     }
 }

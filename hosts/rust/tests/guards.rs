@@ -78,7 +78,8 @@ fn long_texts_come_back_whole() -> Result<(), Error> {
     let long = "\u{e9}".repeat(5000);
     let mut top = guardian.topaction()?;
     let fields = vec![Value::Text(long.clone())];
-    top.alter(record, Change::Create(Content::Record(fields)))?.done()?;
+    top.alter(record, Change::Create(Content::Record(fields)))?
+        .done()?;
     assert_eq!(top.get(record, 0)?, Value::Text(long));
     top.commit()
 }
@@ -99,13 +100,28 @@ fn values_deeper_than_sixteen_are_no_texts() -> Result<(), Error> {
 
 #[test]
 fn written_forms_are_read_again() -> Result<(), Error> {
-    for text in ["-5", "true", "null", r#""a\"b\\\n""#, "[]", "[1,{null,<0:\"a\\n\">},@3]"] {
+    for text in [
+        "-5",
+        "true",
+        "null",
+        r#""a\"b\\\n""#,
+        "[]",
+        "[1,{null,<0:\"a\\n\">},@3]",
+    ] {
         assert_eq!(text.parse::<Value>()?.to_string(), text);
     }
     for text in ["{}", "{1,true}", "-2147483648[]", "1[10,20]", r#"<1:"no">"#] {
         assert_eq!(content(text).to_string(), text);
     }
-    for text in ["done", "val -5", "num 3", "flag true", "body 1[]", "a7", "o7"] {
+    for text in [
+        "done",
+        "val -5",
+        "num 3",
+        "flag true",
+        "body 1[]",
+        "a7",
+        "o7",
+    ] {
         assert_eq!(text.parse::<Reply>()?.to_string(), text);
     }
     for signal in Signal::ALL {
@@ -134,7 +150,8 @@ fn each_operation_answers() -> Result<(), Error> {
     let array = guardian.declare("atomic_array[int]")?;
     let variant = guardian.declare("atomic_variant[ok:int,bad:text]")?;
     let mut top = guardian.topaction()?;
-    top.alter(array, Change::Create(content("1[10,20,30]")))?.done()?;
+    top.alter(array, Change::Create(content("1[10,20,30]")))?
+        .done()?;
     for (query, answer) in [
         (Query::Low, Answer::Num(1)),
         (Query::High, Answer::Num(3)),
@@ -160,11 +177,13 @@ fn each_operation_answers() -> Result<(), Error> {
         assert_eq!(top.alter(array, change)?, answer);
         assert_eq!(top.ask(array, Query::Whole)?.body()?, content(left));
     }
-    top.alter(variant, Change::Create(content("<0:5>")))?.done()?;
+    top.alter(variant, Change::Create(content("<0:5>")))?
+        .done()?;
     assert!(top.ask(variant, Query::IsTag(0))?.flag()?);
     let wrong = top.ask(variant, Query::TagValue(1))?;
     assert_eq!(wrong.value(), Err(Error::Signal(Signal::WrongTag)));
-    top.alter(variant, Change::ChangeTag(1, "no".into()))?.done()?;
+    top.alter(variant, Change::ChangeTag(1, "no".into()))?
+        .done()?;
     assert_eq!(top.ask(variant, Query::TagValue(1))?.value()?, "no".into());
     top.commit()
 }
