@@ -1,4 +1,5 @@
-/* Many calls, with a checkpoint now and then: after each checkpoint as much memory is in use as after the first.
+/* Many calls, with a checkpoint now and then: after the last checkpoint no more memory is in use than after the first,
+ * but for a little. A checkpoint drops the entries and keeps the journal's list, with its room, for those to come.
  *
  * A turn is a topaction with two subactions, of which one aborts: 3 actions and 32 calls. So 10,000,000 calls begin
  * 937,500 of the 1,000,000 actions that a guardian has. */
@@ -16,8 +17,9 @@ enum { RECORDS = 100, CALLS_A_TURN = 32 };
 /* How many calls are made between two checkpoints. */
 static const uint64_t CALLS_A_FOLD = 100000;
 
-/* How many bytes more than after the first checkpoint may be in use after the last. */
-static const size_t SLACK = 4096;
+/* How many bytes more than after the first checkpoint may be in use after the last: the lists of an object's readers
+ * and versions keep the room that they once had. A byte for each call would be far more. */
+static const size_t SLACK = 65536;
 
 /* Reads and sets so many records. */
 static void touch(store *it, uint64_t *draws, uint32_t action, int count) {
