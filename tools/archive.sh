@@ -1,10 +1,10 @@
 #!/usr/bin/env bash
-# Builds the archive for programs in C over the libraries that .ci/run has just proved, within a
+# Builds the archive for programs in C over the libraries that .ci/run has just proved, in a
 # minute or two: crates/argus_c/out/libargus_c.a.
 #
 # The gate proves the static library but builds no archive. `rt lib` in crates/argus_c makes the same
 # archive, but over libraries of its own: it proves each of them again that it hasn't proved before.
-# Here the crate alone is proved once more, as each build does.
+# Here that crate alone is proved once more, as each build does.
 set -euo pipefail
 
 top=$(cd "$(dirname "$0")/.." && pwd)
@@ -28,7 +28,7 @@ for crate in $(crates); do
     [ "$crate" = "$name" ] || words+=(-L "dependency=$top/crates/$crate/out/rlib")
 done
 words+=(--antt-project "$kit/rattle/logic/antt-project.json" --logic-built "$kit/logic_built")
-words+=(--links "$name=" --crate-type staticlib --toolchain "$kit/toolchain" --backend llvm --jobs 2)
+words+=(--links "$name=" --crate-type staticlib --toolchain "$kit/toolchain" --backend llvm --jobs "$(nproc)")
 
 cd "$top/crates/$name"
 mkdir -p out
