@@ -1,17 +1,39 @@
 #!/usr/bin/env bash
-# Builds the archive for programs in C over the libraries that .ci/run has just proved, in a
-# minute or two: crates/argus_c/out/libargus_c.a.
+# Builds the archive for programs in C over the libraries that .ci/run has just proved, in a minute
+# or two: crates/argus_c/out/libargus_c.a.
 #
-# The gate proves the static library but builds no archive. `rt lib` in crates/argus_c makes the same
-# archive, but over libraries of its own: it proves each of them again that it hasn't proved before.
-# Here that crate alone is proved once more, as each build does.
+# The gate proves the static library but builds no archive, and leaves the libraries below it without
+# the stamp by which `rt lib` knows its own, so that `rt lib` would prove each of them again. Here the
+# static library alone is proved once more, as each build does. Where the libraries have stamps, as
+# in a clone that one works in, `rt lib` does it.
 set -euo pipefail
 
 top=$(cd "$(dirname "$0")/.." && pwd)
 name=argus_c
 most=
 . "$top/tools/program.sh"
-kit=$(dirname "$("$(find_kit)" doc)")
+rt=$(find_kit)
+kit=$(dirname "$("$rt" doc)")
+
+# is_new CRATE: whether the library is there, and none of its sources is newer
+is_new() {
+    local crate=$top/crates/$1 newer
+    [ -d "$crate/out/rlib/$1.rlib" ] || return
+    newer=$(find "$crate/src" "$crate/specs" "$crate/proofs" -newer "$crate/out/rlib/$1.rlib" 2> /dev/null | head -n 1)
+    [ -z "$newer" ]
+}
+
+cd "$top/crates/$name"
+below=$(crates | sed '$d')
+for crate in $below; do
+    if [ -f "$top/crates/$crate/out/rlib/stamp" ]; then
+        exec "$rt" lib
+    fi
+    if ! is_new "$crate"; then
+        say "$crate isn't proved as it stands: .ci/run proves all, or rt lib in crates/$name"
+        exit 1
+    fi
+done
 
 # The libraries that crates.txt names beside the crate, of the repository and of the kit.
 named=$(sed -n "s/^$name [^:]*://p" "$top/crates.txt")
@@ -24,12 +46,11 @@ for library in $named; do
     fi
 done
 words+=(-L "dependency=$kit/rlibs")
-for crate in $(crates); do
-    [ "$crate" = "$name" ] || words+=(-L "dependency=$top/crates/$crate/out/rlib")
+for crate in $below; do
+    words+=(-L "dependency=$top/crates/$crate/out/rlib")
 done
 words+=(--antt-project "$kit/rattle/logic/antt-project.json" --logic-built "$kit/logic_built")
 words+=(--links "$name=" --crate-type staticlib --toolchain "$kit/toolchain" --backend llvm --jobs "$(nproc)")
 
-cd "$top/crates/$name"
 mkdir -p out
 "$kit/bin/rattle" build "${words[@]}" -o "out/lib$name.a"
