@@ -1,0 +1,28 @@
+/* A host of a guardian in C: host [bank [ORDERS] | stress [CALLS] | flat [TURNS]]. */
+#include "modes.h"
+
+#include <errno.h>
+#include <stdio.h>
+#include <stdlib.h>
+#include <string.h>
+
+static int usage(void) {
+    fprintf(stderr, "host [bank [ORDERS] | stress [CALLS] | flat [TURNS]]\n");
+    return 2;
+}
+
+int main(int count, char **words) {
+    const char *mode = count > 1 ? words[1] : "bank";
+    unsigned long long number = 0;
+    if (count > 3) return usage();
+    if (count == 3) {
+        char *end;
+        errno = 0;
+        number = strtoull(words[2], &end, 10);
+        if (*end != '\0' || end == words[2] || errno != 0 || number > 1000000000) return usage();
+    }
+    if (strcmp(mode, "bank") == 0) return bank(count == 3 ? (uint32_t)number : 250);
+    if (strcmp(mode, "stress") == 0) return stress(count == 3 ? number : 10000000);
+    if (strcmp(mode, "flat") == 0) return flat(count == 3 ? (uint32_t)number : 90000);
+    return usage();
+}

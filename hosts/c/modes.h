@@ -1,0 +1,16 @@
+/* What the host can be told to do. Each gives the status with which the process ends. */
+#ifndef MODES_H
+#define MODES_H
+
+#include <stdint.h>
+
+/* A bank: so many orders by each of four threads, with audits beside them. */
+int bank(uint32_t orders);
+
+/* So many calls, with a checkpoint now and then, and what memory is in use after each. */
+int stress(uint64_t calls);
+
+/* The flat work of crates/argus_bench, so many turns, with its time and its sum. */
+int flat(uint32_t turns);
+
+#endif

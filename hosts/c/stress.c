@@ -1,0 +1,80 @@
+/* Many calls, with a checkpoint now and then: after the last checkpoint no more memory is in use than after the first,
+ * but for a little. A checkpoint drops the entries and keeps the journal's list, with its room, for those to come.
+ *
+ * A turn is a topaction with two subactions, of which one aborts: 3 actions and 32 calls. So 10,000,000 calls begin
+ * 937,500 of the 1,000,000 actions that a guardian has. */
+#include "clock.h"
+#include "draws.h"
+#include "modes.h"
+#include "store.h"
+
+#include <inttypes.h>
+#include <malloc.h>
+#include <stdio.h>
+
+enum { RECORDS = 100, CALLS_A_TURN = 32 };
+
+/* How many calls are made between two checkpoints. */
+static const uint64_t CALLS_A_FOLD = 100000;
+
+/* How many bytes more than after the first checkpoint may be in use after the last: the lists of an object's readers
+ * and versions keep the room that they once had. A byte for each call would be far more. */
+static const size_t SLACK = 65536;
+
+/* Reads and sets so many records. */
+static void touch(store *it, uint64_t *draws, uint32_t action, int count) {
+    for (int at = 0; at < count; at++) {
+        uint32_t object = draws_below(draws, RECORDS);
+        store_set(it, action, object, store_get(it, action, object) + 1);
+    }
+}
+
+static void turn(store *it, uint64_t *draws) {
+    uint32_t top = store_begin_top(it);
+    touch(it, draws, top, 5);
+    uint32_t sub = store_begin_sub(it, top);
+    touch(it, draws, sub, 4);
+    store_commit(it, sub);
+    sub = store_begin_sub(it, top);
+    touch(it, draws, sub, 4);
+    store_abort(it, sub);
+    store_commit(it, top);
+}
+
+/* Bytes that malloc has handed out, and not got back. */
+static size_t in_use(void) {
+    struct mallinfo2 info = mallinfo2();
+    return info.uordblks + info.hblkhd;
+}
+
+/* Makes the calls up to the next checkpoint, and the checkpoint; what is in use before and after it. */
+static size_t fold_after(store *it, uint64_t *draws, uint64_t calls, size_t *before) {
+    for (uint64_t made = 0; made < calls; made += CALLS_A_TURN) turn(it, draws);
+    *before = in_use();
+    store_fold(it);
+    return in_use();
+}
+
+int stress(uint64_t calls) {
+    store records;
+    uint64_t draws = 42;
+    size_t first = 0, last = 0, most = 0;
+    store_open(&records, 0);
+    for (int at = 0; at < RECORDS; at++) store_declare(&records, 0);
+    double begin = clock_seconds();
+    for (uint64_t made = 0; made < calls; made += CALLS_A_FOLD) {
+        size_t before;
+        last = fold_after(&records, &draws, CALLS_A_FOLD, &before);
+        if (made == 0) first = last;
+        if (before > most) most = before;
+    }
+    double taken = clock_seconds() - begin, entries = (double)store_entries(&records);
+    int64_t sum = 0;
+    for (uint32_t object = 0; object < RECORDS; object++) sum += store_base(&records, object);
+    fprintf(stderr, "%.0f calls in %.1f s, %.0f a second\n", entries, taken, entries / taken);
+    fprintf(stderr, "bytes in use: %zu at most before a checkpoint, %zu after the first, %zu after the last\n", most,
+            first, last);
+    printf("entries %.0f, sum %" PRId64 ", memory %s\n", entries, sum, last <= first + SLACK ? "stays" : "grows");
+    store_close(&records);
+    return last <= first + SLACK ? 0 : 1;
+}

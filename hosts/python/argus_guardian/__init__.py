@@ -1,0 +1,85 @@
+"""Atomic objects under nested transactions, in Python over a proved library.
+
+    with Guardian() as guardian:
+        account = guardian.declare("atomic_record[balance:int]")
+        with guardian.topaction() as top:
+            top.create(account, (5,))
+        with guardian.topaction() as top:
+            with top.subaction() as sub:
+                sub.set_field(account, 0, 7)
+        guardian.base(account)                # (7,)
+
+An action commits at the end of its `with` block, and aborts where an exception leaves it. What is
+proved is the library, by which each reply is the answer that the journal before the call gives. This
+package isn't: it calls the library, writes and reads its texts, and waits.
+"""
+
+from .action import Action
+from .errors import (
+    Absent,
+    ArgusError,
+    BadShape,
+    BadText,
+    Bounds,
+    Busy,
+    Closed,
+    Conflict,
+    Exists,
+    Full,
+    IllTyped,
+    Limits,
+    NegativeSize,
+    NoAction,
+    NoObject,
+    NoSiblings,
+    NotThere,
+    OutOfMemory,
+    Over,
+    Refused,
+    Signal,
+    Suspended,
+    TooDeep,
+    TooMany,
+    UnknownStatus,
+    WrongTag,
+)
+from .guardian import Guardian
+from .values import Array, Choice, Ref, read_content, read_value, write_content, write_value
+
+__all__ = [
+    "Absent",
+    "Action",
+    "ArgusError",
+    "Array",
+    "BadShape",
+    "BadText",
+    "Bounds",
+    "Busy",
+    "Choice",
+    "Closed",
+    "Conflict",
+    "Exists",
+    "Full",
+    "Guardian",
+    "IllTyped",
+    "Limits",
+    "NegativeSize",
+    "NoAction",
+    "NoObject",
+    "NoSiblings",
+    "NotThere",
+    "OutOfMemory",
+    "Over",
+    "Ref",
+    "Refused",
+    "Signal",
+    "Suspended",
+    "TooDeep",
+    "TooMany",
+    "UnknownStatus",
+    "WrongTag",
+    "read_content",
+    "read_value",
+    "write_content",
+    "write_value",
+]

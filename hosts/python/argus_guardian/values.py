@@ -1,0 +1,172 @@
+"""Values and contents, written and read.
+
+    null     None              a struct      a tuple
+    bool     bool              a sequence    a list
+    int      int               a oneof       Choice(tag, value)
+    text     str               a reference   Ref(number)
+
+A record's content is a tuple, an array's an Array(low, items), a variant's a Choice. Fields and tags
+are numbered from 0, in the order of their type.
+"""
+
+import re
+from typing import NamedTuple
+
+from .errors import BadText
+
+MAX_DEPTH = 16
+
+
+class Ref(NamedTuple):
+    """A reference to an object."""
+
+    number: int
+
+
+class Choice(NamedTuple):
+    """A tag of a oneof or of a variant, and what goes with it."""
+
+    tag: int
+    value: object
+
+
+class Array(NamedTuple):
+    """An array's low bound, and its elements."""
+
+    low: int
+    items: list
+
+
+def write_value(value):
+    """The written form of a value. TypeError where it is of no type that a value has."""
+    if value is None:
+        return "null"
+    if isinstance(value, bool):
+        return "true" if value else "false"
+    if isinstance(value, int):
+        return str(int(value))
+    if isinstance(value, str):
+        return '"' + value.replace("\\", "\\\\").replace('"', '\\"').replace("\n", "\\n") + '"'
+    if isinstance(value, Ref):
+        return f"@{value.number}"
+    if isinstance(value, Choice):
+        return f"<{value.tag}:{write_value(value.value)}>"
+    if isinstance(value, list):
+        return "[" + _joined(value) + "]"
+    if isinstance(value, tuple) and not isinstance(value, Array):
+        return "{" + _joined(value) + "}"
+    raise TypeError(f"no value: {value!r}")
+
+
+def write_content(content):
+    """The written form of a content. TypeError where it is none."""
+    if isinstance(content, Array):
+        return f"{content.low}[{_joined(content.items)}]"
+    if isinstance(content, tuple) and not isinstance(content, Ref):
+        return write_value(content)
+    raise TypeError(f"no content: {content!r}")
+
+
+def _joined(values):
+    return ",".join(map(write_value, values))
+
+
+def read_value(text):
+    """The value of a written form. BadText where it is none."""
+    return _Reader(text).whole(lambda it: it.value(1))
+
+
+def read_content(text):
+    """The content of a written form, None for `absent`. BadText where it is neither."""
+    return _Reader(text).whole(_Reader.content)
+
+
+class _Reader:
+    """What is left to read of a text. A reading call raises _Stop where it can't go on."""
+
+    INT = re.compile(r"0|-?[1-9][0-9]*")
+    NAT = re.compile(r"0|[1-9][0-9]*")
+    TEXT = re.compile(r'"(?:[^"\\\n]|\\["\\n])*"')
+    ESCAPED = re.compile(r'\\(["\\n])')
+    WORDS = {"null": None, "true": True, "false": False}
+
+    def __init__(self, text):
+        self.text, self.at = text, 0
+
+    def whole(self, read):
+        try:
+            thing = read(self)
+        except _Stop:
+            pass
+        else:
+            if self.at == len(self.text):
+                return thing
+        raise BadText(len(self.text[: self.at].encode()))
+
+    def take(self, word):
+        """Whether the rest begins so; then it is taken."""
+        is_there = self.text.startswith(word, self.at)
+        self.at += len(word) * is_there
+        return is_there
+
+    def want(self, word):
+        if not self.take(word):
+            raise _Stop
+
+    def match(self, pattern):
+        found = pattern.match(self.text, self.at)
+        if not found:
+            raise _Stop
+        self.at = found.end()
+        return found.group()
+
+    def value(self, level):
+        if level > MAX_DEPTH:
+            raise _Stop
+        for word, value in self.WORDS.items():
+            if self.take(word):
+                return value
+        if self.text.startswith('"', self.at):
+            written = self.match(self.TEXT)[1:-1]
+            return self.ESCAPED.sub(lambda it: "\n" if it[1] == "n" else it[1], written)
+        if self.take("@"):
+            return Ref(int(self.match(self.NAT)))
+        if self.take("["):
+            return self.values(level, "]")
+        if self.take("{"):
+            return tuple(self.values(level, "}"))
+        if self.take("<"):
+            return self.choice(level)
+        return int(self.match(self.INT))
+
+    def values(self, level, close):
+        """What stands before the closing bracket, which is taken too."""
+        if self.take(close):
+            return []
+        values = [self.value(level + 1)]
+        while not self.take(close):
+            self.want(",")
+            values.append(self.value(level + 1))
+        return values
+
+    def choice(self, level):
+        tag = int(self.match(self.NAT))
+        self.want(":")
+        value = self.value(level + 1)
+        self.want(">")
+        return Choice(tag, value)
+
+    def content(self):
+        if self.take("absent"):
+            return None
+        if self.take("{"):
+            return tuple(self.values(0, "}"))
+        if self.take("<"):
+            return self.choice(0)
+        low = int(self.match(self.INT))
+        self.want("[")
+        return Array(low, self.values(0, "]"))
+
+
+class _Stop(Exception):
+    """The text can't be read further."""

@@ -1,0 +1,242 @@
+"""What the package makes of the library: each call once, and what it raises."""
+
+import sys
+import threading
+import unittest
+from pathlib import Path
+
+sys.path.insert(0, str(Path(__file__).resolve().parents[1]))
+
+import argus_guardian as argus  # noqa: E402
+from argus_guardian import Array, Choice, Ref  # noqa: E402
+
+
+class Texts(unittest.TestCase):
+    """Written forms."""
+
+    # A value and its written form, as docs/LANGUAGE.md has them.
+    ROWS = (
+        (-5, "-5"),
+        ('a"b', '"a\\"b"'),
+        ("\\\n", '"\\\\\\n"'),
+        ([], "[]"),
+        ((1, True), "{1,true}"),
+        (Choice(1, "no"), '<1:"no">'),
+        ([1, (None, Choice(0, "a\n")), Ref(3)], '[1,{null,<0:"a\\n">},@3]'),
+    )
+
+    def test_values(self):
+        for value, text in self.ROWS:
+            self.assertEqual(argus.write_value(value), text)
+            self.assertEqual(argus.read_value(text), value)
+
+    def test_true_is_no_integer(self):
+        self.assertIs(argus.read_value("true"), True)
+        self.assertEqual(argus.write_value(True), "true")
+
+    def test_contents(self):
+        for content, text in (((5,), "{5}"), (Array(1, []), "1[]"), (Choice(0, 5), "<0:5>")):
+            self.assertEqual(argus.write_content(content), text)
+            self.assertEqual(argus.read_content(text), content)
+        self.assertIsNone(argus.read_content("absent"))
+
+    def test_what_is_none(self):
+        for text, at in (("", 0), (" 1", 0), ("1 ", 1), ("007", 1), ("[1,]", 3), ("[" * 17 + "]" * 17, 16)):
+            with self.assertRaises(argus.BadText) as raised:
+                argus.read_value(text)
+            self.assertEqual(raised.exception.at, at)
+        with self.assertRaises(TypeError):
+            argus.write_value(1.5)
+        with self.assertRaises(TypeError):
+            argus.write_content(5)
+
+
+class Calls(unittest.TestCase):
+    """Calls on a guardian of a record and an array."""
+
+    def setUp(self):
+        self.guardian = argus.Guardian(patience=0.01)
+        self.addCleanup(self.guardian.close)
+        self.record = self.guardian.declare("atomic_record[n:int,t:text]")
+        self.array = self.guardian.declare("atomic_array[int]")
+        with self.guardian.topaction() as top:
+            top.create(self.record, (5, "a"))
+            top.create(self.array, Array(1, [10, 20, 30]))
+
+    def test_a_block_commits(self):
+        with self.guardian.topaction() as top:
+            top.set_field(self.record, 0, 7)
+        self.assertEqual(self.guardian.base(self.record), (7, "a"))
+
+    def test_an_exception_aborts(self):
+        with self.assertRaises(KeyError), self.guardian.topaction() as top:
+            top.set_field(self.record, 0, 7)
+            raise KeyError
+        self.assertEqual(self.guardian.base(self.record), (5, "a"))
+
+    def test_a_subaction_aborts_alone(self):
+        with self.guardian.topaction() as top:
+            with top.subaction() as sub:
+                sub.set_field(self.record, 0, 6)
+            sub = top.subaction()
+            sub.set_field(self.record, 0, 9)
+            self.assertEqual(self.guardian.versions(self.record), [(1, (6, "a")), (3, (9, "a"))])
+            sub.abort()
+            self.assertEqual(top.field(self.record, 0), 6)
+        self.assertEqual(self.guardian.base(self.record), (6, "a"))
+
+    def test_a_nested_topaction_counts_for_itself(self):
+        with self.assertRaises(KeyError), self.guardian.topaction() as top:
+            top.touch(self.record)
+            with top.nested() as nested:
+                with self.assertRaises(argus.Conflict):
+                    nested.field(self.record, 0)
+                nested.addh(self.array, 40)
+            raise KeyError
+        self.assertEqual(self.guardian.base(self.array), Array(1, [10, 20, 30, 40]))
+
+    def test_queries_and_changes_of_arrays(self):
+        with self.guardian.topaction() as top:
+            self.assertEqual((top.low(self.array), top.high(self.array), top.size(self.array)), (1, 3, 3))
+            self.assertEqual((top.bottom(self.array), top.fetch(self.array, 2), top.top(self.array)), (10, 20, 30))
+            top.store(self.array, 2, 21)
+            top.addl(self.array, 0)
+            top.addh(self.array, 40)
+            self.assertEqual(top.whole(self.array), Array(0, [0, 10, 21, 30, 40]))
+            self.assertEqual((top.remh(self.array), top.reml(self.array)), (40, 0))
+            top.set_low(self.array, 5)
+            top.trim(self.array, 6, 1)
+            self.assertEqual(top.whole(self.array), Array(6, [21]))
+
+    def test_variants(self):
+        variant = self.guardian.declare("atomic_variant[ok:int,bad:text]")
+        with self.guardian.topaction() as top:
+            top.create(variant, Choice(0, 5))
+            self.assertTrue(top.is_tag(variant, 0))
+            with self.assertRaises(argus.WrongTag):
+                top.tag_value(variant, 1)
+            top.change_tag(variant, 1, "no")
+            self.assertEqual(top.tag_value(variant, 1), "no")
+
+    def test_signals_leave_the_action_going(self):
+        with self.guardian.topaction() as top:
+            with self.assertRaises(argus.Bounds):
+                top.fetch(self.array, 4)
+            with self.assertRaises(argus.Exists):
+                top.create(self.array, Array(1, []))
+            with self.assertRaises(argus.NegativeSize):
+                top.trim(self.array, 1, -1)
+            with self.assertRaises(argus.Limits):
+                top.set_low(self.array, 2**31)
+        self.assertEqual(self.guardian.base(self.array), Array(1, [10, 20, 30]))
+
+    def test_refusals(self):
+        top = self.guardian.topaction()
+        with self.assertRaises(argus.NoObject):
+            top.touch(9)
+        with self.assertRaises(argus.IllTyped):
+            top.set_field(self.record, 0, "text")
+        sub = top.subaction()
+        with self.assertRaises(argus.Suspended):
+            top.touch(self.record)
+        with self.assertRaises(argus.NoSiblings):
+            self.guardian.topaction().abort_others()
+        top.abort()
+        with self.assertRaises(argus.Over):
+            sub.commit()
+        with self.assertRaises(argus.NoAction):
+            argus.Action(self.guardian, 99).commit()
+
+    def test_siblings_are_ended(self):
+        with self.guardian.topaction() as top:
+            with top.subaction() as first:
+                second = top.subaction()
+                first.abort_others()
+                with self.assertRaises(argus.Over):
+                    second.touch(self.record)
+
+    def test_locks_are_tested(self):
+        with self.guardian.topaction() as first, self.guardian.topaction() as second:
+            self.assertTrue(first.test_read(self.record))
+            self.assertTrue(second.test_read(self.record))
+            self.assertFalse(second.test_write(self.record))
+            self.assertEqual(self.guardian.readers(self.record), [first.number, second.number])
+
+    def test_bad_texts(self):
+        with self.assertRaises(argus.BadShape):
+            self.guardian.declare("atomic_record[]")
+        with self.guardian.topaction() as top:
+            before = self.guardian.entries
+            with self.assertRaises(argus.BadText):
+                top.set_field(self.record, 0, 2**63)
+            self.assertEqual(self.guardian.entries, before)
+
+    def test_listings_and_entries(self):
+        self.assertEqual(self.guardian.list("bases"), 'o0 {5,"a"}\no1 1[10,20,30]\n')
+        self.assertEqual(self.guardian.entry(2), "2 begin_top -> a0")
+        with self.assertRaises(argus.NotThere):
+            self.guardian.entry(99)
+        with self.assertRaises(argus.NotThere):
+            self.guardian.base(9)
+        self.assertEqual((self.guardian.objects, self.guardian.actions, self.guardian.entries), (2, 1, 6))
+
+    def test_long_texts(self):
+        long = "x" * 10_000
+        with self.guardian.topaction() as top:
+            top.set_field(self.record, 1, long)
+            self.assertEqual(top.field(self.record, 1), long)
+
+    def test_checkpoints(self):
+        with self.guardian.topaction():
+            with self.assertRaises(argus.Busy):
+                self.guardian.checkpoint()
+        self.guardian.checkpoint()
+        self.assertEqual(self.guardian.entries, 8)
+        self.assertEqual(self.guardian.base(self.record), (5, "a"))
+        with self.assertRaises(argus.NotThere):
+            self.guardian.entry(0)
+
+    def test_a_closed_guardian(self):
+        self.guardian.close()
+        with self.assertRaises(argus.Closed):
+            self.guardian.declare("atomic_array[int]")
+        self.guardian.close()
+
+
+class Waits(unittest.TestCase):
+    """Accesses that wait for another thread."""
+
+    def test_a_commit_wakes(self):
+        with argus.Guardian(patience=30) as guardian:
+            array = guardian.declare("atomic_array[int]")
+            first, second = guardian.topaction(), guardian.topaction()
+            first.create(array, Array(1, [1]))
+            seen = []
+            thread = threading.Thread(target=lambda: seen.append(second.whole(array)))
+            thread.start()
+            first.commit()
+            thread.join()
+            self.assertEqual(seen, [Array(1, [1])])
+
+    def test_an_abort_of_the_waiter_wakes(self):
+        with argus.Guardian(patience=30) as guardian:
+            array = guardian.declare("atomic_array[int]")
+            holder, other = guardian.topaction(), guardian.topaction()
+            holder.touch(array)
+            waiter, raised = other.subaction(), []
+
+            def wait():
+                try:
+                    waiter.touch(array)
+                except argus.Over as error:
+                    raised.append(error)
+
+            thread = threading.Thread(target=wait)
+            thread.start()
+            other.abort()
+            thread.join()
+            self.assertEqual(len(raised), 1)
+
+
+if __name__ == "__main__":
+    unittest.main()

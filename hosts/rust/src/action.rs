@@ -1,0 +1,258 @@
+//! `Action`: a live action of a guardian that has one caller.
+
+use crate::answer::Answer;
+use crate::call::Call;
+use crate::change::Change;
+use crate::error::Error;
+use crate::guardian::Guardian;
+use crate::query::Query;
+use crate::value::Value;
+use crate::{ActionId, ObjId};
+use std::mem;
+
+/// A live action of a guardian that has one caller. It aborts when it is dropped, unless it has
+/// committed; where memory is wanting even for that, it stays live.
+///
+/// A subaction or a nested topaction borrows it, as it is suspended while one of these is live.
+///
+/// ```
+/// use argus_guardian::{Change, Content, Guardian, Value};
+/// let mut guardian = Guardian::new()?;
+/// let account = guardian.declare("atomic_record[balance:int]")?;
+/// let mut top = guardian.topaction()?;
+/// top.alter(account, Change::Create(Content::Record(vec![Value::Int(5)])))?.done()?;
+/// top.commit()?;
+/// # Ok::<(), argus_guardian::Error>(())
+/// ```
+#[derive(Debug)]
+pub struct Action<'g> {
+    guardian: &'g mut Guardian,
+    id: ActionId,
+}
+
+impl<'g> Action<'g> {
+    pub(crate) fn begun(guardian: &'g mut Guardian, call: &Call) -> Result<Action<'g>, Error> {
+        let id = guardian.call(call)?.action()?;
+        Ok(Action { guardian, id })
+    }
+
+    /// Its number.
+    ///
+    /// ```
+    /// use argus_guardian::{ActionId, Guardian};
+    /// assert_eq!(Guardian::new()?.topaction()?.id(), ActionId(0));
+    /// # Ok::<(), argus_guardian::Error>(())
+    /// ```
+    #[must_use]
+    pub fn id(&self) -> ActionId {
+        self.id
+    }
+
+    /// Its guardian.
+    ///
+    /// ```
+    /// let mut guardian = argus_guardian::Guardian::new()?;
+    /// let mut top = guardian.topaction()?;
+    /// assert_eq!(top.guardian().actions(), 1);
+    /// # Ok::<(), argus_guardian::Error>(())
+    /// ```
+    pub fn guardian(&mut self) -> &mut Guardian {
+        self.guardian
+    }
+
+    /// Looks at an object. The answer may be a signal.
+    ///
+    /// # Errors
+    ///
+    /// [`Error::Refused`] with `NoObject`, `IllTyped` or `Conflict`; [`Error::OutOfMemory`];
+    /// [`Error::NoRoom`].
+    ///
+    /// ```
+    /// use argus_guardian::{Answer, Guardian, Query, Signal};
+    /// let mut guardian = Guardian::new()?;
+    /// let object = guardian.declare("atomic_array[int]")?;
+    /// let answer = guardian.topaction()?.ask(object, Query::Size)?;
+    /// assert_eq!(answer, Answer::Signal(Signal::Absent));
+    /// # Ok::<(), argus_guardian::Error>(())
+    /// ```
+    pub fn ask(&mut self, object: ObjId, query: Query) -> Result<Answer, Error> {
+        let call = Call::Ask(self.id, object, query);
+        self.guardian.call(&call)?.answer()
+    }
+
+    /// Changes an object. The answer may be a signal.
+    ///
+    /// # Errors
+    ///
+    /// As of [`ask`](Self::ask); [`Error::BadText`] where a value is deeper than 16.
+    ///
+    /// ```
+    /// use argus_guardian::{Answer, Change, Guardian};
+    /// let mut guardian = Guardian::new()?;
+    /// let object = guardian.declare("atomic_array[int]")?;
+    /// let answer = guardian.topaction()?.alter(object, Change::Touch)?;
+    /// assert_eq!(answer, Answer::Done);
+    /// # Ok::<(), argus_guardian::Error>(())
+    /// ```
+    pub fn alter(&mut self, object: ObjId, change: Change) -> Result<Answer, Error> {
+        let call = Call::Alter(self.id, object, change);
+        self.guardian.call(&call)?.answer()
+    }
+
+    /// A field of a record.
+    ///
+    /// # Errors
+    ///
+    /// As of [`ask`](Self::ask); [`Error::Signal`] where the record has no content yet.
+    ///
+    /// ```
+    /// use argus_guardian::{Error, Guardian, Signal};
+    /// let mut guardian = Guardian::new()?;
+    /// let object = guardian.declare("atomic_record[n:int]")?;
+    /// let got = guardian.topaction()?.get(object, 0);
+    /// assert_eq!(got, Err(Error::Signal(Signal::Absent)));
+    /// # Ok::<(), argus_guardian::Error>(())
+    /// ```
+    pub fn get(&mut self, object: ObjId, field: u8) -> Result<Value, Error> {
+        self.ask(object, Query::Field(field))?.value()
+    }
+
+    /// A field of a record becomes the value.
+    ///
+    /// # Errors
+    ///
+    /// As of [`alter`](Self::alter); [`Error::Signal`] where the record has no content yet.
+    ///
+    /// ```
+    /// use argus_guardian::{Change, Guardian, Value};
+    /// let mut guardian = Guardian::new()?;
+    /// let object = guardian.declare("atomic_record[n:int]")?;
+    /// let mut top = guardian.topaction()?;
+    /// top.alter(object, Change::Create("{1}".parse()?))?.done()?;
+    /// top.set(object, 0, 2)?;
+    /// assert_eq!(top.get(object, 0)?, Value::Int(2));
+    /// # Ok::<(), argus_guardian::Error>(())
+    /// ```
+    pub fn set(&mut self, object: ObjId, field: u8, value: impl Into<Value>) -> Result<(), Error> {
+        self.alter(object, Change::SetField(field, value.into()))?
+            .done()
+    }
+
+    /// Takes a read lock; false where it isn't to be had.
+    ///
+    /// # Errors
+    ///
+    /// [`Error::Refused`] with `NoObject`; [`Error::OutOfMemory`].
+    ///
+    /// ```
+    /// let mut guardian = argus_guardian::Guardian::new()?;
+    /// let object = guardian.declare("atomic_array[int]")?;
+    /// assert!(guardian.topaction()?.test_read(object)?);
+    /// # Ok::<(), argus_guardian::Error>(())
+    /// ```
+    pub fn test_read(&mut self, object: ObjId) -> Result<bool, Error> {
+        let call = Call::TestRead(self.id, object);
+        self.guardian.call(&call)?.answer()?.flag()
+    }
+
+    /// Takes a write lock; false where it isn't to be had.
+    ///
+    /// # Errors
+    ///
+    /// [`Error::Refused`] with `NoObject`; [`Error::OutOfMemory`].
+    ///
+    /// ```
+    /// let mut guardian = argus_guardian::Guardian::new()?;
+    /// let object = guardian.declare("atomic_array[int]")?;
+    /// let mut top = guardian.topaction()?;
+    /// assert!(top.test_write(object)?);
+    /// // A nested topaction has no privilege from its creator.
+    /// assert!(!top.nested()?.test_write(object)?);
+    /// # Ok::<(), argus_guardian::Error>(())
+    /// ```
+    pub fn test_write(&mut self, object: ObjId) -> Result<bool, Error> {
+        let call = Call::TestWrite(self.id, object);
+        self.guardian.call(&call)?.answer()?.flag()
+    }
+
+    /// Begins a subaction: what it leaves counts only as its ancestors do.
+    ///
+    /// # Errors
+    ///
+    /// [`Error::Refused`] with `TooDeep` or `TooMany`; [`Error::OutOfMemory`].
+    ///
+    /// ```
+    /// let mut guardian = argus_guardian::Guardian::new()?;
+    /// let mut top = guardian.topaction()?;
+    /// top.subaction()?.commit()?;
+    /// top.commit()?;
+    /// # Ok::<(), argus_guardian::Error>(())
+    /// ```
+    pub fn subaction(&mut self) -> Result<Action<'_>, Error> {
+        Action::begun(self.guardian, &Call::BeginSub(self.id))
+    }
+
+    /// Begins a nested topaction: what it leaves counts, whatever becomes of this action.
+    ///
+    /// # Errors
+    ///
+    /// [`Error::Refused`] with `TooMany`; [`Error::OutOfMemory`].
+    ///
+    /// ```
+    /// use argus_guardian::{Change, Guardian};
+    /// let mut guardian = Guardian::new()?;
+    /// let log = guardian.declare("atomic_array[text]")?;
+    /// let mut top = guardian.topaction()?;
+    /// let mut nested = top.nested()?;
+    /// nested.alter(log, Change::Create(r#"1["tried"]"#.parse()?))?.done()?;
+    /// nested.commit()?;
+    /// top.abort()?;
+    /// assert_eq!(guardian.base(log)?, Some(r#"1["tried"]"#.parse()?));
+    /// # Ok::<(), argus_guardian::Error>(())
+    /// ```
+    pub fn nested(&mut self) -> Result<Action<'_>, Error> {
+        Action::begun(self.guardian, &Call::BeginNested(self.id))
+    }
+
+    /// Commits. After an error it aborts.
+    ///
+    /// # Errors
+    ///
+    /// [`Error::OutOfMemory`].
+    ///
+    /// ```
+    /// argus_guardian::Guardian::new()?.topaction()?.commit()?;
+    /// # Ok::<(), argus_guardian::Error>(())
+    /// ```
+    pub fn commit(self) -> Result<(), Error> {
+        self.end(Call::Commit)
+    }
+
+    /// Aborts, and says so.
+    ///
+    /// # Errors
+    ///
+    /// [`Error::OutOfMemory`]; then it is tried once more, without a word.
+    ///
+    /// ```
+    /// argus_guardian::Guardian::new()?.topaction()?.abort()?;
+    /// # Ok::<(), argus_guardian::Error>(())
+    /// ```
+    pub fn abort(self) -> Result<(), Error> {
+        self.end(Call::Abort)
+    }
+
+    fn end(self, how: impl FnOnce(ActionId) -> Call) -> Result<(), Error> {
+        self.guardian.call(&how(self.id))?.answer()?.done()?;
+        // It is over: there is nothing to abort, and nothing in it to drop.
+        mem::forget(self);
+        Ok(())
+    }
+}
+
+impl Drop for Action<'_> {
+    fn drop(&mut self) {
+        // What comes of it can't be told here.
+        let _ = self.guardian.call(&Call::Abort(self.id));
+    }
+}

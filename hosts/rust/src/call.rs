@@ -1,0 +1,60 @@
+//! `Call`: what a guardian is asked.
+
+use crate::change::Change;
+use crate::query::Query;
+use crate::{ActionId, ObjId};
+use std::fmt;
+
+/// What a guardian is asked: one step, which its journal keeps with the reply.
+///
+/// `Display` gives the words that stand in a journal's line.
+///
+/// ```
+/// use argus_guardian::{ActionId, Call, ObjId, Query};
+/// let call = Call::Ask(ActionId(1), ObjId(0), Query::Field(0));
+/// assert_eq!(call.to_string(), "ask a1 o0 field 0");
+/// ```
+#[derive(Debug, Clone, PartialEq, Eq, Hash)]
+pub enum Call {
+    /// Declares an object of this shape, as `atomic_record[balance:int]`: `Reply::Object`.
+    Declare(String),
+    /// Begins a topaction: `Reply::Begun`.
+    BeginTop,
+    /// Begins a subaction of this action: `Reply::Begun`.
+    BeginSub(ActionId),
+    /// Begins a nested topaction, of which this action is the creator: `Reply::Begun`.
+    BeginNested(ActionId),
+    /// Commits: `Answer::Done`. A subaction hands its locks and versions to its parent; what a
+    /// topaction leaves is there for good.
+    Commit(ActionId),
+    /// Aborts the action and all subactions below it: `Answer::Done`. Their locks and versions go.
+    Abort(ActionId),
+    /// Aborts all live siblings of the action: `Answer::Done`.
+    AbortOthers(ActionId),
+    /// The action looks at the object.
+    Ask(ActionId, ObjId, Query),
+    /// The action changes the object.
+    Alter(ActionId, ObjId, Change),
+    /// Takes a read lock where it is to be had: `Answer::Flag`.
+    TestRead(ActionId, ObjId),
+    /// Takes a write lock where it is to be had: `Answer::Flag`.
+    TestWrite(ActionId, ObjId),
+}
+
+impl fmt::Display for Call {
+    fn fmt(&self, f: &mut fmt::Formatter<'_>) -> fmt::Result {
+        match self {
+            Call::Declare(shape) => write!(f, "declare {shape}"),
+            Call::BeginTop => f.write_str("begin_top"),
+            Call::BeginSub(parent) => write!(f, "begin_sub {parent}"),
+            Call::BeginNested(creator) => write!(f, "begin_nested {creator}"),
+            Call::Commit(action) => write!(f, "commit {action}"),
+            Call::Abort(action) => write!(f, "abort {action}"),
+            Call::AbortOthers(action) => write!(f, "abort_others {action}"),
+            Call::Ask(action, object, query) => write!(f, "ask {action} {object} {query}"),
+            Call::Alter(action, object, change) => write!(f, "alter {action} {object} {change}"),
+            Call::TestRead(action, object) => write!(f, "test_read {action} {object}"),
+            Call::TestWrite(action, object) => write!(f, "test_write {action} {object}"),
+        }
+    }
+}

@@ -1,0 +1,79 @@
+//! `Error`: why a call of this crate didn't give what it was asked for.
+
+use crate::refusal::Refusal;
+use crate::signal::Signal;
+use std::error;
+use std::fmt;
+
+/// Why a call of this crate didn't give what it was asked for.
+///
+/// ```
+/// use argus_guardian::{Error, Refusal};
+/// assert_eq!(Error::from(Refusal::Conflict).to_string(), "refused: Conflict");
+/// ```
+#[derive(Debug, Clone, PartialEq, Eq)]
+#[non_exhaustive]
+pub enum Error {
+    /// Memory was wanted that isn't there. Nothing has changed, and nothing was journalled.
+    OutOfMemory,
+    /// A text is no written form of a value or content. Nothing has changed, and nothing was
+    /// journalled.
+    BadText {
+        /// How many of its bytes could be read.
+        at: usize,
+    },
+    /// A text is no written form of a shape that can be made. Nothing has changed, and nothing was
+    /// journalled.
+    BadShape,
+    /// The object isn't declared, or no entry has this number.
+    NotThere,
+    /// The call was made and stands in the journal, but memory for what it answered wasn't there.
+    /// `Guardian::answer_again` asks for it once more.
+    NoRoom,
+    /// The guardian has refused the call; its journal keeps that.
+    Refused(Refusal),
+    /// The operation gave a signal; the action keeps the lock that it has got for it.
+    Signal(Signal),
+    /// The answer is of another kind than was asked for. It stands in the journal.
+    OtherAnswer,
+    /// The library answered a number that this crate doesn't know: they are of two versions.
+    Unknown(u32),
+}
+
+impl fmt::Display for Error {
+    fn fmt(&self, f: &mut fmt::Formatter<'_>) -> fmt::Result {
+        match self {
+            Error::OutOfMemory => f.write_str("out of memory"),
+            Error::BadText { at } => write!(f, "no written form: bad at byte {at}"),
+            Error::BadShape => f.write_str("no written form of a shape"),
+            Error::NotThere => f.write_str("no such object or entry"),
+            Error::NoRoom => f.write_str("called, but no memory for the answer"),
+            Error::Refused(refusal) => write!(f, "refused: {refusal}"),
+            Error::Signal(signal) => write!(f, "signal: {signal}"),
+            Error::OtherAnswer => f.write_str("an answer of another kind"),
+            Error::Unknown(status) => write!(f, "the library answered {status}"),
+        }
+    }
+}
+
+impl error::Error for Error {
+    fn source(&self) -> Option<&(dyn error::Error + 'static)> {
+        match self {
+            Error::Refused(refusal) => Some(refusal),
+            Error::Signal(signal) => Some(signal),
+            _ => None,
+        }
+    }
+}
+
+impl From<Refusal> for Error {
+    fn from(refusal: Refusal) -> Error {
+        Error::Refused(refusal)
+    }
+}
+
+impl From<Signal> for Error {
+    fn from(signal: Signal) -> Error {
+        Error::Signal(signal)
+    }
+}

@@ -1,0 +1,490 @@
+//! `Guardian`: atomic objects, for one caller at a time.
+
+use crate::action::Action;
+use crate::answer::Answer;
+use crate::call::Call;
+use crate::checkpoint_error::CheckpointError;
+use crate::content::Content;
+use crate::decoding::{error_of, number_of, one_of, read_as};
+use crate::error::Error;
+use crate::listing::Listing;
+use crate::reader::Reader;
+use crate::refusal::Refusal;
+use crate::reply::Reply;
+use crate::signal::Signal;
+use crate::sys::{self, Handle, question, status};
+use crate::words::Words;
+use crate::{ActionId, ObjId};
+use std::fmt;
+
+/// Atomic objects and the actions that use them, for one caller at a time; threads share one by a
+/// [`Shared`](crate::Shared), or by a mutex of their own.
+///
+/// Its journal keeps each call with its reply, and so grows until a [`checkpoint`](Self::checkpoint).
+/// A guardian begins a million actions in its life, and declares 65,535 objects.
+///
+/// ```
+/// use argus_guardian::{Call, Guardian, Reply, ObjId};
+/// let mut guardian = Guardian::new()?;
+/// let reply = guardian.call(&Call::Declare("atomic_array[int]".into()))?;
+/// assert_eq!(reply, Reply::Object(ObjId(0)));
+/// # Ok::<(), argus_guardian::Error>(())
+/// ```
+pub struct Guardian {
+    handle: Handle,
+    // Where replies are copied to.
+    room: Vec<u8>,
+    // What came of the last call: of which kind the text is that the library keeps.
+    kept: u32,
+}
+
+// SAFETY: the archive's handle is proved to be such as may go to another thread, and all calls that
+// use it take `&mut self`.
+unsafe impl Send for Guardian {}
+
+impl Guardian {
+    /// A guardian without objects. It leaves a word of 8 bytes for good where it is dropped; one that
+    /// is made [beside](Self::beside) another one leaves none.
+    ///
+    /// # Errors
+    ///
+    /// [`Error::OutOfMemory`].
+    ///
+    /// ```
+    /// assert_eq!(argus_guardian::Guardian::new()?.objects(), 0);
+    /// # Ok::<(), argus_guardian::Error>(())
+    /// ```
+    pub fn new() -> Result<Guardian, Error> {
+        let mut none = Handle::CLOSED;
+        Guardian::opened(&mut none)
+    }
+
+    /// A guardian without objects, which shares this one's word of memory, and nothing else.
+    ///
+    /// # Errors
+    ///
+    /// [`Error::OutOfMemory`].
+    ///
+    /// ```
+    /// use argus_guardian::Guardian;
+    /// let mut first = Guardian::new()?;
+    /// let mut second = first.beside()?;
+    /// first.declare("atomic_array[int]")?;
+    /// assert_eq!(second.objects(), 0);
+    /// # Ok::<(), argus_guardian::Error>(())
+    /// ```
+    pub fn beside(&mut self) -> Result<Guardian, Error> {
+        Guardian::opened(&mut self.handle)
+    }
+
+    fn opened(beside: &mut Handle) -> Result<Guardian, Error> {
+        let mut handle = Handle::CLOSED;
+        // SAFETY: both handles are borrowed for the call, and are two.
+        match unsafe { sys::argus_c_open(&raw mut handle, beside) } {
+            status::DONE => Ok(Guardian {
+                handle,
+                room: Vec::new(),
+                kept: status::DONE,
+            }),
+            status::NO_MEMORY => Err(Error::OutOfMemory),
+            other => Err(Error::Unknown(other)),
+        }
+    }
+
+    /// Makes one call. Its reply, a refusal too, is journalled with it.
+    ///
+    /// # Errors
+    ///
+    /// [`Error::OutOfMemory`], [`Error::BadText`] (a value deeper than 16) and [`Error::BadShape`]:
+    /// then nothing was called and nothing has changed. [`Error::NoRoom`]: the call was made.
+    ///
+    /// ```
+    /// use argus_guardian::{ActionId, Call, Guardian, Refusal, Reply};
+    /// let mut guardian = Guardian::new()?;
+    /// assert_eq!(guardian.call(&Call::BeginTop)?, Reply::Begun(ActionId(0)));
+    /// let reply = guardian.call(&Call::Commit(ActionId(7)))?;
+    /// assert_eq!(reply, Reply::Refused(Refusal::NoAction));
+    /// # Ok::<(), argus_guardian::Error>(())
+    /// ```
+    pub fn call(&mut self, call: &Call) -> Result<Reply, Error> {
+        let words = Words::of(call);
+        let mut number = 0;
+        // SAFETY: the handle is this guardian's alone, the text is UTF-8 and never null, and the
+        // number is another memory.
+        let status = unsafe {
+            sys::argus_c_call(
+                &raw mut self.handle,
+                words.kind,
+                words.action,
+                words.object,
+                words.first,
+                words.second,
+                words.text.as_ptr(),
+                words.text.len(),
+                &raw mut number,
+            )
+        };
+        self.reply_of(status, number)
+    }
+
+    fn reply_of(&mut self, status: u32, number: i64) -> Result<Reply, Error> {
+        if status <= status::REFUSED {
+            self.kept = status;
+        }
+        let answer = match status {
+            status::DONE => Answer::Done,
+            status::OBJECT => return number_of(status, number).map(|o| Reply::Object(ObjId(o))),
+            status::ACTION => return number_of(status, number).map(|a| Reply::Begun(ActionId(a))),
+            status::NUMBER => Answer::Num(number),
+            status::FLAG => Answer::Flag(number != 0),
+            status::VALUE | status::CONTENT => self.answer_again()?,
+            status::SIGNAL => Answer::Signal(one_of(&Signal::ALL, status, number)?),
+            status::REFUSED => {
+                return one_of(&Refusal::ALL, status, number).map(Reply::Refused);
+            }
+            _ => return Err(error_of(status, number)),
+        };
+        Ok(Reply::Answered(answer))
+    }
+
+    /// The value or the content that the last call answered, once more. For who had no room for it
+    /// ([`Error::NoRoom`]), since a second call would be a second entry.
+    ///
+    /// # Errors
+    ///
+    /// [`Error::NoRoom`] again; [`Error::OtherAnswer`] where the last call answered neither, or a
+    /// question with a text has come since.
+    ///
+    /// ```
+    /// use argus_guardian::{Answer, Change, Content, Guardian, Query, Value};
+    /// let mut guardian = Guardian::new()?;
+    /// let object = guardian.declare("atomic_record[n:int]")?;
+    /// let mut top = guardian.topaction()?;
+    /// top.alter(object, Change::Create(Content::Record(vec![Value::Int(3)])))?;
+    /// top.ask(object, Query::Field(0))?;
+    /// assert_eq!(top.guardian().answer_again()?, Answer::Val(Value::Int(3)));
+    /// # Ok::<(), argus_guardian::Error>(())
+    /// ```
+    pub fn answer_again(&mut self) -> Result<Answer, Error> {
+        match self.kept {
+            status::VALUE => Ok(Answer::Val(read_as(status::VALUE, self.text()?)?)),
+            status::CONTENT => Ok(Answer::Body(read_as(status::CONTENT, self.text()?)?)),
+            _ => Err(Error::OtherAnswer),
+        }
+    }
+
+    // The text that the library keeps.
+    fn text(&mut self) -> Result<&str, Error> {
+        let mut size = 0;
+        loop {
+            // SAFETY: the handle is this guardian's alone; handle, room and size are three memories,
+            // and no pointer is null (that of an empty room dangles, and nothing is put there).
+            let status = unsafe {
+                sys::argus_c_reply(
+                    &raw mut self.handle,
+                    self.room.as_mut_ptr(),
+                    self.room.len(),
+                    &raw mut size,
+                )
+            };
+            match status {
+                status::DONE => break,
+                status::TOO_SMALL if size > self.room.len() => self.make_room(size)?,
+                status::NO_MEMORY => return Err(Error::NoRoom),
+                status::NOT_THERE => return Err(Error::OtherAnswer),
+                other => return Err(Error::Unknown(other)),
+            }
+        }
+        let text = self.room.get(..size).ok_or(Error::Unknown(status::DONE))?;
+        std::str::from_utf8(text).map_err(|_| Error::Unknown(status::DONE))
+    }
+
+    fn make_room(&mut self, size: usize) -> Result<(), Error> {
+        let more = size - self.room.len();
+        let reserved = self.room.try_reserve(more);
+        reserved.map_err(|_| Error::NoRoom)?;
+        self.room.resize(size, 0);
+        Ok(())
+    }
+
+    /// Declares an object of this shape, as `atomic_record[balance:int]`.
+    ///
+    /// # Errors
+    ///
+    /// [`Error::BadShape`]; [`Error::Refused`] with `TooMany`; [`Error::OutOfMemory`].
+    ///
+    /// ```
+    /// use argus_guardian::{Error, Guardian};
+    /// let mut guardian = Guardian::new()?;
+    /// guardian.declare("atomic_variant[ok:int,bad:text]")?;
+    /// assert_eq!(guardian.declare("atomic_record[]"), Err(Error::BadShape));
+    /// # Ok::<(), Error>(())
+    /// ```
+    pub fn declare(&mut self, shape: &str) -> Result<ObjId, Error> {
+        self.call(&Call::Declare(shape.to_owned()))?.object()
+    }
+
+    /// Begins a topaction. It aborts when it is dropped, unless it has committed.
+    ///
+    /// # Errors
+    ///
+    /// [`Error::Refused`] with `TooMany`; [`Error::OutOfMemory`].
+    ///
+    /// ```
+    /// use argus_guardian::{ActionId, Guardian};
+    /// let mut guardian = Guardian::new()?;
+    /// let top = guardian.topaction()?;
+    /// assert_eq!(top.id(), ActionId(0));
+    /// top.commit()?;
+    /// # Ok::<(), argus_guardian::Error>(())
+    /// ```
+    pub fn topaction(&mut self) -> Result<Action<'_>, Error> {
+        Action::begun(self, &Call::BeginTop)
+    }
+
+    /// Folds the journal's entries away: objects keep what they hold for good, and entries and
+    /// actions their numbers. Its memory is given back.
+    ///
+    /// # Errors
+    ///
+    /// [`CheckpointError::Busy`] where an action is live, [`CheckpointError::Full`] past 2^63 - 1
+    /// entries, [`CheckpointError::OutOfMemory`]; then all is as before.
+    ///
+    /// ```
+    /// use argus_guardian::{CheckpointError, Guardian};
+    /// let mut guardian = Guardian::new()?;
+    /// let mut top = guardian.topaction()?;
+    /// assert_eq!(top.guardian().checkpoint(), Err(CheckpointError::Busy));
+    /// top.commit()?;
+    /// assert_eq!(guardian.checkpoint(), Ok(()));
+    /// assert_eq!(guardian.entries(), 2);
+    /// # Ok::<(), argus_guardian::Error>(())
+    /// ```
+    pub fn checkpoint(&mut self) -> Result<(), CheckpointError> {
+        // SAFETY: the handle is this guardian's alone.
+        match unsafe { sys::argus_c_checkpoint(&raw mut self.handle) } {
+            status::DONE => Ok(()),
+            status::BUSY => Err(CheckpointError::Busy),
+            status::FULL => Err(CheckpointError::Full),
+            _ => Err(CheckpointError::OutOfMemory),
+        }
+    }
+
+    /// Whether the action could have a read lock on the object now. It isn't journalled.
+    ///
+    /// ```
+    /// use argus_guardian::{Guardian, ObjId};
+    /// let mut guardian = Guardian::new()?;
+    /// let mut top = guardian.topaction()?;
+    /// let id = top.id();
+    /// assert!(!top.guardian().can_read(id, ObjId(0)));
+    /// # Ok::<(), argus_guardian::Error>(())
+    /// ```
+    pub fn can_read(&mut self, action: ActionId, object: ObjId) -> bool {
+        self.tell(question::CAN_READ, action, object, 0) == (status::FLAG, 1)
+    }
+
+    /// Whether the action could have a write lock on the object now. It isn't journalled.
+    ///
+    /// ```
+    /// use argus_guardian::Guardian;
+    /// let mut guardian = Guardian::new()?;
+    /// let object = guardian.declare("atomic_array[int]")?;
+    /// let mut top = guardian.topaction()?;
+    /// let id = top.id();
+    /// assert!(top.guardian().can_write(id, object));
+    /// # Ok::<(), argus_guardian::Error>(())
+    /// ```
+    pub fn can_write(&mut self, action: ActionId, object: ObjId) -> bool {
+        self.tell(question::CAN_WRITE, action, object, 0) == (status::FLAG, 1)
+    }
+
+    /// How many objects are declared.
+    ///
+    /// ```
+    /// let mut guardian = argus_guardian::Guardian::new()?;
+    /// guardian.declare("atomic_array[int]")?;
+    /// assert_eq!(guardian.objects(), 1);
+    /// # Ok::<(), argus_guardian::Error>(())
+    /// ```
+    pub fn objects(&mut self) -> u32 {
+        self.count(question::OBJECTS).try_into().unwrap_or(u32::MAX)
+    }
+
+    /// How many actions are begun: the next one's number.
+    ///
+    /// ```
+    /// let mut guardian = argus_guardian::Guardian::new()?;
+    /// guardian.topaction()?.commit()?;
+    /// assert_eq!(guardian.actions(), 1);
+    /// # Ok::<(), argus_guardian::Error>(())
+    /// ```
+    pub fn actions(&mut self) -> u32 {
+        self.count(question::ACTIONS).try_into().unwrap_or(u32::MAX)
+    }
+
+    /// How many entries the journal has had, those that a checkpoint has folded too: the next one's
+    /// number.
+    ///
+    /// ```
+    /// let mut guardian = argus_guardian::Guardian::new()?;
+    /// guardian.topaction()?.commit()?;
+    /// assert_eq!(guardian.entries(), 2);
+    /// # Ok::<(), argus_guardian::Error>(())
+    /// ```
+    pub fn entries(&mut self) -> u64 {
+        self.count(question::ENTRIES)
+    }
+
+    fn count(&mut self, question: u32) -> u64 {
+        let (_, number) = self.tell(question, ActionId(0), ObjId(0), 0);
+        number.cast_unsigned()
+    }
+
+    /// What is in the object for good; `None` where it has no content yet.
+    ///
+    /// # Errors
+    ///
+    /// [`Error::NotThere`] where no object of that number is declared; [`Error::OutOfMemory`].
+    ///
+    /// ```
+    /// use argus_guardian::{Error, Guardian, ObjId};
+    /// let mut guardian = Guardian::new()?;
+    /// let object = guardian.declare("atomic_array[int]")?;
+    /// assert_eq!(guardian.base(object)?, None);
+    /// assert_eq!(guardian.base(ObjId(9)), Err(Error::NotThere));
+    /// # Ok::<(), Error>(())
+    /// ```
+    pub fn base(&mut self, object: ObjId) -> Result<Option<Content>, Error> {
+        let text = self.told(question::BASE, object, 0)?;
+        Reader::whole(text, Reader::content_or_absent)
+    }
+
+    /// Who holds the object for reading, in increasing number.
+    ///
+    /// # Errors
+    ///
+    /// As of [`base`](Self::base).
+    ///
+    /// ```
+    /// let mut guardian = argus_guardian::Guardian::new()?;
+    /// let object = guardian.declare("atomic_array[int]")?;
+    /// assert_eq!(guardian.readers(object)?, []);
+    /// # Ok::<(), argus_guardian::Error>(())
+    /// ```
+    pub fn readers(&mut self, object: ObjId) -> Result<Vec<ActionId>, Error> {
+        let text = self.told(question::READERS, object, 0)?;
+        text.lines()
+            .map(|line| Reader::whole(line, Reader::action))
+            .collect()
+    }
+
+    /// Who holds the object for writing, from ancestor to descendant, each with what it sees there.
+    ///
+    /// # Errors
+    ///
+    /// As of [`base`](Self::base).
+    ///
+    /// ```
+    /// use argus_guardian::{ActionId, Change, Content, Guardian};
+    /// let mut guardian = Guardian::new()?;
+    /// let object = guardian.declare("atomic_array[int]")?;
+    /// let mut top = guardian.topaction()?;
+    /// let empty: Content = "1[]".parse()?;
+    /// top.alter(object, Change::Create(empty.clone()))?;
+    /// assert_eq!(top.guardian().versions(object)?, [(ActionId(0), Some(empty))]);
+    /// # Ok::<(), argus_guardian::Error>(())
+    /// ```
+    pub fn versions(&mut self, object: ObjId) -> Result<Vec<(ActionId, Option<Content>)>, Error> {
+        let text = self.told(question::VERSIONS, object, 0)?;
+        text.lines()
+            .map(|line| Reader::whole(line, Reader::version))
+            .collect()
+    }
+
+    /// The line of a journal's entry: its number, the call and the reply.
+    ///
+    /// # Errors
+    ///
+    /// [`Error::NotThere`] where no entry has this number, or a checkpoint has folded it;
+    /// [`Error::OutOfMemory`].
+    ///
+    /// ```
+    /// let mut guardian = argus_guardian::Guardian::new()?;
+    /// guardian.topaction()?.commit()?;
+    /// assert_eq!(guardian.entry(1)?, "1 commit a0 -> done");
+    /// # Ok::<(), argus_guardian::Error>(())
+    /// ```
+    pub fn entry(&mut self, number: u64) -> Result<String, Error> {
+        let text = self.told(question::ENTRY, ObjId(0), number)?;
+        Ok(text.to_owned())
+    }
+
+    /// A listing. Objects have the names `o0`, `o1` and so on.
+    ///
+    /// # Errors
+    ///
+    /// [`Error::OutOfMemory`].
+    ///
+    /// ```
+    /// use argus_guardian::{Guardian, Listing};
+    /// let mut guardian = Guardian::new()?;
+    /// guardian.declare("atomic_array[int]")?;
+    /// assert_eq!(guardian.list(Listing::Bases)?, "o0 absent\n");
+    /// # Ok::<(), argus_guardian::Error>(())
+    /// ```
+    pub fn list(&mut self, listing: Listing) -> Result<String, Error> {
+        let question = match listing {
+            Listing::Bases => question::LIST_BASES,
+            Listing::Stacks => question::LIST_STACKS,
+            Listing::Journal => question::LIST_JOURNAL,
+            Listing::Audit => question::LIST_AUDIT,
+        };
+        let text = self.told(question, ObjId(0), 0)?;
+        Ok(text.to_owned())
+    }
+
+    // A question's status and number.
+    fn tell(&mut self, question: u32, action: ActionId, object: ObjId, entry: u64) -> (u32, i64) {
+        let mut number = 0;
+        // SAFETY: the handle is this guardian's alone, and the number is another memory.
+        let status = unsafe {
+            sys::argus_c_tell(
+                &raw mut self.handle,
+                question,
+                action.0,
+                object.0,
+                entry,
+                &raw mut number,
+            )
+        };
+        if status == status::TEXT {
+            self.kept = status;
+        }
+        (status, number)
+    }
+
+    // What a question tells as a text.
+    fn told(&mut self, question: u32, object: ObjId, entry: u64) -> Result<&str, Error> {
+        match self.tell(question, ActionId(0), object, entry) {
+            (status::TEXT, _) => self.text().map_err(|error| match error {
+                Error::NoRoom => Error::OutOfMemory,
+                other => other,
+            }),
+            (status, number) => Err(error_of(status, number)),
+        }
+    }
+}
+
+impl Drop for Guardian {
+    fn drop(&mut self) {
+        // SAFETY: the handle is this guardian's alone, and isn't used again.
+        unsafe { sys::argus_c_close(&raw mut self.handle) };
+    }
+}
+
+impl fmt::Debug for Guardian {
+    fn fmt(&self, f: &mut fmt::Formatter<'_>) -> fmt::Result {
+        f.debug_struct("Guardian").finish_non_exhaustive()
+    }
+}

@@ -1,0 +1,72 @@
+//! Atomic objects under nested transactions, in Rust over the proved archive `libargus_c.a`.
+//!
+//! A [`Guardian`] keeps records, arrays and variants for many actions. Each access is made by an
+//! action: a topaction, a subaction of one, or a nested topaction. An action that aborts leaves no
+//! trace, and committed topactions can't be told from topactions run one after another.
+//!
+//! ```
+//! use argus_guardian::{Change, Content, Error, Guardian, Value};
+//!
+//! let mut guardian = Guardian::new()?;
+//! let account = guardian.declare("atomic_record[balance:int]")?;
+//! let mut top = guardian.topaction()?;
+//! top.alter(account, Change::Create(Content::Record(vec![Value::Int(5)])))?.done()?;
+//! {
+//!     let mut sub = top.subaction()?;
+//!     sub.set(account, 0, 7)?;
+//!     // It isn't committed, so it aborts here.
+//! }
+//! assert_eq!(top.get(account, 0)?, Value::Int(5));
+//! top.commit()?;
+//! assert_eq!(guardian.base(account)?, Some(Content::Record(vec![Value::Int(5)])));
+//! # Ok::<(), Error>(())
+//! ```
+//!
+//! What is proved is the archive: each reply is the answer that the journal before the call gives
+//! (the repository's README says it in full). This crate is not proved: it calls the archive, reads
+//! its texts, and keeps actions in guards. [`Shared`] adds std's `Mutex` and `Condvar`; that its
+//! waits end, or wait for nothing else than they say, isn't proved either.
+
+#![deny(missing_docs)]
+
+mod action;
+mod action_id;
+mod answer;
+mod call;
+mod change;
+mod checkpoint_error;
+mod content;
+mod decoding;
+mod error;
+mod guardian;
+mod listing;
+mod obj_id;
+mod query;
+mod reader;
+mod refusal;
+mod reply;
+mod shared;
+mod shared_action;
+mod signal;
+mod sys;
+mod value;
+mod words;
+
+pub use action::Action;
+pub use action_id::ActionId;
+pub use answer::Answer;
+pub use call::Call;
+pub use change::Change;
+pub use checkpoint_error::CheckpointError;
+pub use content::Content;
+pub use error::Error;
+pub use guardian::Guardian;
+pub use listing::Listing;
+pub use obj_id::ObjId;
+pub use query::Query;
+pub use refusal::Refusal;
+pub use reply::Reply;
+pub use shared::Shared;
+pub use shared_action::SharedAction;
+pub use signal::Signal;
+pub use value::Value;

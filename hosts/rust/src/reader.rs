@@ -1,0 +1,200 @@
+//! `Reader`: reads written forms of values, contents and replies.
+
+use crate::content::Content;
+use crate::error::Error;
+use crate::value::Value;
+use crate::{ActionId, ObjId};
+use std::ops::RangeInclusive;
+
+// How deep a value may be.
+const MAX_DEPTH: u8 = 16;
+
+/// What is left to read of a text. Each `take` and each reading call takes what it reads from the
+/// front; where it answers `None`, it has stopped at what can't be read.
+pub(crate) struct Reader<'t> {
+    left: &'t str,
+}
+
+impl<'t> Reader<'t> {
+    /// Reads the whole text by `read`. What is left over, or can't be read, is a bad text, with the
+    /// place where the reading stopped.
+    pub(crate) fn whole<T>(
+        text: &'t str,
+        read: impl FnOnce(&mut Reader<'t>) -> Option<T>,
+    ) -> Result<T, Error> {
+        let mut reader = Reader { left: text };
+        match read(&mut reader) {
+            Some(thing) if reader.left.is_empty() => Ok(thing),
+            _ => Err(Error::BadText {
+                at: text.len() - reader.left.len(),
+            }),
+        }
+    }
+
+    /// Takes this beginning, where the rest has it.
+    pub(crate) fn take(&mut self, beginning: &str) -> Option<()> {
+        self.left = self.left.strip_prefix(beginning)?;
+        Some(())
+    }
+
+    // A number of this sign, within these bounds: as many digits as make one.
+    fn number(&mut self, sign: i64, within: RangeInclusive<i64>) -> Option<i64> {
+        let mut number = None;
+        for digit in self.left.bytes() {
+            if !digit.is_ascii_digit() || number == Some(0) {
+                break;
+            }
+            let last = sign * i64::from(digit - b'0');
+            let longer = number.unwrap_or(0_i64).checked_mul(10);
+            let longer = longer.and_then(|number| number.checked_add(last));
+            let Some(longer) = longer.filter(|number| within.contains(number)) else {
+                break;
+            };
+            number = Some(longer);
+            self.left = &self.left[1..];
+        }
+        number
+    }
+
+    /// A number without a sign.
+    pub(crate) fn nat(&mut self) -> Option<u32> {
+        let number = self.number(1, 0..=i64::from(u32::MAX))?;
+        u32::try_from(number).ok()
+    }
+
+    fn tag(&mut self) -> Option<u8> {
+        let number = self.number(1, 0..=i64::from(u8::MAX))?;
+        u8::try_from(number).ok()
+    }
+
+    /// An integer.
+    pub(crate) fn int(&mut self) -> Option<i64> {
+        if self.take("-").is_some() {
+            return self.number(-1, i64::MIN..=-1);
+        }
+        self.number(1, 0..=i64::MAX)
+    }
+
+    // What stands before the closing quote, which is taken too.
+    fn text(&mut self) -> Option<String> {
+        let mut text = String::new();
+        while self.take("\"").is_none() {
+            let is_escaped = self.take("\\").is_some();
+            let character = self.left.chars().next()?;
+            text.push(match (is_escaped, character) {
+                (true, 'n') => '\n',
+                (true, '"' | '\\') => character,
+                (true, _) | (false, '\n') => return None,
+                (false, _) => character,
+            });
+            self.left = &self.left[character.len_utf8()..];
+        }
+        Some(text)
+    }
+
+    /// A value.
+    pub(crate) fn value(&mut self) -> Option<Value> {
+        self.value_at(1)
+    }
+
+    fn value_at(&mut self, level: u8) -> Option<Value> {
+        if level > MAX_DEPTH {
+            return None;
+        }
+        if self.take("null").is_some() {
+            return Some(Value::Null);
+        }
+        if self.take("true").is_some() {
+            return Some(Value::Bool(true));
+        }
+        if self.take("false").is_some() {
+            return Some(Value::Bool(false));
+        }
+        if self.take("\"").is_some() {
+            return self.text().map(Value::Text);
+        }
+        if self.take("@").is_some() {
+            return self.nat().map(|number| Value::Atomic(ObjId(number)));
+        }
+        if self.take("[").is_some() {
+            return self.values(level, "]").map(Value::Sequence);
+        }
+        if self.take("{").is_some() {
+            return self.values(level, "}").map(Value::Fields);
+        }
+        if self.take("<").is_some() {
+            let (tag, value) = self.choice(level)?;
+            return Some(Value::Choice(tag, Box::new(value)));
+        }
+        self.int().map(Value::Int)
+    }
+
+    // What stands before the closing bracket, which is taken too.
+    fn values(&mut self, level: u8, close: &str) -> Option<Vec<Value>> {
+        let mut values = Vec::new();
+        if self.take(close).is_some() {
+            return Some(values);
+        }
+        loop {
+            values.push(self.value_at(level + 1)?);
+            if self.take(close).is_some() {
+                return Some(values);
+            }
+            self.take(",")?;
+        }
+    }
+
+    fn choice(&mut self, level: u8) -> Option<(u8, Value)> {
+        let tag = self.tag()?;
+        self.take(":")?;
+        let value = self.value_at(level + 1)?;
+        self.take(">")?;
+        Some((tag, value))
+    }
+
+    /// A content. Its parts are values, and may be as deep as those.
+    pub(crate) fn content(&mut self) -> Option<Content> {
+        if self.take("{").is_some() {
+            return self.values(0, "}").map(Content::Record);
+        }
+        if self.take("<").is_some() {
+            let (tag, value) = self.choice(0)?;
+            return Some(Content::Variant { tag, value });
+        }
+        let low = self.int()?;
+        self.take("[")?;
+        let items = self.values(0, "]")?;
+        Some(Content::Array { low, items })
+    }
+
+    /// A content, or `absent`.
+    #[allow(
+        clippy::option_option,
+        reason = "the outer one says whether it could be read"
+    )]
+    pub(crate) fn content_or_absent(&mut self) -> Option<Option<Content>> {
+        if self.take("absent").is_some() {
+            return Some(None);
+        }
+        self.content().map(Some)
+    }
+
+    /// A version: its holder, and what that sees.
+    pub(crate) fn version(&mut self) -> Option<(ActionId, Option<Content>)> {
+        let holder = self.action()?;
+        self.take(" ")?;
+        Some((holder, self.content_or_absent()?))
+    }
+
+    /// The number of an action, as `a7`.
+    pub(crate) fn action(&mut self) -> Option<ActionId> {
+        self.take("a")?;
+        self.nat().map(ActionId)
+    }
+
+    /// The number of an object, as `o7`.
+    pub(crate) fn object(&mut self) -> Option<ObjId> {
+        self.take("o")?;
+        self.nat().map(ObjId)
+    }
+}

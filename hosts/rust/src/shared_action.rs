@@ -1,0 +1,313 @@
+//! `SharedAction`: a live action of a guardian that threads share.
+
+use crate::answer::Answer;
+use crate::call::Call;
+use crate::change::Change;
+use crate::error::Error;
+use crate::query::Query;
+use crate::shared::Shared;
+use crate::value::Value;
+use crate::{ActionId, ObjId};
+use std::mem;
+
+/// A live action of a guardian that threads share. It aborts when it is dropped, unless it has
+/// committed; where memory is wanting even for that, it stays live.
+///
+/// Its accesses wait for their locks, as long as the sharing's patience lasts, and are then refused
+/// `Conflict`. Several threads may begin subactions of one action, and run them side by side. It
+/// can't commit or abort while one of these is there.
+///
+/// ```
+/// use argus_guardian::{Change, Guardian, Shared};
+/// use std::thread;
+/// use std::time::Duration;
+///
+/// let mut guardian = Guardian::new()?;
+/// let left = guardian.declare("atomic_record[n:int]")?;
+/// let right = guardian.declare("atomic_record[n:int]")?;
+/// let shared = Shared::new(guardian, Duration::from_secs(10));
+/// let top = shared.topaction()?;
+/// thread::scope(|scope| {
+///     for object in [left, right] {
+///         let top = &top;
+///         scope.spawn(move || {
+///             let arm = top.subaction()?;
+///             arm.alter(object, Change::Create("{1}".parse()?))?.done()?;
+///             arm.commit()
+///         });
+///     }
+/// });
+/// top.commit()?;
+/// assert_eq!(shared.into_inner().base(right)?, Some("{1}".parse()?));
+/// # Ok::<(), argus_guardian::Error>(())
+/// ```
+#[derive(Debug)]
+pub struct SharedAction<'s> {
+    shared: &'s Shared,
+    id: ActionId,
+}
+
+impl<'s> SharedAction<'s> {
+    pub(crate) fn begun(shared: &'s Shared, call: &Call) -> Result<SharedAction<'s>, Error> {
+        let id = shared.call(call)?.action()?;
+        Ok(SharedAction::of(shared, id))
+    }
+
+    pub(crate) fn of(shared: &'s Shared, id: ActionId) -> SharedAction<'s> {
+        SharedAction { shared, id }
+    }
+
+    /// Its number.
+    ///
+    /// ```
+    /// # use argus_guardian::{ActionId, Error, Guardian, Shared};
+    /// # use std::time::Duration;
+    /// let shared = Shared::new(Guardian::new()?, Duration::ZERO);
+    /// assert_eq!(shared.topaction()?.id(), ActionId(0));
+    /// # Ok::<(), Error>(())
+    /// ```
+    #[must_use]
+    pub fn id(&self) -> ActionId {
+        self.id
+    }
+
+    /// Looks at an object. The answer may be a signal.
+    ///
+    /// # Errors
+    ///
+    /// [`Error::Refused`] with `Over` (a sibling or an ancestor was faster), `Suspended`, `NoObject`,
+    /// `IllTyped` or `Conflict`; [`Error::OutOfMemory`]; [`Error::NoRoom`].
+    ///
+    /// ```
+    /// # use argus_guardian::{Answer, Error, Guardian, Query, Shared, Signal};
+    /// # use std::time::Duration;
+    /// let mut guardian = Guardian::new()?;
+    /// let object = guardian.declare("atomic_array[int]")?;
+    /// let shared = Shared::new(guardian, Duration::ZERO);
+    /// let answer = shared.topaction()?.ask(object, Query::Whole)?;
+    /// assert_eq!(answer, Answer::Signal(Signal::Absent));
+    /// # Ok::<(), Error>(())
+    /// ```
+    pub fn ask(&self, object: ObjId, query: Query) -> Result<Answer, Error> {
+        let call = Call::Ask(self.id, object, query);
+        self.shared
+            .call_waiting(&call, self.shared.patience())?
+            .answer()
+    }
+
+    /// Changes an object. The answer may be a signal.
+    ///
+    /// # Errors
+    ///
+    /// As of [`ask`](Self::ask); [`Error::BadText`] where a value is deeper than 16.
+    ///
+    /// ```
+    /// # use argus_guardian::{Answer, Change, Error, Guardian, Shared};
+    /// # use std::time::Duration;
+    /// let mut guardian = Guardian::new()?;
+    /// let object = guardian.declare("atomic_array[int]")?;
+    /// let shared = Shared::new(guardian, Duration::ZERO);
+    /// assert_eq!(shared.topaction()?.alter(object, Change::Touch)?, Answer::Done);
+    /// # Ok::<(), Error>(())
+    /// ```
+    pub fn alter(&self, object: ObjId, change: Change) -> Result<Answer, Error> {
+        let call = Call::Alter(self.id, object, change);
+        self.shared
+            .call_waiting(&call, self.shared.patience())?
+            .answer()
+    }
+
+    /// A field of a record.
+    ///
+    /// # Errors
+    ///
+    /// As of [`ask`](Self::ask); [`Error::Signal`] where the record has no content yet.
+    ///
+    /// ```
+    /// # use argus_guardian::{Error, Guardian, Shared, Signal};
+    /// # use std::time::Duration;
+    /// let mut guardian = Guardian::new()?;
+    /// let object = guardian.declare("atomic_record[n:int]")?;
+    /// let shared = Shared::new(guardian, Duration::ZERO);
+    /// assert_eq!(shared.topaction()?.get(object, 0), Err(Error::Signal(Signal::Absent)));
+    /// # Ok::<(), Error>(())
+    /// ```
+    pub fn get(&self, object: ObjId, field: u8) -> Result<Value, Error> {
+        self.ask(object, Query::Field(field))?.value()
+    }
+
+    /// A field of a record becomes the value.
+    ///
+    /// # Errors
+    ///
+    /// As of [`alter`](Self::alter); [`Error::Signal`] where the record has no content yet.
+    ///
+    /// ```
+    /// # use argus_guardian::{Change, Error, Guardian, Shared, Value};
+    /// # use std::time::Duration;
+    /// let mut guardian = Guardian::new()?;
+    /// let object = guardian.declare("atomic_record[n:int]")?;
+    /// let shared = Shared::new(guardian, Duration::ZERO);
+    /// let top = shared.topaction()?;
+    /// top.alter(object, Change::Create("{1}".parse()?))?.done()?;
+    /// top.set(object, 0, 2)?;
+    /// assert_eq!(top.get(object, 0)?, Value::Int(2));
+    /// # Ok::<(), Error>(())
+    /// ```
+    pub fn set(&self, object: ObjId, field: u8, value: impl Into<Value>) -> Result<(), Error> {
+        self.alter(object, Change::SetField(field, value.into()))?
+            .done()
+    }
+
+    /// Takes a read lock; false where it isn't to be had. It doesn't wait.
+    ///
+    /// # Errors
+    ///
+    /// [`Error::Refused`] with `Over`, `Suspended` or `NoObject`; [`Error::OutOfMemory`].
+    ///
+    /// ```
+    /// # use argus_guardian::{Error, Guardian, Shared};
+    /// # use std::time::Duration;
+    /// let mut guardian = Guardian::new()?;
+    /// let object = guardian.declare("atomic_array[int]")?;
+    /// let shared = Shared::new(guardian, Duration::ZERO);
+    /// assert!(shared.topaction()?.test_read(object)?);
+    /// # Ok::<(), Error>(())
+    /// ```
+    pub fn test_read(&self, object: ObjId) -> Result<bool, Error> {
+        let call = Call::TestRead(self.id, object);
+        self.shared.call(&call)?.answer()?.flag()
+    }
+
+    /// Takes a write lock; false where it isn't to be had. It doesn't wait.
+    ///
+    /// # Errors
+    ///
+    /// As of [`test_read`](Self::test_read).
+    ///
+    /// ```
+    /// # use argus_guardian::{Error, Guardian, Shared};
+    /// # use std::time::Duration;
+    /// let mut guardian = Guardian::new()?;
+    /// let object = guardian.declare("atomic_array[int]")?;
+    /// let shared = Shared::new(guardian, Duration::ZERO);
+    /// let (first, second) = (shared.topaction()?, shared.topaction()?);
+    /// assert!(first.test_read(object)?);
+    /// assert!(!second.test_write(object)?);
+    /// # Ok::<(), Error>(())
+    /// ```
+    pub fn test_write(&self, object: ObjId) -> Result<bool, Error> {
+        let call = Call::TestWrite(self.id, object);
+        self.shared.call(&call)?.answer()?.flag()
+    }
+
+    /// Begins a subaction: what it leaves counts only as its ancestors do.
+    ///
+    /// # Errors
+    ///
+    /// [`Error::Refused`] with `Over`, `TooDeep` or `TooMany`; [`Error::OutOfMemory`].
+    ///
+    /// ```
+    /// # use argus_guardian::{Error, Guardian, Shared};
+    /// # use std::time::Duration;
+    /// let shared = Shared::new(Guardian::new()?, Duration::ZERO);
+    /// let top = shared.topaction()?;
+    /// top.subaction()?.commit()?;
+    /// top.commit()?;
+    /// # Ok::<(), Error>(())
+    /// ```
+    pub fn subaction(&self) -> Result<SharedAction<'_>, Error> {
+        SharedAction::begun(self.shared, &Call::BeginSub(self.id))
+    }
+
+    /// Begins a nested topaction: what it leaves counts, whatever becomes of this action.
+    ///
+    /// # Errors
+    ///
+    /// [`Error::Refused`] with `Over` or `TooMany`; [`Error::OutOfMemory`].
+    ///
+    /// ```
+    /// # use argus_guardian::{Error, Guardian, Shared};
+    /// # use std::time::Duration;
+    /// let shared = Shared::new(Guardian::new()?, Duration::ZERO);
+    /// let top = shared.topaction()?;
+    /// top.nested()?.commit()?;
+    /// top.abort()?;
+    /// # Ok::<(), Error>(())
+    /// ```
+    pub fn nested(&self) -> Result<SharedAction<'_>, Error> {
+        SharedAction::begun(self.shared, &Call::BeginNested(self.id))
+    }
+
+    /// Aborts all live siblings: who is done first ends the others.
+    ///
+    /// # Errors
+    ///
+    /// [`Error::Refused`] with `Over`, `Suspended` or `NoSiblings`; [`Error::OutOfMemory`].
+    ///
+    /// ```
+    /// # use argus_guardian::{Error, Guardian, Refusal, Shared};
+    /// # use std::time::Duration;
+    /// let shared = Shared::new(Guardian::new()?, Duration::ZERO);
+    /// let top = shared.topaction()?;
+    /// let (first, second) = (top.subaction()?, top.subaction()?);
+    /// first.abort_others()?;
+    /// assert_eq!(second.commit(), Err(Error::Refused(Refusal::Over)));
+    /// # Ok::<(), Error>(())
+    /// ```
+    pub fn abort_others(&self) -> Result<(), Error> {
+        self.shared
+            .call(&Call::AbortOthers(self.id))?
+            .answer()?
+            .done()
+    }
+
+    /// Commits. After an error it aborts.
+    ///
+    /// # Errors
+    ///
+    /// [`Error::Refused`] with `Over`; [`Error::OutOfMemory`].
+    ///
+    /// ```
+    /// # use argus_guardian::{Error, Guardian, Shared};
+    /// # use std::time::Duration;
+    /// let shared = Shared::new(Guardian::new()?, Duration::ZERO);
+    /// shared.topaction()?.commit()?;
+    /// # Ok::<(), Error>(())
+    /// ```
+    pub fn commit(self) -> Result<(), Error> {
+        self.end(Call::Commit)
+    }
+
+    /// Aborts, and says so.
+    ///
+    /// # Errors
+    ///
+    /// [`Error::Refused`] with `Over`; [`Error::OutOfMemory`], after which it is tried once more,
+    /// without a word.
+    ///
+    /// ```
+    /// # use argus_guardian::{Error, Guardian, Shared};
+    /// # use std::time::Duration;
+    /// let shared = Shared::new(Guardian::new()?, Duration::ZERO);
+    /// shared.topaction()?.abort()?;
+    /// # Ok::<(), Error>(())
+    /// ```
+    pub fn abort(self) -> Result<(), Error> {
+        self.end(Call::Abort)
+    }
+
+    fn end(self, how: impl FnOnce(ActionId) -> Call) -> Result<(), Error> {
+        self.shared.call(&how(self.id))?.answer()?.done()?;
+        // It is over: there is nothing to abort, and nothing in it to drop.
+        mem::forget(self);
+        Ok(())
+    }
+}
+
+impl Drop for SharedAction<'_> {
+    fn drop(&mut self) {
+        // What comes of it can't be told here.
+        let _ = self.shared.call(&Call::Abort(self.id));
+    }
+}

@@ -1,0 +1,89 @@
+#!/usr/bin/env bash
+# Runs the hosts under memory checkers: all three under valgrind, the one in C under the address, the
+# undefined-behaviour and the thread sanitizer too. It names what it leaves out; the status tells
+# whether any failed.
+#
+#   [ARGUS_ARCHIVE=FOLDER] tools/hosts_memory.sh
+#
+# It needs valgrind (Debian: valgrind) and gcc's sanitizers (Debian: gcc). The archive itself is not
+# compiled for the sanitizers: these see its memory by malloc, and the hosts' own code. Each guardian
+# leaves one word of 8 bytes for good, by design, which valgrind reports as lost.
+set -euo pipefail
+
+top=$(cd "$(dirname "$0")/.." && pwd)
+room=$top/build/hosts/memory
+export ARGUS_ARCHIVE=${ARGUS_ARCHIVE:-$top/crates/argus_c/out}
+export RATTLE_KIT=${RATTLE_KIT:-$(dirname "$(rt doc)")}
+failed=0
+mkdir -p "$room"
+
+# The bytes of a word, and so what may be lost of one guardian.
+word=8
+
+# tried WHAT COMMAND..: whether the command ends well
+tried() {
+    local what=$1
+    shift
+    if "$@" > "$room/log" 2>&1; then
+        echo "$what: clean"
+    else
+        failed=1
+        tail -n 40 "$room/log"
+        echo "$what: FAILED"
+    fi
+}
+
+# under_valgrind COMMAND..: no error, and one guardian's word is all that is lost
+under_valgrind() {
+    valgrind --error-exitcode=9 --leak-check=full --errors-for-leak-kinds=none "$@" || return
+    local lost
+    lost=$(sed -n 's/.* \(definitely\|indirectly\) lost: \([0-9,]*\) bytes.*/\2/p' "$room/log" |
+        tr -d , | awk '{ sum += $1 } END { print sum + 0 }')
+    [ "$lost" -le "$word" ]
+}
+
+# The interpreter's own memory isn't looked at for losses.
+python_under_valgrind() {
+    PYTHONMALLOC=malloc valgrind --error-exitcode=9 --leak-check=no python3 "$@"
+}
+
+# sanitized KINDS: builds the host in C so, and runs its bank and its many calls
+sanitized() {
+    make -C "$top/hosts/c" OUT="$room/$1" ARCHIVE="$ARGUS_ARCHIVE/libargus_c.a" \
+        CFLAGS="-O1 -g -fno-omit-frame-pointer -fsanitize=$1 -fno-sanitize-recover=all" &&
+        ASAN_OPTIONS=detect_leaks=0 "$room/$1/host" bank 50 &&
+        ASAN_OPTIONS=detect_leaks=0 "$room/$1/host" stress 100000
+}
+
+# Whether a guardian that finds no memory says so, and nothing worse comes of it.
+wants_memory() {
+    local said
+    if said=$( (ulimit -v 60000 && "$room/plain/host" flat 90000) 2>&1); then return 1; fi
+    [ "$said" = "flat: status 10" ]
+}
+
+tried "hosts/c, address and undefined behaviour" sanitized address,undefined
+tried "hosts/c, threads" sanitized thread
+make -s -C "$top/hosts/c" OUT="$room/plain" ARCHIVE="$ARGUS_ARCHIVE/libargus_c.a"
+tried "hosts/c, want of memory" wants_memory
+if ! command -v valgrind > /dev/null; then
+    echo "valgrind: LEFT OUT: not installed"
+    exit "$failed"
+fi
+tried "hosts/c, bank, valgrind" under_valgrind "$room/plain/host" bank 20
+tried "hosts/c, stress, valgrind" under_valgrind "$room/plain/host" stress 100000
+if cargo --version > /dev/null 2>&1; then
+    export CARGO_TARGET_DIR=$room/rust
+    cargo build --offline --quiet --release --manifest-path "$top/hosts/rust/Cargo.toml" --example bank
+    tried "hosts/rust, bank, valgrind" under_valgrind "$room/rust/release/examples/bank" 20
+else
+    echo "hosts/rust: LEFT OUT: no cargo"
+fi
+if python3 --version > /dev/null 2>&1; then
+    export ARGUS_LIBRARY=$room/libargus_c.so PYTHONDONTWRITEBYTECODE=1
+    make -s -C "$top/hosts/python" OUT="$room" ARCHIVE="$ARGUS_ARCHIVE/libargus_c.a"
+    tried "hosts/python, bank, valgrind" python_under_valgrind "$top/hosts/python/bank.py" 5
+else
+    echo "hosts/python: LEFT OUT: no python3"
+fi
+exit "$failed"
