@@ -1,0 +1,365 @@
+/* A guardian of atomic objects under nested transactions, for programs in C and in whatever calls C.
+ *
+ * The functions argus_c_* are exported by libargus_c.a, which is proved; nothing compares the declarations below with
+ * its source. They take no null pointer. The inline functions after them are what a C program calls: they answer
+ * ARGUS_NULL to a null pointer, and give each answer as a status and a number.
+ *
+ *     argus_guardian bank = ARGUS_CLOSED;
+ *     if (argus_open(&bank).status != ARGUS_DONE) return 1;
+ *     uint32_t account = (uint32_t)argus_declare(&bank, "atomic_record[balance:int]").number;
+ *     uint32_t top = (uint32_t)argus_begin_top(&bank).number;
+ *     argus_alter(&bank, top, account, ARGUS_CREATE, 0, 0, "{5}");
+ *     argus_commit(&bank, top);
+ *     argus_close(&bank);
+ *
+ * Threads: a guardian is given to one call at a time. Threads that share one hold a mutex of their own around each
+ * call and the reply that belongs to it. A guardian may be opened on one thread, used on others, and closed on another.
+ *
+ * Memory: all of it comes from malloc. What a guardian takes grows with its journal until a checkpoint. argus_close
+ * gives all of it back but for one word of 8 bytes, which each argus_open leaves for good; argus_open_beside leaves
+ * none. Where malloc answers NULL the status is ARGUS_NO_MEMORY, and the guardian is as before.
+ */
+#ifndef ARGUS_H
+#define ARGUS_H
+
+#include <stddef.h>
+#include <stdint.h>
+#include <string.h>
+
+#ifdef __cplusplus
+extern "C" {
+#endif
+
+/* A guardian, or none. It lies in the program's memory and begins as ARGUS_CLOSED (all bytes zero will do).
+ * Both fields are the library's: a program writes neither. One that is open is moved, never copied: of two copies
+ * that are both used or closed, the second is a use of freed memory. */
+typedef struct argus_guardian {
+    uint32_t mark; /* 1 where a guardian is open; any other number: closed */
+    void *at;      /* what the library keeps, where it is open */
+} argus_guardian;
+
+#ifdef __cplusplus
+#define ARGUS_CLOSED argus_guardian{0, nullptr}
+#else
+#define ARGUS_CLOSED {0, NULL}
+#endif
+
+/* What came of a call. From ARGUS_DONE to ARGUS_REFUSED the call was made: a journalled call is one entry longer in the
+ * journal. From ARGUS_NO_MEMORY on nothing was made, and the guardian is as before. */
+typedef enum argus_status {
+    ARGUS_DONE = 0,        /* made; there is no more to say. The number is 0 */
+    ARGUS_OBJECT = 1,      /* an object was declared; the number is its own, from 0 */
+    ARGUS_ACTION = 2,      /* an action was begun; the number is its own, from 0 */
+    ARGUS_NUMBER = 3,      /* an integer, which is the number */
+    ARGUS_FLAG = 4,        /* the number is 1 for true, 0 for false */
+    ARGUS_VALUE = 5,       /* a value; argus_reply gives its written form */
+    ARGUS_CONTENT = 6,     /* a content; argus_reply gives its written form */
+    ARGUS_TEXT = 7,        /* a text, of argus_tell; argus_reply gives it */
+    ARGUS_SIGNAL = 8,      /* the operation signalled: its lock was granted, the content is unchanged. The number says
+                              which signal, as argus_signal has them */
+    ARGUS_REFUSED = 9,     /* the call was refused and took no lock; it is in the journal. The number says which
+                              refusal, as argus_refusal has them */
+    ARGUS_NO_MEMORY = 10,  /* memory was wanting */
+    ARGUS_NOT_OPEN = 11,   /* the handle has no guardian: never opened, or closed */
+    ARGUS_NOT_UTF8 = 12,   /* the text isn't UTF-8 */
+    ARGUS_BAD_TEXT = 13,   /* the text is no written form of a value (or of a content, for ARGUS_CREATE). The number is
+                              the length in bytes of its longest front that some written form begins with */
+    ARGUS_BAD_SHAPE = 14,  /* the text is no written form of a shape that can be made */
+    ARGUS_BAD_NUMBER = 15, /* a field's or tag's number isn't within 0 to 255 */
+    ARGUS_BAD_KIND = 16,   /* no call, query, change or question has this number */
+    ARGUS_TOO_SMALL = 17,  /* the room is too small for the reply and unchanged. The number is the reply's size in
+                              bytes: ask again with more room. The reply stays */
+    ARGUS_NOT_THERE = 18,  /* the object isn't declared; no entry has this number (or only one before the last
+                              checkpoint had); there is no reply with a text */
+    ARGUS_BUSY = 19,       /* a checkpoint while an action is live */
+    ARGUS_FULL = 20,       /* a checkpoint whose next entry's number would be above 2^63 - 1 */
+    ARGUS_NULL = 21        /* a pointer was null. Only the inline functions answer it */
+} argus_status;
+
+/* The signals of operations. An operation of another kind than the content signals ARGUS_ABSENT; the guardian refuses
+ * it before as ARGUS_ILL_TYPED. */
+typedef enum argus_signal {
+    ARGUS_ABSENT = 1,        /* there is no content yet */
+    ARGUS_EXISTS = 2,        /* ARGUS_CREATE where there is a content */
+    ARGUS_BOUNDS = 3,        /* an index outside the array, or an end of an empty one */
+    ARGUS_WRONG_TAG = 4,     /* the variant has another tag */
+    ARGUS_NEGATIVE_SIZE = 5, /* ARGUS_TRIM to a negative number of items */
+    ARGUS_LIMITS = 6         /* a bound or size past the limits of arrays */
+} argus_signal;
+
+/* Why a call was refused: the first of these that applies. */
+typedef enum argus_refusal {
+    ARGUS_NO_ACTION = 1,  /* the action isn't begun */
+    ARGUS_OVER = 2,       /* the action has committed or was aborted */
+    ARGUS_SUSPENDED = 3,  /* the action has a live child */
+    ARGUS_NO_OBJECT = 4,  /* the object isn't declared */
+    ARGUS_ILL_TYPED = 5,  /* the operation, or its value, doesn't suit the object's shape */
+    ARGUS_CONFLICT = 6,   /* another action holds the object: wait for its end, or abort */
+    ARGUS_TOO_DEEP = 7,   /* the parent has 64 ancestors, itself counted */
+    ARGUS_TOO_MANY = 8,   /* 1,000,000 actions were begun, or 65,535 objects declared; a checkpoint frees none */
+    ARGUS_NO_SIBLINGS = 9 /* ARGUS_ABORT_OTHERS of an action with neither parent nor creator */
+} argus_refusal;
+
+/* The journalled calls, with what each takes beside the guardian and what it answers where it isn't refused. What a
+ * call doesn't take is ignored. A field or a tag is a number from 0, in the order of the shape's names. */
+typedef enum argus_kind {
+    ARGUS_DECLARE = 0,      /* text: a shape, as atomic_record[balance:int]. ARGUS_OBJECT */
+    ARGUS_BEGIN_TOP = 1,    /* nothing. ARGUS_ACTION */
+    ARGUS_BEGIN_SUB = 2,    /* action: the parent. ARGUS_ACTION */
+    ARGUS_BEGIN_NESTED = 3, /* action: the creator of a nested topaction. ARGUS_ACTION */
+    ARGUS_COMMIT = 4,       /* action. ARGUS_DONE */
+    ARGUS_ABORT = 5,        /* action. ARGUS_DONE */
+    ARGUS_ABORT_OTHERS = 6, /* action: its live siblings are aborted. ARGUS_DONE */
+    ARGUS_TEST_READ = 7,    /* action, object: the read lock where it may be had. ARGUS_FLAG */
+    ARGUS_TEST_WRITE = 8,   /* action, object: the write lock where it may be had. ARGUS_FLAG */
+    /* queries: action, object and what the line says; each needs a read lock */
+    ARGUS_WHOLE = 9,       /* the content. ARGUS_CONTENT */
+    ARGUS_FIELD = 10,      /* first: a field of a record. ARGUS_VALUE */
+    ARGUS_LOW = 11,        /* the low bound of an array. ARGUS_NUMBER */
+    ARGUS_HIGH = 12,       /* its high bound. ARGUS_NUMBER */
+    ARGUS_SIZE = 13,       /* its size. ARGUS_NUMBER */
+    ARGUS_FETCH = 14,      /* first: an index. ARGUS_VALUE */
+    ARGUS_BOTTOM = 15,     /* the first item. ARGUS_VALUE */
+    ARGUS_TOP = 16,        /* the last item. ARGUS_VALUE */
+    ARGUS_IS_TAG = 17,     /* first: a tag of a variant. ARGUS_FLAG */
+    ARGUS_TAG_VALUE = 18,  /* first: a tag of a variant. ARGUS_VALUE */
+    /* changes: action, object and what the line says; each needs a write lock */
+    ARGUS_CREATE = 19,     /* text: a content, as {5}, 1[10,20] or <0:"a">. ARGUS_DONE */
+    ARGUS_SET_FIELD = 20,  /* first: a field; text: its value. ARGUS_DONE */
+    ARGUS_STORE = 21,      /* first: an index; text: the item's value. ARGUS_DONE */
+    ARGUS_ADDH = 22,       /* text: the value of an item that becomes the last. ARGUS_DONE */
+    ARGUS_ADDL = 23,       /* text: the value of an item that becomes the first. ARGUS_DONE */
+    ARGUS_REMH = 24,       /* the last item leaves. ARGUS_VALUE */
+    ARGUS_REML = 25,       /* the first item leaves. ARGUS_VALUE */
+    ARGUS_SET_LOW = 26,    /* first: the low bound to be. ARGUS_DONE */
+    ARGUS_TRIM = 27,       /* first: where the items that stay begin; second: how many at most. ARGUS_DONE */
+    ARGUS_CHANGE_TAG = 28, /* first: a tag; text: its value. ARGUS_DONE */
+    ARGUS_TOUCH = 29       /* nothing changes. ARGUS_DONE */
+} argus_kind;
+
+/* The questions, which aren't journalled and change nothing. */
+typedef enum argus_question {
+    ARGUS_CAN_READ = 0,     /* action, object: whether ARGUS_TEST_READ would answer true now. ARGUS_FLAG */
+    ARGUS_CAN_WRITE = 1,    /* action, object: whether ARGUS_TEST_WRITE would answer true now. ARGUS_FLAG */
+    ARGUS_OBJECTS = 2,      /* how many objects are declared. ARGUS_NUMBER */
+    ARGUS_ACTIONS = 3,      /* how many actions are begun: the next one's number. ARGUS_NUMBER */
+    ARGUS_ENTRIES = 4,      /* how many entries the journal has had: the next one's number. ARGUS_NUMBER */
+    ARGUS_BASE = 5,         /* object: what it holds for good, or absent. ARGUS_TEXT */
+    ARGUS_READERS = 6,      /* object: who holds it for reading, in increasing number, a line each, as a1. ARGUS_TEXT */
+    ARGUS_VERSIONS = 7,     /* object: who holds it for writing, from ancestor to descendant, a line each with what it
+                               sees, as a1 {7}. ARGUS_TEXT */
+    ARGUS_ENTRY = 8,        /* entry: its line without an end, as 3 commit a0 -> done. ARGUS_TEXT */
+    ARGUS_LIST_BASES = 9,   /* the listing of bases; objects are named o0, o1 and so on. ARGUS_TEXT */
+    ARGUS_LIST_STACKS = 10, /* the listing of bases, readers and versions. ARGUS_TEXT */
+    ARGUS_LIST_JOURNAL = 11, /* the listing of the journal. ARGUS_TEXT */
+    ARGUS_LIST_AUDIT = 12   /* the listing of the audit, made from the journal. ARGUS_TEXT */
+} argus_question;
+
+/* ---- What the library exports. No pointer is null, but that of a text of size 0; no two lie in one another. ---- */
+
+/* Opens a guardian without objects, actions and entries. What was open in the handle is closed before, but stays at
+ * ARGUS_NO_MEMORY. Where `beside` is open, both take their memory by one word; where it isn't, the new one leaves
+ * 8 bytes for good. `beside` is another handle, and stays as it is. ARGUS_DONE, ARGUS_NO_MEMORY. */
+uint32_t argus_c_open(argus_guardian *guardian, argus_guardian *beside);
+
+/* Closes the guardian and gives its memory back. ARGUS_DONE; ARGUS_NOT_OPEN where it is closed already. */
+uint32_t argus_c_close(argus_guardian *guardian);
+
+/* Makes one call. Every reply, refusals included, is one entry of the journal. The reply is kept until the next call
+ * that is made, or the next question that is answered by a text. `number` is written at each status: by what the
+ * status says, else 0. It is another memory than the handle.
+ * What `kind` says, or ARGUS_SIGNAL, ARGUS_REFUSED, ARGUS_NO_MEMORY, ARGUS_NOT_OPEN, ARGUS_NOT_UTF8, ARGUS_BAD_TEXT,
+ * ARGUS_BAD_SHAPE, ARGUS_BAD_NUMBER, ARGUS_BAD_KIND. */
+uint32_t argus_c_call(argus_guardian *guardian, uint32_t kind, uint32_t action, uint32_t object, int64_t first,
+                      int64_t second, const uint8_t *text, size_t text_size, int64_t *number);
+
+/* Answers a question. A text is kept in the place of the reply, as a reply is. `number` is written at each status.
+ * What `question` says, or ARGUS_NO_MEMORY, ARGUS_NOT_OPEN, ARGUS_BAD_KIND, ARGUS_NOT_THERE. */
+uint32_t argus_c_tell(argus_guardian *guardian, uint32_t question, uint32_t action, uint32_t object, uint64_t entry,
+                      int64_t *number);
+
+/* Folds the journal's entries away: objects keep what they hold for good, and entries and actions their numbers.
+ * ARGUS_DONE, ARGUS_NO_MEMORY, ARGUS_NOT_OPEN, ARGUS_BUSY, ARGUS_FULL. */
+uint32_t argus_c_checkpoint(argus_guardian *guardian);
+
+/* Puts the text of the reply that is kept at the front of the room, without an end of its own, and writes its size.
+ * It can be had again as long as it is kept. `size` is another memory than the handle and the room.
+ * ARGUS_DONE; ARGUS_TOO_SMALL, with the size that it needs; ARGUS_NO_MEMORY, ARGUS_NOT_OPEN, ARGUS_NOT_THERE (which
+ * every status but ARGUS_VALUE, ARGUS_CONTENT and ARGUS_TEXT has), with the size 0. */
+uint32_t argus_c_reply(argus_guardian *guardian, uint8_t *room, size_t room_size, size_t *size);
+
+/* ---- What a C program calls. ---- */
+
+/* The status of a call, one of argus_status, and its number. */
+typedef struct argus_answer {
+    uint32_t status;
+    int64_t number;
+} argus_answer;
+
+static inline argus_answer argus_answer_of(uint32_t status, int64_t number) {
+    argus_answer answer;
+    answer.status = status;
+    answer.number = number;
+    return answer;
+}
+
+/* Opens a guardian that leaves a word of 8 bytes for good. */
+static inline argus_answer argus_open(argus_guardian *guardian) {
+    argus_guardian none = ARGUS_CLOSED;
+    if (guardian == NULL) return argus_answer_of(ARGUS_NULL, 0);
+    return argus_answer_of(argus_c_open(guardian, &none), 0);
+}
+
+/* Opens a guardian that shares the word of another one, which is open. At ARGUS_NOT_OPEN the other one isn't. */
+static inline argus_answer argus_open_beside(argus_guardian *guardian, argus_guardian *other) {
+    if (guardian == NULL || other == NULL) return argus_answer_of(ARGUS_NULL, 0);
+    if (guardian == other || other->mark != 1) return argus_answer_of(ARGUS_NOT_OPEN, 0);
+    return argus_answer_of(argus_c_open(guardian, other), 0);
+}
+
+/* Closes a guardian. */
+static inline argus_answer argus_close(argus_guardian *guardian) {
+    if (guardian == NULL) return argus_answer_of(ARGUS_NULL, 0);
+    return argus_answer_of(argus_c_close(guardian), 0);
+}
+
+/* Makes one call, with a text of so many bytes; a size of 0 may come with a null text. */
+static inline argus_answer argus_call(argus_guardian *guardian, uint32_t kind, uint32_t action, uint32_t object,
+                                      int64_t first, int64_t second, const void *text, size_t text_size) {
+    int64_t number = 0;
+    uint32_t status;
+    static const uint8_t empty[1] = {0};
+    if (guardian == NULL || (text == NULL && text_size != 0)) return argus_answer_of(ARGUS_NULL, 0);
+    status = argus_c_call(guardian, kind, action, object, first, second,
+                          text == NULL ? empty : (const uint8_t *)text, text_size, &number);
+    return argus_answer_of(status, number);
+}
+
+/* Answers a question. */
+static inline argus_answer argus_tell(argus_guardian *guardian, uint32_t question, uint32_t action, uint32_t object,
+                                      uint64_t entry) {
+    int64_t number = 0;
+    uint32_t status;
+    if (guardian == NULL) return argus_answer_of(ARGUS_NULL, 0);
+    status = argus_c_tell(guardian, question, action, object, entry, &number);
+    return argus_answer_of(status, number);
+}
+
+/* Folds the journal's entries away. */
+static inline argus_answer argus_checkpoint(argus_guardian *guardian) {
+    if (guardian == NULL) return argus_answer_of(ARGUS_NULL, 0);
+    return argus_answer_of(argus_c_checkpoint(guardian), 0);
+}
+
+/* Puts the reply's text into the room; the number is its size in bytes. No zero is put behind it. */
+static inline argus_answer argus_reply(argus_guardian *guardian, void *room, size_t room_size) {
+    size_t size = 0;
+    uint32_t status;
+    uint8_t none[1];
+    if (guardian == NULL || (room == NULL && room_size != 0)) return argus_answer_of(ARGUS_NULL, 0);
+    status = argus_c_reply(guardian, room == NULL ? none : (uint8_t *)room, room_size, &size);
+    return argus_answer_of(status, (int64_t)size);
+}
+
+/* The calls by name. A text ends at its first zero byte. */
+
+static inline argus_answer argus_declare(argus_guardian *guardian, const char *shape) {
+    if (shape == NULL) return argus_answer_of(ARGUS_NULL, 0);
+    return argus_call(guardian, ARGUS_DECLARE, 0, 0, 0, 0, shape, strlen(shape));
+}
+
+static inline argus_answer argus_begin_top(argus_guardian *guardian) {
+    return argus_call(guardian, ARGUS_BEGIN_TOP, 0, 0, 0, 0, NULL, 0);
+}
+
+static inline argus_answer argus_begin_sub(argus_guardian *guardian, uint32_t parent) {
+    return argus_call(guardian, ARGUS_BEGIN_SUB, parent, 0, 0, 0, NULL, 0);
+}
+
+static inline argus_answer argus_begin_nested(argus_guardian *guardian, uint32_t creator) {
+    return argus_call(guardian, ARGUS_BEGIN_NESTED, creator, 0, 0, 0, NULL, 0);
+}
+
+static inline argus_answer argus_commit(argus_guardian *guardian, uint32_t action) {
+    return argus_call(guardian, ARGUS_COMMIT, action, 0, 0, 0, NULL, 0);
+}
+
+static inline argus_answer argus_abort(argus_guardian *guardian, uint32_t action) {
+    return argus_call(guardian, ARGUS_ABORT, action, 0, 0, 0, NULL, 0);
+}
+
+static inline argus_answer argus_abort_others(argus_guardian *guardian, uint32_t action) {
+    return argus_call(guardian, ARGUS_ABORT_OTHERS, action, 0, 0, 0, NULL, 0);
+}
+
+static inline argus_answer argus_test_read(argus_guardian *guardian, uint32_t action, uint32_t object) {
+    return argus_call(guardian, ARGUS_TEST_READ, action, object, 0, 0, NULL, 0);
+}
+
+static inline argus_answer argus_test_write(argus_guardian *guardian, uint32_t action, uint32_t object) {
+    return argus_call(guardian, ARGUS_TEST_WRITE, action, object, 0, 0, NULL, 0);
+}
+
+/* A query: ARGUS_WHOLE to ARGUS_TAG_VALUE, with its number where it takes one. */
+static inline argus_answer argus_ask(argus_guardian *guardian, uint32_t action, uint32_t object, uint32_t query,
+                                     int64_t first) {
+    if (query < ARGUS_WHOLE || query > ARGUS_TAG_VALUE) return argus_answer_of(ARGUS_BAD_KIND, 0);
+    return argus_call(guardian, query, action, object, first, 0, NULL, 0);
+}
+
+/* A change: ARGUS_CREATE to ARGUS_TOUCH, with its numbers and its text where it takes them (else 0 and NULL). */
+static inline argus_answer argus_alter(argus_guardian *guardian, uint32_t action, uint32_t object, uint32_t change,
+                                       int64_t first, int64_t second, const char *text) {
+    if (change < ARGUS_CREATE || change > ARGUS_TOUCH) return argus_answer_of(ARGUS_BAD_KIND, 0);
+    return argus_call(guardian, change, action, object, first, second, text, text == NULL ? 0 : strlen(text));
+}
+
+/* The questions by name. */
+
+static inline argus_answer argus_can_read(argus_guardian *guardian, uint32_t action, uint32_t object) {
+    return argus_tell(guardian, ARGUS_CAN_READ, action, object, 0);
+}
+
+static inline argus_answer argus_can_write(argus_guardian *guardian, uint32_t action, uint32_t object) {
+    return argus_tell(guardian, ARGUS_CAN_WRITE, action, object, 0);
+}
+
+static inline argus_answer argus_objects(argus_guardian *guardian) {
+    return argus_tell(guardian, ARGUS_OBJECTS, 0, 0, 0);
+}
+
+static inline argus_answer argus_actions(argus_guardian *guardian) {
+    return argus_tell(guardian, ARGUS_ACTIONS, 0, 0, 0);
+}
+
+static inline argus_answer argus_entries(argus_guardian *guardian) {
+    return argus_tell(guardian, ARGUS_ENTRIES, 0, 0, 0);
+}
+
+static inline argus_answer argus_base(argus_guardian *guardian, uint32_t object) {
+    return argus_tell(guardian, ARGUS_BASE, 0, object, 0);
+}
+
+static inline argus_answer argus_readers(argus_guardian *guardian, uint32_t object) {
+    return argus_tell(guardian, ARGUS_READERS, 0, object, 0);
+}
+
+static inline argus_answer argus_versions(argus_guardian *guardian, uint32_t object) {
+    return argus_tell(guardian, ARGUS_VERSIONS, 0, object, 0);
+}
+
+static inline argus_answer argus_entry(argus_guardian *guardian, uint64_t entry) {
+    return argus_tell(guardian, ARGUS_ENTRY, 0, 0, entry);
+}
+
+/* A listing: ARGUS_LIST_BASES to ARGUS_LIST_AUDIT. */
+static inline argus_answer argus_list(argus_guardian *guardian, uint32_t listing) {
+    if (listing < ARGUS_LIST_BASES || listing > ARGUS_LIST_AUDIT) return argus_answer_of(ARGUS_BAD_KIND, 0);
+    return argus_tell(guardian, listing, 0, 0, 0);
+}
+
+#ifdef __cplusplus
+}
+#endif
+
+#endif

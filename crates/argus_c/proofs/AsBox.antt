@@ -1,0 +1,28 @@
+-- The seal and its parts own what a box at the same types owns.
+use mir.Syntax.{impl, tnil, dnil}
+use mathlib.Core.List.{[]}
+use mathlib.Core.Path.{◌≡◌, refl, sym}
+use mathlib.Core.Bool.{true≢false}
+use Rattle.std.specs.Prelude.{Option, Some, None, IsSome}
+use denote.Signature.{Slot, plain}
+use Rattle.std_alloc.proofs.BoxSteps.Form.{Bx}
+use Rattle.std_heap.specs.contracts.Global as Heap
+use Rattle.std_heap.specs.contracts.GlobalAllocator.TheImpl.{ghosts, dict}
+use Rattle.std_heap.proofs.Global.TheLaws as heap
+use Rattle.argus_embed.specs.contracts.embedded.Embedded as Home
+use Rattle.argus_embed.proofs.embedded.Embedded.TheLaws as home
+use Rattle.argus_c.specs.contracts.parts.Parts as Parts
+use Rattle.argus_c.specs.contracts.held.Held as Sealed
+
+abbrev pub E : Bx
+E = record { row = Home.the_row; laws = home.the_row_laws; al = record { row = Heap.the_row; laws = heap.the_row_laws; g = ghosts; d = dict; drops = impl [] tnil dnil } }
+
+abbrev pub FromParts : Slot 0
+FromParts = plain (λ _. Parts.the_row Home.the_row Heap.the_row ghosts)
+
+abbrev pub FromSeal : Slot 0
+FromSeal = plain (λ _. Sealed.the_row)
+
+pub some_of : {A : Type 0} (o : Option A) → IsSome o → (x : A) × (o ≡ Some x)
+some_of (Some x) is = (x, refl)
+some_of None is = absurd (true≢false (sym is))

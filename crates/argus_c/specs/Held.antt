@@ -1,0 +1,20 @@
+-- What a handle that a host keeps owns: a box, as long as it is open.
+use base.Fml.{Fml, ftrue}
+use base.Stored.{Coded}
+use denote.RawPtr.{Ptr}
+use Rattle.std.specs.Prelude.{None, Option, Some}
+use Rattle.std.specs.Coded.{coded_option}
+use Rattle.std.specs.Box.Ownership.{box_owns}
+use Rattle.std.specs.Global.{Global}
+use Rattle.std_heap.specs.contracts.GlobalAllocator.TheImpl.{ghosts}
+use Rattle.argus_embed.specs.State.{State, state_coded}
+use Rattle.argus_embed.specs.contracts.embedded.Embedded.{the_row}
+
+-- an open handle owns the box at its pointer, a closed one nothing
+abbrev pub held_owns : Global → Ptr → Option State → Fml
+held_owns alloc at (Some x) = box_owns (ghosts.dealloc_token alloc) the_row at x
+held_owns alloc at None = ftrue
+
+-- what is held is stored
+abbrev pub held_coded : Coded (Option State)
+held_coded = coded_option state_coded

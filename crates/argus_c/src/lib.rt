@@ -1,0 +1,180 @@
+//! A guardian for programs in C and in whatever calls C: the exports of `include/argus.h`, which
+//! says what each takes and answers. The inline functions there look for null pointers; here there
+//! are none.
+//!
+//! A host gives each slot to one call at a time.
+#![tactic(auto)]
+
+ghost use Rattle.std.specs.Prelude.{◌≡◌, ◌≢◌, ◌<◌, ◌≤◌, IsSome, None, Some, length};
+ghost use Rattle.argus_c.specs.Slots.{Becomes, IsAnswered, IsGiven, IsMade, IsTooLong};
+ghost use Rattle.argus_embed.specs.State.{after_fold, at_first};
+
+mod held;
+mod opening;
+mod parts;
+mod slot;
+
+use argus_embed::{Question, Request};
+use opening::opened_beside;
+use slot::Slot;
+use std::alloc::Global;
+use std::str::from_utf8;
+
+// The statuses of argus.h that are no outcome's and no error's.
+const DONE: u32 = 0;
+const NO_MEMORY: u32 = 10;
+const NOT_OPEN: u32 = 11;
+const NOT_UTF8: u32 = 12;
+const BAD_KIND: u32 = 16;
+const TOO_SMALL: u32 = 17;
+const NOT_THERE: u32 = 18;
+
+/// Opens a guardian in the slot, in the heap of the one beside it where that is open. What was open
+/// in the slot is closed.
+#[unsafe(no_mangle)]
+pub extern "C" fn argus_c_open(alloc: Global, slot: &mut Slot, beside: &mut Slot) -> u32
+    ensures done { result ≡ 0 → slot.new.held.store ≡ Some at_first }
+    ensures memory { result ≢ 0 → (result ≡ 10) × (slot.new.held.store ≡ slot.old.held.store) }
+    ensures beside { beside.new.held.store ≡ beside.old.held.store }
+{
+    match opened_beside(alloc, beside) {
+        Ok(guardian) => {
+            *slot = Slot::opened(guardian);
+            DONE
+        }
+        Err(_) => NO_MEMORY,
+    }
+}
+
+/// Closes the guardian and gives its memory back.
+#[unsafe(no_mangle)]
+pub extern "C" fn argus_c_close(alloc: Global, slot: &mut Slot) -> u32
+    ensures closed { slot.new.held.store ≡ None }
+    ensures done { result ≡ 0 → IsSome slot.old.held.store }
+    ensures not_open { result ≢ 0 → (result ≡ 11) × (slot.old.held.store ≡ None) }
+{
+    match slot.take(alloc) {
+        Some(_) => DONE,
+        None => NOT_OPEN,
+    }
+}
+
+/// Makes the call that the numbers and the text stand for.
+#[unsafe(no_mangle)]
+pub extern "C" fn argus_c_call(
+    alloc: Global,
+    slot: &mut Slot,
+    kind: u32,
+    action: u32,
+    object: u32,
+    first: i64,
+    second: i64,
+    text: &[u8],
+    number: &mut i64,
+) -> u32
+    ensures made { result < 10 → Becomes slot.old.held.store slot.new.held.store
+        (IsMade (record { kind = kind; action = action; object = object; first = first;
+        second = second }) text.now (result, number.new)) }
+    ensures unmade { 10 ≤ result → slot.new.held.store ≡ slot.old.held.store }
+{
+    *number = 0;
+    let Ok(text) = from_utf8(text) else {
+        return NOT_UTF8;
+    };
+    let Some(mut guardian) = slot.take(alloc) else {
+        return NOT_OPEN;
+    };
+    let request = Request {
+        kind,
+        action,
+        object,
+        first,
+        second,
+    };
+    let (status, told) = match guardian.call(&request, text) {
+        Ok(outcome) => outcome.codes(),
+        Err(error) => error.codes(),
+    };
+    *slot = Slot::opened(guardian);
+    *number = told;
+    status
+}
+
+/// Answers the question that the numbers stand for.
+#[unsafe(no_mangle)]
+pub extern "C" fn argus_c_tell(
+    alloc: Global,
+    slot: &mut Slot,
+    kind: u32,
+    action: u32,
+    object: u32,
+    entry: u64,
+    number: &mut i64,
+) -> u32
+    ensures made { result < 10 → Becomes slot.old.held.store slot.new.held.store
+        (IsAnswered kind action object entry (result, number.new)) }
+    ensures unmade { 10 ≤ result → slot.new.held.store ≡ slot.old.held.store }
+{
+    *number = 0;
+    let Some(question) = Question::of(kind, action, object, entry) else {
+        return BAD_KIND;
+    };
+    let Some(mut guardian) = slot.take(alloc) else {
+        return NOT_OPEN;
+    };
+    let (status, told) = match guardian.tell(question) {
+        Ok(outcome) => outcome.codes(),
+        Err(error) => error.codes(),
+    };
+    *slot = Slot::opened(guardian);
+    *number = told;
+    status
+}
+
+/// Folds the journal's entries into its opening.
+#[unsafe(no_mangle)]
+pub extern "C" fn argus_c_checkpoint(alloc: Global, slot: &mut Slot) -> u32
+    ensures done { result ≡ 0 → Becomes slot.old.held.store slot.new.held.store
+        (λ old new. new ≡ after_fold old) }
+    ensures unmade { result ≢ 0 → slot.new.held.store ≡ slot.old.held.store }
+{
+    let Some(mut guardian) = slot.take(alloc) else {
+        return NOT_OPEN;
+    };
+    let status = match guardian.checkpoint() {
+        Ok(()) => DONE,
+        Err(error) => error.codes().0,
+    };
+    *slot = Slot::opened(guardian);
+    status
+}
+
+/// Puts the text that is kept at the front of the room, and tells its size.
+#[unsafe(no_mangle)]
+pub extern "C" fn argus_c_reply(
+    alloc: Global,
+    slot: &mut Slot,
+    room: &mut [u8],
+    size: &mut usize,
+) -> u32
+    ensures done { result ≡ 0 → IsGiven slot.new.held.store size.new room.new }
+    ensures small { result ≡ 17 → IsTooLong slot.new.held.store size.new room.old
+        × (room.new ≡ room.old) }
+    ensures same { slot.new.held.store ≡ slot.old.held.store }
+    ensures room { length room.new ≡ length room.old }
+{
+    *size = 0;
+    let Some(guardian) = slot.take(alloc) else {
+        return NOT_OPEN;
+    };
+    let told = guardian.reply(room);
+    *slot = Slot::opened(guardian);
+    match told {
+        Ok(Some(needed)) => {
+            *size = needed;
+            if needed <= room.len() { DONE } else { TOO_SMALL }
+        }
+        Ok(None) => NOT_THERE,
+        Err(_) => NO_MEMORY,
+    }
+}

@@ -1,0 +1,34 @@
+//! How a guardian for a slot is made.
+
+ghost use Rattle.std.specs.Prelude.{◌≡◌, IfOk};
+ghost use Rattle.argus_embed.specs.State.{at_first};
+
+use crate::slot::Slot;
+use argus_embed::Embedded;
+use argus_memory::{Heap, OutOfMemory};
+use std::alloc::Global;
+
+/// A guardian with no object, no action and no entry: in the heap of the one that is beside it, or
+/// else in a heap of its own, whose word of 8 bytes is never given back.
+pub(crate) fn opened_beside(
+    alloc: Global,
+    beside: &mut Slot,
+) -> Result<Box<Embedded, Global>, OutOfMemory>
+    ensures opened { IfOk result (λ guardian. guardian.value ≡ at_first) }
+    ensures beside { beside.new.held.store ≡ beside.old.held.store }
+{
+    let guardian = made_beside(alloc, beside)?;
+    Ok(Box::new(alloc, guardian)?)
+}
+
+fn made_beside(alloc: Global, beside: &mut Slot) -> Result<Embedded, OutOfMemory>
+    ensures made { IfOk result (λ guardian. guardian ≡ at_first) }
+    ensures beside { beside.new.held.store ≡ beside.old.held.store }
+{
+    let Some(other) = beside.take(alloc) else {
+        return Ok(Embedded::new(Heap::new(alloc)?));
+    };
+    let guardian = other.beside();
+    *beside = Slot::opened(other);
+    Ok(guardian)
+}

@@ -1,0 +1,24 @@
+-- A test that would be answered yes, as a truth value.
+use Rattle.std.proofs.Common.{Bool, IsTrue, ap, false, refl, sym, true, ◌≡◌, ◌↔◌}
+use Rattle.std.proofs.lemmas.Bool.{false≢true}
+use Rattle.argus_contents.specs.Answer.{PlainAnswer, body, done, flag, num, signal, val}
+use Rattle.argus_entries.specs.Reply.{PlainReply, answered, begun, object, refused}
+use Rattle.argus_journal.specs.Events.{says_yes}
+
+-- what is no yes isn't
+not_yes : (reply : PlainReply) → (reply ≡ answered (flag true) → IsTrue false) → false ≡ says_yes reply
+not_yes (object o) never = refl
+not_yes (begun a) never = refl
+not_yes (refused why) never = refl
+not_yes (answered done) never = refl
+not_yes (answered (val v)) never = refl
+not_yes (answered (num n)) never = refl
+not_yes (answered (flag false)) never = refl
+not_yes (answered (flag true)) never = absurd (false≢true (never refl))
+not_yes (answered (body c)) never = refl
+not_yes (answered (signal s)) never = refl
+
+-- it says yes exactly where it is granted
+pub yes_where : (b : Bool) (reply : PlainReply) → IsTrue b ↔ (reply ≡ answered (flag true)) → b ≡ says_yes reply
+yes_where true reply is = sym (ap says_yes (is.0 refl))
+yes_where false reply is = not_yes reply is.1

@@ -1,0 +1,68 @@
+-- The two numbers by which a host is told what came of a call: a status, and what goes with it. They
+-- are those of the C header.
+use Rattle.std.specs.Prelude.{Bool, false, if◌then◌else◌, nat_lt, pos, true, ℕ, ℤ, ◌^◌, ◌-◌}
+use Rattle.argus_contents.specs.declared.signal.Signal.{Signal}
+use Rattle.argus_contents.specs.declared.signal.Signal.TheVariants.{Absent, Bounds, Exists, Limits}
+use Rattle.argus_contents.specs.declared.signal.Signal.TheVariants.{NegativeSize, WrongTag}
+use Rattle.argus_entries.specs.declared.refusal.Refusal.{Refusal}
+use Rattle.argus_entries.specs.declared.refusal.Refusal.TheVariants.{Conflict, IllTyped, NoAction}
+use Rattle.argus_entries.specs.declared.refusal.Refusal.TheVariants.{NoObject, NoSiblings, Over}
+use Rattle.argus_entries.specs.declared.refusal.Refusal.TheVariants.{Suspended, TooDeep, TooMany}
+use Rattle.argus_embed.specs.declared.embed_error.EmbedError.{EmbedError}
+use Rattle.argus_embed.specs.declared.embed_error.EmbedError.TheVariants as error
+use Rattle.argus_embed.specs.declared.outcome.Outcome.{Outcome}
+use Rattle.argus_embed.specs.declared.outcome.Outcome.TheVariants as outcome
+
+-- a signal's number
+abbrev pub signal_code : Signal → ℤ
+signal_code Absent = pos 1
+signal_code Exists = pos 2
+signal_code Bounds = pos 3
+signal_code WrongTag = pos 4
+signal_code NegativeSize = pos 5
+signal_code Limits = pos 6
+
+-- a refusal's number, in the order of checking
+abbrev pub refusal_code : Refusal → ℤ
+refusal_code NoAction = pos 1
+refusal_code Over = pos 2
+refusal_code Suspended = pos 3
+refusal_code NoObject = pos 4
+refusal_code IllTyped = pos 5
+refusal_code Conflict = pos 6
+refusal_code TooDeep = pos 7
+refusal_code TooMany = pos 8
+refusal_code NoSiblings = pos 9
+
+-- 1 for true, 0 for false
+abbrev pub flag_code : Bool → ℤ
+flag_code true = pos 1
+flag_code false = pos 0
+
+-- a number as a signed one of 64 bits; the greatest of these for what is past it
+abbrev pub as_number : ℕ → ℤ
+as_number n = if nat_lt n (2 ^ 63) then pos n else pos (2 ^ 63 - 1)
+
+-- the status and the number of what came of a call
+abbrev pub outcome_codes : Outcome → ℕ × ℤ
+outcome_codes outcome.Done = (0, pos 0)
+outcome_codes (outcome.Object o) = (1, pos o)
+outcome_codes (outcome.Action a) = (2, pos a)
+outcome_codes (outcome.Number n) = (3, n)
+outcome_codes (outcome.Flag truth) = (4, flag_code truth)
+outcome_codes outcome.Value = (5, pos 0)
+outcome_codes outcome.Content = (6, pos 0)
+outcome_codes outcome.Text = (7, pos 0)
+outcome_codes (outcome.Signal signal) = (8, signal_code signal)
+outcome_codes (outcome.Refused refusal) = (9, refusal_code refusal)
+
+-- the status and the number where no call was made
+abbrev pub error_codes : EmbedError → ℕ × ℤ
+error_codes error.OutOfMemory = (10, pos 0)
+error_codes (error.BadText at) = (13, as_number at)
+error_codes error.BadShape = (14, pos 0)
+error_codes error.BadNumber = (15, pos 0)
+error_codes error.BadKind = (16, pos 0)
+error_codes error.NotThere = (18, pos 0)
+error_codes error.Busy = (19, pos 0)
+error_codes error.Full = (20, pos 0)

@@ -1,0 +1,5 @@
+pub mod Codes
+pub mod Kept
+pub mod Questions
+pub mod Requests
+pub mod State

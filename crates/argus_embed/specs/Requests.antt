@@ -1,0 +1,88 @@
+-- Which call the numbers and the text of a request stand for, and why one stands for none.
+use Rattle.std.specs.Prelude.{List, pos, true, ℕ, ℤ, int_lt, ◌≡◌, ◌≤◌, ◌⊎◌, ◌||◌}
+use Rattle.argus_contents.specs.Change.{PlainChange, addh, addl, change_tag, create, reml, remh}
+use Rattle.argus_contents.specs.Change.{set_field, set_low, store, touch, trim}
+use Rattle.argus_contents.specs.declared.query.Query.{Query}
+use Rattle.argus_contents.specs.declared.query.Query.TheVariants.{Bottom, Fetch, Field, High, IsTag}
+use Rattle.argus_contents.specs.declared.query.Query.TheVariants.{Low, Size, TagValue, Top, Whole}
+use Rattle.argus_entries.specs.Call.{PlainCall, abort, abort_others, alter, ask, begin_nested}
+use Rattle.argus_entries.specs.Call.{begin_sub, begin_top, commit, declare, test_read, test_write}
+use Rattle.argus_texts.specs.ContentSpelling.{content_spelling}
+use Rattle.argus_texts.specs.Fault.{IsContentText, IsFault, IsValueText}
+use Rattle.argus_texts.specs.ShapeSpelling.{IsShapeText, shape_spelling}
+use Rattle.argus_texts.specs.Spelling.{spelling}
+use Rattle.argus_embed.specs.State.{State, after_call, outcome_of}
+use Rattle.argus_embed.specs.declared.embed_error.EmbedError.{EmbedError}
+use Rattle.argus_embed.specs.declared.embed_error.EmbedError.TheVariants as error
+use Rattle.argus_embed.specs.declared.outcome.Outcome.{Outcome}
+use Rattle.argus_embed.specs.declared.request.Request.{Request}
+use Rattle.argus_steps.specs.Step.{reply_to}
+
+-- the kind and the first number are those of the query
+abbrev pub SaysQuery : ℕ → ℤ → Query → Type 0
+SaysQuery kind first Whole = kind ≡ 9
+SaysQuery kind first (Field i) = (kind ≡ 10) × (first ≡ pos i)
+SaysQuery kind first Low = kind ≡ 11
+SaysQuery kind first High = kind ≡ 12
+SaysQuery kind first Size = kind ≡ 13
+SaysQuery kind first (Fetch i) = (kind ≡ 14) × (first ≡ i)
+SaysQuery kind first Bottom = kind ≡ 15
+SaysQuery kind first Top = kind ≡ 16
+SaysQuery kind first (IsTag t) = (kind ≡ 17) × (first ≡ pos t)
+SaysQuery kind first (TagValue t) = (kind ≡ 18) × (first ≡ pos t)
+
+-- the kind, the numbers and the text are those of the change
+abbrev pub SaysChange : ℕ → ℤ → ℤ → List ℕ → PlainChange → Type 0
+SaysChange kind first second text (create c) = (kind ≡ 19) × (text ≡ content_spelling c)
+SaysChange kind first second text (set_field i v) =
+    (kind ≡ 20) × (first ≡ pos i) × (text ≡ spelling v)
+SaysChange kind first second text (store i v) = (kind ≡ 21) × (first ≡ i) × (text ≡ spelling v)
+SaysChange kind first second text (addh v) = (kind ≡ 22) × (text ≡ spelling v)
+SaysChange kind first second text (addl v) = (kind ≡ 23) × (text ≡ spelling v)
+SaysChange kind first second text remh = kind ≡ 24
+SaysChange kind first second text reml = kind ≡ 25
+SaysChange kind first second text (set_low i) = (kind ≡ 26) × (first ≡ i)
+SaysChange kind first second text (trim i n) = (kind ≡ 27) × (first ≡ i) × (second ≡ n)
+SaysChange kind first second text (change_tag t v) =
+    (kind ≡ 28) × (first ≡ pos t) × (text ≡ spelling v)
+SaysChange kind first second text touch = kind ≡ 29
+
+-- the request with its text stands for the call
+abbrev pub Says : Request → List ℕ → PlainCall → Type 0
+Says r text (declare shape) = (r.kind ≡ 0) × (text ≡ shape_spelling shape)
+Says r text begin_top = r.kind ≡ 1
+Says r text (begin_sub parent) = (r.kind ≡ 2) × (r.action ≡ parent)
+Says r text (begin_nested creator) = (r.kind ≡ 3) × (r.action ≡ creator)
+Says r text (commit a) = (r.kind ≡ 4) × (r.action ≡ a)
+Says r text (abort a) = (r.kind ≡ 5) × (r.action ≡ a)
+Says r text (abort_others a) = (r.kind ≡ 6) × (r.action ≡ a)
+Says r text (test_read a o) = (r.kind ≡ 7) × (r.action ≡ a) × (r.object ≡ o)
+Says r text (test_write a o) = (r.kind ≡ 8) × (r.action ≡ a) × (r.object ≡ o)
+Says r text (ask a o query) = (r.action ≡ a) × (r.object ≡ o) × SaysQuery r.kind r.first query
+Says r text (alter a o change) =
+    (r.action ≡ a) × (r.object ≡ o) × SaysChange r.kind r.first r.second text change
+
+-- it is no number of a field or a tag
+abbrev pub IsNoPart : ℤ → Type 0
+IsNoPart n = (int_lt n (pos 0) || int_lt (pos 255) n) ≡ true
+
+-- why the request stands for no call: the text is no content's for a creation, no value's for another
+-- change, no shape's for a declaration; a field's or tag's number is none; there is no such kind. Want
+-- of memory says nothing of it
+abbrev pub IsUnread : Request → List ℕ → EmbedError → Type 0
+IsUnread r text (error.BadText at) =
+    ((r.kind ≡ 19) × IsFault IsContentText text at)
+    ⊎ ((20 ≤ r.kind) × IsFault IsValueText text at)
+IsUnread r text error.BadShape = (r.kind ≡ 0) × (IsShapeText text → ⊥)
+IsUnread r text error.BadNumber = IsNoPart r.first
+IsUnread r text error.BadKind = 30 ≤ r.kind
+IsUnread r text error.OutOfMemory = Unit {0}
+IsUnread r text error.NotThere = ⊥
+IsUnread r text error.Busy = ⊥
+IsUnread r text error.Full = ⊥
+
+-- the call that the request stands for was made, and this came of it
+abbrev pub IsCalled : Request → List ℕ → State → State → Outcome → Type 0
+IsCalled r text old new outcome =
+    (call : PlainCall) × Says r text call × (new ≡ after_call old call)
+    × (outcome ≡ outcome_of (reply_to old.journal call))

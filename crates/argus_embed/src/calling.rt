@@ -1,0 +1,57 @@
+//! How a host calls.
+
+ghost use Rattle.std.specs.Prelude.{◌≡◌, IfErr, IfOk, OnErr, OnOk};
+ghost use Rattle.argus_embed.specs.Requests.{IsCalled, IsUnread};
+ghost use Rattle.argus_embed.specs.State.{after_call, outcome_of};
+ghost use Rattle.argus_entries.specs.Call.{plain_call};
+ghost use Rattle.argus_steps.specs.Step.{reply_to};
+
+use crate::embed_error::EmbedError;
+use crate::embedded::Embedded;
+use crate::kept::Kept;
+use crate::outcome::Outcome;
+use crate::reporting::{newest_by, outcome_of};
+use crate::request::Request;
+use crate::requesting::call_of;
+use argus_entries::Call;
+use argus_memory::OutOfMemory;
+use std::mem::replace;
+
+impl Embedded {
+    /// Makes the call that the request with its text stands for. Its reply is the answer of the
+    /// journal before it; the journal is longer by the call with this reply, whose text is kept.
+    ///
+    /// | Error | When |
+    /// |---|---|
+    /// | `BadText`, `BadShape` | the text is no written form of what the call takes |
+    /// | `BadNumber` | the call takes a field or a tag, and the first number isn't within 0 to 255 |
+    /// | `BadKind` | there is no such kind |
+    /// | `OutOfMemory` | memory is wanting, for what the text says or for the call |
+    ///
+    /// After an error all is as before, and what was kept stays.
+    pub fn call(&mut self, request: &Request, text: &str) -> Result<Outcome, EmbedError>
+        ensures called { IfOk result (λ outcome.
+            IsCalled request.now text.now self.old self.new outcome) }
+        ensures unread { IfErr result (λ e. IsUnread request.now text.now e) }
+        ensures err { OnErr result (self.new ≡ self.old) }
+    {
+        let call = call_of(self.heap, request, text)?;
+        match self.make(call) {
+            Ok(outcome) => Ok(outcome),
+            Err(OutOfMemory) => Err(EmbedError::OutOfMemory),
+        }
+    }
+
+    fn make(&mut self, call: Call) -> Result<Outcome, OutOfMemory>
+        ensures outcome { IfOk result (λ outcome. outcome
+            ≡ outcome_of (reply_to self.old.journal (plain_call call))) }
+        ensures ok { OnOk result (self.new ≡ after_call self.old (plain_call call)) }
+        ensures err { OnErr result (self.new ≡ self.old) }
+    {
+        let reply = self.guardian.call(call)?;
+        let outcome = outcome_of(&reply);
+        self.newest = newest_by(&reply, self.newest);
+        let _before = replace(&mut self.kept, Kept::Reply(reply));
+        Ok(outcome)
+    }
+}

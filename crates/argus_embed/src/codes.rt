@@ -1,0 +1,53 @@
+//! The numbers of signals, refusals and sizes, as a host is told them.
+
+ghost use Rattle.std.specs.Prelude.{◌≡◌};
+ghost use Rattle.argus_embed.specs.Codes.{as_number, flag_code, refusal_code, signal_code};
+
+use argus_contents::Signal;
+use argus_entries::Refusal;
+
+pub(crate) fn flag_code(truth: bool) -> i64
+    ensures { result ≡ flag_code truth }
+{
+    if truth { 1 } else { 0 }
+}
+
+pub(crate) fn signal_code(signal: Signal) -> i64
+    ensures { result ≡ signal_code signal }
+{
+    match signal {
+        Signal::Absent => 1,
+        Signal::Exists => 2,
+        Signal::Bounds => 3,
+        Signal::WrongTag => 4,
+        Signal::NegativeSize => 5,
+        Signal::Limits => 6,
+    }
+}
+
+pub(crate) fn refusal_code(refusal: Refusal) -> i64
+    ensures { result ≡ refusal_code refusal }
+{
+    match refusal {
+        Refusal::NoAction => 1,
+        Refusal::Over => 2,
+        Refusal::Suspended => 3,
+        Refusal::NoObject => 4,
+        Refusal::IllTyped => 5,
+        Refusal::Conflict => 6,
+        Refusal::TooDeep => 7,
+        Refusal::TooMany => 8,
+        Refusal::NoSiblings => 9,
+    }
+}
+
+/// The number as a signed one; the greatest of these for what is past it.
+pub(crate) fn as_number(number: u64) -> i64
+    ensures { result ≡ as_number number }
+{
+    if number < 9_223_372_036_854_775_808 {
+        number as i64
+    } else {
+        i64::MAX
+    }
+}

@@ -1,0 +1,64 @@
+//! `Embedded`: a guardian with what is kept for its host.
+
+ghost use Rattle.std.specs.Prelude.{◌≡◌};
+ghost use Rattle.argus_embed.specs.State.{at_first};
+
+use crate::kept::Kept;
+use argus_actions::ActionId;
+use argus_guardian::Guardian;
+use argus_memory::Heap;
+use std::marker::Model;
+
+/// A guardian as a host holds it. Contracts see its journal, the newest action that was begun, and
+/// the text that is kept, if any.
+///
+/// ```text
+/// let mut bank = Embedded::new(heap);
+/// let begun = bank.call(&begin_top, "")?;                 // Outcome::Action(0)
+/// let stacks = bank.tell(Question::List(Listing::Stacks))?;
+/// let size = bank.reply(&mut room)?;                      // its text, and again if it didn't fit
+/// ```
+#[derive(Drop)]
+pub struct Embedded {
+    pub(crate) heap: Heap,
+    pub(crate) guardian: Guardian,
+    pub(crate) newest: Option<ActionId>,
+    pub(crate) kept: Kept,
+}
+
+impl Model for Embedded {
+    ghost use Rattle.argus_embed.specs.Kept.{kept_text};
+    ghost use Rattle.argus_embed.specs.State.{State, state_coded};
+    ghost use Rattle.argus_journal.specs.Journal.{number_of};
+
+    ghost Value = { State };
+
+    ghost coded = { state_coded };
+
+    ghost view = { λ e. record {
+      journal = e.guardian;
+      newest = number_of e.newest;
+      text = kept_text e.kept;
+    } };
+}
+
+impl Embedded {
+    /// A guardian with no object, no action and no entry. It takes no memory.
+    pub fn new(heap: Heap) -> Embedded
+        ensures { result ≡ at_first }
+    {
+        Embedded {
+            heap,
+            guardian: Guardian::new(heap),
+            newest: None,
+            kept: Kept::Nothing,
+        }
+    }
+
+    /// Another one with no object, no action and no entry, in the same heap. It takes no memory.
+    pub fn beside(&self) -> Embedded
+        ensures { result ≡ at_first }
+    {
+        Embedded::new(self.heap)
+    }
+}

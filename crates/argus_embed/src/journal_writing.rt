@@ -1,0 +1,83 @@
+//! An entry's line, and the listings, as texts.
+
+ghost use Rattle.std.specs.List.{range_with_len};
+ghost use Rattle.std.specs.Option.{option_map};
+ghost use Rattle.std.specs.Prelude.{◌≡◌, IfOk, map};
+ghost use Rattle.argus_embed.specs.Questions.{object_name, object_names};
+ghost use Rattle.argus_entries.specs.EntrySpelling.{entry_spelling};
+ghost use Rattle.argus_journal.specs.Journal.{entry_at};
+ghost use Rattle.argus_journal.specs.Objects.{declared};
+ghost use Rattle.argus_listings.specs.Listing.{listing_of};
+
+use crate::object_writing::append_number;
+use argus_contents::Name;
+use argus_entries::write_entry;
+use argus_guardian::Guardian;
+use argus_listings::{Listing, list};
+use argus_memory::{Heap, OutOfMemory};
+use argus_streams::Watched;
+
+/// The line of the entry with this number; None where the journal hasn't it.
+pub(crate) fn entry_text(
+    heap: Heap,
+    guardian: &Guardian,
+    at: u64,
+) -> Result<Option<Vec<u8, Heap>>, OutOfMemory>
+    ensures { IfOk result (λ told. option_map (λ t. t.items) told
+        ≡ option_map (entry_spelling at)
+        (entry_at guardian.now.opening guardian.now.entries at)) }
+{
+    let Some(entry) = guardian.journal().journal().get(at) else {
+        return Ok(None);
+    };
+    let mut text = String::new(heap);
+    write_entry(at, entry, &mut text)?;
+    Ok(Some(text.into_bytes()))
+}
+
+/// The listing, where objects have their numbers as names.
+pub(crate) fn listing_text(
+    heap: Heap,
+    guardian: &Guardian,
+    listing: Listing,
+) -> Result<Vec<u8, Heap>, OutOfMemory>
+    ensures { IfOk result (λ text. text.items ≡ listing_of listing
+        (object_names (declared guardian.now.opening guardian.now.entries)) guardian.now) }
+{
+    let names = object_names(heap, guardian.objects())?;
+    let mut writer = Watched::new(Vec::new(heap));
+    // A write to a list fails for want of memory alone.
+    match list(heap, guardian, names.as_slice(), listing, &mut writer) {
+        Ok(()) => {}
+        Err(_) => return Err(OutOfMemory),
+    }
+    match writer.into_inner() {
+        Some(text) => Ok(text),
+        None => Err(OutOfMemory),
+    }
+}
+
+/// The names of so many objects.
+fn object_names(heap: Heap, count: u32) -> Result<Vec<Name, Heap>, OutOfMemory>
+    ensures { IfOk result (λ names. names.items ≡ object_names count) }
+{
+    let mut names = Vec::new(heap);
+    for o in 0..count {
+        let name = object_name(heap, o)?;
+        names.push(name)?;
+    }
+    Ok(names)
+}
+
+/// The name of an object: a letter and its number. It has a name's form, so that making it fails for
+/// want of memory alone.
+fn object_name(heap: Heap, o: u32) -> Result<Name, OutOfMemory>
+    ensures { IfOk result (λ name. name ≡ object_name o) }
+{
+    let mut text = String::new(heap);
+    append_number("o", o, &mut text)?;
+    match Name::new(heap, text.as_str()) {
+        Ok(name) => Ok(name),
+        Err(_) => Err(OutOfMemory),
+    }
+}

@@ -1,0 +1,31 @@
+//! A guardian as a host of another language holds it: calls and questions by numbers and texts, and
+//! the reply's text kept until the next one.
+//!
+//! ```text
+//! let mut bank = Embedded::new(heap);
+//! let declare = Request { kind: 0, action: 0, object: 0, first: 0, second: 0 };
+//! let outcome = bank.call(&declare, "atomic_record[balance:int]")?;     // Outcome::Object(0)
+//! ```
+#![tactic(auto)]
+
+mod calling;
+mod checkpointing;
+mod codes;
+mod embed_error;
+mod embedded;
+mod journal_writing;
+mod kept;
+mod object_writing;
+mod outcome;
+mod question;
+mod replying;
+mod reporting;
+mod request;
+mod requesting;
+mod telling;
+
+pub use embed_error::EmbedError;
+pub use embedded::Embedded;
+pub use outcome::Outcome;
+pub use question::Question;
+pub use request::Request;

@@ -1,0 +1,142 @@
+//! What an object holds for good, and who holds it, as texts.
+
+ghost use Rattle.std.specs.Fmt.{decimal};
+ghost use Rattle.std.specs.Option.{option_map};
+ghost use Rattle.std.specs.Prelude.{◌≡◌, ◌++◌, IfOk, OnOk, codes, map, string_bytes};
+ghost use Rattle.argus_contents.specs.Content.{plain_option};
+ghost use Rattle.argus_embed.specs.Questions.{action_line, action_lines, seen_line, seen_lines};
+ghost use Rattle.argus_guardian.specs.Telling.{version_told, where_declared};
+ghost use Rattle.argus_journal.specs.Words.{base_of, readers_of, versions_of};
+ghost use Rattle.argus_listings.specs.Listing.{content_text};
+
+use argus_actions::ActionId;
+use argus_contents::{Content, ObjId};
+use argus_guardian::Guardian;
+use argus_memory::{Heap, OutOfMemory};
+use argus_objects::Version;
+use argus_texts::write_content;
+
+/// What is in the object for good; None where it isn't declared.
+pub(crate) fn base_text(
+    heap: Heap,
+    guardian: &Guardian,
+    o: ObjId,
+) -> Result<Option<Vec<u8, Heap>>, OutOfMemory>
+    ensures { IfOk result (λ told. option_map (λ t. t.items) told
+        ≡ option_map content_text (where_declared guardian.now o.0
+        (base_of guardian.now.opening guardian.now.entries o.0))) }
+{
+    let Some(content) = guardian.base(o) else {
+        return Ok(None);
+    };
+    let mut text = String::new(heap);
+    append_content(content, &mut text)?;
+    Ok(Some(text.into_bytes()))
+}
+
+/// A line for each reader; None where the object isn't declared.
+pub(crate) fn readers_text(
+    heap: Heap,
+    guardian: &Guardian,
+    o: ObjId,
+) -> Result<Option<Vec<u8, Heap>>, OutOfMemory>
+    ensures { IfOk result (λ told. option_map (λ t. t.items) told
+        ≡ option_map action_lines (where_declared guardian.now o.0
+        (readers_of guardian.now.opening guardian.now.entries o.0))) }
+{
+    let Some(readers) = guardian.holders(o) else {
+        return Ok(None);
+    };
+    let mut text = String::new(heap);
+    append_readers(readers, &mut text)?;
+    Ok(Some(text.into_bytes()))
+}
+
+/// A line for each version; None where the object isn't declared.
+pub(crate) fn versions_text(
+    heap: Heap,
+    guardian: &Guardian,
+    o: ObjId,
+) -> Result<Option<Vec<u8, Heap>>, OutOfMemory>
+    ensures { IfOk result (λ told. option_map (λ t. t.items) told
+        ≡ option_map seen_lines (where_declared guardian.now o.0
+        (versions_of guardian.now.opening guardian.now.entries o.0))) }
+{
+    let Some(versions) = guardian.versions(o) else {
+        return Ok(None);
+    };
+    let mut text = String::new(heap);
+    append_versions(versions, &mut text)?;
+    Ok(Some(text.into_bytes()))
+}
+
+fn append_readers(readers: &[ActionId], text: &mut String<Heap>) -> Result<(), OutOfMemory>
+    ensures { OnOk result (string_bytes text.new
+        ≡ string_bytes text.old ++ action_lines (map (λ a. a.0) readers.now)) }
+{
+    for reader in readers {
+        append_reader(*reader, text)?;
+    }
+    Ok(())
+}
+
+fn append_versions(versions: &[Version], text: &mut String<Heap>) -> Result<(), OutOfMemory>
+    ensures { OnOk result (string_bytes text.new
+        ≡ string_bytes text.old ++ seen_lines (map version_told versions.now)) }
+{
+    for version in versions {
+        append_version(version.holder, &version.content, text)?;
+    }
+    Ok(())
+}
+
+fn append_reader(reader: ActionId, text: &mut String<Heap>) -> Result<(), OutOfMemory>
+    ensures { OnOk result (string_bytes text.new ≡ string_bytes text.old ++ action_line reader.0) }
+{
+    append_number("a", reader.0, text)?;
+    text.push_str("\n")?;
+    Ok(())
+}
+
+fn append_version(
+    holder: ActionId,
+    content: &Option<Content>,
+    text: &mut String<Heap>,
+) -> Result<(), OutOfMemory>
+    ensures { OnOk result (string_bytes text.new
+        ≡ string_bytes text.old ++ seen_line (holder.0, plain_option content.now)) }
+{
+    append_number("a", holder.0, text)?;
+    text.push_str(" ")?;
+    append_content(content, text)?;
+    text.push_str("\n")?;
+    Ok(())
+}
+
+fn append_content(content: &Option<Content>, text: &mut String<Heap>) -> Result<(), OutOfMemory>
+    ensures { OnOk result (string_bytes text.new
+        ≡ string_bytes text.old ++ content_text (plain_option content.now)) }
+{
+    match content {
+        Some(content) => write_content(content, text),
+        None => {
+            text.push_str("absent")?;
+            Ok(())
+        }
+    }
+}
+
+/// A word and a number.
+pub(crate) fn append_number(
+    word: &str,
+    number: u32,
+    text: &mut String<Heap>,
+) -> Result<(), OutOfMemory>
+    ensures { OnOk result (string_bytes text.new
+        ≡ string_bytes text.old ++ (word.now ++ decimal number)) }
+{
+    text.push_str(word)?;
+    let mut digits = itoa::Buffer::new();
+    text.push_str(digits.format(number))?;
+    Ok(())
+}

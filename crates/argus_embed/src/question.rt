@@ -1,0 +1,64 @@
+//! `Question`: what a host asks without an entry in the journal.
+
+ghost use Rattle.std.specs.Prelude.{◌≤◌, IfNone, IfSome};
+ghost use Rattle.argus_embed.specs.Questions.{Asks};
+
+use argus_actions::ActionId;
+use argus_contents::ObjId;
+use argus_listings::Listing;
+
+/// What a host asks without an entry in the journal. Nothing changes by it, but for the text that is
+/// kept where it is answered by one.
+///
+/// | Kind | Question | Answer |
+/// |---|---|---|
+/// | 0, 1 | `CanRead`, `CanWrite` | whether the test would be answered yes now |
+/// | 2, 3, 4 | `Objects`, `Actions`, `Entries` | how many were declared, begun, journalled |
+/// | 5 | `Base` | the text of what is in the object for good, or `absent` |
+/// | 6 | `Readers` | who holds it for reading: a line `a1` each, in increasing number |
+/// | 7 | `Versions` | who holds it for writing: a line `a1 {7}` each, ancestors first |
+/// | 8 | `Entry` | the entry's line |
+/// | 9 to 12 | `List`, in the order of `Listing` | the listing; object 3 is named `o3` |
+///
+/// ```text
+/// let question = Question::of(5, 0, 3, 0);                // Some(Question::Base(ObjId(3)))
+/// ```
+#[derive(Clone, Copy)]
+pub enum Question {
+    CanRead(ActionId, ObjId),
+    CanWrite(ActionId, ObjId),
+    Objects,
+    Actions,
+    Entries,
+    Base(ObjId),
+    Readers(ObjId),
+    Versions(ObjId),
+    Entry(u64),
+    List(Listing),
+}
+
+impl Question {
+    /// The question that the numbers stand for; None where there is no such kind.
+    pub fn of(kind: u32, action: u32, object: u32, entry: u64) -> Option<Question>
+        ensures asks { IfSome result (λ question. Asks kind action object entry question) }
+        ensures none { IfNone result (13 ≤ kind) }
+    {
+        let o = ObjId(object);
+        match kind {
+            0 => Some(Question::CanRead(ActionId(action), o)),
+            1 => Some(Question::CanWrite(ActionId(action), o)),
+            2 => Some(Question::Objects),
+            3 => Some(Question::Actions),
+            4 => Some(Question::Entries),
+            5 => Some(Question::Base(o)),
+            6 => Some(Question::Readers(o)),
+            7 => Some(Question::Versions(o)),
+            8 => Some(Question::Entry(entry)),
+            9 => Some(Question::List(Listing::Bases)),
+            10 => Some(Question::List(Listing::Stacks)),
+            11 => Some(Question::List(Listing::Journal)),
+            12 => Some(Question::List(Listing::Audit)),
+            _ => None,
+        }
+    }
+}

@@ -1,0 +1,46 @@
+//! What a reply is told as.
+
+ghost use Rattle.std.specs.Prelude.{◌≡◌};
+ghost use Rattle.argus_contents.specs.Answer.{plain_answer};
+ghost use Rattle.argus_embed.specs.State.{answer_outcome, newest_by, outcome_of};
+ghost use Rattle.argus_entries.specs.Reply.{plain_reply};
+ghost use Rattle.argus_journal.specs.Journal.{number_of};
+
+use crate::outcome::Outcome;
+use argus_actions::ActionId;
+use argus_contents::Answer;
+use argus_entries::Reply;
+
+pub(crate) fn outcome_of(reply: &Reply) -> Outcome
+    ensures { result ≡ outcome_of (plain_reply reply.now) }
+{
+    match reply {
+        Reply::Object(o) => Outcome::Object(o.0),
+        Reply::Begun(a) => Outcome::Action(a.0),
+        Reply::Answered(answer) => answer_outcome(answer),
+        Reply::Refused(refusal) => Outcome::Refused(*refusal),
+    }
+}
+
+fn answer_outcome(answer: &Answer) -> Outcome
+    ensures { result ≡ answer_outcome (plain_answer answer.now) }
+{
+    match answer {
+        Answer::Done => Outcome::Done,
+        Answer::Val(_) => Outcome::Value,
+        Answer::Num(number) => Outcome::Number(*number),
+        Answer::Flag(truth) => Outcome::Flag(*truth),
+        Answer::Body(_) => Outcome::Content,
+        Answer::Signal(signal) => Outcome::Signal(*signal),
+    }
+}
+
+/// The newest action, after this reply.
+pub(crate) fn newest_by(reply: &Reply, newest: Option<ActionId>) -> Option<ActionId>
+    ensures { number_of result ≡ newest_by (plain_reply reply.now) (number_of newest) }
+{
+    match reply {
+        Reply::Begun(a) => Some(*a),
+        Reply::Object(_) | Reply::Answered(_) | Reply::Refused(_) => newest,
+    }
+}
