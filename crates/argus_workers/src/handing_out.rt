@@ -9,9 +9,10 @@ use crate::worker::Worker;
 use argus_actions::ActionId;
 use argus_commands::{Opening, Step};
 use argus_contents::ObjId;
+use argus_entries::Call;
 use argus_memory::Heap;
 use argus_receipts::Receipt;
-use argus_runs::Stopped;
+use argus_runs::{Caller, Stopped};
 use argus_sharing::{Seat, Shared, Sharing};
 use std::alloc::AllocError;
 use std::sync::Wait;
@@ -142,7 +143,7 @@ fn run_one<N: Sharing, R: Wait + Drop, G: Gate>(
         action,
         u32::try_from(k),
     ) {
-        run_arm(
+        let done = run_arm(
             heap,
             &mut worker,
             handed.gate,
@@ -150,7 +151,12 @@ fn run_one<N: Sharing, R: Wait + Drop, G: Gate>(
             body,
             action,
             arm,
-        )?;
+        );
+        if done.is_err() {
+            // Others may wait for its locks. Where memory is wanting for this, too, they go on to.
+            let _ = worker.call(Call::Abort(action));
+            return Err(Stopped);
+        }
     }
     let Worker { receipts, .. } = worker;
     Ok(receipts)

@@ -1,6 +1,7 @@
 //! `run_shared`: a script, run by several workers on a shared guardian.
 
-ghost use Rattle.std.specs.Prelude.{IfErr, IfOk, IfSome, length, map, sum_by, ◌+◌, ◌≡◌, ◌≤◌};
+ghost use Rattle.std.specs.Prelude.{IfErr, IfOk, IfSome, length, map, sum_by, true, ◌+◌, ◌≡◌};
+ghost use Rattle.std.specs.Prelude.{◌≤◌};
 ghost use Rattle.argus_commands.specs.Script.{plain_script};
 ghost use Rattle.argus_receipts.specs.Receipt.{plain_receipt};
 ghost use Rattle.argus_runs.specs.declared.run_fault.RunFault.TheVariants.{Memory};
@@ -34,9 +35,10 @@ use std::thread::Threads;
 /// |---|---|
 /// | `Memory` | memory is wanting, for a worker's start too, or a test of the receipts fails |
 ///
-/// Want of memory for seat 0 is answered at once; in an arm it stops that arm, whose action stays
-/// live with its locks, and the others go on to their end. What each seat did is told by its
-/// `made`. Where the machine gives no thread, workers run one after another.
+/// Want of memory for seat 0 is answered at once; in an arm it stops that arm, whose action is then
+/// aborted if memory is left for that, and the others go on to their end. What each seat did is
+/// told by its `made`. Where no thread can be made for a worker, another worker's thread runs its
+/// arms.
 ///
 /// `RunFault::Write` never comes. There is one seat more than workers, and at least one worker. It
 /// may wait for other threads, for ever where two wait for each other.
@@ -78,10 +80,7 @@ pub fn run_shared<N: Sharing + Send + Sync, R: Threads + Wait + Drop + Send + Sy
     let Some(after) = made_by(seats) else {
         return Err(RunFault::Memory);
     };
-    let Some(wanted) = before.checked_add(receipts.len() as u128) else {
-        return Err(RunFault::Memory);
-    };
-    if after != wanted {
+    if !has_risen(before, after, receipts.len()) {
         return Err(RunFault::Memory);
     }
     match reported(heap, script, receipts) {
@@ -99,6 +98,16 @@ fn made_by<N: Sharing>(seats: &[Seat<N>]) -> Option<u128>
         made = made.checked_add(u128::from(seat.made()))?;
     }
     Some(made)
+}
+
+// Whether so many calls were made between these two counts.
+fn has_risen(before: u128, after: u128, calls: usize) -> bool
+    ensures { result ≡ true → after ≡ before + calls }
+{
+    match before.checked_add(calls as u128) {
+        Some(wanted) => after == wanted,
+        None => false,
+    }
 }
 
 // The receipts with what they show; None where they don't tell a run of the script.

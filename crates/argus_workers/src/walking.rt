@@ -102,7 +102,16 @@ fn walk_step<N: Sharing + Send + Sync, R: Threads + Wait + Drop + Send + Sync, G
             first.receipts.append(&mut more)?;
             Ok(Flow::On)
         }
-        _ => run_steps(team.heap, first, numbers, slice::from_ref(step), within),
+        (Step::Block(Opening::If(_, _), _), None)
+        | (Step::Block(Opening::Arm(_), _), _)
+        | (Step::Declare, _)
+        | (Step::Ask(_, _), _)
+        | (Step::Alter(_, _), _)
+        | (Step::Leave, _)
+        | (Step::AbortLeave, _)
+        | (Step::LeaveAll, _) => {
+            run_steps(team.heap, first, numbers, slice::from_ref(step), within)
+        }
     }
 }
 
