@@ -22,11 +22,17 @@ use std::str::from_utf8;
 
 // The statuses of argus.h that are no outcome's and no error's.
 const DONE: u32 = 0;
+
 const NO_MEMORY: u32 = 10;
+
 const NOT_OPEN: u32 = 11;
+
 const NOT_UTF8: u32 = 12;
+
 const BAD_KIND: u32 = 16;
+
 const TOO_SMALL: u32 = 17;
+
 const NOT_THERE: u32 = 18;
 
 /// Opens a guardian in the slot, in the heap of the one beside it where that is open. What was open
@@ -73,8 +79,13 @@ pub extern "C" fn argus_c_call(
     number: &mut i64,
 ) -> u32
     ensures made { result < 10 → Becomes slot.old.held.store slot.new.held.store
-        (IsMade (record { kind = kind; action = action; object = object; first = first;
-        second = second }) text.now (result, number.new)) }
+        (IsMade (record {
+          kind = kind;
+          action = action;
+          object = object;
+          first = first;
+          second = second;
+        }) text.now (result, number.new)) }
     ensures unmade { 10 ≤ result → slot.new.held.store ≡ slot.old.held.store }
 {
     *number = 0;
@@ -172,7 +183,11 @@ pub extern "C" fn argus_c_reply(
     match told {
         Ok(Some(needed)) => {
             *size = needed;
-            if needed <= room.len() { DONE } else { TOO_SMALL }
+            if needed <= room.len() {
+                DONE
+            } else {
+                TOO_SMALL
+            }
         }
         Ok(None) => NOT_THERE,
         Err(_) => NO_MEMORY,
