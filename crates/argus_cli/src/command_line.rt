@@ -74,6 +74,7 @@ fn listing_named(name: &str) -> Listing {
         "stacks" => Listing::Stacks,
         "journal" => Listing::Journal,
         "audit" => Listing::Audit,
+        // This is "bases": of `list_option` the command takes no fifth name.
         _ => Listing::Bases,
     }
 }
