@@ -48,11 +48,7 @@ use std::thread::Threads;
 /// let asked = Options { workers: 2, patience: 9, listing: Listing::Bases, checkpoint: false };
 /// run(&rt, heap, &mut reader, &mut writer, asked)?;
 /// ```
-pub fn run<
-    T: Threads + Wait + Copy + Drop + Send + Sync,
-    R: Read + Drop,
-    W: Write + Drop,
->(
+pub fn run<T: Threads + Wait + Copy + Drop + Send + Sync, R: Read + Drop, W: Write + Drop>(
     rt: &T,
     heap: Heap,
     reader: &mut Watched<R>,

@@ -95,7 +95,9 @@ fn run_and_settle<N: Sharing + Send + Sync, T: Threads + Wait + Drop + Send + Sy
     ensures { IfOk result (λ left. IsLeftByWorkers (plain_script script.now) left) }
 {
     let Parts {
-        shared, mut seats, ..
+        shared,
+        mut seats,
+        ..
     } = parts;
     let all = seats.as_mut_slice();
     let Ok(report) = run_shared(rt, heap, &shared, all, script, &NoGate, workers, patience) else {
@@ -104,12 +106,13 @@ fn run_and_settle<N: Sharing + Send + Sync, T: Threads + Wait + Drop + Send + Sy
     let Ok(guardian) = shared.settle(seats, report.receipts.as_slice()) else {
         return Err(OutOfMemory);
     };
-    if !is_from_start(&guardian) {
-        return Err(OutOfMemory);
+    if is_from_start(&guardian) {
+        guardian.journal_is_legal();
+        what_is_shown_is_told();
+        Ok(guardian)
+    } else {
+        Err(OutOfMemory)
     }
-    guardian.journal_is_legal();
-    what_is_shown_is_told();
-    Ok(guardian)
 }
 
 // Whether nothing went before the guardian's entries, as with a new one. The lock's contract doesn't
@@ -118,7 +121,11 @@ fn is_from_start(guardian: &Guardian) -> bool
     ensures { result ≡ true → guardian.now.opening ≡ empty }
 {
     let journal = guardian.journal().journal();
-    journal.first_entry() == 0
-        && journal.first_action() == 0
-        && journal.opening(ObjId(0)).is_none()
+    if journal.first_entry() > 0 {
+        return false;
+    }
+    if journal.first_action() > 0 {
+        return false;
+    }
+    journal.opening(ObjId(0)).is_none()
 }

@@ -46,7 +46,7 @@ fn main(rt: HostRuntime) -> Result<()> {
 }
 
 // Carries out each command line among the script's comments.
-fn tell_example<T: Threads + Wait + Files + Print + Copy + Drop + Send + Sync>(
+fn tell_example<T: Threads + Wait + Files + Print + Alloc + Copy + Drop + Send + Sync>(
     rt: &T,
     alloc: Global,
     heap: Heap,
@@ -67,7 +67,7 @@ fn tell_example<T: Threads + Wait + Files + Print + Copy + Drop + Send + Sync>(
 
 // Draws the journal of the script's run, and tells whether this is the picture that is stored. If it
 // is another, that one is told whole.
-fn tell_picture<T: Threads + Wait + Files + Print + Copy + Drop + Send + Sync>(
+fn tell_picture<T: Threads + Wait + Files + Print + Alloc + Copy + Drop + Send + Sync>(
     rt: &T,
     alloc: Global,
     heap: Heap,

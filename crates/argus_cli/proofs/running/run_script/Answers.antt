@@ -14,14 +14,14 @@ returns-clause-alone g c =
     λ one. subst P (is_new c.new-guardian.result c.new-guardian.ensures.opening c.new-guardian.ensures.entries)
     c.in_ok-run_unwritten.ensures.played
 
-pub returns-then-clause-alone : goal.returns-then-clause-alone
-returns-then-clause-alone g c =
+pub returns-then-workers-gt1-clause-alone : goal.returns-then-workers-gt1-clause-alone
+returns-then-workers-gt1-clause-alone g c =
     let script = plain_script c.args.script.now in
     IfOk-weaker c.run_by_workers.result (λ j. IsLeftByWorkers script j)
     (λ j. c.args.workers ≡ 1 → IsPlay new_journal script j) (λ j left one. absurd (omega arith)) c.run_by_workers.ensures
 
-pub returns-then-clause-together : goal.returns-then-clause-together
-returns-then-clause-together g c =
+pub returns-then-workers-gt1-clause-together : goal.returns-then-workers-gt1-clause-together
+returns-then-workers-gt1-clause-together g c =
     let script = plain_script c.args.script.now in
     IfOk-weaker c.run_by_workers.result (λ j. IsLeftByWorkers script j)
     (λ j. 1 < c.args.workers → IsLeftByWorkers script j) (λ j left many. left) c.run_by_workers.ensures
