@@ -47,13 +47,7 @@ fn run_script<
     T: Threads + Wait + Eprint + Copy + Drop + Send + Sync,
     R: Read + Drop,
     W: Write + Drop,
->(
-    rt: &T,
-    alloc: Global,
-    reader: R,
-    writer: W,
-    options: Options,
-) -> ExitCode
+>(rt: &T, alloc: Global, reader: R, writer: W, options: Options) -> ExitCode
     requires { KeepsRanges options }
 {
     let Ok(heap) = Heap::new(alloc) else {

@@ -25,7 +25,12 @@ use std::thread::Threads;
 use trial::{check_listing, check_memory, check_reader, check_writer};
 
 // The files of scripts in data/.
-const TEXTS: [&str; 4] = ["listings.rows", "faults.rows", "limits.rows", "workers.rows"];
+const TEXTS: [&str; 4] = [
+    "listings.rows",
+    "faults.rows",
+    "limits.rows",
+    "workers.rows",
+];
 
 fn main(rt: HostRuntime) -> Result<()> {
     let heaps = Heaps::new(rt.alloc())?;

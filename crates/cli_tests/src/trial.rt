@@ -41,7 +41,10 @@ pub(crate) fn check_listing<T: Threads + Wait + Copy + Drop + Send + Sync>(
             ensure!(fault.status() == 3, "another status");
         }
     }
-    ensure!(row.is_listing(writer.get_ref().as_slice()), "another listing");
+    ensure!(
+        row.is_listing(writer.get_ref().as_slice()),
+        "another listing"
+    );
     Ok(())
 }
 
@@ -63,7 +66,10 @@ pub(crate) fn check_reader<T: Threads + Wait + Copy + Drop + Send + Sync>(
         let mut writer = Watched::new(Vec::new(heap));
         let result = run(rt, heap, &mut reader, &mut writer, asked);
         if !reader.has_failed() {
-            ensure!(row.is_listing(writer.get_ref().as_slice()), "another listing");
+            ensure!(
+                row.is_listing(writer.get_ref().as_slice()),
+                "another listing"
+            );
             return Ok(());
         }
         ensure!(
@@ -106,7 +112,10 @@ pub(crate) fn check_writer<T: Threads + Wait + Copy + Drop + Send + Sync>(
             "a write was tried again"
         );
         ensure!(writer.get_ref().taken.len() == room, "bytes are lacking");
-        ensure!(row.is_front(writer.get_ref().taken.as_slice()), "other bytes");
+        ensure!(
+            row.is_front(writer.get_ref().taken.as_slice()),
+            "other bytes"
+        );
     }
     Ok(())
 }
@@ -132,7 +141,10 @@ pub(crate) fn check_memory<T: Threads + Wait + Copy + Drop + Send + Sync>(
             ensure!(row.is_front(writer.get_ref().as_slice()), "other bytes");
         } else {
             ensure!(result.is_ok() == row.fault.is_empty(), "another answer");
-            ensure!(row.is_listing(writer.get_ref().as_slice()), "another listing");
+            ensure!(
+                row.is_listing(writer.get_ref().as_slice()),
+                "another listing"
+            );
         }
         if !is_spent {
             return Ok(n);
