@@ -5,9 +5,11 @@
 //! | 0 | done | nothing |
 //! | 2 | a mistake in the command line | its text |
 //! | 3 | the script is refused | `line N: KIND` |
-//! | 4 | want of memory | `out of memory` |
+//! | 4 | want of memory, or a worker couldn't be started | `out of memory` |
 //! | 5 | a read or a write failed | `read fault` or `write fault` |
 #![tactic(auto)]
+
+ghost use Rattle.argus_cli.specs.Ranges.{KeepsRanges};
 
 use argus_cli::{CliFault, NoOptions, Options, options, run};
 use argus_memory::Heap;
@@ -16,6 +18,8 @@ use std::alloc::Global;
 use std::io::{Read, Write};
 use std::process::ExitCode;
 use std::rt::Env;
+use std::sync::Wait;
+use std::thread::Threads;
 use std::{env, io};
 
 fn main(rt: HostRuntime) -> ExitCode {
@@ -39,17 +43,18 @@ fn words_given(rt: &(impl Env + AllocGlobal)) -> io::Result<Vec<String>> {
 }
 
 // Runs the script that the reader has, and lists to the writer.
-fn run_script<R: Read + Drop, W: Write + Drop>(
-    rt: &impl Eprint,
-    alloc: Global,
-    reader: R,
-    writer: W,
-    options: Options,
-) -> ExitCode {
+fn run_script<
+    T: Threads + Wait + Eprint + Copy + Drop + Send + Sync,
+    R: Read + Drop,
+    W: Write + Drop,
+>(rt: &T, alloc: Global, reader: R, writer: W, options: Options) -> ExitCode
+    requires { KeepsRanges options }
+{
     let Ok(heap) = Heap::new(alloc) else {
         return end_with_fault(rt, CliFault::Memory);
     };
     match run(
+        rt,
         heap,
         &mut Watched::new(reader),
         &mut Watched::new(writer),

@@ -1,2 +1,4 @@
+pub mod ByWorkers
 pub mod Ran
+pub mod Ranges
 pub mod Status

@@ -1,7 +1,8 @@
 -- What a run reads and writes.
-use Rattle.std.specs.Prelude.{◌≡◌, ℕ, Bool, false, true, ◌&&◌, if◌then◌else◌, List, []}
+use Rattle.std.specs.Prelude.{◌≡◌, ◌<◌, ℕ, Bool, false, true, ◌&&◌, if◌then◌else◌, List, []}
 use Rattle.std.specs.Prelude.{nat_le, take, Option, ◌⊎◌}
 use Rattle.std.specs.Io.KnownBytes.{Appends}
+use Rattle.argus_cli.specs.ByWorkers.{IsLeftByWorkers}
 use Rattle.argus_cli.specs.declared.cli_fault.CliFault.{CliFault}
 use Rattle.argus_cli.specs.declared.cli_fault.CliFault.TheVariants as fault
 use Rattle.argus_cli.specs.declared.run_options.Options.{Options}
@@ -32,20 +33,21 @@ checkpointed false j = j
 checkpointed true j = if may_fold j then after_checkpoint j else j
 
 -- The bytes spell the script without a faulty line, and its run after a new journal, with the
--- option, leaves this one.
-pub record RunsTo (bytes : List ℕ) (checkpoint : Bool) (script : PlainScript) (journal : Said)
+-- options, leaves this one: with one worker the arms of a coenter run one after another.
+pub record RunsTo (bytes : List ℕ) (options : Options) (script : PlainScript) (journal : Said)
     : Type 0 where
   pub spelled : Spells (lines_of bytes) script
   pub fine : NoFault (lines_of bytes)
   pub left : Said
-  pub played : IsPlay new_journal script left
-  pub folded : journal ≡ checkpointed checkpoint left
+  pub alone : options.workers ≡ 1 → IsPlay new_journal script left
+  pub together : 1 < options.workers → IsLeftByWorkers script left
+  pub folded : journal ≡ checkpointed options.checkpoint left
 
 -- The text is the listing of the guardian on which the script was run that the bytes spell.
 pub record Lists (bytes : List ℕ) (options : Options) (text : List ℕ) : Type 0 where
   pub script : PlainScript
   pub journal : Said
-  pub runs : RunsTo bytes options.checkpoint script journal
+  pub runs : RunsTo bytes options script journal
   pub listed : text ≡ listing_of options.listing script.objects.names journal
 
 -- A run that succeeded: what was read up to the limit spells a script, and the listing was written.

@@ -27,6 +27,7 @@ pub enum CliFault {
     /// The script is refused.
     #[error("{0}")]
     Script(ScriptFault),
+    /// Memory is wanting, or a worker couldn't be started.
     #[error("out of memory")]
     Memory,
     /// A read failed.

@@ -1,15 +1,17 @@
 //! The program's parts: a script is read, run on a new guardian, and listed.
 //!
-//! [`run`] goes from the bytes of a script to the listing of the guardian on which it was run;
-//! [`options`] reads the command line of the program that calls it.
+//! [`run`] goes from the bytes of a script to the listing of the guardian on which it was run, by
+//! one worker or by several; [`options`] reads the command line of the program that calls it.
 #![tactic(auto)]
 
 mod cli_fault;
 mod command_line;
+pub mod limits;
 mod listing;
 mod no_options;
 mod run_options;
 mod running;
+mod running_by_workers;
 
 pub use argus_commands::{FaultKind, ScriptFault};
 pub use argus_listings::Listing;

@@ -2,13 +2,20 @@
 
 use argus_listings::Listing;
 
-/// What is asked of a run: which listing, and whether a checkpoint is made before it.
+/// What is asked of a run: how many workers run the arms of coenters, how long an access waits for
+/// its lock, which listing is written, and whether a checkpoint is made before it.
 ///
 /// ```text
-/// Options { listing: Listing::Journal, checkpoint: true }
+/// Options { workers: 2, patience: 100, listing: Listing::Journal, checkpoint: true }
 /// ```
 #[derive(Clone, Copy, Debug, PartialEq, Eq)]
 pub struct Options {
+    /// 1 to `limits::MAX_WORKERS`. One worker runs the arms of a coenter one after another.
+    pub workers: u32,
+    /// With several workers: for how many wake-ups an access waits that would be refused
+    /// `Conflict`; at most `limits::MAX_PATIENCE`. All that wait are woken after each commit and
+    /// abort that was done. One worker waits for nobody.
+    pub patience: u32,
     /// What is listed behind the run.
     pub listing: Listing,
     /// Whether the journal is folded into its opening before the listing.

@@ -1,14 +1,18 @@
 //! `run`: from the bytes of a script to the listing of the guardian on which it was run.
 
-ghost use Rattle.std.specs.Prelude.{◌≡◌, ◌+◌, false, true, IfErr, IfOk, OnOk};
+ghost use Rattle.std.specs.Prelude.{◌≡◌, ◌+◌, ◌<◌, false, true, IfErr, IfOk, OnOk};
 ghost use Rattle.argus_commands.specs.Script.{plain_script};
 ghost use Rattle.argus_commands.specs.declared.limits.TheConstants.{MAX_SCRIPT_BYTES};
-ghost use Rattle.argus_cli.specs.Ran.{Failed, IsRunFault, Ran, RunsTo, checkpointed};
+ghost use Rattle.argus_cli.specs.ByWorkers.{IsLeftByWorkers};
+ghost use Rattle.argus_cli.specs.Ran.{Failed, IsRunFault, Ran, RunsTo, checkpointed, new_journal};
+ghost use Rattle.argus_cli.specs.Ranges.{IsTeam, KeepsRanges};
+ghost use Rattle.argus_runs.specs.Played.{IsPlay};
 ghost use Rattle.argus_streams.specs.Watched.{has_failed, inner_of};
 
 use crate::cli_fault::CliFault;
 use crate::listing::list;
 use crate::run_options::Options;
+use crate::running_by_workers::run_by_workers;
 use argus_commands::limits::MAX_SCRIPT_BYTES;
 use argus_commands::{ParseError, Script, parse};
 use argus_guardian::{CheckpointError, Guardian};
@@ -16,34 +20,42 @@ use argus_memory::{Heap, OutOfMemory};
 use argus_runs::run_unwritten;
 use argus_streams::{InputError, Watched, read_up_to};
 use std::io::{Read, Write};
+use std::sync::Wait;
+use std::thread::Threads;
 
 /// Reads a script, runs it on a new guardian and writes the listing that is asked for.
 ///
-/// A script is read up to 16,777,217 bytes: one more than it may have. Where the options ask for a
-/// checkpoint, one is made behind the run; where there can't be one (an action is live, or the next
-/// entry's number is too great), the journal is listed as it stands.
+/// A script is read up to 16,777,217 bytes: one more than it may have. One worker runs the arms of a
+/// coenter one after another. Several run those of an outermost coenter at once, each on a thread of
+/// its own, and accesses wait for their locks as long as the patience lasts; what they did is then
+/// held against the script and the journal. Where the options ask for a checkpoint, one is made
+/// behind the run; where there can't be one (an action is live, or the next entry's number is too
+/// great), the journal is listed as it stands.
 ///
 /// | Error | When | What was written |
 /// |---|---|---|
 /// | `Script` | this is the first faulty line of what was read | nothing |
-/// | `Memory` | memory is wanting | nothing, or the front of the listing |
+/// | `Memory` | memory is wanting, or a worker can't be started | nothing, or the listing's front |
 /// | `Read` | a read failed; it isn't tried again | nothing |
 /// | `Write` | a write failed, or took nothing; it isn't tried again | the front of the listing |
 ///
-/// Neither reader nor writer may have failed before.
+/// Neither reader nor writer may have failed before, and the options are within their ranges. With
+/// several workers it may wait for other threads: for ever where two arms wait for each other.
 ///
 /// ```text
 /// let mut reader = Watched::new(rt.stdin());
 /// let mut writer = Watched::new(rt.stdout());
-/// let asked = Options { listing: Listing::Bases, checkpoint: false };
-/// run(heap, &mut reader, &mut writer, asked)?;
+/// let asked = Options { workers: 2, patience: 9, listing: Listing::Bases, checkpoint: false };
+/// run(&rt, heap, &mut reader, &mut writer, asked)?;
 /// ```
-pub fn run<R: Read + Drop, W: Write + Drop>(
+pub fn run<T: Threads + Wait + Copy + Drop + Send + Sync, R: Read + Drop, W: Write + Drop>(
+    rt: &T,
     heap: Heap,
     reader: &mut Watched<R>,
     writer: &mut Watched<W>,
     options: Options,
 ) -> Result<(), CliFault>
+    requires options { KeepsRanges options }
     requires reader { has_failed reader.old ≡ false }
     requires writer { has_failed writer.old ≡ false }
     ensures ran { OnOk result (Ran options (MAX_SCRIPT_BYTES + 1)
@@ -60,15 +72,21 @@ pub fn run<R: Read + Drop, W: Write + Drop>(
         Err(InputError::Read) => return Err(CliFault::Read),
         Err(InputError::OutOfMemory) => return Err(CliFault::Memory),
     };
-    match run_bytes(heap, bytes.as_slice(), options.checkpoint) {
+    match run_bytes(rt, heap, bytes.as_slice(), options) {
         Ok((script, guardian)) => list(heap, &guardian, script.names(), options.listing, writer),
         Err(fault) => Err(fault),
     }
 }
 
 // The script that the bytes spell, and the guardian on which it was run.
-fn run_bytes(heap: Heap, bytes: &[u8], checkpoint: bool) -> Result<(Script, Guardian), CliFault>
-    ensures ran { IfOk result (λ r. RunsTo bytes.now checkpoint (plain_script r.0) r.1) }
+fn run_bytes<T: Threads + Wait + Copy + Drop + Send + Sync>(
+    rt: &T,
+    heap: Heap,
+    bytes: &[u8],
+    options: Options,
+) -> Result<(Script, Guardian), CliFault>
+    requires { KeepsRanges options }
+    ensures ran { IfOk result (λ r. RunsTo bytes.now options (plain_script r.0) r.1) }
     ensures fault { IfErr result (IsRunFault bytes.now) }
 {
     let script = match parse(heap, bytes) {
@@ -76,10 +94,31 @@ fn run_bytes(heap: Heap, bytes: &[u8], checkpoint: bool) -> Result<(Script, Guar
         Err(ParseError::Fault(fault)) => return Err(CliFault::Script(fault)),
         Err(ParseError::Memory) => return Err(CliFault::Memory),
     };
-    let mut guardian = Guardian::new(heap);
-    run_unwritten(heap, &mut guardian, &script)?;
-    fold_if(checkpoint, &mut guardian)?;
+    let mut guardian = run_script(rt, heap, &script, options.workers, options.patience)?;
+    fold_if(options.checkpoint, &mut guardian)?;
     Ok((script, guardian))
+}
+
+// A new guardian on which the script was run.
+fn run_script<T: Threads + Wait + Copy + Drop + Send + Sync>(
+    rt: &T,
+    heap: Heap,
+    script: &Script,
+    workers: u32,
+    patience: u32,
+) -> Result<Guardian, OutOfMemory>
+    requires { IsTeam workers }
+    ensures alone { IfOk result (λ guardian. workers ≡ 1
+        → IsPlay new_journal (plain_script script.now) guardian) }
+    ensures together { IfOk result (λ guardian. 1 < workers
+        → IsLeftByWorkers (plain_script script.now) guardian) }
+{
+    if workers > 1 {
+        return run_by_workers(rt, heap, script, workers, patience);
+    }
+    let mut guardian = Guardian::new(heap);
+    run_unwritten(heap, &mut guardian, script)?;
+    Ok(guardian)
 }
 
 // Makes a checkpoint where it is asked for; where there can't be one, the guardian stays as it is.

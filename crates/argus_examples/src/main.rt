@@ -6,6 +6,8 @@
 //! `./picture` draws the run, and the picture is held against the one that is stored.
 #![tactic(auto)]
 
+ghost use Rattle.argus_cli.specs.Ranges.{KeepsRanges};
+
 use anyhow::Result;
 use argus_cli::{Listing, NoOptions, Options, options, run};
 use argus_memory::{Heap, OutOfMemory};
@@ -16,8 +18,10 @@ use std::fs;
 use std::io::Read;
 use std::rt::Files;
 use std::str::from_utf8;
+use std::sync::Wait;
+use std::thread::Threads;
 
-const EXAMPLES: [&str; 8] = [
+const EXAMPLES: [&str; 9] = [
     "account.argus",
     "kinds.argus",
     "refused.argus",
@@ -25,6 +29,7 @@ const EXAMPLES: [&str; 8] = [
     "arms.argus",
     "nested.argus",
     "leave_all.argus",
+    "visitors.argus",
     "checkpoint.argus",
 ];
 
@@ -32,16 +37,18 @@ fn main(rt: HostRuntime) -> Result<()> {
     let heap = Heap::new(rt.alloc())?;
     for name in EXAMPLES {
         let script = fs::read_to_string(&rt, name)?;
-        tell_example(&rt, heap, name, script.as_str())?;
+        tell_example(&rt, rt.alloc(), heap, name, script.as_str())?;
     }
-    tell_command(&rt, heap, "< .", fs::open(&rt, ".")?)?;
-    tell_command(&rt, heap, "--list locks", b"".as_slice())?;
+    tell_command(&rt, rt.alloc(), heap, "< .", fs::open(&rt, ".")?)?;
+    tell_command(&rt, rt.alloc(), heap, "--list locks", b"".as_slice())?;
+    tell_command(&rt, rt.alloc(), heap, "--workers 9", b"".as_slice())?;
     Ok(())
 }
 
 // Carries out each command line among the script's comments.
-fn tell_example(
-    rt: &(impl Files + Print + AllocGlobal),
+fn tell_example<T: Threads + Wait + Files + Print + Alloc + Copy + Drop + Send + Sync>(
+    rt: &T,
+    alloc: Global,
     heap: Heap,
     name: &str,
     script: &str,
@@ -49,9 +56,9 @@ fn tell_example(
     for line in script.lines() {
         if let Some(command) = line.strip_prefix("# ./argus ") {
             if command.ends_with("| ./picture > run.svg") {
-                tell_picture(rt, heap, name, script)?;
+                tell_picture(rt, alloc, heap, name, script)?;
             } else {
-                tell_command(rt, heap, command, script.as_bytes())?;
+                tell_command(rt, alloc, heap, command, script.as_bytes())?;
             }
         }
     }
@@ -60,18 +67,22 @@ fn tell_example(
 
 // Draws the journal of the script's run, and tells whether this is the picture that is stored. If it
 // is another, that one is told whole.
-fn tell_picture(
-    rt: &(impl Files + Print + AllocGlobal),
+fn tell_picture<T: Threads + Wait + Files + Print + Alloc + Copy + Drop + Send + Sync>(
+    rt: &T,
+    alloc: Global,
     heap: Heap,
     name: &str,
     script: &str,
 ) -> Result<()> {
     let asked = Options {
+        workers: 1,
+        patience: 0,
         listing: Listing::Journal,
         checkpoint: false,
     };
     let mut writer = Watched::new(Vec::new(heap));
     run(
+        rt,
         heap,
         &mut Watched::new(script.as_bytes()),
         &mut writer,
@@ -79,7 +90,7 @@ fn tell_picture(
     )?;
     let drawn = picture(heap, writer.get_ref())?;
     let stem = name.strip_suffix(".argus").unwrap_or(name);
-    let path = format!(in rt.alloc(); "{stem}.svg")?;
+    let path = format!(in alloc; "{stem}.svg")?;
     let stored = fs::read_to_string(rt, path.as_str())?;
     if drawn.as_str() == stored.as_str() {
         rt.println(format_args!("{path}: the picture that is stored"))?;
@@ -91,14 +102,15 @@ fn tell_picture(
 }
 
 // Tells a command line, and what comes of it where this is the program's input.
-fn tell_command<R: Read + Drop>(
-    rt: &(impl Print + AllocGlobal),
+fn tell_command<T: Threads + Wait + Print + Copy + Drop + Send + Sync, R: Read + Drop>(
+    rt: &T,
+    alloc: Global,
     heap: Heap,
     command: &str,
     reader: R,
 ) -> Result<()> {
     rt.println(format_args!("./argus {command}"))?;
-    match options(rt.alloc(), words_of(rt.alloc(), command)?) {
+    match options(alloc, words_of(alloc, command)?) {
         Ok(asked) => tell_run(rt, heap, reader, asked),
         Err(NoOptions::Usage { status, text: _ }) => {
             rt.println(format_args!("status {status}"))?;
@@ -121,9 +133,16 @@ fn words_of(alloc: Global, command: &str) -> Result<Vec<String>> {
 }
 
 // Tells the listing of the script that the reader has, and the status.
-fn tell_run<R: Read + Drop>(rt: &impl Print, heap: Heap, reader: R, asked: Options) -> Result<()> {
+fn tell_run<T: Threads + Wait + Print + Copy + Drop + Send + Sync, R: Read + Drop>(
+    rt: &T,
+    heap: Heap,
+    reader: R,
+    asked: Options,
+) -> Result<()>
+    requires { KeepsRanges asked }
+{
     let mut writer = Watched::new(Vec::new(heap));
-    let result = run(heap, &mut Watched::new(reader), &mut writer, asked);
+    let result = run(rt, heap, &mut Watched::new(reader), &mut writer, asked);
     rt.print(from_utf8(writer.get_ref())?)?;
     match result {
         Ok(()) => rt.println("status 0")?,

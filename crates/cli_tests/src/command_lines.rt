@@ -4,6 +4,7 @@ use anyhow::{Result, ensure};
 use argus_cli::{Listing, NoOptions, Options, options};
 use argus_memory::OutOfMemory;
 use std::alloc::Global;
+use std::fmt::Write;
 
 // The words of a row, parted by blanks.
 pub(crate) fn words_of(alloc: Global, row: &str) -> Result<Vec<String>> {
@@ -30,26 +31,41 @@ pub(crate) fn check_command_lines(alloc: Global, text: &str) -> Result<u64> {
 
 fn check_row(alloc: Global, words: &str, wanted: &str) -> Result<()> {
     match options(alloc, words_of(alloc, words)?) {
-        Ok(asked) => ensure!(told(asked) == wanted, "something else is asked for"),
+        Ok(asked) => ensure!(
+            told(alloc, asked)?.as_str() == wanted,
+            "something else is asked for"
+        ),
         Err(NoOptions::Usage { status, text }) => {
-            ensure!(told_status(status) == wanted, "another status");
+            let (wanted_status, line) = wanted.split_once(": ").unwrap_or((wanted, ""));
+            ensure!(told_status(status) == wanted_status, "another status");
             ensure!(!text.is_empty(), "a usage without a text");
+            ensure!(text.as_str().starts_with(line), "another text");
         }
         Err(NoOptions::OutOfMemory) => Err(OutOfMemory)?,
     }
     Ok(())
 }
 
-fn told(asked: Options) -> &'static str {
-    match (asked.listing, asked.checkpoint) {
-        (Listing::Bases, false) => "bases",
-        (Listing::Stacks, false) => "stacks",
-        (Listing::Journal, false) => "journal",
-        (Listing::Audit, false) => "audit",
-        (Listing::Bases, true) => "bases behind a checkpoint",
-        (Listing::Stacks, true) => "stacks behind a checkpoint",
-        (Listing::Journal, true) => "journal behind a checkpoint",
-        (Listing::Audit, true) => "audit behind a checkpoint",
+fn told(alloc: Global, asked: Options) -> Result<String> {
+    let mut out = String::from_str(alloc, told_listing(asked.listing))?;
+    if asked.checkpoint {
+        out.push_str(" behind a checkpoint")?;
+    }
+    if asked.workers != 1 {
+        write!(out, " by {} workers", asked.workers)?;
+    }
+    if asked.patience != 0 {
+        write!(out, " with patience {}", asked.patience)?;
+    }
+    Ok(out)
+}
+
+fn told_listing(listing: Listing) -> &'static str {
+    match listing {
+        Listing::Bases => "bases",
+        Listing::Stacks => "stacks",
+        Listing::Journal => "journal",
+        Listing::Audit => "audit",
     }
 }
 

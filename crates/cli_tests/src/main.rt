@@ -2,11 +2,13 @@
 //! each allocation, each read and each write fails in turn.
 #![tactic(auto)]
 
-ghost use Rattle.std.specs.Prelude.{◌≡◌, false};
+ghost use Rattle.std.specs.Prelude.{◌≡◌, false, IfOk};
+ghost use Rattle.argus_cli.specs.Ranges.{KeepsRanges};
 ghost use Rattle.argus_streams.specs.Watched.{has_failed};
 
 mod command_lines;
 mod failing;
+mod heaps;
 mod row;
 mod trial;
 
@@ -14,22 +16,29 @@ use anyhow::{Result, bail, ensure};
 use argus_cli::{CliFault, Options, options};
 use argus_memory::OutOfMemory;
 use command_lines::{check_command_lines, words_of};
+use heaps::Heaps;
 use row::Row;
 use std::alloc::Global;
 use std::fs;
-use test_rows::Setting;
+use std::sync::Wait;
+use std::thread::Threads;
 use trial::{check_listing, check_memory, check_reader, check_writer};
 
 // The files of scripts in data/.
-const TEXTS: [&str; 3] = ["listings.rows", "faults.rows", "limits.rows"];
+const TEXTS: [&str; 4] = [
+    "listings.rows",
+    "faults.rows",
+    "limits.rows",
+    "workers.rows",
+];
 
 fn main(rt: HostRuntime) -> Result<()> {
-    let setting = Setting::new(rt.alloc())?;
+    let heaps = Heaps::new(rt.alloc())?;
     check_statuses()?;
     let mut refused = 0u64;
     for name in TEXTS {
         let text = fs::read_to_string(&rt, name)?;
-        refused = refused.saturating_add(check_text(&rt, setting, text.as_str())?);
+        refused = refused.saturating_add(check_text(&rt, rt.alloc(), heaps, text.as_str())?);
     }
     ensure!(refused > 100, "too few allocations are refused");
     let text = fs::read_to_string(&rt, "command_lines.rows")?;
@@ -41,13 +50,18 @@ fn main(rt: HostRuntime) -> Result<()> {
 }
 
 // Runs the scripts of a text. Answers how many allocations were refused.
-fn check_text(rt: &(impl Print + AllocGlobal), setting: Setting, text: &str) -> Result<u64> {
+fn check_text<T: Threads + Wait + Print + Copy + Drop + Send + Sync>(
+    rt: &T,
+    alloc: Global,
+    heaps: Heaps,
+    text: &str,
+) -> Result<u64> {
     let mut refused = 0u64;
     for block in text.split("\n\n") {
-        match Row::of_block(setting.texts, block) {
+        match Row::of_block(heaps.texts, block) {
             Ok(Some(row)) => {
                 rt.print(format_args!("{}:", row.name))?;
-                let here = check_row(rt.alloc(), setting, &row)?;
+                let here = check_row(rt, alloc, heaps, &row)?;
                 rt.println(format_args!(" {} lines", row.lines))?;
                 refused = refused.saturating_add(here);
             }
@@ -59,18 +73,29 @@ fn check_text(rt: &(impl Print + AllocGlobal), setting: Setting, text: &str) -> 
 }
 
 // Runs the row's script in all ways. Answers how many allocations were refused in turn.
-fn check_row(alloc: Global, setting: Setting, row: &Row<'_>) -> Result<u64> {
+fn check_row<T: Threads + Wait + Copy + Drop + Send + Sync>(
+    rt: &T,
+    alloc: Global,
+    heaps: Heaps,
+    row: &Row<'_>,
+) -> Result<u64> {
     let asked = asked_by(alloc, row)?;
-    check_listing(alloc, setting.texts, row, asked)?;
+    check_listing(rt, alloc, heaps.texts, row, asked)?;
     if row.is_large {
         return Ok(0);
     }
-    check_reader(setting.texts, row, asked)?;
-    check_writer(setting.texts, row, asked)?;
-    check_memory(setting, row, asked)
+    check_reader(rt, heaps.texts, row, asked)?;
+    check_writer(rt, heaps.texts, row, asked)?;
+    if asked.patience > 0 {
+        // An arm that is refused memory keeps its locks, and who waits for them waits for ever.
+        return Ok(0);
+    }
+    check_memory(rt, heaps, row, asked)
 }
 
-fn asked_by(alloc: Global, row: &Row<'_>) -> Result<Options> {
+fn asked_by(alloc: Global, row: &Row<'_>) -> Result<Options>
+    ensures { IfOk result KeepsRanges }
+{
     match options(alloc, words_of(alloc, row.words)?) {
         Ok(asked) => Ok(asked),
         Err(_) => Err(OutOfMemory)?,

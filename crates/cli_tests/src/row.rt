@@ -4,7 +4,8 @@ use argus_memory::Heap;
 use test_rows::{Block, RowFault, block_of, spell_line};
 
 // A script, the words with which the program is called, and what comes of it: its listing, with the
-// number of its lines, or the fault's text. A large one is run with ample memory alone.
+// number of its lines, or the fault's text. Where the order of workers matters there is another
+// listing, which may come in its place. A large one is run with ample memory alone.
 #[derive(Drop)]
 pub(crate) struct Row<'a> {
     pub(crate) name: &'a str,
@@ -14,6 +15,7 @@ pub(crate) struct Row<'a> {
     pub(crate) script: Vec<u8, Heap>,
     pub(crate) listing: Vec<u8, Heap>,
     pub(crate) lines: u32,
+    other: Vec<u8, Heap>,
 }
 
 impl<'a> Row<'a> {
@@ -44,6 +46,7 @@ impl<'a> Row<'a> {
             script: Vec::new(heap),
             listing: Vec::new(heap),
             lines: 0,
+            other: Vec::new(heap),
         };
         for line in lines.lines() {
             row.add(line)?;
@@ -61,9 +64,22 @@ impl<'a> Row<'a> {
         } else if let Some(text) = line.strip_prefix("= ") {
             spell_line(text, &mut self.listing)?;
             self.lines = self.lines.saturating_add(1);
+        } else if let Some(text) = line.strip_prefix("or ") {
+            spell_line(text, &mut self.other)?;
         } else {
             return Err(RowFault::NotSpelled);
         }
         Ok(())
+    }
+
+    // Whether the row says that this is listed, or may be.
+    pub(crate) fn is_listing(&self, listed: &[u8]) -> bool {
+        listed == self.listing.as_slice()
+            || (!self.other.is_empty() && listed == self.other.as_slice())
+    }
+
+    // Whether the row says that this is the front of what is listed, or may be.
+    pub(crate) fn is_front(&self, listed: &[u8]) -> bool {
+        self.listing.as_slice().starts_with(listed) || self.other.as_slice().starts_with(listed)
     }
 }

@@ -1,30 +1,37 @@
 //! A row's script, run: with ample memory, and with each read, write and allocation failing.
 
 ghost use Rattle.std.specs.Prelude.{◌≡◌, false};
+ghost use Rattle.argus_cli.specs.Ranges.{KeepsRanges};
 ghost use Rattle.argus_streams.specs.Watched.{has_failed};
 
 use crate::failing::Failing;
+use crate::heaps::Heaps;
 use crate::row::Row;
 use anyhow::{Result, ensure};
 use argus_cli::{CliFault, Options, run};
 use argus_memory::Heap;
 use argus_streams::Watched;
 use std::alloc::Global;
-use test_rows::{Full, Setting};
+use std::sync::Wait;
+use std::thread::Threads;
+use test_rows::Full;
 
 // More allocations, and more reads, than any run here makes.
 const MANY: u64 = 5_000;
 
 // What the run answers and writes is what the row says.
-pub(crate) fn check_listing(
+pub(crate) fn check_listing<T: Threads + Wait + Copy + Drop + Send + Sync>(
+    rt: &T,
     alloc: Global,
     heap: Heap,
     row: &Row<'_>,
     asked: Options,
-) -> Result<()> {
+) -> Result<()>
+    requires { KeepsRanges asked }
+{
     let mut reader = Watched::new(row.script.as_slice());
     let mut writer = Watched::new(Vec::new(heap));
-    match run(heap, &mut reader, &mut writer, asked) {
+    match run(rt, heap, &mut reader, &mut writer, asked) {
         Ok(()) => ensure!(row.fault.is_empty(), "a fault is lacking"),
         Err(fault) => {
             ensure!(
@@ -35,14 +42,21 @@ pub(crate) fn check_listing(
         }
     }
     ensure!(
-        writer.get_ref().as_slice() == row.listing.as_slice(),
+        row.is_listing(writer.get_ref().as_slice()),
         "another listing"
     );
     Ok(())
 }
 
 // Each read fails in turn: nothing is written, and none is tried again.
-pub(crate) fn check_reader(heap: Heap, row: &Row<'_>, asked: Options) -> Result<()> {
+pub(crate) fn check_reader<T: Threads + Wait + Copy + Drop + Send + Sync>(
+    rt: &T,
+    heap: Heap,
+    row: &Row<'_>,
+    asked: Options,
+) -> Result<()>
+    requires { KeepsRanges asked }
+{
     for reads in 0..MANY {
         let mut reader = Watched::new(Failing {
             rest: row.script.as_slice(),
@@ -50,10 +64,10 @@ pub(crate) fn check_reader(heap: Heap, row: &Row<'_>, asked: Options) -> Result<
             reads_behind: 0,
         });
         let mut writer = Watched::new(Vec::new(heap));
-        let result = run(heap, &mut reader, &mut writer, asked);
+        let result = run(rt, heap, &mut reader, &mut writer, asked);
         if !reader.has_failed() {
             ensure!(
-                writer.get_ref().as_slice() == row.listing.as_slice(),
+                row.is_listing(writer.get_ref().as_slice()),
                 "another listing"
             );
             return Ok(());
@@ -71,7 +85,14 @@ pub(crate) fn check_reader(heap: Heap, row: &Row<'_>, asked: Options) -> Result<
 
 // The writer is full after each byte in turn: the front of the listing was written, and no write is
 // tried again.
-pub(crate) fn check_writer(heap: Heap, row: &Row<'_>, asked: Options) -> Result<()> {
+pub(crate) fn check_writer<T: Threads + Wait + Copy + Drop + Send + Sync>(
+    rt: &T,
+    heap: Heap,
+    row: &Row<'_>,
+    asked: Options,
+) -> Result<()>
+    requires { KeepsRanges asked }
+{
     for room in 0..row.listing.len() {
         let mut reader = Watched::new(row.script.as_slice());
         let mut writer = Watched::new(Full {
@@ -80,7 +101,7 @@ pub(crate) fn check_writer(heap: Heap, row: &Row<'_>, asked: Options) -> Result<
             fails: room % 2 == 0,
             writes_behind: 0,
         });
-        let result = run(heap, &mut reader, &mut writer, asked);
+        let result = run(rt, heap, &mut reader, &mut writer, asked);
         ensure!(
             result == Err(CliFault::Write),
             "the writer's fault isn't told"
@@ -92,36 +113,40 @@ pub(crate) fn check_writer(heap: Heap, row: &Row<'_>, asked: Options) -> Result<
         );
         ensure!(writer.get_ref().taken.len() == room, "bytes are lacking");
         ensure!(
-            row.listing
-                .as_slice()
-                .starts_with(writer.get_ref().taken.as_slice()),
+            row.is_front(writer.get_ref().taken.as_slice()),
             "other bytes"
         );
     }
     Ok(())
 }
 
-// Each allocation is refused in turn: the front of the listing was written, if anything. Answers
-// how many there are.
-pub(crate) fn check_memory(setting: Setting, row: &Row<'_>, asked: Options) -> Result<u64> {
+// Each allocation is refused in turn, on whichever thread: the front of the listing was written, if
+// anything. Answers how many there are.
+pub(crate) fn check_memory<T: Threads + Wait + Copy + Drop + Send + Sync>(
+    rt: &T,
+    heaps: Heaps,
+    row: &Row<'_>,
+    asked: Options,
+) -> Result<u64>
+    requires { KeepsRanges asked }
+{
     for n in 0..MANY {
         let mut reader = Watched::new(row.script.as_slice());
-        let mut writer = Watched::new(Vec::new(setting.texts));
-        setting.allowing(n).limit();
-        let result = run(setting.heap, &mut reader, &mut writer, asked);
-        setting.lift();
-        ensure!(
-            row.listing
-                .as_slice()
-                .starts_with(writer.get_ref().as_slice()),
-            "other bytes"
-        );
-        if result != Err(CliFault::Memory) {
+        let mut writer = Watched::new(Vec::new(heaps.texts));
+        heaps.allow(n);
+        let result = run(rt, heaps.counted, &mut reader, &mut writer, asked);
+        let is_spent = heaps.lift();
+        if result == Err(CliFault::Memory) {
+            ensure!(is_spent, "memory is wanting though it is there");
+            ensure!(row.is_front(writer.get_ref().as_slice()), "other bytes");
+        } else {
             ensure!(result.is_ok() == row.fault.is_empty(), "another answer");
             ensure!(
-                writer.get_ref().len() == row.listing.len(),
-                "bytes are lacking"
+                row.is_listing(writer.get_ref().as_slice()),
+                "another listing"
             );
+        }
+        if !is_spent {
             return Ok(n);
         }
     }

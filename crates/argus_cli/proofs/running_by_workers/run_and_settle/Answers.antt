@@ -1,0 +1,32 @@
+use Rattle.std.proofs.Common.{All, ap, arith, length, map, sum_by, ◌∙◌, ◌≡◌}
+use Rattle.std.proofs.lemmas.List.{length-map}
+use Rattle.argus_cli.proofs.Settled.{as_many, front_of, none_in_all}
+use Rattle.argus_commands.specs.Script.{plain_script}
+use Rattle.argus_receipts.specs.Receipt.{plain_receipt}
+use Rattle.argus_cli.proofs.running_by_workers.run_and_settle.Goals as goal
+
+pub returns-then-is_from_start : goal.returns-then-is_from_start
+returns-then-is_from_start g c =
+    let script = plain_script c.args.script.now in
+    let report = c.in-Ok.report in
+    let receipts = map plain_receipt report.receipts.items in
+    let left = c.in-Ok-settle.guardian in
+    let fresh = c.is_from_start.ensures c.if-is_from_start.true in
+    let unused : All (λ s. s.made ≡ 0) c.as_mut_slice-all.result.now =
+    rw c.as_mut_slice-all.ensures.value c.requires.unused in
+    let none = none_in_all c.as_mut_slice-all.result.now (λ s. s.made) unused in
+    let seats : length c.run_shared.new.seats ≡ c.args.parts.seats.len = omega (arith, c.as_mut_slice-all.ensures.len) in
+    let calls = ap (λ xs. sum_by (λ s. s.made) xs) (front_of c.run_shared.new.seats _ c.args.parts.seats.len seats) in
+    record {
+      fresh = fresh;
+      legal = c.journal_is_legal.ensures.legal;
+      receipts = receipts;
+      told = c.what_is_shown_is_told.ensures script receipts report.outcomes.items c.in-Ok.ensures.shown;
+      outcomes = report.outcomes.items;
+      shown = c.in-Ok.ensures.shown;
+      stand = rw c.as_slice.ensures.value at c.in-Ok-settle.ensures.stand;
+      apart = rw c.as_slice.ensures.value at c.in-Ok-settle.ensures.apart;
+      count = length-map report.receipts.items plain_receipt
+          ∙ as_many left.opening left.entries g.N.Sharing.start _ _ _ fresh c.requires.start none c.in-Ok.ensures.made
+          (c.in-Ok-settle.ensures.count ∙ calls);
+    }

@@ -1,0 +1,7 @@
+use Rattle.std.proofs.Common.{◌∙◌}
+use Rattle.argus_cli.proofs.Settled.{starts_at_none}
+use Rattle.argus_cli.proofs.running_by_workers.share.Goals as goal
+
+pub run_and_settle-requires-clause-start : goal.run_and_settle-requires-clause-start
+run_and_settle-requires-clause-start g c κs within =
+    c.requires.start ∙ starts_at_none c.args.guardian c.requires.fresh.0 c.requires.fresh.1

@@ -1,0 +1,131 @@
+//! A run by several workers, who share a new guardian.
+
+ghost use Rattle.std.specs.Prelude.{◌+◌, ◌≡◌, ◌≤◌, [], All, IfOk, length, true};
+ghost use Rattle.argus_board.specs.Keeper.{Opens};
+ghost use Rattle.argus_cli.specs.ByWorkers.{IsLeftByWorkers};
+ghost use Rattle.argus_cli.specs.Ranges.{IsTeam};
+ghost use Rattle.argus_commands.specs.Script.{plain_script};
+ghost use Rattle.argus_journal.specs.Opening.{content_in, empty};
+ghost use Rattle.argus_sharing.specs.Following.{bases_told, effects_told};
+ghost use Rattle.argus_sharing.specs.Locked.{next_number};
+
+use argus_board::Keeper;
+use argus_commands::Script;
+use argus_contents::ObjId;
+use argus_guardian::Guardian;
+use argus_memory::{Heap, OutOfMemory};
+use argus_sharing::{Parts, Shared, Sharing};
+use argus_shown::what_is_shown_is_told;
+use argus_workers::{NoGate, run_shared};
+use std::marker::Brand;
+use std::sync::Wait;
+use std::sync::ledger::Blank;
+use std::thread::Threads;
+
+/// Runs the script by so many workers on a new guardian that they share, and settles with all seats
+/// and all receipts. Accesses wait for their locks, for at most `patience` wake-ups.
+///
+/// `OutOfMemory`: memory is wanting, or a worker can't be started. It is answered, too, where what
+/// the workers did isn't a run of the script, or not all that was done to the guardian.
+pub(crate) fn run_by_workers<T: Threads + Wait + Copy + Drop + Send + Sync>(
+    rt: &T,
+    heap: Heap,
+    script: &Script,
+    workers: u32,
+    patience: u32,
+) -> Result<Guardian, OutOfMemory>
+    requires { IsTeam workers }
+    ensures { IfOk result (λ guardian. IsLeftByWorkers (plain_script script.now) guardian) }
+{
+    let blank = Blank::new(u64::from(workers) + 1);
+    share::<Brand, T>(
+        rt,
+        heap,
+        Guardian::new(heap),
+        script,
+        workers,
+        patience,
+        blank,
+        Keeper::new(),
+    )
+}
+
+// Shares the guardian among the workers and who begins their arms. The conditions from the third on
+// say which sharing this is.
+fn share<N: Sharing + Send + Sync, T: Threads + Wait + Copy + Drop + Send + Sync>(
+    rt: &T,
+    heap: Heap,
+    guardian: Guardian,
+    script: &Script,
+    workers: u32,
+    patience: u32,
+    blank: Blank,
+    keeper: Keeper,
+) -> Result<Guardian, OutOfMemory>
+    requires workers { IsTeam workers }
+    requires fresh { (guardian.opening ≡ empty) × (guardian.entries ≡ []) }
+    requires name { blank.name ≡ N.name }
+    requires parts { (blank.parts ≡ N.parts) × (blank.parts ≡ workers + 1) }
+    requires keeper { Opens N.history N.root keeper }
+    requires start { N.start ≡ next_number guardian }
+    requires before { N.before ≡ effects_told guardian }
+    requires opening { N.opening ≡ content_in guardian.opening.objects }
+    requires first { N.first ≡ bases_told guardian }
+    ensures { IfOk result (λ left. IsLeftByWorkers (plain_script script.now) left) }
+{
+    match Shared::<N, T>::new(*rt, heap, guardian, workers + 1, 0, blank, keeper) {
+        Ok(parts) => run_and_settle(rt, heap, parts, script, workers, patience),
+        Err(_) => Err(OutOfMemory),
+    }
+}
+
+// Has the script run by all seats, and settles with all of them and all receipts.
+fn run_and_settle<N: Sharing + Send + Sync, T: Threads + Wait + Drop + Send + Sync>(
+    rt: &T,
+    heap: Heap,
+    parts: Parts<N, T>,
+    script: &Script,
+    workers: u32,
+    patience: u32,
+) -> Result<Guardian, OutOfMemory>
+    requires workers { 1 ≤ workers }
+    requires seats { length parts.seats.items ≡ workers + 1 }
+    requires unused { All (λ seat. seat.made ≡ 0) parts.seats.items }
+    requires start { N.start ≡ 0 }
+    ensures { IfOk result (λ left. IsLeftByWorkers (plain_script script.now) left) }
+{
+    let Parts {
+        shared,
+        mut seats,
+        ..
+    } = parts;
+    let all = seats.as_mut_slice();
+    let Ok(report) = run_shared(rt, heap, &shared, all, script, &NoGate, workers, patience) else {
+        return Err(OutOfMemory);
+    };
+    let Ok(guardian) = shared.settle(seats, report.receipts.as_slice()) else {
+        return Err(OutOfMemory);
+    };
+    if is_from_start(&guardian) {
+        guardian.journal_is_legal();
+        what_is_shown_is_told();
+        Ok(guardian)
+    } else {
+        Err(OutOfMemory)
+    }
+}
+
+// Whether nothing went before the guardian's entries, as with a new one. The lock's contract doesn't
+// say which guardian is given back.
+fn is_from_start(guardian: &Guardian) -> bool
+    ensures { result ≡ true → guardian.now.opening ≡ empty }
+{
+    let journal = guardian.journal().journal();
+    if journal.first_entry() > 0 {
+        return false;
+    }
+    if journal.first_action() > 0 {
+        return false;
+    }
+    journal.opening(ObjId(0)).is_none()
+}
