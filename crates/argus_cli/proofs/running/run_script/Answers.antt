@@ -1,3 +1,4 @@
+-- With one worker the run is played on a new guardian; with several it is what they left.
 use Rattle.std.proofs.Common.{arith, subst, ◌<◌, ◌≡◌}
 use Rattle.std.proofs.lemmas.Result.{IfOk-weaker}
 use Rattle.argus_cli.specs.ByWorkers.{IsLeftByWorkers}

@@ -1,3 +1,4 @@
+-- No object, action or entry went before: the opening is empty.
 use Rattle.std.proofs.Common.{ap, arith, slice_get, sym, ◌∙◌, ◌≡◌}
 use Rattle.argus_cli.proofs.Settled.{is_empty, unopened}
 use Rattle.argus_cli.proofs.running_by_workers.is_from_start.Goals as goal

@@ -1,3 +1,4 @@
+-- A new guardian's seats are one more than the workers, and unused.
 use Rattle.std.proofs.Common.{◌∙◌}
 use Rattle.argus_cli.proofs.Settled.{starts_at_none}
 use Rattle.argus_cli.proofs.running_by_workers.share.Goals as goal
