@@ -13,8 +13,8 @@ use std::sync::Wait;
 type Held<N, R> = (Shared<N, R>, Vec<Seat<N>, Heap>);
 
 /// Settles with these receipts. Before that each settlement of the plan has to be refused: `twice`
-/// shows the first receipt twice, `forged` shows it with another reply, `short` leaves the last seat
-/// out.
+/// shows the first receipt twice, `forged` shows it with another reply, `short` leaves the last
+/// seat out.
 pub(crate) fn settle<N: Sharing, R: Wait + Drop>(
     plan: Plan<'_>,
     shared: Shared<N, R>,
