@@ -43,6 +43,11 @@ impl Setting {
         self.budget.allow(self.allowed);
     }
 
+    /// Whether none is left of those that are counted.
+    pub fn is_spent(self) -> bool {
+        self.budget.left() == Some(0)
+    }
+
     /// From now on none is refused.
     pub fn lift(self) {
         self.budget.lift();

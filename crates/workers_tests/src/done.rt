@@ -1,0 +1,17 @@
+//! `Done`: a run that isn't settled yet.
+
+use argus_memory::Heap;
+use argus_sharing::{Seat, Sharing};
+use argus_workers::{RunFault, RunReport};
+
+/// What a run leaves: its seats, what was reported, and whether no allocation was left.
+///
+/// ```text
+/// let Done { seats, report, is_spent } = run_seats(rt, plan, gate, shared, seats);
+/// ```
+#[derive(Drop)]
+pub(crate) struct Done<N: Sharing> {
+    pub(crate) seats: Vec<Seat<N>, Heap>,
+    pub(crate) report: Result<RunReport, RunFault>,
+    pub(crate) is_spent: bool,
+}

@@ -1,0 +1,23 @@
+//! `Plan`: how a script is run.
+
+use argus_commands::Script;
+use test_rows::Setting;
+
+/// How a script is run.
+///
+/// ```text
+/// let tight = Plan { setting: plan.setting.allowing(3), is_tight: true, ..plan };
+/// let ran = run(rt, tight, &NoGate)?;
+/// ```
+#[derive(Clone, Copy)]
+pub(crate) struct Plan<'a> {
+    pub(crate) setting: Setting,
+    /// Allocations may be refused, so that receipts may be lacking.
+    pub(crate) is_tight: bool,
+    pub(crate) script: &'a Script,
+    pub(crate) workers: u8,
+    pub(crate) lookers: u8,
+    pub(crate) patience: u32,
+    /// Settlements that are refused, a line each.
+    pub(crate) settlements: &'a str,
+}

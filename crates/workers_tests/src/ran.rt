@@ -1,0 +1,20 @@
+//! `Ran`: a run that is settled.
+
+use argus_guardian::Guardian;
+use argus_memory::Heap;
+use argus_workers::{RunFault, RunReport};
+
+/// What came of a run: the guardian once it is settled, what was reported, how many calls each seat
+/// made, and whether no allocation was left.
+///
+/// ```text
+/// let ran = run(rt, plan, &NoGate)?;
+/// assert!(rt; ran.report.is_ok());
+/// ```
+#[derive(Drop)]
+pub(crate) struct Ran {
+    pub(crate) guardian: Guardian,
+    pub(crate) report: Result<RunReport, RunFault>,
+    pub(crate) made: String<Heap>,
+    pub(crate) is_spent: bool,
+}
