@@ -18,7 +18,7 @@ use test_rows::{RowFault, Setting, Subject, tell_word};
 /// ```
 #[derive(Drop)]
 pub(crate) struct TestedGuardian {
-    guardian: Guardian,
+    pub(crate) guardian: Guardian,
     // What it was before the row, where allocations are refused.
     before: String<Heap>,
 }
