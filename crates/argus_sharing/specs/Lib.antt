@@ -1,3 +1,4 @@
 pub mod Locked
 pub mod Following
 pub mod Waking
+pub mod Checkpoint

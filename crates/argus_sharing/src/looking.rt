@@ -1,12 +1,15 @@
 //! What lookers get under the lock.
 
-ghost use Rattle.std.specs.Prelude.{◌++◌, ◌<◌, ◌≡◌, ◌≢◌, ◌↔◌, [], OnErr, OnOk, Some, false, true};
+ghost use Rattle.std.specs.Prelude.{◌++◌, ◌<◌, ◌≡◌, ◌≢◌, ◌↔◌, [], OnErr, OnOk, Some, false};
+ghost use Rattle.std.specs.Prelude.{true, ℕ};
 ghost use mathlib.Core.List.{IsPrefix};
 ghost use Rattle.std.specs.Result.{result_err};
 ghost use Rattle.argus_guardian.specs.Checkpoint.{after_checkpoint, is_quiet};
 ghost use Rattle.argus_guardian.specs.declared.checkpoint_error.CheckpointError.TheVariants.{Busy};
 ghost use Rattle.argus_guardian.specs.declared.checkpoint_error.CheckpointError.TheVariants.{Full};
 ghost use Rattle.argus_journal.specs.Legal.{Legal};
+ghost use Rattle.argus_journal.specs.Objects.{shapes};
+ghost use Rattle.argus_journal.specs.Words.{base_of};
 ghost use Rattle.argus_journal.specs.declared.limits.TheConstants.{MAX_FIRST_ENTRY};
 ghost use Rattle.argus_sharing.specs.Following.{Follows};
 ghost use Rattle.argus_sharing.specs.Locked.{next_number};
@@ -58,14 +61,19 @@ impl<N: Sharing, R: Wait + Drop> Locked<N, R> {
     }
 
     /// Folds the journal's past into its opening, as `Guardian::checkpoint` does: nothing is lost
-    /// from view, since the board stays as it is. `Busy`: an action is live; `Full`: none is, but
-    /// the next entry's number is past the limit; both, and `OutOfMemory`, change nothing.
+    /// from view, since the board stays as it is, and objects, shapes and what is in them for good
+    /// stay. `Busy`: an action is live; `Full`: none is, but the next entry's number is past the
+    /// limit; both, and `OutOfMemory`, change nothing.
     pub fn checkpoint(&mut self) -> Result<(), CheckpointError>
         ensures ok { OnOk result (self.new.journal ≡ after_checkpoint self.old.journal) }
         ensures busy { (result_err result ≡ Some Busy) ↔ (is_quiet self.old.journal ≡ false) }
         ensures full { (result_err result ≡ Some Full) ↔ ((is_quiet self.old.journal ≡ true)
             × (MAX_FIRST_ENTRY < next_number self.old.journal)) }
         ensures err { OnErr result (self.new ≡ self.old) }
+        ensures shapes { shapes self.new.journal.opening self.new.journal.entries
+            ≡ shapes self.old.journal.opening self.old.journal.entries }
+        ensures bases { (o : ℕ) → base_of self.new.journal.opening self.new.journal.entries o
+            ≡ base_of self.old.journal.opening self.old.journal.entries o }
         ensures stays { self.new.board ≡ self.old.board }
         ensures board { Follows N.opening self.new.journal
             (self.new.board.published ++ self.new.board.pending) }

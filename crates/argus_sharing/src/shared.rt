@@ -1,20 +1,17 @@
 //! `Shared`: a guardian that threads share.
 
-ghost use Rattle.std.specs.Prelude.{◌+◌, ◌<◌, ◌≡◌, ◌≢◌, ◌↔◌, [], All, IfErr, IfOk, OnErr, OnOk};
-ghost use Rattle.std.specs.Prelude.{Some, false, length, map, sum_by, true};
+ghost use Rattle.std.specs.Prelude.{◌+◌, ◌<◌, ◌≡◌, ◌≢◌, [], All, IfErr, IfOk, OnErr, OnOk, false, length};
+ghost use Rattle.std.specs.Prelude.{map, sum_by, true};
 ghost use Rattle.std.specs.Result.{result_err};
 ghost use mathlib.Core.List.{IsPrefix};
 ghost use Rattle.argus_board.specs.Keeper.{Opens};
 ghost use Rattle.argus_entries.specs.Call.{plain_call};
 ghost use Rattle.argus_entries.specs.Reply.{plain_reply};
-ghost use Rattle.argus_guardian.specs.Checkpoint.{is_quiet};
-ghost use Rattle.argus_guardian.specs.declared.checkpoint_error.CheckpointError.TheVariants.{Busy};
-ghost use Rattle.argus_guardian.specs.declared.checkpoint_error.CheckpointError.TheVariants.{Full};
 ghost use Rattle.argus_journal.specs.Legal.{Legal};
 ghost use Rattle.argus_journal.specs.Opening.{content_in};
-ghost use Rattle.argus_journal.specs.declared.limits.TheConstants.{MAX_FIRST_ENTRY};
 ghost use Rattle.argus_receipts.specs.Checking.{AreApart, Stands, entries_since};
 ghost use Rattle.argus_receipts.specs.Receipt.{plain_receipt};
+ghost use Rattle.argus_sharing.specs.Checkpoint.{TellsCheckpoint};
 ghost use Rattle.argus_sharing.specs.Following.{Follows, IsFollowed, bases_told, effects_told};
 ghost use Rattle.argus_sharing.specs.Locked.{State, next_number};
 ghost use Rattle.argus_sharing.specs.Waking.{has_ended};
@@ -186,10 +183,8 @@ impl<N: Sharing, R: Wait + Drop> Shared<N, R> {
     ///
     /// It may wait for other threads.
     pub fn checkpoint(&self, rt: &impl Wait) -> Result<(), CheckpointError>
-        ensures { (state : State) × IsFollowed N.opening state
-            × ((result_err result ≡ Some Busy) ↔ (is_quiet state.journal ≡ false))
-            × ((result_err result ≡ Some Full) ↔ ((is_quiet state.journal ≡ true)
-            × (MAX_FIRST_ENTRY < next_number state.journal))) }
+        ensures error { (state : State) × IsFollowed N.opening state
+            × TellsCheckpoint state.journal (result_err result) }
     {
         self.locked.lock(rt).checkpoint()
     }
