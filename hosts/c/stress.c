@@ -1,5 +1,5 @@
-/* Many calls, with a checkpoint now and then: after the last checkpoint no more memory is in use than after the first,
- * but for a little. A checkpoint drops the entries and keeps the journal's list, with its room, for those to come.
+/* Many calls, with a checkpoint now and then: after each checkpoint no more memory is in use than before the first
+ * call, but for a little. A checkpoint gives back all that the journal took.
  *
  * A turn is a topaction with two subactions, of which one aborts: 3 actions and 32 calls. So 10,000,000 calls begin
  * 937,500 of the 1,000,000 actions that a guardian has. */
@@ -17,8 +17,8 @@ enum { RECORDS = 100, CALLS_A_TURN = 32 };
 /* How many calls are made between two checkpoints. */
 static const uint64_t CALLS_A_FOLD = 100000;
 
-/* How many bytes more than after the first checkpoint may be in use after the last: the lists of an object's readers
- * and versions keep the room that they once had. A byte for each call would be far more. */
+/* How many bytes more than before the first call may be in use after a checkpoint: the lists of an object's readers and
+ * versions keep the room that they once had. A byte for each call would be far more. */
 static const size_t SLACK = 65536;
 
 /* Reads and sets so many records. */
@@ -58,23 +58,24 @@ static size_t fold_after(store *it, uint64_t *draws, uint64_t calls, size_t *bef
 int stress(uint64_t calls) {
     store records;
     uint64_t draws = 42;
-    size_t first = 0, last = 0, most = 0;
+    size_t most = 0, most_after = 0;
     store_open(&records, 0);
     for (int at = 0; at < RECORDS; at++) store_declare(&records, 0);
+    size_t start = in_use();
     double begin = clock_seconds();
     for (uint64_t made = 0; made < calls; made += CALLS_A_FOLD) {
-        size_t before;
-        last = fold_after(&records, &draws, CALLS_A_FOLD, &before);
-        if (made == 0) first = last;
+        size_t before, after = fold_after(&records, &draws, CALLS_A_FOLD, &before);
         if (before > most) most = before;
+        if (after > most_after) most_after = after;
     }
     double taken = clock_seconds() - begin, entries = (double)store_entries(&records);
     int64_t sum = 0;
     for (uint32_t object = 0; object < RECORDS; object++) sum += store_base(&records, object);
     fprintf(stderr, "%.0f calls in %.1f s, %.0f a second\n", entries, taken, entries / taken);
-    fprintf(stderr, "bytes in use: %zu at most before a checkpoint, %zu after the first, %zu after the last\n", most,
-            first, last);
-    printf("entries %.0f, sum %" PRId64 ", memory %s\n", entries, sum, last <= first + SLACK ? "stays" : "grows");
+    fprintf(stderr, "bytes in use: %zu before the first call, %zu at most before a checkpoint, %zu at most after one\n",
+            start, most, most_after);
+    int is_given_back = most_after <= start + SLACK;
+    printf("entries %.0f, sum %" PRId64 ", memory %s\n", entries, sum, is_given_back ? "given back" : "held");
     store_close(&records);
-    return last <= first + SLACK ? 0 : 1;
+    return is_given_back ? 0 : 1;
 }

@@ -91,7 +91,7 @@ fn fold_past(parts: &mut Parts) -> Result<(), CheckpointError>
 impl Guardian {
     /// Folds the journal's past into its opening: the objects with their shapes and what is in them
     /// for good, the number of the next action and that of the next entry. All actions so far are
-    /// over and forgotten, the entries are let go, and their list keeps its room. Objects, shapes
+    /// over and forgotten, and the entries are let go with the room of their list. Objects, shapes
     /// and what is in them for good stay. It makes no entry.
     ///
     /// Errors, in this order: `Busy` where an action is live, `Full` where the next entry's number

@@ -128,7 +128,8 @@ impl Journal {
     }
 
     /// Folds the entries into the opening: these are the objects of its fold, with what is in them
-    /// for good, and the number of the next action. It takes no memory, and the room stays.
+    /// for good, and the number of the next action. It takes no memory, and gives back the room of
+    /// the entries.
     ///
     /// The journal has to be legal, and the number of its next entry at most `MAX_FIRST_ENTRY`.
     pub fn fold(&mut self, objects: Vec<(Shape, Option<Content>), Heap>, first_action: u32)
@@ -139,10 +140,11 @@ impl Journal {
             opening_with objects.items first_action (next_entry_number s j) ≡ fold s j }
         ensures opening { opening_of self.new ≡ fold (opening_of self.old) (entries_of self.old) }
         ensures entries { entries_of self.new ≡ [] }
-        ensures room { room_of self.old ≤ room_of self.new }
+        ensures room { room_of self.new ≡ 0 }
     {
         let first_entry = self.len();
         self.entries.clear();
+        self.entries.shrink_to_fit();
         self.objects = objects;
         self.first_action = first_action;
         self.first_entry = first_entry;

@@ -98,8 +98,8 @@ impl LegalJournal {
         self.journal.push(entry);
     }
 
-    /// Folds the entries into the opening, as `Journal::fold` does. It takes no memory, and the
-    /// room stays.
+    /// Folds the entries into the opening, as `Journal::fold` does. It takes no memory, and
+    /// gives back the room of the entries.
     pub fn fold(&mut self, objects: Vec<(Shape, Option<Content>), Heap>, first_action: u32)
         requires numbered { next_entry_number (opening_in self.old) (entries_in self.old)
             ≤ MAX_FIRST_ENTRY }
@@ -107,7 +107,7 @@ impl LegalJournal {
             opening_with objects.items first_action (next_entry_number s j) ≡ fold s j }
         ensures opening { opening_in self.new ≡ fold (opening_in self.old) (entries_in self.old) }
         ensures entries { entries_in self.new ≡ [] }
-        ensures room { room_in self.old ≤ room_in self.new }
+        ensures room { room_in self.new ≡ 0 }
     {
         self.journal.fold(objects, first_action);
     }
