@@ -29,4 +29,18 @@ impl Call<'_> {
             Call::Access(access) => Some(access.action),
         }
     }
+
+    /// What it asks of an object, where it does.
+    pub(crate) fn access(&self) -> Option<Access<'_>> {
+        match self {
+            Call::Access(access) => Some(*access),
+            Call::Declare(_)
+            | Call::BeginTop
+            | Call::BeginSub(_)
+            | Call::BeginNested(_)
+            | Call::Commit(_)
+            | Call::Abort(_)
+            | Call::AbortOthers(_) => None,
+        }
+    }
 }

@@ -83,7 +83,7 @@ impl<'a> Run<'a> {
             (Some(told), Some(change)) => {
                 make_for_good(&told.shape, &mut told.base, declared, change)
             }
-            (_, _) => Ok(()),
+            (None, _) | (_, None) => Ok(()),
         }
     }
 }

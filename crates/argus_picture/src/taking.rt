@@ -195,11 +195,11 @@ impl<'a> Run<'a> {
             Some(number) => self.live_place(number),
             None => None,
         };
-        let holder = match (call, caller) {
-            (Call::Access(access), Some(place)) if why == "Conflict" => {
+        let holder = match (call.access(), caller) {
+            (Some(access), Some(place)) if why == "Conflict" => {
                 self.holder_against(place, access.object, access.writes)
             }
-            _ => None,
+            (Some(_), _) | (None, _) => None,
         };
         self.refused.push(RefusedCall {
             at: self.entries,
@@ -310,7 +310,7 @@ impl<'a> Run<'a> {
             (Some(left), Some(right)) => {
                 left.origin.creator().is_some() && left.origin.creator() == right.origin.creator()
             }
-            _ => false,
+            (None, _) | (_, None) => false,
         }
     }
 
