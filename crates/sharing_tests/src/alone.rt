@@ -2,6 +2,7 @@
 
 use crate::telling::tell_reply;
 use anyhow::bail;
+use argus_actions::ActionId;
 use argus_contents::ObjId;
 use argus_guardian::Guardian;
 use argus_memory::Heap;
@@ -39,7 +40,7 @@ fn make_call(
     out: &mut String<Heap>,
 ) -> Result<(), RowFault> {
     let at = guardian.journal().journal().len();
-    let _reply = guardian.call(call_of(heap, asked)?)?;
+    make_unheard(guardian, heap, asked)?;
     match guardian.journal().journal().get(at) {
         Some(entry) => Ok(tell_reply(entry, out)?),
         None => Ok(tell_word("no entry", out)?),
@@ -48,11 +49,35 @@ fn make_call(
 
 /// Makes the call that the text spells, whatever the reply.
 pub(crate) fn make(guardian: &mut Guardian, heap: Heap, text: &str) -> anyhow::Result<()> {
-    match call_of(heap, text) {
-        Ok(call) => {
-            let _reply = guardian.call(call)?;
-            Ok(())
-        }
+    match make_unheard(guardian, heap, text) {
+        Ok(()) => Ok(()),
         Err(fault) => bail!("{}", fault.as_str()),
     }
+}
+
+/// Declares so many records of a number.
+pub(crate) fn declare(guardian: &mut Guardian, heap: Heap, count: u32) -> anyhow::Result<()> {
+    for _ in 0..count {
+        make(guardian, heap, "declare atomic_record[n:int]")?;
+    }
+    Ok(())
+}
+
+/// The action creates so many records, from object 0 on, with a 0 in each.
+pub(crate) fn create(
+    guardian: &mut Guardian,
+    heap: Heap,
+    a: ActionId,
+    count: u32,
+) -> anyhow::Result<()> {
+    for number in 0..count {
+        let text = format!(in heap; "alter a{} o{number} create {{0}}", a.0)?;
+        make(guardian, heap, text.as_str())?;
+    }
+    Ok(())
+}
+
+fn make_unheard(guardian: &mut Guardian, heap: Heap, text: &str) -> Result<(), RowFault> {
+    guardian.call(call_of(heap, text)?)?;
+    Ok(())
 }

@@ -1,11 +1,12 @@
 //! Eight seats and four lookers, each in a thread of its own, and a settlement with all receipts.
 
-use crate::alone::make;
+use crate::alone::{create, declare, make};
 use crate::caller::{ACCOUNTS, Caller};
 use crate::sharing::share;
 use crate::task::Task;
 use crate::watching::{Watched, count_seen, look_often};
 use anyhow::{bail, ensure};
+use argus_actions::ActionId;
 use argus_board::Looker;
 use argus_contents::ObjId;
 use argus_guardian::Guardian;
@@ -45,16 +46,15 @@ pub(crate) fn work<R: Threads + Wait + Print + Copy + Drop + Send + Sync>(
 // The accounts, with a 0 in each, and the objects in which seats count, which are absent.
 fn with_accounts(heap: Heap) -> anyhow::Result<Guardian> {
     let mut guardian = Guardian::new(heap);
-    for _ in 0..ACCOUNTS + u32::from(SEATS) {
-        make(&mut guardian, heap, "declare atomic_record[n:int]")?;
-    }
-    make(&mut guardian, heap, "begin_top")?;
-    for number in 0..ACCOUNTS {
-        let text = format!(in heap; "alter a0 o{number} create {{0}}")?;
-        make(&mut guardian, heap, text.as_str())?;
-    }
-    make(&mut guardian, heap, "commit a0")?;
+    create_accounts(&mut guardian, heap)?;
     Ok(guardian)
+}
+
+fn create_accounts(guardian: &mut Guardian, heap: Heap) -> anyhow::Result<()> {
+    declare(guardian, heap, ACCOUNTS + u32::from(SEATS))?;
+    make(guardian, heap, "begin_top")?;
+    create(guardian, heap, ActionId(0), ACCOUNTS)?;
+    make(guardian, heap, "commit a0")
 }
 
 /// The work of all seats and lookers, and the settlement.

@@ -1,6 +1,7 @@
 //! Commits of a hundred objects through a shared guardian, with each allocation refused in turn.
 
-use crate::alone::make;
+use crate::alone::{create, declare, make};
+use crate::caller::make_kept;
 use crate::sharing::{budgets, share};
 use crate::task::Task;
 use anyhow::{Result, bail, ensure};
@@ -9,7 +10,7 @@ use argus_contents::{Content, ObjId, Value};
 use argus_entries::Call;
 use argus_guardian::Guardian;
 use argus_memory::Heap;
-use argus_sharing::{Parts, Sharing};
+use argus_sharing::{Parts, Receipt, Seat, Shared, Sharing};
 use std::io::Print;
 use std::sync::Wait;
 use std::thread::Threads;
@@ -38,16 +39,15 @@ pub(crate) fn commit_within_budgets<R: Threads + Wait + Print + Copy + Drop + Se
 // Objects 0 to 99, which action 1, a subaction of action 0, has created with a 0 in each.
 fn with_objects(heap: Heap) -> Result<Guardian> {
     let mut guardian = Guardian::new(heap);
-    for _ in 0..OBJECTS {
-        make(&mut guardian, heap, "declare atomic_record[n:int]")?;
-    }
-    make(&mut guardian, heap, "begin_top")?;
-    make(&mut guardian, heap, "begin_sub a0")?;
-    for number in 0..OBJECTS {
-        let text = format!(in heap; "alter a1 o{number} create {{0}}")?;
-        make(&mut guardian, heap, text.as_str())?;
-    }
+    create_objects(&mut guardian, heap)?;
     Ok(guardian)
+}
+
+fn create_objects(guardian: &mut Guardian, heap: Heap) -> Result<()> {
+    declare(guardian, heap, OBJECTS)?;
+    make(guardian, heap, "begin_top")?;
+    make(guardian, heap, "begin_sub a0")?;
+    create(guardian, heap, ActionId(1), OBJECTS)
 }
 
 // The action commits, within as many allocations as it takes. Until then the journal has this
@@ -101,18 +101,26 @@ pub(crate) fn commit_once<N: Sharing, R: Wait + Drop>(
     let Some(seat) = seats.first_mut() else {
         bail!("no seat");
     };
-    commit.setting.limit();
-    let receipt = shared.call(&rt, seat, Call::Commit(commit.a));
-    commit.setting.lift();
-    let mut receipts = Vec::new(commit.setting.texts);
-    if let Ok(receipt) = receipt {
-        receipts.push(receipt)?;
-        commit.is_made = true;
-    }
+    let receipts = commit_by(&rt, &shared, seat, commit);
     match shared.settle(seats, receipts.as_slice()) {
         Ok(guardian) => Ok(guardian),
         Err(unsettled) => bail!("a commit isn't settled: {}", unsettled.fault),
     }
+}
+
+// The receipt of the commit, or none where it was refused memory.
+fn commit_by<N: Sharing, R: Wait + Drop>(
+    rt: &R,
+    shared: &Shared<N, R>,
+    seat: &mut Seat<N>,
+    commit: &mut OneCommit,
+) -> Vec<Receipt, Heap> {
+    let mut receipts = Vec::new(commit.setting.texts);
+    commit.setting.limit();
+    let made = make_kept(rt, shared, seat, Call::Commit(commit.a), &mut receipts);
+    commit.setting.lift();
+    commit.is_made = made.is_ok();
+    receipts
 }
 
 // Whether the journal has this length, and each of the objects one version, of this holder, or none

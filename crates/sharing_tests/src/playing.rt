@@ -33,31 +33,33 @@ pub(crate) fn play_rows<
     N: Sharing + Send + Sync,
     R: Threads + Wait + Print + Copy + Drop + Send + Sync,
 >(rt: R, parts: Parts<N, R>, play: &mut Play<'_>) -> Result<Guardian> {
-    let Play {
-        setting,
-        is_tight,
-        rows,
-        tally,
-    } = play;
-    let mut session = Session::new(setting.texts, parts);
-    for row in rows.lines() {
-        if row.starts_with('#') {
-            continue;
-        }
+    let mut session = Session::new(play.setting.texts, parts);
+    for row in play.rows.lines() {
         let (asked, _) = row.split_once(" -> ").unwrap_or((row, ""));
         if asked.starts_with("settle") {
-            let (answer, settled) = session.settle(*setting, *is_tight, asked);
-            tally.compare(&rt, row, answer)?;
-            session = match settled {
+            session = match settle(rt, session, play, row, asked)? {
                 Ok(guardian) => return Ok(guardian),
                 Err(session) => session,
             };
-        } else {
-            let answer = answer(rt, *setting, *is_tight, &mut session, asked);
-            tally.compare(&rt, row, answer)?;
+        } else if !row.starts_with('#') {
+            let answer = answer(rt, play.setting, play.is_tight, &mut session, asked);
+            play.tally.compare(&rt, row, answer)?;
         }
     }
     bail!("a guardian isn't settled")
+}
+
+// The guardian, or the session where the row is answered otherwise.
+fn settle<N: Sharing + Send + Sync, R: Threads + Wait + Print + Copy + Drop + Send + Sync>(
+    rt: R,
+    session: Session<N, R>,
+    play: &mut Play<'_>,
+    row: &str,
+    asked: &str,
+) -> Result<Result<Guardian, Session<N, R>>> {
+    let (answer, settled) = session.settle(play.setting, play.is_tight, asked);
+    play.tally.compare(&rt, row, answer)?;
+    Ok(settled)
 }
 
 // After a refusal lookers see what they saw before.

@@ -38,14 +38,17 @@ pub(crate) fn number_of(text: &str) -> Result<usize, RowFault> {
 // `0 o0 o7`
 fn look_of(texts: Heap, text: &str) -> Result<Row, RowFault> {
     let (looker, rest) = first_word(text);
+    let looker = number_of(looker)?;
+    let objects = objects_of(texts, rest)?;
+    Ok(Row::Look { looker, objects })
+}
+
+fn objects_of(texts: Heap, text: &str) -> Result<Vec<ObjId, Heap>, RowFault> {
     let mut objects = Vec::new(texts);
-    for word in rest.split(' ') {
+    for word in text.split(' ') {
         objects.push(object(word)?)?;
     }
-    Ok(Row::Look {
-        looker: number_of(looker)?,
-        objects,
-    })
+    Ok(objects)
 }
 
 // `0 o5`
@@ -71,7 +74,8 @@ fn waiting_call_of(heap: Heap, text: &str) -> Result<(Option<u32>, Call), RowFau
     match text.strip_prefix("wait ") {
         Some(waiting) => {
             let (patience, call) = first_word(waiting);
-            Ok((Some(patience.parse::<u32>()?), call_of(heap, call)?))
+            let patience = patience.parse::<u32>()?;
+            Ok((Some(patience), call_of(heap, call)?))
         }
         None => Ok((None, call_of(heap, text)?)),
     }
@@ -82,21 +86,30 @@ fn waiting_of(setting: Setting, text: &str) -> Result<Row, RowFault> {
     let Some((made, waiting)) = text.split_once(": ") else {
         return Err(RowFault::NotSpelled);
     };
+    let patience = patience_of(waiting)?;
+    let calls = calls_of(setting, made)?;
+    Ok(Row::While { calls, patience })
+}
+
+fn calls_of(setting: Setting, text: &str) -> Result<Vec<Call, Heap>, RowFault> {
     let mut calls = Vec::new(setting.texts);
-    for call in made.split(", ") {
+    for call in text.split(", ") {
         if call != "others end" {
             calls.push(call_of(setting.heap, call)?)?;
         }
     }
-    let Some(waiting) = waiting.strip_prefix("wait ") else {
+    Ok(calls)
+}
+
+// How often the call that waits is woken. It's always the same call.
+fn patience_of(text: &str) -> Result<u32, RowFault> {
+    let Some(waiting) = text.strip_prefix("wait ") else {
         return Err(RowFault::NotSpelled);
     };
-    let (patience, waiting) = first_word(waiting);
-    if waiting != WAITING {
-        return Err(RowFault::NotSpelled);
+    let (patience, call) = first_word(waiting);
+    if call == WAITING {
+        Ok(patience.parse::<u32>()?)
+    } else {
+        Err(RowFault::NotSpelled)
     }
-    Ok(Row::While {
-        calls,
-        patience: patience.parse::<u32>()?,
-    })
 }

@@ -1,14 +1,16 @@
 //! `Session`: a shared guardian that rows are told to.
 
+use crate::caller::{make_kept, make_waiting};
+use crate::reading::number_of;
 use crate::row::Row;
 use crate::sharing::budgets;
-use crate::telling::{tell_checkpoint, tell_fault, tell_look, tell_receipt, tell_shown};
+use crate::telling::{entry_of, tell_checkpoint, tell_fault, tell_last, tell_look, tell_shown};
 use crate::waiting::{Meanwhile, wait_meanwhile};
 use argus_board::Looker;
 use argus_contents::ObjId;
-use argus_entries::{Call, Reply};
+use argus_entries::{Call, Entry, Reply};
 use argus_guardian::Guardian;
-use argus_memory::Heap;
+use argus_memory::{Heap, OutOfMemory};
 use argus_sharing::{Parts, Receipt, Seat, SettleFault, Shared, Sharing, Unsettled};
 use std::sync::Wait;
 use std::thread::Threads;
@@ -67,7 +69,10 @@ impl<N: Sharing + Send + Sync, R: Threads + Wait + Copy + Drop + Send + Sync> Se
             Row::Refresh => tell_shown(self.shared.refresh(&rt), &mut out)?,
             Row::Checkpoint => tell_checkpoint(self.shared.checkpoint(&rt), &mut out)?,
             Row::Made { seat } => self.made(seat, &mut out)?,
-            Row::Forge { receipt, reply } => self.forge(receipt, reply, &mut out)?,
+            Row::Forge { receipt, reply } => {
+                self.forge(receipt, reply)?;
+                tell_word("done", &mut out)?;
+            }
             Row::While { calls, patience } => self.wait(rt, calls, patience, &mut out)?,
         }
         Ok(out)
@@ -90,13 +95,11 @@ impl<N: Sharing + Send + Sync, R: Threads + Wait + Copy + Drop + Send + Sync> Se
         let Some(seat) = seats.get_mut(seat) else {
             return Err(RowFault::NotSpelled);
         };
-        let receipt = match patience {
-            None => shared.call(&rt, seat, call)?,
-            Some(patience) => shared.call_waiting(&rt, seat, call, patience)?,
-        };
-        tell_receipt(&receipt, out)?;
-        receipts.push(receipt)?;
-        Ok(())
+        match patience {
+            None => make_kept(&rt, shared, seat, call, receipts)?,
+            Some(patience) => make_waiting(&rt, shared, seat, call, patience, receipts)?,
+        }
+        tell_last(receipts.as_slice(), out)
     }
 
     fn look(
@@ -131,17 +134,14 @@ impl<N: Sharing + Send + Sync, R: Threads + Wait + Copy + Drop + Send + Sync> Se
         }
     }
 
-    fn forge(
-        &mut self,
-        receipt: usize,
-        reply: Reply,
-        out: &mut String<Heap>,
-    ) -> Result<(), RowFault> {
-        let Some(receipt) = self.receipts.get_mut(receipt) else {
-            return Err(RowFault::NotSpelled);
-        };
-        receipt.reply = reply;
-        Ok(tell_word("done", out)?)
+    fn forge(&mut self, receipt: usize, reply: Reply) -> Result<(), RowFault> {
+        match self.receipts.get_mut(receipt) {
+            Some(receipt) => {
+                receipt.reply = reply;
+                Ok(())
+            }
+            None => Err(RowFault::NotSpelled),
+        }
     }
 
     // The sharing has two seats.
@@ -161,19 +161,9 @@ impl<N: Sharing + Send + Sync, R: Threads + Wait + Copy + Drop + Send + Sync> Se
         let (Some(second), Some(first)) = (seats.pop(), seats.pop()) else {
             return Err(RowFault::NotSpelled);
         };
-        let meanwhile = wait_meanwhile(&rt, shared, first, second, calls, patience);
-        let Meanwhile {
-            mut made,
-            waited,
-            first,
-            second,
-        } = meanwhile?;
-        seats.push(first)?;
-        seats.push(second)?;
-        tell_receipt(&waited, out)?;
-        receipts.append(&mut made)?;
-        receipts.push(waited)?;
-        Ok(())
+        let meanwhile = wait_meanwhile(&rt, shared, first, second, calls, patience)?;
+        take_back(seats, receipts, meanwhile)?;
+        tell_last(receipts.as_slice(), out)
     }
 
     /// What all lookers see of the first three objects.
@@ -188,18 +178,11 @@ impl<N: Sharing + Send + Sync, R: Threads + Wait + Copy + Drop + Send + Sync> Se
     /// The receipts that the words name: `all`, or numbers.
     fn shown(&self, texts: Heap, words: &str) -> Result<Vec<Receipt, Heap>, RowFault> {
         let mut shown = Vec::new(texts);
+        let receipts = self.receipts.as_slice();
         if words == "all" {
-            for receipt in &self.receipts {
-                shown.push(copied(texts, receipt)?)?;
-            }
-            return Ok(shown);
-        }
-        if words.is_empty() {
-            return Ok(shown);
-        }
-        for word in words.split(' ') {
-            let receipt = self.receipts.get(word.parse::<usize>()?);
-            shown.push(copied(texts, receipt.ok_or(RowFault::NotSpelled)?)?)?;
+            copy_all(receipts, &mut shown)?;
+        } else if !words.is_empty() {
+            copy_named(receipts, words, &mut shown)?;
         }
         Ok(shown)
     }
@@ -217,22 +200,36 @@ impl<N: Sharing + Send + Sync, R: Threads + Wait + Copy + Drop + Send + Sync> Se
         Result<Guardian, Session<N, R>>,
     ) {
         let (word, words) = first_word(asked);
-        let shown = match self.shown(setting.texts, words) {
-            Ok(shown) => shown,
+        let is_short = word == "settle_short";
+        let settled = match self.shown(setting.texts, words) {
+            Ok(shown) => self.settled_at_last(setting, is_tight, is_short, shown.as_slice()),
             Err(fault) => return (Err(fault), Err(self)),
         };
+        match settled {
+            Ok(guardian) => (told(setting.texts, None), Ok(guardian)),
+            Err((session, fault)) => (told(setting.texts, Some(fault)), Err(session)),
+        }
+    }
+
+    // `OutOfMemory`: each settlement was refused memory, however much was allowed.
+    fn settled_at_last(
+        self,
+        setting: Setting,
+        is_tight: bool,
+        is_short: bool,
+        shown: &[Receipt],
+    ) -> Settled<N, R> {
         let mut session = self;
         for allowed in budgets(is_tight) {
             setting.allowing(allowed).limit();
-            let settled = session.settled(word == "settle_short", shown.as_slice());
+            let settled = session.settled(is_short, shown);
             setting.lift();
             session = match settled {
-                Ok(guardian) => return (told(setting.texts, None), Ok(guardian)),
                 Err((session, SettleFault::OutOfMemory)) => session,
-                Err((session, fault)) => return (told(setting.texts, Some(fault)), Err(session)),
+                Ok(_) | Err(_) => return settled,
             };
         }
-        (Err(RowFault::NeverAnswered), Err(session))
+        Err((session, SettleFault::OutOfMemory))
     }
 
     fn settled(self, is_short: bool, shown: &[Receipt]) -> Settled<N, R> {
@@ -268,12 +265,55 @@ impl<N: Sharing + Send + Sync, R: Threads + Wait + Copy + Drop + Send + Sync> Se
     }
 }
 
-fn copied(texts: Heap, receipt: &Receipt) -> Result<Receipt, RowFault> {
-    Ok(Receipt {
+// The seats and the receipts, that of the call that waited last.
+fn take_back<N: Sharing>(
+    seats: &mut Vec<Seat<N>, Heap>,
+    receipts: &mut Vec<Receipt, Heap>,
+    meanwhile: Meanwhile<N>,
+) -> Result<(), OutOfMemory> {
+    let Meanwhile {
+        mut made,
+        waited,
+        first,
+        second,
+    } = meanwhile;
+    seats.push(first)?;
+    seats.push(second)?;
+    receipts.append(&mut made)?;
+    receipts.push(waited)?;
+    Ok(())
+}
+
+fn copy_all(receipts: &[Receipt], out: &mut Vec<Receipt, Heap>) -> Result<(), RowFault> {
+    for receipt in receipts {
+        copy(receipt, out)?;
+    }
+    Ok(())
+}
+
+// The receipts of these numbers.
+fn copy_named(
+    receipts: &[Receipt],
+    words: &str,
+    out: &mut Vec<Receipt, Heap>,
+) -> Result<(), RowFault> {
+    for word in words.split(' ') {
+        match receipts.get(number_of(word)?) {
+            Some(receipt) => copy(receipt, out)?,
+            None => return Err(RowFault::NotSpelled),
+        }
+    }
+    Ok(())
+}
+
+fn copy(receipt: &Receipt, out: &mut Vec<Receipt, Heap>) -> Result<(), RowFault> {
+    let Entry { call, reply } = entry_of(*out.allocator(), receipt)?;
+    out.push(Receipt {
         at: receipt.at,
-        call: receipt.call.duplicate(texts)?,
-        reply: receipt.reply.duplicate(texts)?,
-    })
+        call,
+        reply,
+    })?;
+    Ok(())
 }
 
 fn told(texts: Heap, fault: Option<SettleFault>) -> Result<String<Heap>, RowFault> {

@@ -19,14 +19,20 @@ pub(crate) fn tell_reply(entry: &Entry, out: &mut String<Heap>) -> Result<(), Ou
     }
 }
 
-/// Adds the reply of the receipt.
-pub(crate) fn tell_receipt(receipt: &Receipt, out: &mut String<Heap>) -> Result<(), OutOfMemory> {
-    let texts = *out.allocator();
-    let entry = Entry {
-        call: receipt.call.duplicate(texts)?,
-        reply: receipt.reply.duplicate(texts)?,
-    };
-    tell_reply(&entry, out)
+/// Adds the reply of the last receipt.
+pub(crate) fn tell_last(receipts: &[Receipt], out: &mut String<Heap>) -> Result<(), RowFault> {
+    match receipts.last() {
+        Some(receipt) => Ok(tell_reply(&entry_of(*out.allocator(), receipt)?, out)?),
+        None => Err(RowFault::NotSpelled),
+    }
+}
+
+/// The call and the reply of the receipt, copied.
+pub(crate) fn entry_of(heap: Heap, receipt: &Receipt) -> Result<Entry, OutOfMemory> {
+    Ok(Entry {
+        call: receipt.call.duplicate(heap)?,
+        reply: receipt.reply.duplicate(heap)?,
+    })
 }
 
 /// Adds what the looker finds in these objects, in copies of this heap.
@@ -72,10 +78,10 @@ pub(crate) fn tell_checkpoint(
     }
 }
 
-/// Adds the fault.
+/// Adds the fault of a settlement, for which any number of allocations was allowed.
 pub(crate) fn tell_fault(fault: SettleFault, out: &mut String<Heap>) -> Result<(), RowFault> {
     match fault {
-        SettleFault::OutOfMemory => Err(RowFault::OutOfMemory),
+        SettleFault::OutOfMemory => Err(RowFault::NeverAnswered),
         SettleFault::NotThere(_)
         | SettleFault::Twice(_)
         | SettleFault::Count { .. }

@@ -1,8 +1,9 @@
 //! A call that waits in one thread, and what another thread does meanwhile.
 
+use crate::caller::{begun_in, make_kept};
 use argus_actions::ActionId;
 use argus_contents::{Change, ObjId, Value};
-use argus_entries::{Call, Reply};
+use argus_entries::Call;
 use argus_memory::{Heap, OutOfMemory};
 use argus_sharing::{Receipt, Seat, Shared, Sharing};
 use std::sync::Wait;
@@ -42,17 +43,12 @@ pub(crate) fn wait_meanwhile<N: Sharing + Send + Sync, R: Threads + Wait + Drop 
 ) -> Result<Meanwhile<N>, OutOfMemory> {
     let word = AtomicU64::new(0);
     let state = &word;
-    let heap = *calls.allocator();
     let ((waited, second), (made, first)) = join(
         rt,
         move || wait_there(rt, shared, second, patience, state),
         || {
             wait_for(rt, state);
-            let made = if calls.is_empty() {
-                stir(rt, heap, shared, &mut first, state)
-            } else {
-                make_all(rt, shared, &mut first, calls)
-            };
+            let made = make_meanwhile(rt, shared, &mut first, calls, state);
             (made, first)
         },
     );
@@ -91,37 +87,62 @@ fn wait_for(rt: &impl Wait, state: &AtomicU64) {
     }
 }
 
+// What the first seat makes, with the receipts.
+fn make_meanwhile<N: Sharing, R: Wait + Drop>(
+    rt: &R,
+    shared: &Shared<N, R>,
+    seat: &mut Seat<N>,
+    calls: Vec<Call, Heap>,
+    state: &AtomicU64,
+) -> Result<Vec<Receipt, Heap>, OutOfMemory> {
+    let mut receipts = Vec::new(*calls.allocator());
+    if calls.is_empty() {
+        stir(rt, shared, seat, state, &mut receipts)?;
+    } else {
+        make_all(rt, shared, seat, calls, &mut receipts)?;
+    }
+    Ok(receipts)
+}
+
 fn make_all<N: Sharing, R: Wait + Drop>(
     rt: &R,
     shared: &Shared<N, R>,
     seat: &mut Seat<N>,
     calls: Vec<Call, Heap>,
-) -> Result<Vec<Receipt, Heap>, OutOfMemory> {
-    let mut receipts = Vec::new(*calls.allocator());
+    receipts: &mut Vec<Receipt, Heap>,
+) -> Result<(), OutOfMemory> {
     for call in calls {
-        receipts.push(shared.call(rt, seat, call)?)?;
+        make_kept(rt, shared, seat, call, receipts)?;
     }
-    Ok(receipts)
+    Ok(())
 }
 
 // Begins topactions and aborts them until the other thread is answered.
 fn stir<N: Sharing, R: Wait + Drop>(
     rt: &R,
-    heap: Heap,
     shared: &Shared<N, R>,
     seat: &mut Seat<N>,
     state: &AtomicU64,
-) -> Result<Vec<Receipt, Heap>, OutOfMemory> {
-    let mut receipts = Vec::new(heap);
+    receipts: &mut Vec<Receipt, Heap>,
+) -> Result<(), OutOfMemory> {
     for _ in rt.forever() {
         if state.load(Ordering::SeqCst) == ANSWERED {
             break;
         }
-        let begun = shared.call(rt, seat, Call::BeginTop)?;
-        if let Reply::Begun(a) = begun.reply {
-            receipts.push(shared.call(rt, seat, Call::Abort(a))?)?;
-        }
-        receipts.push(begun)?;
+        stir_once(rt, shared, seat, receipts)?;
     }
-    Ok(receipts)
+    Ok(())
+}
+
+fn stir_once<N: Sharing, R: Wait + Drop>(
+    rt: &R,
+    shared: &Shared<N, R>,
+    seat: &mut Seat<N>,
+    receipts: &mut Vec<Receipt, Heap>,
+) -> Result<(), OutOfMemory> {
+    make_kept(rt, shared, seat, Call::BeginTop, receipts)?;
+    match receipts.last().and_then(begun_in) {
+        Some(a) => make_kept(rt, shared, seat, Call::Abort(a), receipts),
+        None => Ok(()),
+    }
 }
