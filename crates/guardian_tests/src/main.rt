@@ -17,6 +17,8 @@ mod tested_guardian;
 use anyhow::{Result, ensure};
 use sharing::repeat_tests;
 use std::fs;
+use std::io::Print;
+use std::sync::Wait;
 use test_rows::{Setting, Tester};
 use tested_guardian::TestedGuardian;
 
@@ -37,14 +39,32 @@ fn main(rt: HostRuntime) -> Result<()> {
     let setting = Setting::new(rt.alloc())?;
     let mut tester = Tester::<TestedGuardian>::new(rt.alloc())?;
     let mut repeated = 0u32;
-    for (name, is_repeated) in TEXTS {
-        let text = fs::read_to_string(&rt, name)?;
-        tester.run_text(&rt, text.as_str())?;
-        if is_repeated {
-            repeated = repeated.saturating_add(repeat_tests(rt, setting, text.as_str())?);
-        }
+    for (name, is_repeated) in &TEXTS {
+        let text = fs::read_to_string(&rt, *name)?;
+        let here = run_text(rt, setting, &mut tester, text.as_str(), *is_repeated)?;
+        repeated = repeated.saturating_add(here);
     }
-    tester.tell_counts(&rt)?;
+    tell_end(&rt, &tester, repeated)
+}
+
+// Answers how many tests were made once more.
+fn run_text<R: Print + Wait + Copy + Drop>(
+    rt: R,
+    setting: Setting,
+    tester: &mut Tester<TestedGuardian>,
+    text: &str,
+    is_repeated: bool,
+) -> Result<u32> {
+    tester.run_text(&rt, text)?;
+    if is_repeated {
+        repeat_tests(rt, setting, text)
+    } else {
+        Ok(0)
+    }
+}
+
+fn tell_end(rt: &impl Print, tester: &Tester<TestedGuardian>, repeated: u32) -> Result<()> {
+    tester.tell_counts(rt)?;
     println!(rt; "{repeated} tests once more, by the seat of a shared guardian")?;
     ensure!(tester.is_content(), "not all rows are answered as they say");
     Ok(())

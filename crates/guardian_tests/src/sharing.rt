@@ -8,12 +8,13 @@ ghost use Rattle.argus_sharing.specs.Locked.{next_number};
 
 use crate::picture::picture;
 use crate::tested_guardian::TestedGuardian;
-use anyhow::{Result, anyhow, ensure};
+use anyhow::{Result, anyhow, bail, ensure};
 use argus_board::Keeper;
 use argus_entries::Call;
 use argus_guardian::Guardian;
+use argus_journal::Journal;
 use argus_memory::{Heap, OutOfMemory};
-use argus_sharing::{Parts, Receipt, Seat, Shared, Sharing};
+use argus_sharing::{Parts, Receipt, Shared, Sharing};
 use std::marker::Brand;
 use std::sync::Wait;
 use std::sync::ledger::Blank;
@@ -59,20 +60,14 @@ fn repeat_test<R: Wait + Copy + Drop>(
     lines: &str,
 ) -> Result<()> {
     let mut tested = TestedGuardian::new(setting);
-    let is_told = tell_rows(&mut tested, setting, before).is_ok()
-        && tell_rows(&mut tested, setting, lines).is_ok();
+    let is_told = are_told(&mut tested, setting, before, lines);
     ensure!(is_told, "rows aren't answered");
-    let wanted = picture(&tested.guardian, setting.texts)?;
-    for patience in [None, Some(0)] {
-        let calls = calls_of(&tested.guardian, setting.texts)?;
-        let guardian = call_all(rt, setting.texts, calls, patience)?;
-        let told = picture(&guardian, setting.texts)?;
-        ensure!(
-            told.as_str() == wanted.as_str(),
-            "a shared guardian is another one after the same calls"
-        );
-    }
-    Ok(())
+    repeat_calls(rt, setting.texts, &tested.guardian, None)?;
+    repeat_calls(rt, setting.texts, &tested.guardian, Some(0))
+}
+
+fn are_told(tested: &mut TestedGuardian, setting: Setting, before: &str, lines: &str) -> bool {
+    tell_rows(tested, setting, before).is_ok() && tell_rows(tested, setting, lines).is_ok()
 }
 
 fn tell_rows(tested: &mut TestedGuardian, setting: Setting, rows: &str) -> Result<(), RowFault> {
@@ -86,27 +81,36 @@ fn tell_rows(tested: &mut TestedGuardian, setting: Setting, rows: &str) -> Resul
     Ok(())
 }
 
-// The calls in the guardian's journal.
-fn calls_of(guardian: &Guardian, heap: Heap) -> Result<Vec<Call, Heap>, OutOfMemory> {
-    let journal = guardian.journal().journal();
-    let mut calls = Vec::new(heap);
-    for at in journal.first_entry()..journal.len() {
-        if let Some(entry) = journal.get(at) {
-            calls.push(entry.call.duplicate(heap)?)?;
-        }
-    }
-    Ok(calls)
+// Makes the calls in this guardian's journal once more, of this patience if they may wait.
+fn repeat_calls<R: Wait + Copy + Drop>(
+    rt: R,
+    heap: Heap,
+    wanted: &Guardian,
+    patience: Option<u32>,
+) -> Result<()> {
+    let guardian = call_all(rt, heap, wanted.journal().journal(), patience)?;
+    ensure!(
+        tell_the_same(heap, &guardian, wanted)?,
+        "a shared guardian is another one after the same calls"
+    );
+    Ok(())
 }
 
-// A new guardian after these calls.
+fn tell_the_same(heap: Heap, one: &Guardian, other: &Guardian) -> Result<bool, OutOfMemory> {
+    let told = picture(one, heap)?;
+    let wanted = picture(other, heap)?;
+    Ok(told.as_str() == wanted.as_str())
+}
+
+// A new guardian after the calls in this journal.
 fn call_all<R: Wait + Copy + Drop>(
     rt: R,
     heap: Heap,
-    calls: Vec<Call, Heap>,
+    journal: &Journal,
     patience: Option<u32>,
 ) -> Result<Guardian> {
     let (guardian, blank) = (Guardian::new(heap), Blank::new(1));
-    call_shared::<Brand, R>(rt, heap, guardian, calls, patience, blank, Keeper::new())
+    call_shared::<Brand, R>(rt, heap, guardian, journal, patience, blank, Keeper::new())
 }
 
 // Shares the guardian with one seat, which makes the calls, and settles with all receipts. The
@@ -115,7 +119,7 @@ fn call_shared<N: Sharing, R: Wait + Copy + Drop>(
     rt: R,
     heap: Heap,
     guardian: Guardian,
-    calls: Vec<Call, Heap>,
+    journal: &Journal,
     patience: Option<u32>,
     blank: Blank,
     keeper: Keeper,
@@ -128,34 +132,53 @@ fn call_shared<N: Sharing, R: Wait + Copy + Drop>(
     requires opening { N.opening ≡ content_in guardian.opening.objects }
     requires first { N.first ≡ bases_told guardian }
 {
-    let parts = Shared::<N, R>::new(rt, heap, guardian, 1, 0, blank, keeper);
-    let Parts {
-        shared,
-        mut seats,
-        ..
-    } = parts.map_err(|_| OutOfMemory)?;
-    let seat = seats.pop().ok_or(OutOfMemory)?;
-    let (seat, receipts) = call_by(&rt, heap, &shared, seat, calls, patience)?;
-    seats.push(seat)?;
-    let settled = shared.settle(seats, receipts.as_slice());
-    settled.map_err(|unsettled| anyhow!("{}", unsettled.fault))
+    match Shared::<N, R>::new(rt, heap, guardian, 1, 0, blank, keeper) {
+        Ok(parts) => call_and_settle(&rt, heap, parts, journal, patience),
+        Err(_) => bail!("a guardian isn't shared"),
+    }
+}
+
+fn call_and_settle<N: Sharing, R: Wait + Drop>(
+    rt: &R,
+    heap: Heap,
+    mut parts: Parts<N, R>,
+    journal: &Journal,
+    patience: Option<u32>,
+) -> Result<Guardian> {
+    let receipts = call_by(rt, heap, &mut parts, journal, patience)?;
+    match parts.shared.settle(parts.seats, receipts.as_slice()) {
+        Ok(guardian) => Ok(guardian),
+        Err(unsettled) => Err(anyhow!("{}", unsettled.fault)),
+    }
 }
 
 fn call_by<N: Sharing, R: Wait + Drop>(
     rt: &R,
     heap: Heap,
-    shared: &Shared<N, R>,
-    mut seat: Seat<N>,
-    calls: Vec<Call, Heap>,
+    parts: &mut Parts<N, R>,
+    journal: &Journal,
     patience: Option<u32>,
-) -> Result<(Seat<N>, Vec<Receipt, Heap>), OutOfMemory> {
+) -> Result<Vec<Receipt, Heap>, OutOfMemory> {
     let mut receipts = Vec::new(heap);
-    for call in calls {
-        let receipt = match patience {
-            None => shared.call(rt, &mut seat, call)?,
-            Some(patience) => shared.call_waiting(rt, &mut seat, call, patience)?,
-        };
-        receipts.push(receipt)?;
+    for at in journal.first_entry()..journal.len() {
+        if let Some(entry) = journal.get(at) {
+            receipts.push(call_once(rt, heap, parts, &entry.call, patience)?)?;
+        }
     }
-    Ok((seat, receipts))
+    Ok(receipts)
+}
+
+fn call_once<N: Sharing, R: Wait + Drop>(
+    rt: &R,
+    heap: Heap,
+    parts: &mut Parts<N, R>,
+    call: &Call,
+    patience: Option<u32>,
+) -> Result<Receipt, OutOfMemory> {
+    let call = call.duplicate(heap)?;
+    let seat = parts.seats.last_mut().ok_or(OutOfMemory)?;
+    match patience {
+        None => parts.shared.call(rt, seat, call),
+        Some(patience) => parts.shared.call_waiting(rt, seat, call, patience),
+    }
 }

@@ -5,8 +5,9 @@ use crate::listing::{names_in, tell_listing};
 use crate::picture::picture;
 use crate::reading::row_of;
 use crate::row::Row;
-use argus_entries::{Call, Entry, write_entry};
+use argus_entries::{Call, Entry, Reply, write_entry};
 use argus_guardian::{CheckpointError, Guardian};
+use argus_journal::Journal;
 use argus_memory::{Heap, OutOfMemory};
 use test_rows::{RowFault, Setting, Subject, tell_word};
 
@@ -32,23 +33,35 @@ impl Subject for TestedGuardian {
     }
 
     fn answer(&mut self, setting: Setting, asked: &str) -> Result<String<Heap>, RowFault> {
-        let row = row_of(setting.heap, asked)?;
         if is_first_try(setting) {
             self.before = picture(&self.guardian, setting.texts)?;
         }
         let mut out = String::new(setting.texts);
-        setting.limit();
-        let told = tell_row(&mut self.guardian, setting, row, asked, &mut out);
-        setting.lift();
-        if told.is_err() {
-            self.compare(setting.texts)?;
-            return Err(RowFault::OutOfMemory);
-        }
+        self.tell(setting, asked, &mut out)?;
         Ok(out)
     }
 }
 
 impl TestedGuardian {
+    fn tell(
+        &mut self,
+        setting: Setting,
+        asked: &str,
+        out: &mut String<Heap>,
+    ) -> Result<(), RowFault> {
+        let row = row_of(setting.heap, asked)?;
+        setting.limit();
+        let told = tell_row(&mut self.guardian, setting, row, asked, out);
+        setting.lift();
+        match told {
+            Ok(()) => Ok(()),
+            Err(OutOfMemory) => {
+                self.compare(setting.texts)?;
+                Err(RowFault::OutOfMemory)
+            }
+        }
+    }
+
     // After a refusal all has to be as before the row.
     fn compare(&self, texts: Heap) -> Result<(), RowFault> {
         let now = picture(&self.guardian, texts)?;
@@ -99,9 +112,18 @@ fn tell_call(
 ) -> Result<(), OutOfMemory> {
     let at = guardian.journal().journal().len();
     let reply = guardian.call(call)?;
-    let journal = guardian.journal().journal();
+    tell_added(guardian.journal().journal(), at, &reply, asked, out)
+}
+
+fn tell_added(
+    journal: &Journal,
+    at: u64,
+    reply: &Reply,
+    asked: &str,
+    out: &mut String<Heap>,
+) -> Result<(), OutOfMemory> {
     match journal.get(at) {
-        Some(entry) if entry.reply == reply && journal.len() == at.saturating_add(1) => {
+        Some(entry) if entry.reply == *reply && journal.len() == at.saturating_add(1) => {
             tell_reply(entry, asked, out)
         }
         Some(_) | None => tell_word("another entry", out),
