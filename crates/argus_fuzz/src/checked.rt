@@ -50,13 +50,8 @@ impl Checked {
 
     /// The same with so many allocations; `Nothing` where these aren't enough, and all is as before.
     pub(crate) fn call_within(&mut self, allowed: u64, text: &str) -> Result<Told, Difference> {
-        let call = call_of(self.heap, text)?;
-        let wanted = self.answer(&call)?;
         let before = self.length();
-        self.budget.allow(allowed);
-        let answer = self.guardian.call(call);
-        self.budget.lift();
-        let told = told_as(answer, &wanted);
+        let told = self.told(allowed, text)?;
         let added = if let Told::Nothing = told { 0 } else { 1 };
         must(
             self.length() == before.saturating_add(added),
@@ -67,6 +62,19 @@ impl Checked {
             Told::Another => Err(Difference::Reply),
             told => Ok(told),
         }
+    }
+
+    fn told(&mut self, allowed: u64, text: &str) -> Result<Told, Difference> {
+        let call = call_of(self.heap, text)?;
+        let wanted = self.answer(&call)?;
+        Ok(told_as(self.reply_within(allowed, call), &wanted))
+    }
+
+    fn reply_within(&mut self, allowed: u64, call: Call) -> Result<Reply, OutOfMemory> {
+        self.budget.allow(allowed);
+        let answer = self.guardian.call(call);
+        self.budget.lift();
+        answer
     }
 
     // The number of the next entry.
@@ -85,22 +93,30 @@ impl Checked {
 
     /// Makes a checkpoint where no action is live.
     pub(crate) fn checkpoint(&mut self) -> Result<(), Difference> {
-        let family = self.family()?;
-        let is_quiet = family.count_live(false) == 0;
+        let (is_quiet, next_action) = self.actions()?;
         let next_entry = self.length();
-        let made = self.guardian.checkpoint();
-        match made {
-            Ok(()) => must(is_quiet, Difference::Checkpoint)?,
-            Err(CheckpointError::Busy) => must(!is_quiet, Difference::Checkpoint)?,
-            Err(CheckpointError::Full) => return Err(Difference::Checkpoint),
-            Err(CheckpointError::OutOfMemory) => return Err(Difference::Memory),
-        }
+        self.fold(is_quiet)?;
         let journal = self.guardian.journal().journal();
         let is_folded = journal.first_entry() == next_entry
-            && journal.first_action() == family.next();
+            && journal.first_action() == next_action;
         must(is_folded || !is_quiet, Difference::Checkpoint)?;
         must(self.length() == next_entry, Difference::Entries)?;
         self.compare()
+    }
+
+    // Whether no action is live, and the number of the next one.
+    fn actions(&self) -> Result<(bool, u32), OutOfMemory> {
+        let family = self.family()?;
+        Ok((family.count_live(false) == 0, family.next()))
+    }
+
+    fn fold(&mut self, is_quiet: bool) -> Result<(), Difference> {
+        match self.guardian.checkpoint() {
+            Ok(()) => must(is_quiet, Difference::Checkpoint),
+            Err(CheckpointError::Busy) => must(!is_quiet, Difference::Checkpoint),
+            Err(CheckpointError::Full) => Err(Difference::Checkpoint),
+            Err(CheckpointError::OutOfMemory) => Err(Difference::Memory),
+        }
     }
 
     /// The audits of its journal.

@@ -22,7 +22,7 @@ pub(crate) fn compare_objects(
         Difference::Shape,
     )?;
     for o in 0..objects {
-        compare_object(heap, guardian, family, objects, ObjId(o))?;
+        compare_object(heap, guardian, family, ObjId(o))?;
     }
     Ok(())
 }
@@ -31,63 +31,93 @@ fn compare_object(
     heap: Heap,
     guardian: &Guardian,
     family: &Family,
-    objects: u32,
     o: ObjId,
 ) -> Result<(), Difference> {
-    let journal = guardian.journal().journal();
-    let (Some(told), Some(shape)) = (guardian.shape(o), shape_of(journal, o)) else {
-        return Err(Difference::Shape);
-    };
-    must(*told == *shape, Difference::Shape)?;
-    let (Some(base), Some(readers)) = (guardian.base(o), guardian.holders(o)) else {
+    compare_shape(guardian, o)?;
+    compare_base(heap, guardian, family, o)?;
+    compare_readers(guardian, family, o)?;
+    match guardian.versions(o) {
+        Some(versions) => compare_versions(heap, guardian, family, versions, o),
+        None => Err(Difference::Writers),
+    }
+}
+
+fn compare_shape(guardian: &Guardian, o: ObjId) -> Result<(), Difference> {
+    match (guardian.shape(o), shape_of(guardian.journal().journal(), o)) {
+        (Some(told), Some(shape)) => must(*told == *shape, Difference::Shape),
+        (Some(_), None) | (None, Some(_) | None) => Err(Difference::Shape),
+    }
+}
+
+// Its shape was held against the entries before.
+fn compare_base(
+    heap: Heap,
+    guardian: &Guardian,
+    family: &Family,
+    o: ObjId,
+) -> Result<(), Difference> {
+    let (Some(shape), Some(base)) = (guardian.shape(o), guardian.base(o)) else {
         return Err(Difference::Base);
     };
-    must(is_of_shape(shape, objects, base), Difference::Unfit)?;
     must(
-        is_seen(heap, journal, family, None, o, base)?,
-        Difference::Base,
+        is_of_shape(shape, guardian.objects(), base),
+        Difference::Unfit,
     )?;
-    must(
-        are_readers(journal, family, readers, o),
-        Difference::Readers,
-    )?;
-    match guardian.versions(o) {
-        Some(versions) => compare_versions(heap, journal, family, versions, o),
-        None => Err(Difference::Writers),
+    let journal = guardian.journal().journal();
+    compare_seen(heap, journal, family, None, o, base, Difference::Base)
+}
+
+fn compare_readers(guardian: &Guardian, family: &Family, o: ObjId) -> Result<(), Difference> {
+    let journal = guardian.journal().journal();
+    match guardian.holders(o) {
+        Some(readers) => must(
+            are_readers(journal, family, readers, o),
+            Difference::Readers,
+        ),
+        None => Err(Difference::Readers),
     }
 }
 
 // Each writer has one version, which is what it sees.
 fn compare_versions(
     heap: Heap,
-    journal: &Journal,
+    guardian: &Guardian,
     family: &Family,
     versions: &[Version],
     o: ObjId,
 ) -> Result<(), Difference> {
+    let journal = guardian.journal().journal();
     must(
         are_writers(journal, family, versions, o),
         Difference::Writers,
     )?;
     for version in versions {
-        let holder = Some(version.holder.0);
-        let is_right = is_seen(heap, journal, family, holder, o, &version.content)?;
-        must(is_right, Difference::Version)?;
+        let (holder, content) = (Some(version.holder.0), &version.content);
+        compare_seen(
+            heap,
+            journal,
+            family,
+            holder,
+            o,
+            content,
+            Difference::Version,
+        )?;
     }
     Ok(())
 }
 
-// Whether this is what the reader sees, or what is there for good.
-fn is_seen(
+// This is what the reader sees, or with no reader what is there for good.
+fn compare_seen(
     heap: Heap,
     journal: &Journal,
     family: &Family,
     reader: Option<u32>,
     o: ObjId,
     content: &Option<Content>,
-) -> Result<bool, Difference> {
+    difference: Difference,
+) -> Result<(), Difference> {
     let wanted = seen(heap, journal, family, reader, o)?;
-    Ok(*content == wanted)
+    must(*content == wanted, difference)
 }
 
 // Those that hold the object for reading, in increasing number.
@@ -169,36 +199,58 @@ fn compare_replays(
     family: &Family,
     o: ObjId,
 ) -> Result<(), Difference> {
-    let journal = guardian.journal().journal();
-    let base = replay_base(heap, journal, o)?;
-    must(
-        is_seen(heap, journal, family, None, o, &base)?,
-        Difference::Replay,
-    )?;
-    for a in journal.first_action()..family.next() {
-        let replayed = replay_for(heap, journal, ActionId(a), o)?;
-        must(
-            is_seen(heap, journal, family, Some(a), o, &replayed)?,
-            Difference::Replay,
-        )?;
+    compare_replay(heap, guardian, family, None, o)?;
+    for a in guardian.journal().journal().first_action()..family.next() {
+        compare_replay(heap, guardian, family, Some(a), o)?;
     }
     Ok(())
 }
 
+fn compare_replay(
+    heap: Heap,
+    guardian: &Guardian,
+    family: &Family,
+    reader: Option<u32>,
+    o: ObjId,
+) -> Result<(), Difference> {
+    let journal = guardian.journal().journal();
+    let replayed = match reader {
+        Some(a) => replay_for(heap, journal, ActionId(a), o)?,
+        None => replay_base(heap, journal, o)?,
+    };
+    compare_seen(
+        heap,
+        journal,
+        family,
+        reader,
+        o,
+        &replayed,
+        Difference::Replay,
+    )
+}
+
 /// Both guardians have the same last entry, and the same in their objects for good.
 pub(crate) fn compare_guardians(one: &Guardian, other: &Guardian) -> Result<(), Difference> {
-    let (journal, folded) = (one.journal().journal(), other.journal().journal());
-    must(journal.len() == folded.len(), Difference::Entries)?;
-    let last = journal.len().saturating_sub(1);
-    if let (Some(entry), Some(told)) = (journal.get(last), folded.get(last)) {
-        must(*entry == *told, Difference::Reply)?;
-    }
+    compare_last_entries(one.journal().journal(), other.journal().journal())?;
     must(one.objects() == other.objects(), Difference::Checkpoint)?;
     for o in 0..one.objects() {
-        let (Some(base), Some(told)) = (one.base(ObjId(o)), other.base(ObjId(o))) else {
-            return Err(Difference::Checkpoint);
-        };
-        must(*base == *told, Difference::Checkpoint)?;
+        must(have_same_base(one, other, ObjId(o)), Difference::Checkpoint)?;
     }
     Ok(())
+}
+
+fn compare_last_entries(journal: &Journal, folded: &Journal) -> Result<(), Difference> {
+    must(journal.len() == folded.len(), Difference::Entries)?;
+    let last = journal.len().saturating_sub(1);
+    match (journal.get(last), folded.get(last)) {
+        (Some(entry), Some(told)) => must(*entry == *told, Difference::Reply),
+        (Some(_), None) | (None, Some(_) | None) => Ok(()),
+    }
+}
+
+fn have_same_base(one: &Guardian, other: &Guardian, o: ObjId) -> bool {
+    match (one.base(o), other.base(o)) {
+        (Some(base), Some(told)) => *base == *told,
+        (Some(_), None) | (None, Some(_) | None) => false,
+    }
 }

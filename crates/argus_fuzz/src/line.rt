@@ -61,22 +61,31 @@ pub(crate) fn text_of(heap: Heap, lines: &[Line]) -> Result<String<Heap>, OutOfM
 }
 
 fn say(line: Line, out: &mut String<Heap>) -> Result<(), OutOfMemory> {
-    match line {
-        Line::Declare(o) => write!(out, "declare x{o} atomic_record[n:int]")?,
-        Line::Enter(Kind::Top) => out.push_str("enter topaction")?,
-        Line::Enter(Kind::Sub) => out.push_str("enter action")?,
-        Line::Coenter => out.push_str("coenter")?,
-        Line::Arm(Kind::Top) => out.push_str("topaction")?,
-        Line::Arm(Kind::Sub) => out.push_str("action")?,
-        Line::If(true, o) => write!(out, "if test_write x{o}")?,
-        Line::If(false, o) => write!(out, "if test_read x{o}")?,
-        Line::Access(place) => out.push_str(access(place).0)?,
-        Line::Leave => out.push_str("leave")?,
-        Line::AbortLeave => out.push_str("abort leave")?,
-        Line::LeaveAll => out.push_str("leave all")?,
-        Line::End => out.push_str("end")?,
+    let (words, object, rest) = words_of(line);
+    out.push_str(words)?;
+    if let Some(o) = object {
+        write!(out, " x{o}{rest}")?;
     }
     Ok(())
+}
+
+// The words of the line; with the object that they name, and what stands behind its name.
+fn words_of(line: Line) -> (&'static str, Option<u32>, &'static str) {
+    match line {
+        Line::Declare(o) => ("declare", Some(o), " atomic_record[n:int]"),
+        Line::If(true, o) => ("if test_write", Some(o), ""),
+        Line::If(false, o) => ("if test_read", Some(o), ""),
+        Line::Enter(Kind::Top) => ("enter topaction", None, ""),
+        Line::Enter(Kind::Sub) => ("enter action", None, ""),
+        Line::Coenter => ("coenter", None, ""),
+        Line::Arm(Kind::Top) => ("topaction", None, ""),
+        Line::Arm(Kind::Sub) => ("action", None, ""),
+        Line::Access(place) => (access(place).0, None, ""),
+        Line::Leave => ("leave", None, ""),
+        Line::AbortLeave => ("abort leave", None, ""),
+        Line::LeaveAll => ("leave all", None, ""),
+        Line::End => ("end", None, ""),
+    }
 }
 
 /// The access at this place.

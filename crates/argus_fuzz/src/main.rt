@@ -42,12 +42,20 @@ struct Heaps {
     budget: Budget,
 }
 
+// How many are tried, and from which seed on.
+#[derive(Clone, Copy)]
+struct Numbers {
+    sequences: u64,
+    scripts: u64,
+    seed: u64,
+}
+
 fn main(rt: HostRuntime) -> Result<()> {
-    let mut words = env::args(&rt)?;
-    let _program = words.next();
-    let sequences = number_in(words.next(), SEQUENCES)?;
-    let scripts = number_in(words.next(), SCRIPTS)?;
-    let seed = number_in(words.next(), 1)?;
+    let Numbers {
+        sequences,
+        scripts,
+        seed,
+    } = read_numbers(rt)?;
     let budget = Budget::new(rt.alloc())?;
     let heaps = Heaps {
         heap: Heap::new(rt.alloc())?,
@@ -60,6 +68,16 @@ fn main(rt: HostRuntime) -> Result<()> {
     println!(rt; "scripts: {scripts}, {runs} with a difference")?;
     ensure!(calls == 0 && runs == 0, "there are differences");
     Ok(())
+}
+
+fn read_numbers(rt: HostRuntime) -> Result<Numbers> {
+    let mut words = env::args(&rt)?;
+    let _program = words.next();
+    Ok(Numbers {
+        sequences: number_in(words.next(), SEQUENCES)?,
+        scripts: number_in(words.next(), SCRIPTS)?,
+        seed: number_in(words.next(), 1)?,
+    })
 }
 
 // The number that the word is; `otherwise` where there is none.

@@ -5,8 +5,8 @@ use crate::checked::Checked;
 use crate::difference::{Difference, must};
 use crate::draft::Draft;
 use crate::follower::Follower;
-use crate::line::text_of;
-use argus_commands::parse;
+use crate::line::{Line, text_of};
+use argus_commands::{Script, parse};
 use argus_entries::write_entry;
 use argus_guardian::Guardian;
 use argus_journal::Journal;
@@ -25,21 +25,56 @@ pub(crate) fn run_script(
     seed: u64,
 ) -> Result<(), Difference> {
     let lines = Draft::any(heap, &mut Chance::new(seed))?;
-    let text = text_of(heap, lines.as_slice())?;
-    let script = parse(heap, text.as_bytes())?;
+    let checked = Checked::new(heap, tight, budget);
+    compare_run(heap, lines.as_slice(), checked)
+}
+
+fn compare_run(heap: Heap, lines: &[Line], checked: Checked) -> Result<(), Difference> {
     let mut guardian = Guardian::new(heap);
+    let written = run_lines(heap, lines, &mut guardian)?;
+    let journal = guardian.journal().journal();
+    compare_calls(heap, lines, checked, journal, written.as_slice())
+}
+
+// Runs the script that has these lines. Answers what that writes.
+fn run_lines(
+    heap: Heap,
+    lines: &[Line],
+    guardian: &mut Guardian,
+) -> Result<Vec<u8, Heap>, Difference> {
+    let script = parsed(heap, lines)?;
     let mut writer = Watched::new(Vec::new(heap));
-    run_serial(heap, &mut guardian, &script, &mut writer)?;
-    let mut follower = Follower::new(heap, Checked::new(heap, tight, budget));
-    follower.follow(lines.as_slice())?;
+    run_serial(heap, guardian, &script, &mut writer)?;
+    match writer.into_inner() {
+        Some(written) => Ok(written),
+        None => Err(Difference::Lines),
+    }
+}
+
+fn parsed(heap: Heap, lines: &[Line]) -> Result<Script, Difference> {
+    let text = text_of(heap, lines)?;
+    Ok(parse(heap, text.as_bytes())?)
+}
+
+// Makes the calls one by one, and holds the run's journal, and what it wrote, against them.
+fn compare_calls(
+    heap: Heap,
+    lines: &[Line],
+    checked: Checked,
+    journal: &Journal,
+    written: &[u8],
+) -> Result<(), Difference> {
+    let mut follower = Follower::new(heap, checked);
+    follower.follow(lines)?;
     follower.checked.audit()?;
     let wanted = follower.checked.guardian.journal().journal();
-    compare_journals(guardian.journal().journal(), wanted)?;
+    compare_journals(journal, wanted)?;
+    compare_lines(heap, written, wanted)
+}
+
+fn compare_lines(heap: Heap, written: &[u8], wanted: &Journal) -> Result<(), Difference> {
     let told = told_lines(heap, wanted)?;
-    must(
-        writer.get_ref().as_slice() == told.as_bytes(),
-        Difference::Lines,
-    )
+    must(written == told.as_bytes(), Difference::Lines)
 }
 
 fn compare_journals(journal: &Journal, wanted: &Journal) -> Result<(), Difference> {

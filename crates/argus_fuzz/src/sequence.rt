@@ -5,6 +5,7 @@ use crate::chance::Chance;
 use crate::checked::Checked;
 use crate::comparing::{compare_guardians, compare_tests};
 use crate::difference::Difference;
+use crate::family::Family;
 use crate::told::Told;
 use argus_actions::ActionId;
 use argus_contents::ObjId;
@@ -60,7 +61,12 @@ impl Sequence {
             self.folded.checkpoint()?;
         }
         let mut text = String::new(self.heap);
-        self.add_call(crowd, &mut text)?;
+        self.make_call(crowd, &mut text)
+    }
+
+    // The text is empty before.
+    fn make_call(&mut self, crowd: u32, text: &mut String<Heap>) -> Result<(), Difference> {
+        self.add_call(crowd, text)?;
         let _told = self.whole.call(text.as_str())?;
         self.call_folded(text.as_str())?;
         compare_guardians(&self.whole.guardian, &self.folded.guardian)
@@ -69,11 +75,20 @@ impl Sequence {
     // Adds the next call, and asks whether an action could have the locks of an object.
     fn add_call(&mut self, crowd: u32, text: &mut String<Heap>) -> Result<(), Difference> {
         let family = self.whole.family()?;
+        self.add_call_of(&family, crowd, text)
+    }
+
+    fn add_call_of(
+        &mut self,
+        family: &Family,
+        crowd: u32,
+        text: &mut String<Heap>,
+    ) -> Result<(), Difference> {
         let journal = self.whole.guardian.journal().journal();
-        add_call(&mut self.chance, journal, &family, crowd, text)?;
+        add_call(&mut self.chance, journal, family, crowd, text)?;
         let a = ActionId(self.chance.below(family.next()));
         let o = ObjId(self.chance.below(5));
-        compare_tests(&self.whole.guardian, &family, a, o)
+        compare_tests(&self.whole.guardian, family, a, o)
     }
 
     // Sometimes first with few allocations.
