@@ -14,7 +14,7 @@ use argus_entries::Call;
 use argus_guardian::Guardian;
 use argus_journal::Journal;
 use argus_memory::{Heap, OutOfMemory};
-use argus_sharing::{Parts, Receipt, Shared, Sharing};
+use argus_sharing::{Parts, Receipt, Seat, Shared, Sharing};
 use std::marker::Brand;
 use std::sync::Wait;
 use std::sync::ledger::Blank;
@@ -145,40 +145,43 @@ fn call_and_settle<N: Sharing, R: Wait + Drop>(
     journal: &Journal,
     patience: Option<u32>,
 ) -> Result<Guardian> {
-    let receipts = call_by(rt, heap, &mut parts, journal, patience)?;
+    let mut receipts = Vec::new(heap);
+    call_by(rt, &mut parts, journal, patience, &mut receipts)?;
     match parts.shared.settle(parts.seats, receipts.as_slice()) {
         Ok(guardian) => Ok(guardian),
         Err(unsettled) => Err(anyhow!("{}", unsettled.fault)),
     }
 }
 
+// Makes the calls in this journal by the one seat, and adds the receipts.
 fn call_by<N: Sharing, R: Wait + Drop>(
     rt: &R,
-    heap: Heap,
     parts: &mut Parts<N, R>,
     journal: &Journal,
     patience: Option<u32>,
-) -> Result<Vec<Receipt, Heap>, OutOfMemory> {
-    let mut receipts = Vec::new(heap);
+    receipts: &mut Vec<Receipt, Heap>,
+) -> Result<(), OutOfMemory> {
+    let Some(seat) = parts.seats.last_mut() else {
+        return Err(OutOfMemory);
+    };
     for at in journal.first_entry()..journal.len() {
         if let Some(entry) = journal.get(at) {
-            receipts.push(call_once(rt, heap, parts, &entry.call, patience)?)?;
+            let call = entry.call.duplicate(*receipts.allocator())?;
+            receipts.push(receipt_of(rt, &parts.shared, seat, call, patience)?)?;
         }
     }
-    Ok(receipts)
+    Ok(())
 }
 
-fn call_once<N: Sharing, R: Wait + Drop>(
+fn receipt_of<N: Sharing, R: Wait + Drop>(
     rt: &R,
-    heap: Heap,
-    parts: &mut Parts<N, R>,
-    call: &Call,
+    shared: &Shared<N, R>,
+    seat: &mut Seat<N>,
+    call: Call,
     patience: Option<u32>,
 ) -> Result<Receipt, OutOfMemory> {
-    let call = call.duplicate(heap)?;
-    let seat = parts.seats.last_mut().ok_or(OutOfMemory)?;
     match patience {
-        None => parts.shared.call(rt, seat, call),
-        Some(patience) => parts.shared.call_waiting(rt, seat, call, patience),
+        None => shared.call(rt, seat, call),
+        Some(patience) => shared.call_waiting(rt, seat, call, patience),
     }
 }
