@@ -5,7 +5,7 @@ use crate::callee::Callee;
 use argus_actions::ActionId;
 use argus_contents::{Answer, Change, Content, Name, ObjId, Query, Shape, Ty, Value};
 use argus_entries::{Call, Reply};
-use argus_memory::Heap;
+use argus_memory::{Heap, OutOfMemory};
 use std::collections::VecDeque;
 
 /// A guardian, or a seat of a shared one, with the one who calls it by values of `Call`. A reply of
@@ -38,12 +38,8 @@ impl<K: Callee> Client<K> {
     }
 
     fn begin(&mut self, call: Call) -> Result<ActionId, BenchError> {
-        match self.callee.answer(call)? {
-            Reply::Begun(a) => Ok(a),
-            Reply::Object(_) | Reply::Answered(_) | Reply::Refused(_) => {
-                Err(BenchError::OtherReply)
-            }
-        }
+        let reply = self.callee.answer(call)?;
+        begun(&reply)
     }
 
     pub(crate) fn commit(&mut self, a: ActionId) -> Result<(), BenchError> {
@@ -59,7 +55,7 @@ impl<K: Callee> Client<K> {
         let reply = self
             .callee
             .answer_waiting(Call::Alter(a, o, Change::Touch))?;
-        is_done(reply)
+        done(&reply)
     }
 
     /// Sets the integer of a record.
@@ -80,7 +76,7 @@ impl<K: Callee> Client<K> {
 
     fn have_done(&mut self, call: Call) -> Result<(), BenchError> {
         let reply = self.callee.answer(call)?;
-        is_done(reply)
+        done(&reply)
     }
 
     /// The integer of a record.
@@ -94,48 +90,90 @@ impl<K: Callee> Client<K> {
     }
 
     fn ask(&mut self, a: ActionId, o: ObjId, query: Query) -> Result<i64, BenchError> {
-        match self.callee.answer(Call::Ask(a, o, query))? {
-            Reply::Answered(Answer::Val(Value::Int(number))) => Ok(number),
-            Reply::Object(_) | Reply::Begun(_) | Reply::Answered(_) | Reply::Refused(_) => {
-                Err(BenchError::OtherReply)
-            }
-        }
+        let reply = self.callee.answer(Call::Ask(a, o, query))?;
+        answered(&reply)
     }
 
     /// A record of one integer, which a topaction of its own creates as 0.
     pub(crate) fn declare_record(&mut self) -> Result<ObjId, BenchError> {
-        let mut fields = Vec::new(self.heap);
-        fields.push((Name::new(self.heap, "n")?, Ty::Int))?;
-        let mut values = Vec::new(self.heap);
-        values.push(Value::Int(0))?;
-        self.declare(Shape::rec(fields)?, Content::Rec(values))
+        let shape = record_shape(self.heap)?;
+        let o = self.declare(shape)?;
+        let a = self.begin_top()?;
+        let content = record(self.heap, 0)?;
+        self.create(a, o, content)?;
+        Ok(o)
     }
 
     /// An array of so many integers from 1 on, which a topaction of its own creates as 0.
     pub(crate) fn declare_array(&mut self, count: u16) -> Result<ObjId, BenchError> {
-        let zeros = (0..count).map(|_| Value::Int(0)).collect(self.heap)?;
-        let content = Content::Arr {
-            low: 1,
-            items: VecDeque::from_vec(zeros),
-        };
-        self.declare(Shape::arr(Ty::Int)?, content)
+        let shape = Shape::arr(Ty::Int)?;
+        let o = self.declare(shape)?;
+        let a = self.begin_top()?;
+        let content = array(self.heap, count)?;
+        self.create(a, o, content)?;
+        Ok(o)
     }
 
-    fn declare(&mut self, shape: Shape, content: Content) -> Result<ObjId, BenchError> {
-        let o = match self.callee.answer(Call::Declare(shape))? {
-            Reply::Object(o) => o,
-            Reply::Begun(_) | Reply::Answered(_) | Reply::Refused(_) => {
-                return Err(BenchError::OtherReply);
-            }
-        };
-        let a = self.begin_top()?;
+    fn declare(&mut self, shape: Shape) -> Result<ObjId, BenchError> {
+        let reply = self.callee.answer(Call::Declare(shape))?;
+        declared(&reply)
+    }
+
+    // Creates the object, and commits.
+    fn create(&mut self, a: ActionId, o: ObjId, content: Content) -> Result<(), BenchError> {
         self.have_done(Call::Alter(a, o, Change::Create(content)))?;
-        self.commit(a)?;
-        Ok(o)
+        self.commit(a)
     }
 }
 
-fn is_done(reply: Reply) -> Result<(), BenchError> {
+/// A record of this integer.
+pub(crate) fn record(heap: Heap, number: i64) -> Result<Content, OutOfMemory> {
+    let mut values = Vec::new(heap);
+    values.push(Value::Int(number))?;
+    Ok(Content::Rec(values))
+}
+
+fn record_shape(heap: Heap) -> Result<Shape, BenchError> {
+    let name = Name::new(heap, "n")?;
+    let mut fields = Vec::new(heap);
+    fields.push((name, Ty::Int))?;
+    Ok(Shape::rec(fields)?)
+}
+
+fn array(heap: Heap, count: u16) -> Result<Content, OutOfMemory> {
+    let zeros = (0..count).map(|_| Value::Int(0)).collect(heap)?;
+    Ok(Content::Arr {
+        low: 1,
+        items: VecDeque::from_vec(zeros),
+    })
+}
+
+// The replies are read where they stand, since a reply that is taken apart is dropped part by part.
+
+fn begun(reply: &Reply) -> Result<ActionId, BenchError> {
+    match reply {
+        Reply::Begun(a) => Ok(*a),
+        Reply::Object(_) | Reply::Answered(_) | Reply::Refused(_) => Err(BenchError::OtherReply),
+    }
+}
+
+fn declared(reply: &Reply) -> Result<ObjId, BenchError> {
+    match reply {
+        Reply::Object(o) => Ok(*o),
+        Reply::Begun(_) | Reply::Answered(_) | Reply::Refused(_) => Err(BenchError::OtherReply),
+    }
+}
+
+fn answered(reply: &Reply) -> Result<i64, BenchError> {
+    match reply {
+        Reply::Answered(Answer::Val(Value::Int(number))) => Ok(*number),
+        Reply::Object(_) | Reply::Begun(_) | Reply::Answered(_) | Reply::Refused(_) => {
+            Err(BenchError::OtherReply)
+        }
+    }
+}
+
+fn done(reply: &Reply) -> Result<(), BenchError> {
     match reply {
         Reply::Answered(Answer::Done) => Ok(()),
         Reply::Object(_) | Reply::Begun(_) | Reply::Answered(_) | Reply::Refused(_) => {

@@ -8,6 +8,7 @@ use crate::figure::Figure;
 use crate::outcome::Outcome;
 use crate::part::Part;
 use crate::seated::Seated;
+use crate::stopwatch::Stopwatch;
 use crate::turning::{RECORDS, turn_counts};
 use crate::working::add_records;
 use argus_memory::{Heap, OutOfMemory};
@@ -16,7 +17,6 @@ use std::alloc::AllocError;
 use std::rt::Clock;
 use std::sync::Wait;
 use std::thread::{Threads, map_vec};
-use std::time::Instant;
 
 // A thread's number, how many turns it makes, and whether it chooses from the records that all others
 // choose from.
@@ -44,18 +44,25 @@ pub(crate) fn time_threads<
     let threads = u32::try_from(seats.len()).unwrap_or(u32::MAX);
     let each = turns.checked_div(threads).unwrap_or(0);
     let jobs = jobs_for(heap, seats, each, is_hot)?;
-    let start = Instant::now(rt)?;
-    let made = count_all(rt, heap, shared, jobs)?;
-    let taken = start.elapsed(rt)?;
-    let mut figures = Vec::new(heap);
-    figures.push(Figure {
-        part: Part::Turns,
-        count: added_up(made.as_slice()),
-        taken,
-    })?;
+    let figure = time_jobs(rt, heap, shared, jobs)?;
     let mut client = Client::of(heap, Seated::new(rt, shared, last));
     let sum = add_records(&mut client, RECORDS)?;
-    Ok(Outcome { figures, sum })
+    Ok(Outcome::of(figure, sum))
+}
+
+fn time_jobs<N: Sharing + Send + Sync, R: Threads + Wait + Clock + Drop + Send + Sync>(
+    rt: &R,
+    heap: Heap,
+    shared: &Shared<N, R>,
+    jobs: Vec<(Job, Seat<N>), Heap>,
+) -> Result<Figure, BenchError> {
+    let watch = Stopwatch::start(rt)?;
+    let made = count_all(rt, heap, shared, jobs)?;
+    Ok(Figure {
+        part: Part::Turns,
+        taken: watch.taken(rt)?,
+        count: added_up(made.as_slice()),
+    })
 }
 
 // Each seat with its thread's job.

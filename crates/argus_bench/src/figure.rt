@@ -8,7 +8,7 @@ use std::time::Duration;
 /// ```text
 /// let figure = Figure { part: Part::Turns, count: 1000, taken };
 /// ```
-#[derive(Drop)]
+#[derive(Clone, Copy)]
 pub(crate) struct Figure {
     pub(crate) part: Part,
     pub(crate) count: u32,

@@ -9,6 +9,7 @@ use crate::looks::Looks;
 use crate::outcome::Outcome;
 use crate::part::Part;
 use crate::seated::Seated;
+use crate::stopwatch::Stopwatch;
 use crate::turning::{pair, turn_pair};
 use argus_board::Looker;
 use argus_contents::{Content, Value};
@@ -19,7 +20,7 @@ use std::rt::Clock;
 use std::sync::Wait;
 use std::sync::atomic::{AtomicU64, Ordering};
 use std::thread::{Threads, join, map_vec, sleep};
-use std::time::{Duration, Instant};
+use std::time::Duration;
 
 // A guardian begins a million actions at the most.
 const BATCHES: u32 = 60_000;
@@ -52,7 +53,7 @@ pub(crate) fn time_lookers<
         },
     );
     let (looked, commits) = (looked?, commits?);
-    outcome_of(heap, looked.as_slice(), commits)
+    Ok(outcome_of(looked.as_slice(), commits))
 }
 
 // Each looker looks in a thread of its own, and draws numbers of its own.
@@ -147,19 +148,36 @@ fn commit_or_sleep<N: Sharing, R: Wait + Clock + Drop>(
     is_busy: bool,
     millis: u32,
 ) -> Result<Figure, BenchError> {
+    let mut client = Client::of(heap, Seated::new(rt, shared, seat));
     let limit = Duration::from_millis(u64::from(millis));
-    let start = Instant::now(rt)?;
-    let count = if is_busy {
-        let mut client = Client::of(heap, Seated::new(rt, shared, seat));
-        commit_until(rt, &mut client, &start, limit)?
+    if is_busy {
+        time_commits(rt, &mut client, limit)
     } else {
-        sleep(rt, limit);
-        0
-    };
+        time_sleep(rt, limit)
+    }
+}
+
+fn time_commits<K: Callee>(
+    rt: &impl Clock,
+    client: &mut Client<K>,
+    limit: Duration,
+) -> Result<Figure, BenchError> {
+    let watch = Stopwatch::start(rt)?;
+    let count = commit_until(rt, client, watch, limit)?;
     Ok(Figure {
         part: Part::Commits,
         count,
-        taken: start.elapsed(rt)?,
+        taken: watch.taken(rt)?,
+    })
+}
+
+fn time_sleep<R: Wait + Clock>(rt: &R, limit: Duration) -> Result<Figure, BenchError> {
+    let watch = Stopwatch::start(rt)?;
+    sleep(rt, limit);
+    Ok(Figure {
+        part: Part::Commits,
+        count: 0,
+        taken: watch.taken(rt)?,
     })
 }
 
@@ -167,13 +185,13 @@ fn commit_or_sleep<N: Sharing, R: Wait + Clock + Drop>(
 fn commit_until<K: Callee>(
     rt: &impl Clock,
     client: &mut Client<K>,
-    start: &Instant,
+    watch: Stopwatch,
     limit: Duration,
 ) -> Result<u32, BenchError> {
     let mut draws = Draws::new();
     let mut number = 0u32;
     for _ in 0..BATCHES {
-        if start.elapsed(rt)? >= limit {
+        if watch.taken(rt)? >= limit {
             break;
         }
         commit_often(client, &mut draws, number)?;
@@ -193,20 +211,15 @@ fn commit_often<K: Callee>(
     Ok(())
 }
 
-fn outcome_of(heap: Heap, looked: &[Looks], commits: Figure) -> Result<Outcome, BenchError> {
+fn outcome_of(looked: &[Looks], commits: Figure) -> Outcome {
     let mut looks = Looks::none();
     for more in looked {
         looks = looks.and(*more);
     }
-    let mut figures = Vec::with_capacity(heap, 2)?;
-    figures.push(Figure {
+    let made = Figure {
         part: Part::Looks,
         count: looks.made,
         taken: commits.taken,
-    })?;
-    figures.push(commits)?;
-    Ok(Outcome {
-        figures,
-        sum: i64::from(looks.torn),
-    })
+    };
+    Outcome::of_two(made, commits, i64::from(looks.torn))
 }

@@ -20,6 +20,7 @@ mod publishing;
 mod seated;
 mod shared_work;
 mod sharing;
+mod stopwatch;
 mod timing;
 mod turning;
 mod work;
@@ -103,7 +104,7 @@ fn run<R: Threads + Wait + Clock + Copy + Drop + Send + Sync>(
     if let Ok(work) = word.parse::<SharedWork>() {
         return Ok(sharing::run(rt, heap, work, turns)?);
     }
-    timing::run(&rt, heap, word.parse::<Work>()?, turns)
+    Ok(timing::run(&rt, heap, word.parse::<Work>()?, turns)?)
 }
 
 fn tell<R: Print + Threads + Wait + Clock + Copy + Drop + Send + Sync>(
@@ -123,11 +124,12 @@ fn time<R: Print + Threads + Wait + Clock + Copy + Drop + Send + Sync>(
     word: &str,
     turns: u32,
 ) -> Result<()> {
-    let outcome = run(rt, heap, word, turns)?;
-    let sum = outcome.sum;
-    for figure in &outcome.figures {
-        let (part, count, nanos) = (figure.part, figure.count, figure.nanos_each());
-        println!(rt; "{word} {part} n={count} ns_each={nanos:.1} sum={sum}")?;
+    let Outcome { figures, sum } = run(rt, heap, word, turns)?;
+    for figure in &figures {
+        if let Some(figure) = figure {
+            let (part, count, nanos) = (figure.part, figure.count, figure.nanos_each());
+            println!(rt; "{word} {part} n={count} ns_each={nanos:.1} sum={sum}")?;
+        }
     }
     Ok(())
 }

@@ -1,12 +1,29 @@
 //! `Outcome`: what a run took, and what it read and left.
 
 use crate::figure::Figure;
-use argus_memory::Heap;
 
-/// What a run took, part by part, and the sum of what it read and left. By the sum one sees that
-/// two programs have done the same.
-#[derive(Drop)]
+/// What a run took, part by part (three at the most), and the sum of what it read and left. By the
+/// sum one sees that two programs have done the same.
+#[derive(Clone, Copy)]
 pub(crate) struct Outcome {
-    pub(crate) figures: Vec<Figure, Heap>,
+    pub(crate) figures: [Option<Figure>; 3],
     pub(crate) sum: i64,
+}
+
+impl Outcome {
+    /// That of a run of one part.
+    pub(crate) fn of(figure: Figure, sum: i64) -> Outcome {
+        Outcome {
+            figures: [Some(figure), None, None],
+            sum,
+        }
+    }
+
+    /// That of a run of two parts.
+    pub(crate) fn of_two(first: Figure, second: Figure, sum: i64) -> Outcome {
+        Outcome {
+            figures: [Some(first), Some(second), None],
+            sum,
+        }
+    }
 }

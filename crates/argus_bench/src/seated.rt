@@ -31,13 +31,15 @@ impl<'a, N: Sharing, R: Wait + Drop> Seated<'a, N, R> {
 impl<N: Sharing, R: Wait + Drop> Callee for Seated<'_, N, R> {
     fn answer(&mut self, call: Call) -> Result<Reply, OutOfMemory> {
         let Seated { rt, shared, seat } = self;
-        let Receipt { reply, .. } = shared.call(*rt, seat, call)?;
-        Ok(reply)
+        Ok(reply_of(shared.call(*rt, seat, call)?))
     }
 
     fn answer_waiting(&mut self, call: Call) -> Result<Reply, OutOfMemory> {
         let Seated { rt, shared, seat } = self;
-        let Receipt { reply, .. } = shared.call_waiting(*rt, seat, call, PATIENCE)?;
-        Ok(reply)
+        Ok(reply_of(shared.call_waiting(*rt, seat, call, PATIENCE)?))
     }
+}
+
+fn reply_of(receipt: Receipt) -> Reply {
+    receipt.reply
 }

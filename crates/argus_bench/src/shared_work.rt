@@ -27,15 +27,25 @@ impl FromStr for SharedWork {
     type Err = BenchError;
 
     fn from_str(text: &str) -> Result<SharedWork, BenchError> {
-        match text.split_once(':') {
-            Some(("shared", "flat")) => Ok(SharedWork::Turns(Work::Flat)),
-            Some(("shared", "nested")) => Ok(SharedWork::Turns(Work::Nested)),
-            Some(("own", count)) => Ok(SharedWork::Own(count_of(count)?)),
-            Some(("hot", count)) => Ok(SharedWork::Hot(count_of(count)?)),
-            Some(("busy", count)) => Ok(SharedWork::Busy(count_of(count)?)),
-            Some(("idle", count)) => Ok(SharedWork::Idle(count_of(count)?)),
-            Some(_) | None => Err(BenchError::UnknownWork),
+        match text {
+            "shared:flat" => return Ok(SharedWork::Turns(Work::Flat)),
+            "shared:nested" => return Ok(SharedWork::Turns(Work::Nested)),
+            _ => {}
         }
+        match text.split_once(':') {
+            Some((name, count)) => of_count(name, count_of(count)?),
+            None => Err(BenchError::UnknownWork),
+        }
+    }
+}
+
+fn of_count(name: &str, count: u8) -> Result<SharedWork, BenchError> {
+    match name {
+        "own" => Ok(SharedWork::Own(count)),
+        "hot" => Ok(SharedWork::Hot(count)),
+        "busy" => Ok(SharedWork::Busy(count)),
+        "idle" => Ok(SharedWork::Idle(count)),
+        _ => Err(BenchError::UnknownWork),
     }
 }
 
@@ -53,6 +63,16 @@ impl SharedWork {
             SharedWork::Turns(_) | SharedWork::Busy(_) | SharedWork::Idle(_) => 1,
             SharedWork::Own(threads) | SharedWork::Hot(threads) => threads.saturating_add(1),
         }
+    }
+
+    /// Whether its threads all count in the same records.
+    pub(crate) fn is_hot(self) -> bool {
+        matches!(self, SharedWork::Hot(_))
+    }
+
+    /// Whether a thread commits while its lookers look.
+    pub(crate) fn is_busy(self) -> bool {
+        matches!(self, SharedWork::Busy(_))
     }
 
     /// How many lookers it takes.

@@ -7,34 +7,46 @@ use crate::draws::Draws;
 use crate::figure::Figure;
 use crate::outcome::Outcome;
 use crate::part::Part;
+use crate::stopwatch::Stopwatch;
 use crate::turning::RECORDS;
 use crate::work::Work;
 use crate::working::{
     ITEMS, make_turns, read_records, records_of, replay_records, store_numbers, weigh_array,
     weigh_records, with_records,
 };
-use anyhow::Result;
+use argus_actions::ActionId;
 use argus_contents::ObjId;
 use argus_guardian::Guardian;
 use argus_memory::Heap;
 use std::rt::Clock;
-use std::time::{Duration, Instant};
+use std::time::Duration;
 
 /// A run of so many turns. What comes before the first turn and after the last isn't timed.
-pub(crate) fn run(rt: &impl Clock, heap: Heap, work: Work, turns: u32) -> Result<Outcome> {
-    match work {
-        Work::Flat | Work::Nested | Work::Commit(_) | Work::Abort(_) | Work::Chain => {
-            Ok(run_turns(rt, heap, work, turns)?)
-        }
-        Work::Stores => run_stores(rt, heap, turns),
-        Work::Reads => run_reads(rt, heap, turns),
-        Work::Audit => run_audit(rt, heap, turns),
-    }
+pub(crate) fn run(
+    rt: &impl Clock,
+    heap: Heap,
+    work: Work,
+    turns: u32,
+) -> Result<Outcome, BenchError> {
+    let mut client = with_records(heap, records_of(work))?;
+    time_work(rt, &mut client, work, turns)
 }
 
-fn run_turns(rt: &impl Clock, heap: Heap, work: Work, turns: u32) -> Result<Outcome, BenchError> {
-    let mut client = with_records(heap, records_of(work))?;
-    time_turns(rt, &mut client, work, turns)
+// The guardian is lent: who owns one while calls may fail has to drop it on each way out.
+fn time_work(
+    rt: &impl Clock,
+    client: &mut Client<Guardian>,
+    work: Work,
+    turns: u32,
+) -> Result<Outcome, BenchError> {
+    match work {
+        Work::Flat | Work::Nested | Work::Commit(_) | Work::Abort(_) | Work::Chain => {
+            time_turns(rt, client, work, turns)
+        }
+        Work::Stores => time_second_stores(rt, client, turns),
+        Work::Reads => time_reads(rt, client, turns),
+        Work::Audit => time_audit(rt, client, turns),
+    }
 }
 
 /// Makes so many turns of the work, with all its records there, and reads what they leave.
@@ -44,104 +56,121 @@ pub(crate) fn time_turns<K: Callee>(
     work: Work,
     turns: u32,
 ) -> Result<Outcome, BenchError> {
-    let start = Instant::now(rt)?;
+    let watch = Stopwatch::start(rt)?;
     let read = make_turns(client, work, turns)?;
-    let taken = start.elapsed(rt)?;
-    let mut figures = Vec::new(client.heap);
-    figures.push(Figure {
+    let figure = Figure {
         part: Part::Turns,
         count: turns,
-        taken,
-    })?;
-    let sum = read.wrapping_add(weigh_records(client, records_of(work))?);
-    Ok(Outcome { figures, sum })
+        taken: watch.taken(rt)?,
+    };
+    let left = weigh_records(client, records_of(work))?;
+    Ok(Outcome::of(figure, read.wrapping_add(left)))
 }
 
 // The first action brings the memory that the second one works in, which is timed.
-fn run_stores(rt: &impl Clock, heap: Heap, turns: u32) -> Result<Outcome> {
-    let mut client = Client::of(heap, Guardian::new(heap));
+fn time_second_stores(
+    rt: &impl Clock,
+    client: &mut Client<Guardian>,
+    turns: u32,
+) -> Result<Outcome, BenchError> {
     let o = client.declare_array(ITEMS)?;
-    let _ = time_stores(rt, heap, &mut client, o, turns)?;
-    let figures = time_stores(rt, heap, &mut client, o, turns)?;
-    let sum = weigh_array(&mut client, o)?;
+    let _ = time_stores(rt, client, o, turns)?;
+    let figures = time_stores(rt, client, o, turns)?;
+    let sum = weigh_array(client, o)?;
     Ok(Outcome { figures, sum })
 }
 
 fn time_stores(
     rt: &impl Clock,
-    heap: Heap,
     client: &mut Client<Guardian>,
     o: ObjId,
     turns: u32,
-) -> Result<Vec<Figure, Heap>> {
+) -> Result<[Option<Figure>; 3], BenchError> {
     let mut draws = Draws::new();
-    let mut figures = Vec::with_capacity(heap, 3)?;
-    let start = Instant::now(rt)?;
+    let watch = Stopwatch::start(rt)?;
     let a = client.begin_top()?;
     store_numbers(client, &mut draws, a, o, 0, 1)?;
-    figures.push(Figure {
+    let first = Figure {
         part: Part::First,
         count: 1,
-        taken: start.elapsed(rt)?,
-    })?;
-    let start = Instant::now(rt)?;
+        taken: watch.taken(rt)?,
+    };
+    let watch = Stopwatch::start(rt)?;
     store_numbers(client, &mut draws, a, o, 1, turns)?;
-    figures.push(Figure {
+    let next = Figure {
         part: Part::Next,
         count: turns.saturating_sub(1),
-        taken: start.elapsed(rt)?,
-    })?;
-    let start = Instant::now(rt)?;
-    client.commit(a)?;
-    figures.push(Figure {
+        taken: watch.taken(rt)?,
+    };
+    let commit = Figure {
         part: Part::Commit,
         count: 1,
-        taken: start.elapsed(rt)?,
-    })?;
-    Ok(figures)
+        taken: time_commit(rt, client, a)?,
+    };
+    Ok([Some(first), Some(next), Some(commit)])
+}
+
+fn time_commit(
+    rt: &impl Clock,
+    client: &mut Client<Guardian>,
+    a: ActionId,
+) -> Result<Duration, BenchError> {
+    let watch = Stopwatch::start(rt)?;
+    client.commit(a)?;
+    watch.taken(rt)
 }
 
 // Each turn is a topaction that reads all records, and commits.
-fn run_reads(rt: &impl Clock, heap: Heap, turns: u32) -> Result<Outcome> {
-    let mut client = with_records(heap, RECORDS)?;
+fn time_reads(
+    rt: &impl Clock,
+    client: &mut Client<Guardian>,
+    turns: u32,
+) -> Result<Outcome, BenchError> {
     let mut asks = Duration::ZERO;
     let mut commits = Duration::ZERO;
     for _ in 0..turns {
-        let start = Instant::now(rt)?;
-        let a = client.begin_top()?;
-        let _ = read_records(&mut client, a, RECORDS)?;
-        asks = asks.saturating_add(start.elapsed(rt)?);
-        let start = Instant::now(rt)?;
-        client.commit(a)?;
-        commits = commits.saturating_add(start.elapsed(rt)?);
+        let (a, taken) = time_asks(rt, client)?;
+        asks = asks.saturating_add(taken);
+        commits = commits.saturating_add(time_commit(rt, client, a)?);
     }
-    let mut figures = Vec::with_capacity(heap, 2)?;
-    figures.push(Figure {
+    let sum = weigh_records(client, RECORDS)?;
+    let asks = Figure {
         part: Part::Asks,
         count: turns.saturating_mul(u32::from(RECORDS)),
         taken: asks,
-    })?;
-    figures.push(Figure {
+    };
+    let commits = Figure {
         part: Part::Commit,
         count: turns,
         taken: commits,
-    })?;
-    let sum = weigh_records(&mut client, RECORDS)?;
-    Ok(Outcome { figures, sum })
+    };
+    Ok(Outcome::of_two(asks, commits, sum))
+}
+
+// A topaction that reads all records, and what that takes.
+fn time_asks(
+    rt: &impl Clock,
+    client: &mut Client<Guardian>,
+) -> Result<(ActionId, Duration), BenchError> {
+    let watch = Stopwatch::start(rt)?;
+    let a = client.begin_top()?;
+    let _ = read_records(client, a, RECORDS)?;
+    Ok((a, watch.taken(rt)?))
 }
 
 // The turns come before, and aren't timed.
-fn run_audit(rt: &impl Clock, heap: Heap, turns: u32) -> Result<Outcome> {
-    let mut client = with_records(heap, RECORDS)?;
-    let _ = make_turns(&mut client, Work::Audit, turns)?;
-    let start = Instant::now(rt)?;
-    let sum = replay_records(&client, RECORDS)?;
-    let taken = start.elapsed(rt)?;
-    let mut figures = Vec::new(heap);
-    figures.push(Figure {
+fn time_audit(
+    rt: &impl Clock,
+    client: &mut Client<Guardian>,
+    turns: u32,
+) -> Result<Outcome, BenchError> {
+    let _ = make_turns(client, Work::Audit, turns)?;
+    let watch = Stopwatch::start(rt)?;
+    let sum = replay_records(client, RECORDS)?;
+    let figure = Figure {
         part: Part::Replays,
         count: u32::from(RECORDS),
-        taken,
-    })?;
-    Ok(Outcome { figures, sum })
+        taken: watch.taken(rt)?,
+    };
+    Ok(Outcome::of(figure, sum))
 }

@@ -55,31 +55,38 @@ pub(crate) fn turn_nested<K: Callee>(
     let [top, upper, middle, lower] = four(draws);
     let a = client.begin_top()?;
     client.set(a, top, first)?;
-    let child = client.begin_sub(a)?;
-    client.set(child, upper, first + 1)?;
-    let grandchild = client.begin_sub(child)?;
-    client.set(grandchild, middle, first + 2)?;
-    let last = client.begin_sub(grandchild)?;
-    client.set(last, lower, first + 3)?;
-    client.commit(last)?;
-    set_in_vain(client, grandchild, lower, first + 103)?;
-    client.commit(grandchild)?;
-    set_in_vain(client, child, middle, first + 102)?;
-    client.commit(child)?;
-    set_in_vain(client, a, upper, first + 101)?;
+    let child = set_below(client, a, upper, first + 1)?;
+    let grandchild = set_below(client, child, middle, first + 2)?;
+    let last = set_below(client, grandchild, lower, first + 3)?;
+    commit_and_retry(client, last, grandchild, lower, first + 103)?;
+    commit_and_retry(client, grandchild, child, middle, first + 102)?;
+    commit_and_retry(client, child, a, upper, first + 101)?;
     client.commit(a)
 }
 
-// A subaction that sets a record, and aborts.
-fn set_in_vain<K: Callee>(
+// A subaction that sets a record.
+fn set_below<K: Callee>(
     client: &mut Client<K>,
     parent: ActionId,
     o: ObjId,
     number: i64,
-) -> Result<(), BenchError> {
+) -> Result<ActionId, BenchError> {
     let a = client.begin_sub(parent)?;
     client.set(a, o, number)?;
-    client.abort(a)
+    Ok(a)
+}
+
+// Commits the subaction, after which a second one below the same parent sets the record, and aborts.
+fn commit_and_retry<K: Callee>(
+    client: &mut Client<K>,
+    a: ActionId,
+    parent: ActionId,
+    o: ObjId,
+    number: i64,
+) -> Result<(), BenchError> {
+    client.commit(a)?;
+    let second = set_below(client, parent, o, number)?;
+    client.abort(second)
 }
 
 /// A topaction that sets one of so many records, and commits.
