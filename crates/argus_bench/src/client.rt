@@ -2,9 +2,10 @@
 
 use crate::bench_error::BenchError;
 use crate::callee::Callee;
+use crate::told::Told;
 use argus_actions::ActionId;
-use argus_contents::{Answer, Change, Content, Name, ObjId, Query, Shape, Ty, Value};
-use argus_entries::{Call, Reply};
+use argus_contents::{Change, Content, Name, ObjId, Query, Shape, Ty, Value};
+use argus_entries::Call;
 use argus_memory::{Heap, OutOfMemory};
 use std::collections::VecDeque;
 
@@ -38,8 +39,12 @@ impl<K: Callee> Client<K> {
     }
 
     fn begin(&mut self, call: Call) -> Result<ActionId, BenchError> {
-        let reply = self.callee.answer(call)?;
-        begun(&reply)
+        match self.callee.answer(call)? {
+            Told::Begun(a) => Ok(a),
+            Told::Object(_) | Told::Number(_) | Told::Done | Told::Other => {
+                Err(BenchError::OtherReply)
+            }
+        }
     }
 
     pub(crate) fn commit(&mut self, a: ActionId) -> Result<(), BenchError> {
@@ -52,10 +57,8 @@ impl<K: Callee> Client<K> {
 
     /// Locks the object for a change, once no action of another thread is in the way.
     pub(crate) fn lock(&mut self, a: ActionId, o: ObjId) -> Result<(), BenchError> {
-        let reply = self
-            .callee
-            .answer_waiting(Call::Alter(a, o, Change::Touch))?;
-        done(&reply)
+        let call = Call::Alter(a, o, Change::Touch);
+        expect_done(self.callee.answer_waiting(call)?)
     }
 
     /// Sets the integer of a record.
@@ -75,8 +78,7 @@ impl<K: Callee> Client<K> {
     }
 
     fn have_done(&mut self, call: Call) -> Result<(), BenchError> {
-        let reply = self.callee.answer(call)?;
-        done(&reply)
+        expect_done(self.callee.answer(call)?)
     }
 
     /// The integer of a record.
@@ -90,8 +92,12 @@ impl<K: Callee> Client<K> {
     }
 
     fn ask(&mut self, a: ActionId, o: ObjId, query: Query) -> Result<i64, BenchError> {
-        let reply = self.callee.answer(Call::Ask(a, o, query))?;
-        answered(&reply)
+        match self.callee.answer(Call::Ask(a, o, query))? {
+            Told::Number(number) => Ok(number),
+            Told::Object(_) | Told::Begun(_) | Told::Done | Told::Other => {
+                Err(BenchError::OtherReply)
+            }
+        }
     }
 
     /// A record of one integer, which a topaction of its own creates as 0.
@@ -115,8 +121,12 @@ impl<K: Callee> Client<K> {
     }
 
     fn declare(&mut self, shape: Shape) -> Result<ObjId, BenchError> {
-        let reply = self.callee.answer(Call::Declare(shape))?;
-        declared(&reply)
+        match self.callee.answer(Call::Declare(shape))? {
+            Told::Object(o) => Ok(o),
+            Told::Begun(_) | Told::Number(_) | Told::Done | Told::Other => {
+                Err(BenchError::OtherReply)
+            }
+        }
     }
 
     // Creates the object, and commits.
@@ -148,35 +158,10 @@ fn array(heap: Heap, count: u16) -> Result<Content, OutOfMemory> {
     })
 }
 
-// The replies are read where they stand, since a reply that is taken apart is dropped part by part.
-
-fn begun(reply: &Reply) -> Result<ActionId, BenchError> {
-    match reply {
-        Reply::Begun(a) => Ok(*a),
-        Reply::Object(_) | Reply::Answered(_) | Reply::Refused(_) => Err(BenchError::OtherReply),
-    }
-}
-
-fn declared(reply: &Reply) -> Result<ObjId, BenchError> {
-    match reply {
-        Reply::Object(o) => Ok(*o),
-        Reply::Begun(_) | Reply::Answered(_) | Reply::Refused(_) => Err(BenchError::OtherReply),
-    }
-}
-
-fn answered(reply: &Reply) -> Result<i64, BenchError> {
-    match reply {
-        Reply::Answered(Answer::Val(Value::Int(number))) => Ok(*number),
-        Reply::Object(_) | Reply::Begun(_) | Reply::Answered(_) | Reply::Refused(_) => {
-            Err(BenchError::OtherReply)
-        }
-    }
-}
-
-fn done(reply: &Reply) -> Result<(), BenchError> {
-    match reply {
-        Reply::Answered(Answer::Done) => Ok(()),
-        Reply::Object(_) | Reply::Begun(_) | Reply::Answered(_) | Reply::Refused(_) => {
+fn expect_done(told: Told) -> Result<(), BenchError> {
+    match told {
+        Told::Done => Ok(()),
+        Told::Object(_) | Told::Begun(_) | Told::Number(_) | Told::Other => {
             Err(BenchError::OtherReply)
         }
     }

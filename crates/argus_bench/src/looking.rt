@@ -11,8 +11,9 @@ use crate::part::Part;
 use crate::seated::Seated;
 use crate::stopwatch::Stopwatch;
 use crate::turning::{pair, turn_pair};
+use crate::working::number_in;
 use argus_board::Looker;
-use argus_contents::{Content, Value};
+use argus_contents::Content;
 use argus_memory::{Heap, OutOfMemory};
 use argus_sharing::{Seat, Shared, Sharing};
 use std::alloc::AllocError;
@@ -52,8 +53,7 @@ pub(crate) fn time_lookers<
             commits
         },
     );
-    let (looked, commits) = (looked?, commits?);
-    Ok(outcome_of(looked.as_slice(), commits))
+    Ok(outcome_of(looked?, commits?))
 }
 
 // Each looker looks in a thread of its own, and draws numbers of its own.
@@ -62,9 +62,18 @@ fn look_apart<N: Sharing + Send + Sync, R: Threads + Wait + Drop + Send + Sync>(
     heap: Heap,
     lookers: Vec<Looker<N>, Heap>,
     is_over: &AtomicU64,
-) -> Result<Vec<Looks, Heap>, OutOfMemory> {
+) -> Result<Looks, OutOfMemory> {
     let lookers = seeded(heap, lookers)?;
-    Ok(look_all(rt, heap, lookers, is_over)?)
+    let looked = look_all(rt, heap, lookers, is_over)?;
+    Ok(added_up(looked.as_slice()))
+}
+
+fn added_up(looked: &[Looks]) -> Looks {
+    let mut looks = Looks::none();
+    for more in looked {
+        looks = looks.and(*more);
+    }
+    looks
 }
 
 // Each looker with the seed of its numbers.
@@ -131,13 +140,10 @@ fn agrees<N: Sharing>(heap: Heap, looker: &mut Looker<N>, draws: &mut Draws) -> 
 }
 
 fn number_at(found: &[Option<Content>], place: usize) -> Option<i64> {
-    let Some(Some(Content::Rec(fields))) = found.get(place) else {
-        return None;
-    };
-    let Some(Value::Int(number)) = fields.first() else {
-        return None;
-    };
-    Some(*number)
+    match found.get(place) {
+        Some(content) => number_in(content),
+        None => None,
+    }
 }
 
 fn commit_or_sleep<N: Sharing, R: Wait + Clock + Drop>(
@@ -211,11 +217,7 @@ fn commit_often<K: Callee>(
     Ok(())
 }
 
-fn outcome_of(looked: &[Looks], commits: Figure) -> Outcome {
-    let mut looks = Looks::none();
-    for more in looked {
-        looks = looks.and(*more);
-    }
+fn outcome_of(looks: Looks, commits: Figure) -> Outcome {
     let made = Figure {
         part: Part::Looks,
         count: looks.made,

@@ -22,6 +22,7 @@ mod shared_work;
 mod sharing;
 mod stopwatch;
 mod timing;
+mod told;
 mod turning;
 mod work;
 mod working;

@@ -40,12 +40,21 @@ fn time_publishes<N: Board, R: Wait + Clock + Copy + Drop>(
     requires leads { Leads N.opening N.before N.first }
 {
     let mut board = BoardWriter::<N, R>::new(rt, heap, Vec::new(heap), keeper, 0)?;
-    let watch = Stopwatch::start(&rt)?;
-    publish_often(heap, &mut board, turns)?;
+    time_often(&rt, heap, &mut board, turns)
+}
+
+fn time_often<N: Board, R: Wait + Clock + Drop>(
+    rt: &R,
+    heap: Heap,
+    board: &mut BoardWriter<N, R>,
+    turns: u32,
+) -> Result<Outcome, BenchError> {
+    let watch = Stopwatch::start(rt)?;
+    publish_often(heap, board, turns)?;
     let figure = Figure {
         part: Part::Publishes,
         count: turns,
-        taken: watch.taken(&rt)?,
+        taken: watch.taken(rt)?,
     };
     Ok(Outcome::of(figure, 0))
 }

@@ -1,8 +1,9 @@
 //! `Seated`: a seat of a shared guardian, by which calls are made.
 
+use crate::bench_error::BenchError;
 use crate::callee::Callee;
-use argus_entries::{Call, Reply};
-use argus_memory::OutOfMemory;
+use crate::told::Told;
+use argus_entries::Call;
 use argus_sharing::{Receipt, Seat, Shared, Sharing};
 use std::sync::Wait;
 
@@ -29,17 +30,17 @@ impl<'a, N: Sharing, R: Wait + Drop> Seated<'a, N, R> {
 }
 
 impl<N: Sharing, R: Wait + Drop> Callee for Seated<'_, N, R> {
-    fn answer(&mut self, call: Call) -> Result<Reply, OutOfMemory> {
+    fn answer(&mut self, call: Call) -> Result<Told, BenchError> {
         let Seated { rt, shared, seat } = self;
-        Ok(reply_of(shared.call(*rt, seat, call)?))
+        Ok(told_by(shared.call(*rt, seat, call)?))
     }
 
-    fn answer_waiting(&mut self, call: Call) -> Result<Reply, OutOfMemory> {
+    fn answer_waiting(&mut self, call: Call) -> Result<Told, BenchError> {
         let Seated { rt, shared, seat } = self;
-        Ok(reply_of(shared.call_waiting(*rt, seat, call, PATIENCE)?))
+        Ok(told_by(shared.call_waiting(*rt, seat, call, PATIENCE)?))
     }
 }
 
-fn reply_of(receipt: Receipt) -> Reply {
-    receipt.reply
+fn told_by(receipt: Receipt) -> Told {
+    Told::by(receipt.reply)
 }

@@ -19,7 +19,7 @@ use crate::work::Work;
 use crate::working::with_records;
 use argus_board::Keeper;
 use argus_guardian::Guardian;
-use argus_memory::{Heap, OutOfMemory};
+use argus_memory::Heap;
 use argus_sharing::{Parts, Seat, Shared, Sharing};
 use std::marker::Brand;
 use std::rt::Clock;
@@ -74,8 +74,10 @@ fn time_shared<N: Sharing + Send + Sync, R: Threads + Wait + Clock + Copy + Drop
     requires first { N.first ≡ bases_told guardian }
 {
     let (seats, lookers) = (u32::from(seats), u32::from(lookers));
-    let parts = Shared::<N, R>::new(rt, heap, guardian, seats, lookers, blank, keeper);
-    time_parts(&rt, heap, parts.map_err(|_| OutOfMemory)?, work, turns)
+    match Shared::<N, R>::new(rt, heap, guardian, seats, lookers, blank, keeper) {
+        Ok(parts) => time_parts(&rt, heap, parts, work, turns),
+        Err(_) => Err(BenchError::OutOfMemory),
+    }
 }
 
 fn time_parts<N: Sharing + Send + Sync, R: Threads + Wait + Clock + Drop + Send + Sync>(

@@ -87,20 +87,16 @@ fn time_stores(
     turns: u32,
 ) -> Result<[Option<Figure>; 3], BenchError> {
     let mut draws = Draws::new();
-    let watch = Stopwatch::start(rt)?;
-    let a = client.begin_top()?;
-    store_numbers(client, &mut draws, a, o, 0, 1)?;
+    let (a, taken) = time_first_store(rt, client, &mut draws, o)?;
     let first = Figure {
         part: Part::First,
         count: 1,
-        taken: watch.taken(rt)?,
+        taken,
     };
-    let watch = Stopwatch::start(rt)?;
-    store_numbers(client, &mut draws, a, o, 1, turns)?;
     let next = Figure {
         part: Part::Next,
         count: turns.saturating_sub(1),
-        taken: watch.taken(rt)?,
+        taken: time_next_stores(rt, client, &mut draws, a, o, turns)?,
     };
     let commit = Figure {
         part: Part::Commit,
@@ -108,6 +104,32 @@ fn time_stores(
         taken: time_commit(rt, client, a)?,
     };
     Ok([Some(first), Some(next), Some(commit)])
+}
+
+// A topaction with its first store, and what both take.
+fn time_first_store(
+    rt: &impl Clock,
+    client: &mut Client<Guardian>,
+    draws: &mut Draws,
+    o: ObjId,
+) -> Result<(ActionId, Duration), BenchError> {
+    let watch = Stopwatch::start(rt)?;
+    let a = client.begin_top()?;
+    store_numbers(client, draws, a, o, 0, 1)?;
+    Ok((a, watch.taken(rt)?))
+}
+
+fn time_next_stores(
+    rt: &impl Clock,
+    client: &mut Client<Guardian>,
+    draws: &mut Draws,
+    a: ActionId,
+    o: ObjId,
+    turns: u32,
+) -> Result<Duration, BenchError> {
+    let watch = Stopwatch::start(rt)?;
+    store_numbers(client, draws, a, o, 1, turns)?;
+    watch.taken(rt)
 }
 
 fn time_commit(

@@ -110,14 +110,22 @@ pub(crate) fn replay_records(client: &Client<Guardian>, count: u16) -> Result<i6
 
 // The integer that the journal's writes leave in a record for good.
 fn replay(heap: Heap, guardian: &Guardian, o: ObjId) -> Result<i64, BenchError> {
-    let replayed = replay_base(heap, guardian.journal().journal(), o)?;
-    let Some(Content::Rec(values)) = replayed else {
-        return Err(BenchError::OtherReply);
-    };
-    match values.first() {
-        Some(Value::Int(number)) => Ok(*number),
-        Some(_) | None => Err(BenchError::OtherReply),
+    let left = replay_base(heap, guardian.journal().journal(), o)?;
+    match number_in(&left) {
+        Some(number) => Ok(number),
+        None => Err(BenchError::OtherReply),
     }
+}
+
+/// The integer of a record.
+pub(crate) fn number_in(content: &Option<Content>) -> Option<i64> {
+    let Some(Content::Rec(values)) = content else {
+        return None;
+    };
+    let Some(Value::Int(number)) = values.first() else {
+        return None;
+    };
+    Some(*number)
 }
 
 /// What the action sees in the array, each times its place.
