@@ -63,8 +63,8 @@ fn look_apart<N: Sharing + Send + Sync, R: Threads + Wait + Drop + Send + Sync>(
     lookers: Vec<Looker<N>, Heap>,
     is_over: &AtomicU64,
 ) -> Result<Looks, OutOfMemory> {
-    let lookers = seeded(heap, lookers)?;
-    let looked = look_all(rt, heap, lookers, is_over)?;
+    let seeds = AtomicU64::new(7);
+    let looked = look_all(rt, heap, lookers, &seeds, is_over)?;
     Ok(added_up(looked.as_slice()))
 }
 
@@ -76,37 +76,28 @@ fn added_up(looked: &[Looks]) -> Looks {
     looks
 }
 
-// Each looker with the seed of its numbers.
-fn seeded<N: Sharing>(
-    heap: Heap,
-    lookers: Vec<Looker<N>, Heap>,
-) -> Result<Vec<(u64, Looker<N>), Heap>, OutOfMemory> {
-    let mut seeded = Vec::new(heap);
-    let mut seed = 7u64;
-    for looker in lookers {
-        seeded.push((seed, looker))?;
-        seed = seed.wrapping_add(1);
-    }
-    Ok(seeded)
-}
-
 fn look_all<N: Sharing + Send + Sync, R: Threads + Wait + Drop + Send + Sync>(
     rt: &R,
     heap: Heap,
-    lookers: Vec<(u64, Looker<N>), Heap>,
+    lookers: Vec<Looker<N>, Heap>,
+    seeds: &AtomicU64,
     is_over: &AtomicU64,
 ) -> Result<Vec<Looks, Heap>, AllocError> {
-    map_vec(rt, lookers, &|seeded| look_until(rt, heap, seeded, is_over))
+    map_vec(
+        rt,
+        lookers,
+        &|looker| look_until(rt, heap, looker, seeds, is_over),
+    )
 }
 
 fn look_until<N: Sharing>(
     rt: &impl Wait,
     heap: Heap,
-    (seed, looker): (u64, Looker<N>),
+    mut looker: Looker<N>,
+    seeds: &AtomicU64,
     is_over: &AtomicU64,
 ) -> Looks {
-    let mut looker = looker;
-    let mut draws = Draws::seeded(seed);
+    let mut draws = Draws::seeded(seeds.fetch_add(1, Ordering::SeqCst));
     let mut looks = Looks::none();
     for _ in rt.forever() {
         looks = looks.and(look_often(heap, &mut looker, &mut draws));

@@ -29,6 +29,7 @@ mod working;
 
 use anyhow::Result;
 use argus_memory::Heap;
+use bench_error::BenchError;
 use outcome::Outcome;
 use shared_work::SharedWork;
 use std::env;
@@ -75,7 +76,7 @@ that of what the records hold; of busy and idle the looks that didn't show one n
 // The turns of the small runs.
 const SMALL: u32 = 20;
 
-const WORKS: [&str; 15] = [
+const WORKS: &[&str] = &[
     "flat",
     "nested",
     "commit:10",
@@ -98,14 +99,14 @@ fn run<R: Threads + Wait + Clock + Copy + Drop + Send + Sync>(
     heap: Heap,
     word: &str,
     turns: u32,
-) -> Result<Outcome> {
+) -> Result<Outcome, BenchError> {
     if word == "publishes" {
-        return Ok(publishing::run(rt, heap, turns)?);
+        return publishing::run(rt, heap, turns);
     }
     if let Ok(work) = word.parse::<SharedWork>() {
-        return Ok(sharing::run(rt, heap, work, turns)?);
+        return sharing::run(rt, heap, work, turns);
     }
-    Ok(timing::run(&rt, heap, word.parse::<Work>()?, turns)?)
+    timing::run(&rt, heap, word.parse::<Work>()?, turns)
 }
 
 fn tell<R: Print + Threads + Wait + Clock + Copy + Drop + Send + Sync>(

@@ -4,8 +4,8 @@ use argus_actions::ActionId;
 use argus_contents::{Answer, ObjId, Value};
 use argus_entries::Reply;
 
-/// What a reply says, as far as a run needs it. It is copied, where a reply would have to be dropped
-/// on each way out of who holds it.
+/// What a reply says, as far as a run needs it. It is copied, where a reply would have to be
+/// dropped on each way out of who holds it.
 ///
 /// ```text
 /// assert!(rt; matches!(Told::by(Reply::Answered(Answer::Done)), Told::Done));

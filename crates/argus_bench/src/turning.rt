@@ -51,17 +51,21 @@ pub(crate) fn turn_nested<K: Callee>(
     draws: &mut Draws,
     turn: u32,
 ) -> Result<(), BenchError> {
-    let first = i64::from(turn) * 4;
     let [top, upper, middle, lower] = four(draws);
     let a = client.begin_top()?;
-    client.set(a, top, first)?;
-    let child = set_below(client, a, upper, first + 1)?;
-    let grandchild = set_below(client, child, middle, first + 2)?;
-    let last = set_below(client, grandchild, lower, first + 3)?;
-    commit_and_retry(client, last, grandchild, lower, first + 103)?;
-    commit_and_retry(client, grandchild, child, middle, first + 102)?;
-    commit_and_retry(client, child, a, upper, first + 101)?;
+    client.set(a, top, number_at(turn, 0))?;
+    let child = set_below(client, a, upper, number_at(turn, 1))?;
+    let grandchild = set_below(client, child, middle, number_at(turn, 2))?;
+    let last = set_below(client, grandchild, lower, number_at(turn, 3))?;
+    commit_and_retry(client, last, grandchild, lower, number_at(turn, 103))?;
+    commit_and_retry(client, grandchild, child, middle, number_at(turn, 102))?;
+    commit_and_retry(client, child, a, upper, number_at(turn, 101))?;
     client.commit(a)
+}
+
+// The number that the turn sets at this place.
+fn number_at(turn: u32, place: u8) -> i64 {
+    i64::from(turn) * 4 + i64::from(place)
 }
 
 // A subaction that sets a record.
@@ -76,7 +80,7 @@ fn set_below<K: Callee>(
     Ok(a)
 }
 
-// Commits the subaction, after which a second one below the same parent sets the record, and aborts.
+// Commits the subaction, after which a second one below its parent sets the record, and aborts.
 fn commit_and_retry<K: Callee>(
     client: &mut Client<K>,
     a: ActionId,
