@@ -46,12 +46,31 @@ pub(crate) fn keep(heap: Heap, mix: Mix, count: u32, text: &str) -> Result<usize
     let mut receipts = Vec::new(heap);
     for number in 0..count {
         let entry = made(heap, mix, number, text)?;
-        if let Mix::Receipts = mix {
-            receipts.push(duplicate(heap, &entry)?)?;
-        }
-        journal.push(entry)?;
+        keep_both(heap, mix, entry, &mut journal, &mut receipts)?;
     }
     Ok(journal.len() + receipts.len())
+}
+
+// Who makes the lists makes few calls that may fail, since each exit has to drop both.
+fn keep_both(
+    heap: Heap,
+    mix: Mix,
+    entry: Entry,
+    journal: &mut Vec<Entry, Heap>,
+    receipts: &mut Vec<Entry, Heap>,
+) -> Result<(), OutOfMemory> {
+    if let Mix::Receipts = mix {
+        keep_duplicate(heap, &entry, receipts)?;
+    }
+    Ok(journal.push(entry)?)
+}
+
+fn keep_duplicate(
+    heap: Heap,
+    entry: &Entry,
+    receipts: &mut Vec<Entry, Heap>,
+) -> Result<(), OutOfMemory> {
+    Ok(receipts.push(duplicate(heap, entry)?)?)
 }
 
 fn made(heap: Heap, mix: Mix, number: u32, text: &str) -> Result<Entry, OutOfMemory> {
@@ -71,19 +90,27 @@ fn made(heap: Heap, mix: Mix, number: u32, text: &str) -> Result<Entry, OutOfMem
 }
 
 fn duplicate(heap: Heap, entry: &Entry) -> Result<Entry, OutOfMemory> {
-    let call = match &entry.call {
-        Call::Declare(shape) => Call::Declare(shape.duplicate(heap)?),
-        Call::Begin => Call::Begin,
-        Call::Commit(a) => Call::Commit(*a),
-        Call::Ask(a, o, query) => Call::Ask(*a, *o, *query),
-        Call::Alter(a, o, change) => Call::Alter(*a, *o, change.duplicate(heap)?),
-    };
-    let reply = match &entry.reply {
-        Reply::Begun(a) => Reply::Begun(*a),
-        Reply::Answered(answer) => Reply::Answered(duplicate_answer(heap, answer)?),
-        Reply::Refused(why) => Reply::Refused(*why),
-    };
+    let call = duplicate_call(heap, &entry.call)?;
+    let reply = duplicate_reply(heap, &entry.reply)?;
     Ok(Entry { call, reply })
+}
+
+fn duplicate_call(heap: Heap, call: &Call) -> Result<Call, OutOfMemory> {
+    match call {
+        Call::Declare(shape) => Ok(Call::Declare(shape.duplicate(heap)?)),
+        Call::Begin => Ok(Call::Begin),
+        Call::Commit(a) => Ok(Call::Commit(*a)),
+        Call::Ask(a, o, query) => Ok(Call::Ask(*a, *o, *query)),
+        Call::Alter(a, o, change) => Ok(Call::Alter(*a, *o, change.duplicate(heap)?)),
+    }
+}
+
+fn duplicate_reply(heap: Heap, reply: &Reply) -> Result<Reply, OutOfMemory> {
+    match reply {
+        Reply::Begun(a) => Ok(Reply::Begun(*a)),
+        Reply::Answered(answer) => Ok(Reply::Answered(duplicate_answer(heap, answer)?)),
+        Reply::Refused(why) => Ok(Reply::Refused(*why)),
+    }
 }
 
 fn duplicate_answer(heap: Heap, answer: &Answer) -> Result<Answer, OutOfMemory> {

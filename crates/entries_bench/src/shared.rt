@@ -52,12 +52,26 @@ pub(crate) fn keep(heap: Heap, mix: Mix, count: u32, text: &str) -> Result<usize
     let mut receipts = Vec::new(heap);
     for number in 0..count {
         let entry = made(heap, mix, number, text)?;
-        if let Mix::Receipts = mix {
-            receipts.push(duplicate(&entry)?)?;
-        }
-        journal.push(entry)?;
+        keep_both(mix, entry, &mut journal, &mut receipts)?;
     }
     Ok(journal.len() + receipts.len())
+}
+
+// Who makes the lists makes few calls that may fail, since each exit has to drop both.
+fn keep_both(
+    mix: Mix,
+    entry: Entry,
+    journal: &mut Vec<Entry, Heap>,
+    receipts: &mut Vec<Entry, Heap>,
+) -> Result<(), OutOfMemory> {
+    if let Mix::Receipts = mix {
+        keep_duplicate(&entry, receipts)?;
+    }
+    Ok(journal.push(entry)?)
+}
+
+fn keep_duplicate(entry: &Entry, receipts: &mut Vec<Entry, Heap>) -> Result<(), OutOfMemory> {
+    Ok(receipts.push(duplicate(entry)?)?)
 }
 
 fn made(heap: Heap, mix: Mix, number: u32, text: &str) -> Result<Entry, OutOfMemory> {
@@ -77,22 +91,30 @@ fn made(heap: Heap, mix: Mix, number: u32, text: &str) -> Result<Entry, OutOfMem
 }
 
 fn duplicate(entry: &Entry) -> Result<Entry, OutOfMemory> {
-    let call = match &entry.call {
-        Call::Declare(shape) => Call::Declare(Arc::try_clone(shape)?),
-        Call::Begin => Call::Begin,
-        Call::Commit(a) => Call::Commit(*a),
-        Call::Ask(a, o, query) => Call::Ask(*a, *o, *query),
-        Call::Alter(a, o, change) => Call::Alter(*a, *o, Arc::try_clone(change)?),
-    };
-    let reply = match &entry.reply {
-        Reply::Begun(a) => Reply::Begun(*a),
-        Reply::Done => Reply::Done,
-        Reply::Val(value) => Reply::Val(Arc::try_clone(value)?),
-        Reply::Num(number) => Reply::Num(*number),
-        Reply::Flag(truth) => Reply::Flag(*truth),
-        Reply::Body(content) => Reply::Body(Arc::try_clone(content)?),
-        Reply::Signal(signal) => Reply::Signal(*signal),
-        Reply::Refused(why) => Reply::Refused(*why),
-    };
+    let call = duplicate_call(&entry.call)?;
+    let reply = duplicate_reply(&entry.reply)?;
     Ok(Entry { call, reply })
+}
+
+fn duplicate_call(call: &Call) -> Result<Call, OutOfMemory> {
+    match call {
+        Call::Declare(shape) => Ok(Call::Declare(Arc::try_clone(shape)?)),
+        Call::Begin => Ok(Call::Begin),
+        Call::Commit(a) => Ok(Call::Commit(*a)),
+        Call::Ask(a, o, query) => Ok(Call::Ask(*a, *o, *query)),
+        Call::Alter(a, o, change) => Ok(Call::Alter(*a, *o, Arc::try_clone(change)?)),
+    }
+}
+
+fn duplicate_reply(reply: &Reply) -> Result<Reply, OutOfMemory> {
+    match reply {
+        Reply::Begun(a) => Ok(Reply::Begun(*a)),
+        Reply::Done => Ok(Reply::Done),
+        Reply::Val(value) => Ok(Reply::Val(Arc::try_clone(value)?)),
+        Reply::Num(number) => Ok(Reply::Num(*number)),
+        Reply::Flag(truth) => Ok(Reply::Flag(*truth)),
+        Reply::Body(content) => Ok(Reply::Body(Arc::try_clone(content)?)),
+        Reply::Signal(signal) => Ok(Reply::Signal(*signal)),
+        Reply::Refused(why) => Ok(Reply::Refused(*why)),
+    }
 }
