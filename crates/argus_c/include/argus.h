@@ -1,8 +1,8 @@
 /* A guardian of atomic objects under nested transactions, for programs in C and in whatever calls C.
  *
- * The functions argus_c_* are exported by libargus_c.a, which is proved; nothing compares the declarations below with
- * its source. They take no null pointer. The inline functions after them are what a C program calls: they answer
- * ARGUS_NULL to a null pointer, and give each answer as a status and a number.
+ * The functions argus_c_* are exported by libargus_c.a, which is proved; that the declarations below are those of its
+ * source isn't: hosts/declarations.py compares the texts. They take no null pointer. The inline functions after them
+ * are what a C program calls: they answer ARGUS_NULL to a null pointer, and give each answer as a status and a number.
  *
  *     argus_guardian bank = ARGUS_CLOSED;
  *     if (argus_open(&bank).status != ARGUS_DONE) return 1;

@@ -17,7 +17,7 @@ impl Handle {
     };
 }
 
-// Nothing compares these declarations with the archive's source.
+// `hosts/declarations.py` compares these with the archive's source.
 unsafe extern "C" {
     pub(crate) fn argus_c_open(handle: *mut Handle, beside: *mut Handle) -> u32;
     pub(crate) fn argus_c_close(handle: *mut Handle) -> u32;

@@ -1,0 +1,102 @@
+#!/usr/bin/env python3
+"""Compares what the archive exports with what argus.h, the Rust crate and the Python package declare.
+
+    hosts/declarations.py
+
+The calls are read from the source of argus_c: each has to be declared everywhere with the same
+parameters, in their order, and the same result. A number that has a name in argus.h has to be the
+same wherever that name stands. Each difference is told, and then the status is 1.
+"""
+
+import importlib.util
+import re
+import sys
+from pathlib import Path
+
+TOP = Path(__file__).resolve().parent.parent
+EXPORTS = TOP / "crates/argus_c/src/lib.rt"
+HEADER = TOP / "crates/argus_c/include/argus.h"
+RUST = TOP / "hosts/rust/src/sys.rs"
+PYTHON = TOP / "hosts/python/argus_guardian/library.py"
+
+# What each language calls a type of a parameter; a slice is an address and a size.
+IN_RATTLE = {
+    "Global": (), "&mut Slot": ("handle",), "&[u8]": ("bytes", "size"), "&mut [u8]": ("bytes", "size"),
+    "u32": ("u32",), "u64": ("u64",), "i64": ("i64",), "&mut i64": ("number",), "&mut usize": ("length",),
+}  # fmt: skip
+IN_C = {
+    "argus_guardian *": "handle", "const uint8_t *": "bytes", "uint8_t *": "bytes", "size_t": "size", "uint32_t": "u32",
+    "uint64_t": "u64", "int64_t": "i64", "int64_t *": "number", "size_t *": "length",
+}  # fmt: skip
+IN_RUST = {
+    "*mut Handle": "handle", "*const u8": "bytes", "*mut u8": "bytes", "usize": "size", "u32": "u32", "u64": "u64",
+    "i64": "i64", "*mut i64": "number", "*mut usize": "length",
+}  # fmt: skip
+IN_PYTHON = {
+    "handle": "handle", "ctypes.c_char_p": "bytes", "size": "size", "u32": "u32", "u64": "u64", "i64": "i64",
+    "number": "number", "ctypes.POINTER(size)": "length",
+}  # fmt: skip
+
+
+def parted(text):
+    """The parameters, without the comma at the end."""
+    return [it.strip() for it in text.split(",") if it.strip()]
+
+
+def exported(text):
+    found = re.findall(r'pub extern "C" fn (argus_c_\w+)\(([^)]*)\) -> (\w+)', text)
+    return {
+        name: ([part for it in parted(given) for part in IN_RATTLE[it.split(": ")[1]]], result)
+        for name, given, result in found
+    }
+
+
+def declared_in_c(text):
+    """A C parameter's type is all before its name."""
+    found = re.findall(r"^(\w+) (argus_c_\w+)\(([^)]*)\);", text, re.M)
+    return {
+        name: ([IN_C[re.sub(r"\w+$", "", it).strip()] for it in parted(given)], IN_C[result])
+        for result, name, given in found
+    }
+
+
+def declared_in_rust(text):
+    found = re.findall(r"fn (argus_c_\w+)\(([^)]*)\) -> (\w+);", text)
+    return {name: ([IN_RUST[it.split(": ")[1]] for it in parted(given)], result) for name, given, result in found}
+
+
+def declared_in_python(text):
+    found = re.findall(r'"(argus_c_\w+)": \((.*)\),\n', text)
+    return {name: ([IN_PYTHON[it] for it in parted(given)], "u32") for name, given in found}
+
+
+def numbers_in_rust(text):
+    return [(name, int(value)) for name, value in re.findall(r"const (\w+): u32 = (\d+);", text)]
+
+
+def numbers_in_python():
+    spec = importlib.util.spec_from_file_location("library", PYTHON)
+    library = importlib.util.module_from_spec(spec)
+    spec.loader.exec_module(library)
+    kinds = library.Status, library.Kind, library.Question
+    return [(name, value) for kind in kinds for name, value in vars(kind).items() if name.isupper()]
+
+
+def main():
+    exports, header = EXPORTS.read_text(encoding="utf-8"), HEADER.read_text(encoding="utf-8")
+    rust, python = RUST.read_text(encoding="utf-8"), PYTHON.read_text(encoding="utf-8")
+    wanted, failed = exported(exports), []
+    declared = {HEADER: declared_in_c(header), RUST: declared_in_rust(rust), PYTHON: declared_in_python(python)}
+    for file, calls in declared.items():
+        for name in sorted({*wanted, *calls}):
+            if wanted.get(name) != calls.get(name):
+                failed.append(f"{file}: {name} is {calls.get(name)}, and exported as {wanted.get(name)}")
+    named = {name: int(value) for name, value in re.findall(r"ARGUS_(\w+) = (\d+)", header)}
+    told = {EXPORTS: numbers_in_rust(exports), RUST: numbers_in_rust(rust), PYTHON: numbers_in_python()}
+    for file, numbers in told.items():
+        failed += [f"{file}: {name} is {it}, not {named.get(name)}" for name, it in numbers if named.get(name) != it]
+    print(*failed, f"{len(wanted)} calls, {sum(map(len, told.values()))} numbers", sep="\n")
+    return 1 if failed or not wanted or not all(told.values()) else 0
+
+
+sys.exit(main())
