@@ -1,5 +1,6 @@
 //! `Difference`: what is another than the definitions say.
 
+use argus_cli::CliFault;
 use argus_commands::ParseError;
 use argus_memory::OutOfMemory;
 use argus_runs::RunFault;
@@ -33,6 +34,8 @@ pub(crate) enum Difference {
     Script,
     /// The lines of a run.
     Lines,
+    /// What workers did isn't a run of the script.
+    Workers,
 }
 
 impl Difference {
@@ -53,6 +56,7 @@ impl Difference {
             Difference::Memory => "memory",
             Difference::Script => "another script",
             Difference::Lines => "other lines",
+            Difference::Workers => "no run of the script",
         }
     }
 }
@@ -95,5 +99,11 @@ impl From<ParseError> for Difference {
 impl From<RunFault> for Difference {
     fn from(_fault: RunFault) -> Difference {
         Difference::Lines
+    }
+}
+
+impl From<CliFault> for Difference {
+    fn from(_fault: CliFault) -> Difference {
+        Difference::Workers
     }
 }

@@ -19,6 +19,7 @@ mod line;
 mod script_trial;
 mod sequence;
 mod story;
+mod team_trial;
 mod told;
 
 use anyhow::{Result, ensure};
@@ -27,7 +28,10 @@ use difference::Difference;
 use script_trial::run_script;
 use sequence::Sequence;
 use std::io::Print;
+use std::sync::Wait;
+use std::thread::Threads;
 use std::{env, io};
+use team_trial::run_by_team;
 
 // How many are tried where nothing else is said.
 const SEQUENCES: u64 = 500;
@@ -50,6 +54,22 @@ struct Numbers {
     seed: u64,
 }
 
+// Who runs a script.
+#[derive(Clone, Copy)]
+enum Runner {
+    One,
+    Workers,
+}
+
+impl Runner {
+    fn as_str(self) -> &'static str {
+        match self {
+            Runner::One => "script",
+            Runner::Workers => "script by workers",
+        }
+    }
+}
+
 fn main(rt: HostRuntime) -> Result<()> {
     let Numbers {
         sequences,
@@ -64,9 +84,14 @@ fn main(rt: HostRuntime) -> Result<()> {
     };
     let calls = try_sequences(&rt, heaps, sequences, seed)?;
     println!(rt; "call sequences: {sequences}, {calls} with a difference")?;
-    let runs = try_scripts(&rt, heaps, scripts, seed)?;
+    let runs = try_scripts(&rt, heaps, Runner::One, scripts, seed)?;
     println!(rt; "scripts: {scripts}, {runs} with a difference")?;
-    ensure!(calls == 0 && runs == 0, "there are differences");
+    let shared = try_scripts(&rt, heaps, Runner::Workers, scripts, seed)?;
+    println!(rt; "scripts by workers: {scripts}, {shared} with a difference")?;
+    ensure!(
+        calls == 0 && runs == 0 && shared == 0,
+        "there are differences"
+    );
     Ok(())
 }
 
@@ -114,14 +139,41 @@ fn difference_in(heaps: Heaps, seed: u64) -> Option<(u32, Difference)> {
 }
 
 // Tries so many, and tells each that shows a difference. Answers how many do.
-fn try_scripts(rt: &impl Print, heaps: Heaps, count: u64, first: u64) -> io::Result<u64> {
+fn try_scripts<R: Threads + Wait + Print + Copy + Drop + Send + Sync>(
+    rt: &R,
+    heaps: Heaps,
+    runner: Runner,
+    count: u64,
+    first: u64,
+) -> io::Result<u64> {
     let mut wrong = 0u64;
     for number in 0..count {
         let seed = first.wrapping_add(number);
-        if let Err(difference) = run_script(heaps.heap, heaps.tight, heaps.budget, seed) {
+        if let Err(difference) = try_script(rt, heaps, runner, seed) {
             wrong = wrong.saturating_add(1);
-            println!(rt; "script with seed {seed}: {}", difference.as_str())?;
+            println!(rt;
+                "{} with seed {seed}: {}",
+                runner.as_str(),
+                difference.as_str()
+            )?;
         }
     }
     Ok(wrong)
+}
+
+fn try_script<R: Threads + Wait + Copy + Drop + Send + Sync>(
+    rt: &R,
+    heaps: Heaps,
+    runner: Runner,
+    seed: u64,
+) -> Result<(), Difference> {
+    let Heaps {
+        heap,
+        tight,
+        budget,
+    } = heaps;
+    match runner {
+        Runner::One => run_script(heap, tight, budget, seed),
+        Runner::Workers => run_by_team(rt, heap, tight, budget, seed),
+    }
 }

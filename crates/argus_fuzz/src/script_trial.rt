@@ -72,7 +72,12 @@ fn compare_calls(
     compare_lines(heap, written, wanted)
 }
 
-fn compare_lines(heap: Heap, written: &[u8], wanted: &Journal) -> Result<(), Difference> {
+/// These are the lines of the journal's entries.
+pub(crate) fn compare_lines(
+    heap: Heap,
+    written: &[u8],
+    wanted: &Journal,
+) -> Result<(), Difference> {
     let told = told_lines(heap, wanted)?;
     must(written == told.as_bytes(), Difference::Lines)
 }

@@ -1,8 +1,7 @@
 //! The arms of an outermost coenter, handed out to workers.
 
-ghost use Rattle.std.specs.Prelude.{length, ◌≡◌};
-
 use crate::arm_running::run_arm;
+use crate::crew::{Crew, do_all};
 use crate::gate::Gate;
 use crate::team::Team;
 use crate::worker::Worker;
@@ -16,7 +15,6 @@ use argus_runs::{Caller, Stopped};
 use argus_sharing::{Seat, Shared, Sharing};
 use std::alloc::AllocError;
 use std::sync::Wait;
-use std::thread;
 use std::thread::Threads;
 
 /// The receipts of one arm, or that it was stopped.
@@ -27,7 +25,7 @@ type Left = Result<Vec<Receipt, Heap>, Stopped>;
 struct Job<'a, N: Sharing> {
     number: usize,
     seat: &'a mut Seat<N>,
-    left: Vec<Left, Heap>,
+    left: &'a mut Vec<Left, Heap>,
 }
 
 // What all workers are given: what the team has in common, the arms' steps, the actions that were
@@ -46,7 +44,8 @@ struct Handed<'a, N: Sharing, R: Wait + Drop, G: Gate> {
 }
 
 /// Has the arms run by the seats' workers, and gives their receipts, arm after arm. Arm k is run by
-/// worker k mod workers, each worker's arms in order.
+/// worker k mod workers, each worker's arms in order. The arms of a worker for which no thread can
+/// be made are stopped.
 pub(crate) fn hand_out<
     N: Sharing + Send + Sync,
     R: Threads + Wait + Drop + Send + Sync,
@@ -69,56 +68,98 @@ pub(crate) fn hand_out<
         numbers,
         workers: seats.len(),
     };
-    let jobs = jobs_for(team.heap, seats, arms.len())?;
-    let left = run_all(&handed, jobs)?;
+    let mut left = rooms_for(team.heap, seats.len(), arms.len())?;
+    run_all(&handed, seats, left.as_mut_slice())?;
+    abort_unrun(&handed, seats, left.as_slice());
     gathered(team.heap, left, arms.len())
 }
 
-// Runs each worker's arms on a thread of its own where one can be made, else one after another.
+// For each worker, room for what each of its arms leaves.
+fn rooms_for(
+    heap: Heap,
+    workers: usize,
+    arms: usize,
+) -> Result<Vec<Vec<Left, Heap>, Heap>, AllocError> {
+    let mut rooms = Vec::with_capacity(heap, workers)?;
+    for _ in 0..workers {
+        rooms.push(Vec::with_capacity(heap, arms)?)?;
+    }
+    Ok(rooms)
+}
+
+// Runs each worker's arms on a thread of its own. What is left of the arms of a worker for which no
+// thread can be made stays empty.
 fn run_all<N: Sharing + Send + Sync, R: Threads + Wait + Drop + Send + Sync, G: Gate + Sync>(
     handed: &Handed<N, R, G>,
-    jobs: Vec<Job<N>, Heap>,
-) -> Result<Vec<Vec<Left, Heap>, Heap>, AllocError> {
-    thread::map_vec(
-        handed.rt,
-        jobs,
-        &move |job: Job<N>| -> Vec<Left, Heap> { work(handed, job) },
-    )
-}
-
-fn jobs_for<'a, N: Sharing>(
-    heap: Heap,
-    seats: &'a mut [Seat<N>],
-    arms: usize,
-) -> Result<Vec<Job<'a, N>, Heap>, Stopped> {
-    let mut jobs = Vec::new(heap);
-    let all = seats.iter_mut();
-    for (number, seat) in all.enumerate() {
-        let left = Vec::with_capacity(heap, arms)?;
+    seats: &mut [Seat<N>],
+    left: &mut [Vec<Left, Heap>],
+) -> Result<(), AllocError> {
+    let mut jobs = Vec::with_capacity(handed.heap, left.len())?;
+    for (number, (seat, left)) in seats.iter_mut().zip(left.iter_mut()).enumerate() {
         jobs.push(Job { number, seat, left })?;
     }
-    Ok(jobs)
+    do_all(handed.rt, handed, jobs);
+    Ok(())
 }
 
-// Runs one worker's arms, and tells what each left.
-fn work<N: Sharing, R: Wait + Drop, G: Gate>(
-    handed: &Handed<N, R, G>,
-    job: Job<N>,
-) -> Vec<Left, Heap> {
-    let Job {
-        number,
-        seat,
-        mut left,
-    } = job;
-    for (k, (arm, action)) in handed.arms.iter().zip(handed.begun).enumerate() {
-        if handed.workers > 0 && k % handed.workers == number {
-            let done = run_one(handed, seat, arm, *action, k);
-            if left.push(done).is_err() {
-                return left;
+impl<'a, N: Sharing, R: Wait + Drop, G: Gate> Crew<Job<'a, N>> for Handed<'_, N, R, G> {
+    // Runs one worker's arms, and notes what each left.
+    fn work(&self, job: Job<'a, N>) {
+        let Job { number, seat, left } = job;
+        for (k, (arm, action)) in self.arms.iter().zip(self.begun).enumerate() {
+            if self.workers > 0 && k % self.workers == number {
+                let done = run_one(self, seat, arm, *action, k);
+                if left.push(done).is_err() {
+                    return;
+                }
             }
         }
     }
-    left
+}
+
+// Aborts the actions of the arms that no worker ran, since others may wait for what they hold up.
+fn abort_unrun<N: Sharing, R: Wait + Drop, G: Gate>(
+    handed: &Handed<N, R, G>,
+    seats: &mut [Seat<N>],
+    left: &[Vec<Left, Heap>],
+) {
+    for (number, (seat, left)) in seats.iter_mut().zip(left).enumerate() {
+        if left.is_empty() {
+            abort_arms(handed, seat, number);
+        }
+    }
+}
+
+// Aborts the actions of one worker's arms.
+fn abort_arms<N: Sharing, R: Wait + Drop, G: Gate>(
+    handed: &Handed<N, R, G>,
+    seat: &mut Seat<N>,
+    number: usize,
+) {
+    let mut worker = worker_at(handed, seat);
+    for (k, action) in handed.begun.iter().enumerate() {
+        if let Some(action) = *action
+            && handed.workers > 0
+            && k % handed.workers == number
+        {
+            // Where memory is wanting for this, too, the action stays as it is.
+            let _ = worker.call(Call::Abort(action));
+        }
+    }
+}
+
+fn worker_at<'b, N: Sharing, R: Wait + Drop, G: Gate>(
+    handed: &'b Handed<'_, N, R, G>,
+    seat: &'b mut Seat<N>,
+) -> Worker<'b, N, R> {
+    Worker {
+        rt: handed.rt,
+        heap: handed.heap,
+        shared: handed.shared,
+        patience: handed.patience,
+        seat,
+        receipts: Vec::new(handed.heap),
+    }
 }
 
 // The receipts of an arm, if it was begun.
@@ -130,14 +171,7 @@ fn run_one<N: Sharing, R: Wait + Drop, G: Gate>(
     k: usize,
 ) -> Left {
     let heap = handed.heap;
-    let mut worker = Worker {
-        rt: handed.rt,
-        heap,
-        shared: handed.shared,
-        patience: handed.patience,
-        seat,
-        receipts: Vec::new(heap),
-    };
+    let mut worker = worker_at(handed, seat);
     if let (Step::Block(Opening::Arm(_), body), Some(action), Ok(arm)) = (
         arm,
         action,

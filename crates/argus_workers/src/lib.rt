@@ -2,6 +2,7 @@
 #![tactic(auto)]
 
 mod arm_running;
+mod crew;
 mod gate;
 mod handing_out;
 mod no_gate;

@@ -20,7 +20,7 @@ use argus_shown::shown;
 use std::sync::Wait;
 use std::thread::Threads;
 
-/// Runs a script by workers, each on a thread of its own where one can be made. Seat 0 makes the
+/// Runs a script by workers, each on a thread of its own. Seat 0 makes the
 /// calls outside outermost coenters and begins their arms; arm k of an outermost coenter is run by
 /// worker k mod workers, with the seat behind its number, each worker's arms in order. A coenter
 /// inside an arm is run by that arm's worker. Accesses wait for their locks, for at most `patience`
@@ -37,7 +37,7 @@ use std::thread::Threads;
 ///
 /// Want of memory for seat 0 is answered at once; in an arm it stops that arm, whose action is then
 /// aborted if memory is left for that, and the others go on to their end. What each seat did is
-/// told by its `made`. Where no thread can be made for a worker, another worker's thread runs its
+/// told by its `made`. A worker for which no thread can be made counts as memory refused in its
 /// arms.
 ///
 /// `RunFault::Write` never comes. There is one seat more than workers, and at least one worker. It

@@ -4,11 +4,8 @@ use Rattle.argus_sharing.proofs.Crossing.{crosses}
 use Rattle.argus_workers.proofs.Crossing.{all_left_sends, handed_syncs}
 use Rattle.argus_workers.proofs.handing_out.run_all.Goals as goal
 
-pub map_vec-requires-send-J : goal.map_vec-requires-send-J
-map_vec-requires-send-J g c κs within = search (sendable, crosses, all_left_sends) depth 40
+pub do_all-requires-send-J : goal.do_all-requires-send-J
+do_all-requires-send-J g c κs within = search (sendable, crosses, all_left_sends) depth 40
 
-pub map_vec-requires-send-X : goal.map_vec-requires-send-X
-map_vec-requires-send-X g c κs within = search (sendable, all_left_sends) depth 40
-
-pub map_vec-requires-sync-F : goal.map_vec-requires-sync-F
-map_vec-requires-sync-F g c κs within = search (sendable, handed_syncs) depth 40
+pub do_all-requires-sync-C : goal.do_all-requires-sync-C
+do_all-requires-sync-C g c κs within = search (sendable, handed_syncs) depth 40
