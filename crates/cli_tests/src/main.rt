@@ -7,7 +7,6 @@ ghost use Rattle.argus_cli.specs.Ranges.{KeepsRanges};
 ghost use Rattle.argus_streams.specs.Watched.{has_failed};
 
 mod command_lines;
-mod failing;
 mod heaps;
 mod row;
 mod trial;

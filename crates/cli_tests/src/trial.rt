@@ -4,7 +4,6 @@ ghost use Rattle.std.specs.Prelude.{◌≡◌, false};
 ghost use Rattle.argus_cli.specs.Ranges.{KeepsRanges};
 ghost use Rattle.argus_streams.specs.Watched.{has_failed};
 
-use crate::failing::Failing;
 use crate::heaps::Heaps;
 use crate::row::Row;
 use anyhow::{Result, ensure};
@@ -14,7 +13,7 @@ use argus_streams::Watched;
 use std::alloc::Global;
 use std::sync::Wait;
 use std::thread::Threads;
-use test_rows::Full;
+use test_rows::{Failing, Full};
 
 // More allocations, and more reads, than any run here makes.
 const MANY: u64 = 5_000;

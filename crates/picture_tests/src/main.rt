@@ -1,12 +1,15 @@
 //! Listings by rows: whether a picture is drawn of each, or which line is faulty; then each
-//! allocation is refused in turn.
+//! allocation, each read and each write fails in turn.
 #![tactic(auto)]
+
+mod streams;
 
 use anyhow::{Result, bail, ensure};
 use argus_memory::{Budget, Heap, Limited};
 use argus_picture::{DrawError, PictureError, picture};
 use std::alloc::Global;
 use std::fs;
+use streams::check_draw;
 
 // More allocations than a picture of any row takes.
 const MANY: u64 = 10_000;
@@ -19,6 +22,7 @@ fn main(rt: HostRuntime) -> Result<()> {
             let listing = listing_of(rt.alloc(), row)?;
             check_row(rt.alloc(), listing.as_str(), wanted)?;
             check_memory(rt.alloc(), listing.as_bytes())?;
+            check_draw(rt.alloc(), listing.as_bytes())?;
             rows = rows.saturating_add(1);
         }
     }

@@ -4,6 +4,7 @@
 mod block;
 mod call_reading;
 mod counting;
+mod failing;
 mod full;
 mod operation_reading;
 mod reading;
@@ -19,6 +20,7 @@ mod tight_answer;
 pub use block::{Block, block_of};
 pub use call_reading::call_of;
 pub use counting::{Counted, counted_of};
+pub use failing::Failing;
 pub use full::Full;
 pub use operation_reading::{change_of, query_of};
 pub use reading::{action, first_word, object, pair, part, place};

@@ -3,13 +3,17 @@
 use std::io;
 use std::io::{ErrorKind, Read};
 
-// Gives seven bytes a read at most, and fails once so many reads were made. It counts the reads
-// behind that.
+/// Gives seven bytes a read at most, and fails once so many reads were made. It counts the reads
+/// behind that.
+///
+/// ```text
+/// let mut reader = Failing { rest: text.as_bytes(), reads_left: 3, reads_behind: 0 };
+/// ```
 #[derive(Drop)]
-pub(crate) struct Failing<'a> {
-    pub(crate) rest: &'a [u8],
-    pub(crate) reads_left: u64,
-    pub(crate) reads_behind: u64,
+pub struct Failing<'a> {
+    pub rest: &'a [u8],
+    pub reads_left: u64,
+    pub reads_behind: u64,
 }
 
 impl Read for Failing<'_> {
