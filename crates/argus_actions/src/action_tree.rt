@@ -1,7 +1,7 @@
 //! `ActionTree`: the actions that were begun.
 
-ghost use Rattle.std.specs.Prelude.{◌≡◌, ℕ, ◌<◌, ◌≤◌, ◌+◌, ◌-◌, true, [], ◌∷◌, None, Some, OnOk};
-ghost use Rattle.std.specs.Prelude.{OnErr, IfOk, MatchOption};
+ghost use Rattle.std.specs.Prelude.{◌≡◌, ℕ, ◌<◌, ◌≤◌, ◌+◌, ◌-◌, true, [], None, Some, OnOk};
+ghost use Rattle.std.specs.Prelude.{OnErr, IfOk};
 ghost use Rattle.std.specs.Option.{option_and_then};
 ghost use Rattle.std.specs.Result.{result_err};
 ghost use Rattle.argus_actions.specs.declared.origin.Origin.TheVariants.{Top, Sub, Nested};
@@ -259,75 +259,6 @@ impl ActionTree {
         let _ = self.nodes.len();
     }
 
-    /// Why a topaction can't be begun now: `TooMany`. Want of memory is not foreseen.
-    pub fn begin_top_refusal(&self) -> Option<ActionRefusal>
-        ensures { result ≡ begin_top_refusal self.now }
-    {
-        if self.len() < MAX_ACTIONS {
-            None
-        } else {
-            Some(ActionRefusal::TooMany)
-        }
-    }
-
-    /// Why a subaction of this parent can't be begun now: `NoAction`, `Over`, `TooDeep` or
-    /// `TooMany`.
-    pub fn begin_sub_refusal(&self, parent: ActionId) -> Option<ActionRefusal>
-        ensures { result ≡ begin_sub_refusal self.now parent.0 }
-    {
-        if let Some(refusal) = self.abort_refusal(parent) {
-            return Some(refusal);
-        }
-        match self.depth(parent) {
-            Some(depth) if depth >= MAX_ACTION_DEPTH => Some(ActionRefusal::TooDeep),
-            Some(_) | None => self.begin_top_refusal(),
-        }
-    }
-
-    /// Why a nested topaction of this creator can't be begun now: `NoAction`, `Over` or `TooMany`.
-    pub fn begin_nested_refusal(&self, creator: ActionId) -> Option<ActionRefusal>
-        ensures { result ≡ begin_nested_refusal self.now creator.0 }
-    {
-        match self.abort_refusal(creator) {
-            None => self.begin_top_refusal(),
-            refusal => refusal,
-        }
-    }
-
-    /// Why the action can't commit now: `NoAction`, `Over` or `ChildrenLive`.
-    pub fn commit_refusal(&self, a: ActionId) -> Option<ActionRefusal>
-        ensures { result ≡ commit_refusal self.now a.0 }
-    {
-        match self.abort_refusal(a) {
-            None if self.has_live_child(a) => Some(ActionRefusal::ChildrenLive),
-            refusal => refusal,
-        }
-    }
-
-    /// Why the action can't be aborted now: `NoAction` or `Over`.
-    pub fn abort_refusal(&self, a: ActionId) -> Option<ActionRefusal>
-        ensures { result ≡ abort_refusal self.now a.0 }
-    {
-        match self.status(a) {
-            None => Some(ActionRefusal::NoAction),
-            Some(Status::Live) => None,
-            Some(Status::Committed | Status::Aborted | Status::Folded) => {
-                Some(ActionRefusal::Over)
-            },
-        }
-    }
-
-    /// Why the action can't end its siblings now: `NoAction`, `Over`, `ChildrenLive` or
-    /// `NoSiblings`.
-    pub fn abort_others_refusal(&self, a: ActionId) -> Option<ActionRefusal>
-        ensures { result ≡ abort_others_refusal self.now a.0 }
-    {
-        match self.commit_refusal(a) {
-            None if self.under(a).is_none() => Some(ActionRefusal::NoSiblings),
-            refusal => refusal,
-        }
-    }
-
     /// Makes room for one more action, so that the next begin can't want memory.
     ///
     /// `OutOfMemory` comes where a growth is refused; the tree is then as before.
@@ -514,8 +445,8 @@ impl ActionTree {
         }
     }
 
-    // The parent or creator of an action.
-    fn under(&self, a: ActionId) -> Option<u32>
+    /// The parent or creator of an action.
+    pub(crate) fn under(&self, a: ActionId) -> Option<u32>
         ensures { result ≡ under_at self.now.folded self.now.rows a.0 }
     {
         self.node(a)?.origin.under()

@@ -12,6 +12,7 @@ mod action_refusal;
 mod action_tree;
 mod node;
 mod origin;
+mod refusing;
 mod status;
 mod walk;
 

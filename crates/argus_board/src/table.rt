@@ -1,6 +1,5 @@
 //! `Table`: the contents that lookers see.
 
-ghost use Rattle.std.specs.Prelude.{◌≡◌};
 ghost use Rattle.argus_board.specs.Published.{absorbed, table_state};
 
 use crate::change::Change;

@@ -1,6 +1,6 @@
 //! `run`: from the bytes of a script to the listing of the guardian on which it was run.
 
-ghost use Rattle.std.specs.Prelude.{◌≡◌, ◌+◌, ◌<◌, false, true, IfErr, IfOk, OnOk};
+ghost use Rattle.std.specs.Prelude.{◌≡◌, ◌+◌, ◌<◌, false, IfErr, IfOk, OnOk};
 ghost use Rattle.argus_commands.specs.Script.{plain_script};
 ghost use Rattle.argus_commands.specs.declared.limits.TheConstants.{MAX_SCRIPT_BYTES};
 ghost use Rattle.argus_cli.specs.ByWorkers.{IsLeftByWorkers};

@@ -1,6 +1,6 @@
 //! The operation of an access, read from its words.
 
-ghost use Rattle.std.specs.Prelude.{◌≡◌, ℕ, ℤ, List, if◌then◌else◌, Some, None};
+ghost use Rattle.std.specs.Prelude.{◌≡◌, ℕ, ℤ, List, Some, None};
 ghost use Rattle.std.specs.Option.{option_map};
 ghost use Rattle.argus_contents.specs.Name.{is_name};
 ghost use Rattle.argus_commands.specs.Command.{alone, any_operation, array_operation};

@@ -1,45 +1,32 @@
 //! `Reading`: a script that is being read, line by line.
 
-ghost use Rattle.std.specs.Prelude.{◌≡◌, true, false, ◌+◌, ◌<◌, [], ◌∷◌, ◌++◌, drop, length, map};
-ghost use Rattle.std.specs.Prelude.{IfErr, IfOk, OnOk};
-ghost use Rattle.argus_contents.specs.Name.{is_name};
-ghost use Rattle.argus_contents.specs.declared.limits.TheConstants.{MAX_OBJECTS};
-ghost use Rattle.argus_texts.specs.ShapeSpelling.{IsMakeable, IsShapeText, shape_spelling};
+ghost use Rattle.std.specs.Prelude.{◌≡◌, true, false, ◌+◌, ◌<◌, [], ◌∷◌, ◌++◌, drop};
+ghost use Rattle.std.specs.Prelude.{IfErr, OnOk};
 ghost use Rattle.argus_commands.specs.declared.line_error.LineError.TheVariants as LineError;
 ghost use Rattle.argus_commands.specs.declared.limits.TheConstants.{MAX_OPEN_BLOCKS};
 ghost use Rattle.argus_commands.specs.declared.opening.Opening.TheVariants as Opening;
 ghost use Rattle.argus_commands.specs.Levels.{behind_arm, depth_of, is_arm, place_of, with_arm};
-ghost use Rattle.argus_commands.specs.Levels.{levels_after, may_follow, with_block};
-ghost use Rattle.argus_commands.specs.Objects.{AllMakeable, no_objects};
-ghost use Rattle.argus_commands.specs.Command as command;
-ghost use Rattle.argus_commands.specs.Fault.{HasWordFault, WordsAreFine};
-ghost use Rattle.argus_commands.specs.Numbered.{numbered, one_or_none};
+ghost use Rattle.argus_commands.specs.Levels.{may_follow, with_block};
+ghost use Rattle.argus_commands.specs.Objects.{no_objects};
 ghost use Rattle.argus_commands.specs.Part.{plain_step};
 ghost use Rattle.argus_commands.specs.Reading.{IsSound, closing_at, is_arm_line, levels_of};
-ghost use Rattle.argus_commands.specs.Reading.{OnKind, StandsInAction, lines_so_far};
-ghost use Rattle.argus_commands.specs.Said.{said, said_operation};
+ghost use Rattle.argus_commands.specs.Reading.{lines_so_far};
+ghost use Rattle.argus_commands.specs.Said.{said};
 ghost use Rattle.argus_commands.specs.Spelled.{begin, lines_of_part};
 ghost use Rattle.argus_commands.specs.Spelled as sentence;
 ghost use Rattle.argus_commands.specs.Stands.{Stands, in_arm, is_coenter, is_top, may_begin};
 ghost use Rattle.argus_commands.specs.Stands.{is_body, place_in, takes_arm};
 
 use crate::action_kind::ActionKind;
-use crate::fault_kind::FaultKind;
 use crate::level::Level;
 use crate::line::Line;
 use crate::line_error::LineError;
-use crate::lock::Lock;
-use crate::numbering::number_in;
 use crate::objects::Objects;
 use crate::open_block::OpenBlock;
 use crate::opening::Opening;
-use crate::operation::Operation;
 use crate::place::Place;
 use crate::step::Step;
-use crate::step_making::access_step;
-use argus_contents::{Name, NameError, Shape};
 use argus_memory::{Heap, OutOfMemory};
-use argus_texts::read_shape;
 use std::mem;
 
 /// A script that is being read: its objects so far, what is open, and the steps in the innermost.

@@ -1,11 +1,11 @@
 //! `ask`: what a query answers.
 
-ghost use Rattle.std.specs.Prelude.{◌≡◌, ◌≤◌, ℕ, ℤ, pos, length, slice_get, Option, Some, None};
-ghost use Rattle.std.specs.Prelude.{IfOk, MatchOption};
+ghost use Rattle.std.specs.Prelude.{◌≡◌, length, slice_get, Option, Some, None};
+ghost use Rattle.std.specs.Prelude.{IfOk};
 ghost use Rattle.argus_contents.specs.Answer.{body, plain_answer, value_or};
-ghost use Rattle.argus_contents.specs.Content.{KeepsBounds, KeepsLimits, plain_content};
-ghost use Rattle.argus_contents.specs.Content.{plain_option, arr, rec};
-ghost use Rattle.argus_contents.specs.Place.{place_of, high_of};
+ghost use Rattle.argus_contents.specs.Content.{KeepsBounds, KeepsLimits};
+ghost use Rattle.argus_contents.specs.Content.{plain_option, arr};
+ghost use Rattle.argus_contents.specs.Place.{place_of};
 ghost use Rattle.argus_contents.specs.Query.{array_reply, record_reply, reply, variant_reply};
 ghost use Rattle.argus_contents.specs.Value.{plain_value, plain_list, plain_found};
 

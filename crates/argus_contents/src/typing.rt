@@ -1,6 +1,6 @@
 //! `typed`, `fits`, `query_fits` and `change_fits`: what suits a type or a shape.
 
-ghost use Rattle.std.specs.Prelude.{◌≡◌, ◌↔◌, drop, length, Some, true};
+ghost use Rattle.std.specs.Prelude.{◌≡◌, ◌↔◌, drop, Some, true};
 ghost use Rattle.argus_contents.specs.Change.{CreatesWithin, plain_change};
 ghost use Rattle.argus_contents.specs.Content.{is_within, KeepsBounds, KeepsLimits, plain_content};
 ghost use Rattle.argus_contents.specs.Fitting.{change_suits, field_suits, has_field, has_number};

@@ -1,8 +1,7 @@
 //! An entry's line, and the listings, as texts.
 
-ghost use Rattle.std.specs.List.{range_with_len};
 ghost use Rattle.std.specs.Option.{option_map};
-ghost use Rattle.std.specs.Prelude.{◌≡◌, IfOk, map};
+ghost use Rattle.std.specs.Prelude.{◌≡◌, IfOk};
 ghost use Rattle.argus_embed.specs.Questions.{object_name, object_names};
 ghost use Rattle.argus_entries.specs.EntrySpelling.{entry_spelling};
 ghost use Rattle.argus_journal.specs.Journal.{entry_at};

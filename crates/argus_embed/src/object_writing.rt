@@ -2,7 +2,7 @@
 
 ghost use Rattle.std.specs.Fmt.{decimal};
 ghost use Rattle.std.specs.Option.{option_map};
-ghost use Rattle.std.specs.Prelude.{◌≡◌, ◌++◌, IfOk, OnOk, codes, map, string_bytes};
+ghost use Rattle.std.specs.Prelude.{◌≡◌, ◌++◌, IfOk, OnOk, map, string_bytes};
 ghost use Rattle.argus_contents.specs.Content.{plain_option};
 ghost use Rattle.argus_embed.specs.Questions.{action_line, action_lines, seen_line, seen_lines};
 ghost use Rattle.argus_guardian.specs.Telling.{version_told, where_declared};

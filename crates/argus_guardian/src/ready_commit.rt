@@ -1,7 +1,7 @@
 //! `ReadyCommit`: a guardian with a commit for which all is at hand.
 
 ghost use Rattle.std.specs.Option.{option_map, option_to_list};
-ghost use Rattle.std.specs.Prelude.{◌≡◌, IfErr, IfOk, map};
+ghost use Rattle.std.specs.Prelude.{◌≡◌, IfErr, IfOk};
 ghost use Rattle.argus_entries.specs.Call.{commit};
 ghost use Rattle.argus_entries.specs.Reply.{plain_reply};
 ghost use Rattle.argus_guardian.specs.Committing.{added_by_call};

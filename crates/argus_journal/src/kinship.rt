@@ -1,7 +1,7 @@
 //! Parents, creators and ancestors, as the entries tell: the entries from the newest to the begin
 //! of the topmost action that is asked for are gone through.
 
-ghost use Rattle.std.specs.Prelude.{◌≡◌, None, Option, Some, ℕ};
+ghost use Rattle.std.specs.Prelude.{◌≡◌, None, Option, Some};
 ghost use Rattle.argus_actions.specs.declared.action_id.ActionId.{ActionId};
 ghost use Rattle.argus_entries.specs.Call.{plain_call};
 ghost use Rattle.argus_entries.specs.Reply.{plain_reply};

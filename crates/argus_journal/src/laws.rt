@@ -1,8 +1,7 @@
 //! What holds of every legal journal, whatever its opening, in the program's numbers. Where the
 //! opening has to be sound or within the limits, the law says so: every `Journal` has such an
 //! opening.
-ghost use Rattle.std.specs.List.{list_all};
-ghost use Rattle.std.specs.Prelude.{◌≡◌, ◌<◌, ◌≤◌, ◌∷◌, ◌++◌, ◌||◌, ◌↔◌, List, Option, nat_lt};
+ghost use Rattle.std.specs.Prelude.{◌≡◌, ◌<◌, ◌≤◌, ◌∷◌, ◌++◌, ◌||◌, ◌↔◌, List, Option};
 ghost use Rattle.std.specs.Prelude.{reverse, true, ℕ};
 ghost use Rattle.argus_contents.specs.Content.{KeepsLimits, PlainContent};
 ghost use Rattle.argus_contents.specs.declared.limits.TheConstants.{MAX_ACTIONS, MAX_OBJECTS};

@@ -1,6 +1,6 @@
 //! `owner_of`: who answers for what an action did.
 
-ghost use Rattle.std.specs.Prelude.{◌≡◌, Some, false, if◌then◌else◌, ℕ};
+ghost use Rattle.std.specs.Prelude.{◌≡◌, Some, false, if◌then◌else◌};
 ghost use Rattle.argus_entries.specs.Call.{plain_call};
 ghost use Rattle.argus_entries.specs.Entry.{plain_entry};
 ghost use Rattle.argus_entries.specs.Reply.{plain_reply};

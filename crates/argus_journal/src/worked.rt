@@ -4,7 +4,7 @@ ghost use Rattle.std.specs.Prelude.{◌≡◌, true, false, Some, [], ◌∷◌,
 ghost use Rattle.argus_contents.specs.Answer.{body, done, flag, num, signal, val};
 ghost use Rattle.argus_contents.specs.Content.{arr, var};
 ghost use Rattle.argus_contents.specs.Value.{int, text};
-ghost use Rattle.argus_contents.specs.declared.query.Query.TheVariants.{Field, High};
+ghost use Rattle.argus_contents.specs.declared.query.Query.TheVariants.{Field};
 ghost use Rattle.argus_contents.specs.declared.signal.Signal.TheVariants.{Bounds, WrongTag};
 ghost use Rattle.argus_entries.specs.Call.{abort, alter, ask, begin_top, commit, test_read};
 ghost use Rattle.argus_entries.specs.Call.{test_write};

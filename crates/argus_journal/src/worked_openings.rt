@@ -1,6 +1,6 @@
 //! Journals worked out: the past of a journal is folded into an opening, and the journal goes on
 //! from there. Objects 0 and 1 are as in `worked`.
-ghost use Rattle.std.specs.Prelude.{◌≡◌, ◌∷◌, ◌++◌, [], None, Some, map, pos};
+ghost use Rattle.std.specs.Prelude.{◌≡◌, ◌∷◌, [], None, Some, map, pos};
 ghost use Rattle.argus_contents.specs.Answer.{done, val};
 ghost use Rattle.argus_contents.specs.Value.{int};
 ghost use Rattle.argus_entries.specs.Reply.{answered, begun, refused};

@@ -1,6 +1,6 @@
 //! Journals worked out: which refusal comes first where several apply, what a lone question and a
 //! lone test hold, and calls at the limits. Objects 0 and 1 are as in `worked`.
-ghost use Rattle.std.specs.Prelude.{◌≡◌, ◌-◌, ◌∷◌, ◌++◌, [], List, Some, length, pos, true, ℕ};
+ghost use Rattle.std.specs.Prelude.{◌≡◌, ◌-◌, ◌∷◌, ◌++◌, [], Some, length, pos, true};
 ghost use Rattle.argus_contents.specs.Answer.{done, flag, signal, val};
 ghost use Rattle.argus_contents.specs.Shape.{PlainShape};
 ghost use Rattle.argus_contents.specs.Value.{int};

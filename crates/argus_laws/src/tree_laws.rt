@@ -1,7 +1,7 @@
 //! Laws of a tree of actions that has the rows of a journal's history (`IsTree`): what it answers
 //! is what the history says, each of its calls is an event, and it refuses what the journal
 //! refuses.
-ghost use Rattle.std.specs.Prelude.{◌≡◌, ◌+◌, ◌∷◌, ◌&&◌, [], List, None, Option, Some, ℕ, length};
+ghost use Rattle.std.specs.Prelude.{◌≡◌, ◌∷◌, ◌&&◌, [], List, None, Some, ℕ};
 ghost use Rattle.std.specs.Prelude.{true};
 ghost use Rattle.std.specs.Option.{option_map};
 ghost use Rattle.argus_actions.specs.Refusals.{abort_others_refusal, abort_refusal};

@@ -1,5 +1,5 @@
 //! Histories worked out, on objects that hold a number. Each is drawn as a table in docs/MODEL.md.
-ghost use Rattle.std.specs.Prelude.{◌≡◌, ℕ, true, false, List, [], ◌∷◌, map};
+ghost use Rattle.std.specs.Prelude.{◌≡◌, true, false, [], ◌∷◌, map};
 ghost use Rattle.argus_model.specs.Event.{Began, Committed, Aborted, Accessed, Sub, Nested};
 ghost use Rattle.argus_model.specs.Ancestors.{is_ancestor};
 ghost use Rattle.argus_model.specs.Status.{is_live, has_live_child, live_siblings, status};

@@ -1,7 +1,7 @@
 //! What follows of cells as actions begin and end. These functions do nothing: each contract is a
 //! law for proofs.
 
-ghost use Rattle.std.specs.Prelude.{◌≡◌, ◌≢◌, true, ◌==◌, if◌then◌else◌, List, [], ◌∷◌};
+ghost use Rattle.std.specs.Prelude.{◌≡◌, ◌≢◌, true, List, [], ◌∷◌};
 ghost use Rattle.argus_actions.specs.declared.action_id.ActionId.{ActionId};
 ghost use Rattle.argus_actions.specs.declared.origin.Origin.{Origin};
 ghost use Rattle.argus_actions.specs.Tree.{Tree, after_begin, after_commit, after_abort};

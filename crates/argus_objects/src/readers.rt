@@ -1,6 +1,6 @@
 //! Work on the readers of a cell, which stand in increasing number.
 
-ghost use Rattle.std.specs.Prelude.{◌≡◌, ◌<◌, ◌≤◌, true, vec_len};
+ghost use Rattle.std.specs.Prelude.{◌≡◌, ◌<◌, true, vec_len};
 ghost use Rattle.std.specs.Vec.{vec_capacity};
 ghost use Rattle.argus_objects.specs.Rules.{all_above, is_ascending};
 ghost use Rattle.argus_objects.specs.Moves.{is_reader, with_reader, without_reader};

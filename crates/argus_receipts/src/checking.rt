@@ -1,6 +1,6 @@
 //! `check`: whether receipts and seats tell a journal.
 
-ghost use Rattle.std.specs.Prelude.{◌≡◌, ◌≤◌, ◌++◌, ◌∷◌, [], All, None, Some, map, true};
+ghost use Rattle.std.specs.Prelude.{◌≡◌, ◌≤◌, ◌++◌, ◌∷◌, [], All, None, Some, map};
 ghost use Rattle.std.specs.Prelude.{IfErr, OnOk};
 ghost use Rattle.argus_entries.specs.Call.{plain_call};
 ghost use Rattle.argus_entries.specs.Entry.{plain_entry};

@@ -7,7 +7,7 @@ ghost use Rattle.argus_entries.specs.Call.{plain_call};
 ghost use Rattle.argus_entries.specs.Reply.{plain_reply};
 ghost use Rattle.argus_journal.specs.Events.{says_yes};
 ghost use Rattle.argus_runs.specs.Comes.{comes};
-ghost use Rattle.argus_runs.specs.Replies.{flow_after, named, test_call};
+ghost use Rattle.argus_runs.specs.Replies.{flow_after, test_call};
 ghost use Rattle.argus_runs.specs.Running.{access, run_deed};
 ghost use Rattle.argus_runs.specs.Within.{Within};
 

@@ -2,7 +2,7 @@
 
 ghost use Rattle.std.specs.Prelude.{◌≡◌};
 ghost use Rattle.argus_entries.specs.Reply.{plain_reply};
-ghost use Rattle.argus_runs.specs.Replies.{named, object_of, undeclared};
+ghost use Rattle.argus_runs.specs.Replies.{named, object_of};
 
 use argus_contents::ObjId;
 use argus_contents::limits::MAX_OBJECTS;

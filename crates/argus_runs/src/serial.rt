@@ -1,6 +1,6 @@
 //! `Serial`: a guardian that is called in turn, and where its calls are written.
 
-ghost use Rattle.std.specs.Prelude.{IfOk, OnErr, OnOk, false, take, ℕ, ◌++◌, ◌≡◌, string_bytes};
+ghost use Rattle.std.specs.Prelude.{OnErr, OnOk, false, take, ℕ, ◌++◌, ◌≡◌, string_bytes};
 ghost use Rattle.std.specs.Io.KnownBytes.{Appends};
 ghost use Rattle.argus_journal.specs.Journal.{entries_of, opening_of};
 ghost use Rattle.argus_journal.specs.Journal.{entry_at};

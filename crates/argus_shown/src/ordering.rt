@@ -1,6 +1,6 @@
 //! Whether calls that aren't parallel have rising numbers.
 
-ghost use Rattle.std.specs.Prelude.{IfSome, Some, ◌<◌, ◌≡◌, ◌≤◌, true};
+ghost use Rattle.std.specs.Prelude.{IfSome, Some, ◌<◌, ◌≡◌, true};
 ghost use Rattle.argus_shown.specs.Order.{Follows, InOrder};
 
 use crate::arm_number::ArmNumber;

@@ -1,7 +1,6 @@
 //! How a granted access takes its lock: first all that can run out is had, then the lock is taken.
 
-ghost use Rattle.std.specs.Prelude.{◌≡◌, ◌<◌, length, None, OnErr, OnOk, slice_index_or, true};
-ghost use Rattle.argus_actions.specs.Refusals.{commit_refusal};
+ghost use Rattle.std.specs.Prelude.{◌≡◌, ◌<◌, length, OnErr, OnOk};
 ghost use Rattle.argus_contents.specs.Change.{plain_change};
 ghost use Rattle.argus_contents.specs.Content.{KeepsLimits, plain_option};
 ghost use Rattle.argus_steps.specs.Accessing.{IsAccessed, IsAltered, IsAsBefore, seen_at};

@@ -1,6 +1,6 @@
 //! The numbers of a text: digits without a leading zero, and a sign before an integer.
 
-ghost use Rattle.std.specs.Prelude.{◌≡◌, ℕ, negsuc, ◌<◌, ◌≤◌, ◌+◌, ◌-◌, ◌*◌, ◌⊎◌, IfOk, IfErr};
+ghost use Rattle.std.specs.Prelude.{◌≡◌, negsuc, ◌<◌, ◌≤◌, ◌+◌, ◌-◌, ◌*◌, ◌⊎◌, IfOk, IfErr};
 ghost use Rattle.std.specs.Prelude.{IfSome, IfNone};
 ghost use Rattle.argus_texts.specs.Language.{OnLeft, Reads, Stops};
 ghost use Rattle.argus_texts.specs.Languages.{Ints, Numbers};

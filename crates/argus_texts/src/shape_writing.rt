@@ -1,6 +1,6 @@
 //! `write_shape`: the written form of a shape.
 
-ghost use Rattle.std.specs.Prelude.{◌≡◌, ◌∷◌, [], ◌++◌, OnOk, OnErr, string_bytes};
+ghost use Rattle.std.specs.Prelude.{◌≡◌, ◌∷◌, ◌++◌, OnOk, OnErr, string_bytes};
 ghost use Rattle.argus_contents.specs.Ty.{plain_fields, plain_ty};
 ghost use Rattle.argus_texts.specs.Grown.{Grew};
 ghost use Rattle.argus_texts.specs.ShapeSpelling.{names_inside, shape_spelling, ty_spelling};

@@ -1,7 +1,5 @@
 //! `Stop`: why a part of a text wasn't read.
 
-use crate::read_error::ReadError;
-use crate::read_fault::ReadFault;
 use std::alloc::{AllocError, AllocFailed};
 
 // The bytes that are left are counted, and not those that were read: so a part hands on what a part

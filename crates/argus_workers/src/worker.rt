@@ -4,7 +4,7 @@ use argus_actions::ActionId;
 use argus_commands::Step;
 use argus_contents::ObjId;
 use argus_entries::{Call, Reply};
-use argus_memory::{Heap, OutOfMemory};
+use argus_memory::Heap;
 use argus_receipts::Receipt;
 use argus_runs::{Caller, Stopped};
 use argus_sharing::{Seat, Shared, Sharing};

@@ -2,9 +2,8 @@
 //! each allocation, each read and each write fails in turn.
 #![tactic(auto)]
 
-ghost use Rattle.std.specs.Prelude.{◌≡◌, false, IfOk};
+ghost use Rattle.std.specs.Prelude.{IfOk};
 ghost use Rattle.argus_cli.specs.Ranges.{KeepsRanges};
-ghost use Rattle.argus_streams.specs.Watched.{has_failed};
 
 mod command_lines;
 mod heaps;

@@ -1,6 +1,6 @@
 //! A row's script, run: with ample memory, and with each read, write and allocation failing.
 
-ghost use Rattle.std.specs.Prelude.{◌≡◌, false};
+ghost use Rattle.std.specs.Prelude.{false};
 ghost use Rattle.argus_cli.specs.Ranges.{KeepsRanges};
 ghost use Rattle.argus_streams.specs.Watched.{has_failed};
 

@@ -1,7 +1,7 @@
 //! `Host`: who calls an embedded guardian, as the rows say.
 
 use crate::reading::{question_of, request_of};
-use argus_embed::{EmbedError, Embedded, Outcome, Question};
+use argus_embed::{EmbedError, Embedded, Outcome};
 use argus_memory::{Heap, OutOfMemory};
 use std::fmt::Write;
 use std::str::from_utf8;

@@ -1,6 +1,5 @@
 //! `draw` on a row's listing: with each read, each write and each allocation failing in turn.
 
-ghost use Rattle.std.specs.Prelude.{◌≡◌, false};
 ghost use Rattle.argus_streams.specs.Watched.{has_failed};
 
 use anyhow::{Result, bail, ensure};
