@@ -3,12 +3,12 @@
 use crate::action::Action;
 use crate::escaping::{append_escaped, open_group};
 use crate::fate::Fate;
-use crate::frame::{BAR, Frame, bar_top, entry_left};
 use crate::life::{Life, life_of, life_within};
 use crate::limits::MAX_ROWS;
 use crate::origin::Origin;
 use crate::refused_call::RefusedCall;
 use crate::run::Run;
+use argus_frame::{BAR, Frame, bar_top, entry_left};
 use argus_memory::{Heap, OutOfMemory};
 use std::fmt::Write;
 

@@ -1,8 +1,8 @@
 //! `read_change`: the change that a line spells.
 
-use crate::fault_kind::FaultKind;
 use crate::line_error::LineError;
 use argus_contents::Change;
+use argus_frame::FaultKind;
 use argus_memory::Heap;
 use argus_texts::{read_content, read_value};
 

@@ -1,13 +1,13 @@
 //! `draw`: from a reader of a listing to a writer of its picture.
 
 ghost use Rattle.std.specs.Prelude.{◌≡◌, false, true, IfErr};
-ghost use Rattle.argus_picture.specs.declared.draw_error.DrawError.TheVariants as DrawError;
+ghost use Rattle.argus_frame.specs.declared.draw_error.DrawError.TheVariants as DrawError;
 ghost use Rattle.argus_streams.specs.Watched.{has_failed};
 
-use crate::draw_error::DrawError;
 use crate::limits::MAX_BYTES;
 use crate::picture_error::PictureError;
 use crate::picturing::picture;
+use argus_frame::DrawError;
 use argus_memory::Heap;
 use argus_streams::{InputError, Watched, read_up_to, write_whole};
 use std::io::{Read, Write};

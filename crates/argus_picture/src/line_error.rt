@@ -1,6 +1,6 @@
 //! `LineError`: why a line was not taken.
 
-use crate::fault_kind::FaultKind;
+use argus_frame::FaultKind;
 use argus_memory::OutOfMemory;
 use argus_texts::ReadError;
 use std::alloc::{AllocError, AllocFailed};

@@ -3,9 +3,9 @@
 ghost use Rattle.std.specs.Prelude.{◌≡◌, true};
 ghost use Rattle.argus_contents.specs.Content.{KeepsLimits, plain_option};
 
-use crate::fault_kind::FaultKind;
 use crate::line_error::LineError;
 use argus_contents::{Change, Content, Shape, alter_in_place, change_fits, fits};
+use argus_frame::FaultKind;
 use argus_memory::Heap;
 use argus_texts::{read_content, read_shape, write_content};
 

@@ -2,12 +2,12 @@
 
 use crate::action_drawing::room_for;
 use crate::escaping::{append_escaped, append_shortened, open_group};
-use crate::frame::{Frame, LANE, entry_left, lane_at, width};
 use crate::hold::Hold;
 use crate::limits::{MAX_CONTENT_LETTERS, MAX_LANES, MAX_SHAPE_LETTERS, MAX_TITLE_LETTERS};
 use crate::object::Object;
 use crate::run::Run;
 use crate::settling::Settling;
+use argus_frame::{Frame, LANE, entry_left, lane_at, width};
 use argus_memory::{Heap, OutOfMemory};
 use std::fmt::Write;
 

@@ -1,16 +1,13 @@
 //! `picture`: the picture that a listing tells.
 
 use crate::action_drawing::draw_actions;
-use crate::fault_kind::FaultKind;
-use crate::frame::{Frame, entry_left, height, width};
 use crate::legend::{LEGEND, LOOKS};
 use crate::limits::{MAX_BYTES, MAX_LANES};
 use crate::line_error::LineError;
-use crate::listing_fault::ListingFault;
 use crate::object_drawing::draw_objects;
 use crate::picture_error::PictureError;
 use crate::run::Run;
-use crate::step::Step;
+use argus_frame::{FaultKind, Frame, ListingFault, Step, entry_left, height, width};
 use argus_memory::{Heap, OutOfMemory};
 use std::fmt::Write;
 use std::str::from_utf8;

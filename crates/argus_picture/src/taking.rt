@@ -3,7 +3,6 @@
 use crate::action::Action;
 use crate::call::Call;
 use crate::fate::Fate;
-use crate::fault_kind::FaultKind;
 use crate::hold::Hold;
 use crate::limits::MAX_ENTRIES;
 use crate::line::Line;
@@ -14,6 +13,7 @@ use crate::origin::Origin;
 use crate::refused_call::RefusedCall;
 use crate::reply::Reply;
 use crate::run::Run;
+use argus_frame::FaultKind;
 use argus_memory::Heap;
 
 impl<'a> Run<'a> {

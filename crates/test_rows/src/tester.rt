@@ -2,8 +2,6 @@
 
 use crate::block::{Block, block_of};
 use crate::counting::{Counted, counted_of};
-use crate::reading::first_word;
-use crate::row_fault::RowFault;
 use crate::setting::Setting;
 use crate::spelling::spelled_row;
 use crate::subject::Subject;
@@ -11,6 +9,7 @@ use crate::telling::tell_marked;
 use crate::tight_answer::TightAnswer;
 use anyhow::Result;
 use argus_memory::{Heap, OutOfMemory};
+use row_words::{RowFault, first_word};
 use std::alloc::{AllocError, Global};
 use std::collections::BTreeSet;
 use std::io::Print;

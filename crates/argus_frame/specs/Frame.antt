@@ -1,8 +1,8 @@
 -- Where things stand in a picture, in pixels from its upper left corner.
 use Rattle.std.specs.Prelude.{ℕ, ◌+◌, ◌*◌, max}
-use Rattle.argus_picture.specs.declared.step.Step.{Step}
-use Rattle.argus_picture.specs.declared.frame.Frame.{Frame}
-use Rattle.argus_picture.specs.Step.{pixels_of}
+use Rattle.argus_frame.specs.declared.step.Step.{Step}
+use Rattle.argus_frame.specs.declared.frame.Frame.{Frame}
+use Rattle.argus_frame.specs.Step.{pixels_of}
 
 -- where an entry stands
 abbrev pub x_of : Step → ℕ → ℕ

@@ -1,14 +1,19 @@
 //! `Frame`: where things stand in a picture.
 
 ghost use Rattle.std.specs.Prelude.{◌≡◌, ◌+◌, ◌*◌, ◌<◌, ◌≤◌};
-ghost use Rattle.argus_picture.specs.Frame.{height_of, lane_top, row_top, width_of, x_of};
+ghost use Rattle.argus_frame.specs.Frame.{height_of, lane_top, row_top, width_of, x_of};
 
 use crate::step::{Step, pixels};
 
 /// The size of a picture: how far apart entries stand and how many there are, how many rows of
 /// actions and lanes of objects. All else follows from it, in pixels from the upper left corner.
+///
+/// ```text
+/// let frame = Frame { step: Step::for_entries(2), entries: 2, rows: 1, lanes: 0 };
+/// assert!(rt; entry_left(&frame, 1) == 196);
+/// ```
 #[derive(Clone, Copy)]
-pub(crate) struct Frame {
+pub struct Frame {
     pub step: Step,
     pub entries: u32,
     pub rows: u32,
@@ -16,13 +21,13 @@ pub(crate) struct Frame {
 }
 
 /// The height of an action's bar.
-pub(crate) const BAR: u64 = 14;
+pub const BAR: u64 = 14;
 
 /// The height of an object's lane.
-pub(crate) const LANE: u64 = 54;
+pub const LANE: u64 = 54;
 
 /// Where this entry stands.
-pub(crate) fn entry_left(frame: &Frame, entry: u32) -> u64
+pub fn entry_left(frame: &Frame, entry: u32) -> u64
     ensures place { result ≡ x_of frame.now.step entry }
     ensures within { entry ≤ frame.now.entries → result < width_of frame.now }
 {
@@ -30,7 +35,7 @@ pub(crate) fn entry_left(frame: &Frame, entry: u32) -> u64
 }
 
 /// The top of the bars in this row.
-pub(crate) fn bar_top(frame: &Frame, row: u32) -> u64
+pub fn bar_top(frame: &Frame, row: u32) -> u64
     ensures place { result ≡ row_top row }
     ensures within { row < frame.now.rows → result + BAR < lane_top frame.now 0 }
 {
@@ -38,7 +43,7 @@ pub(crate) fn bar_top(frame: &Frame, row: u32) -> u64
 }
 
 /// The top of this lane.
-pub(crate) fn lane_at(frame: &Frame, lane: u32) -> u64
+pub fn lane_at(frame: &Frame, lane: u32) -> u64
     ensures place { result ≡ lane_top frame.now lane }
     ensures apart { result + LANE < lane_top frame.now (lane + 1) }
     ensures within { lane < frame.now.lanes → result + LANE < height_of frame.now }
@@ -47,14 +52,14 @@ pub(crate) fn lane_at(frame: &Frame, lane: u32) -> u64
 }
 
 /// How wide the picture is.
-pub(crate) fn width(frame: &Frame) -> u64
+pub fn width(frame: &Frame) -> u64
     ensures { result ≡ width_of frame.now }
 {
     (236 + pixels(frame.step, frame.entries)).max(980)
 }
 
 /// How high the picture is.
-pub(crate) fn height(frame: &Frame) -> u64
+pub fn height(frame: &Frame) -> u64
     ensures { result ≡ height_of frame.now }
 {
     lane_at(frame, frame.lanes) + 40

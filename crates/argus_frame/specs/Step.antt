@@ -1,7 +1,7 @@
 -- How far apart entries stand.
 use Rattle.std.specs.Prelude.{ℕ}
-use Rattle.argus_picture.specs.declared.step.Step.{Step}
-use Rattle.argus_picture.specs.declared.step.Step.TheVariants.{Wide, Middle, Narrow}
+use Rattle.argus_frame.specs.declared.step.Step.{Step}
+use Rattle.argus_frame.specs.declared.step.Step.TheVariants.{Wide, Middle, Narrow}
 
 -- how many pixels lie between two entries
 abbrev pub pixels_of : Step → ℕ

@@ -1,11 +1,21 @@
 //! `Step`: how far apart entries stand.
 
 ghost use Rattle.std.specs.Prelude.{◌≡◌, ◌≢◌, ◌*◌};
-ghost use Rattle.argus_picture.specs.Step.{pixels_of};
+ghost use Rattle.argus_frame.specs.Step.{pixels_of};
 
 /// How far apart entries stand: the more there are, the closer.
+///
+/// | Step | Entries | Pixels between two |
+/// |---|---|---|
+/// | `Wide` | up to 64 | 28 |
+/// | `Middle` | up to 512 | 12 |
+/// | `Narrow` | more | 4 |
+///
+/// ```text
+/// assert!(rt; pixels(Step::for_entries(65), 10) == 120);
+/// ```
 #[derive(Clone, Copy)]
-pub(crate) enum Step {
+pub enum Step {
     Wide,
     Middle,
     Narrow,
@@ -13,7 +23,7 @@ pub(crate) enum Step {
 
 impl Step {
     /// The one for so many entries.
-    pub(crate) fn for_entries(entries: u32) -> Step {
+    pub fn for_entries(entries: u32) -> Step {
         match entries {
             0..=64 => Step::Wide,
             65..=512 => Step::Middle,
@@ -22,7 +32,7 @@ impl Step {
     }
 
     /// Each so many entries have a number on the axis.
-    pub(crate) fn tick(self) -> u32
+    pub fn tick(self) -> u32
         ensures { result ≢ 0 }
     {
         match self {
@@ -34,7 +44,7 @@ impl Step {
 }
 
 /// How many pixels so many entries take.
-pub(crate) fn pixels(step: Step, entries: u32) -> u64
+pub fn pixels(step: Step, entries: u32) -> u64
     ensures { result ≡ pixels_of step * entries }
 {
     match step {

@@ -31,7 +31,7 @@ pub enum DrawError {
 }
 
 impl DrawError {
-    ghost use Rattle.argus_picture.specs.Status.{status_of};
+    ghost use Rattle.argus_frame.specs.Status.{status_of};
 
     /// The status with which a program ends.
     pub fn status(self) -> u8

@@ -1,7 +1,7 @@
 -- With which status a program ends.
 use Rattle.std.specs.Prelude.{ℕ}
-use Rattle.argus_picture.specs.declared.draw_error.DrawError.{DrawError}
-use Rattle.argus_picture.specs.declared.draw_error.DrawError.TheVariants as error
+use Rattle.argus_frame.specs.declared.draw_error.DrawError.{DrawError}
+use Rattle.argus_frame.specs.declared.draw_error.DrawError.TheVariants as error
 
 -- the status of an error
 abbrev pub status_of : DrawError → ℕ
