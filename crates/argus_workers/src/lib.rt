@@ -6,15 +6,13 @@ mod crew;
 mod gate;
 mod handing_out;
 mod no_gate;
-mod run_report;
 mod running_shared;
 mod team;
 mod walking;
 mod worker;
 
 pub use argus_runs::RunFault;
-pub use argus_shown::{ArmOutcome, Ended};
+pub use argus_shown::{ArmOutcome, Ended, RunReport};
 pub use gate::Gate;
 pub use no_gate::NoGate;
-pub use run_report::RunReport;
 pub use running_shared::run_shared;

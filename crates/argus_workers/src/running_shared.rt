@@ -1,6 +1,6 @@
 //! `run_shared`: a script, run by several workers on a shared guardian.
 
-ghost use Rattle.std.specs.Prelude.{IfErr, IfOk, IfSome, length, map, sum_by, true, ◌+◌, ◌≡◌};
+ghost use Rattle.std.specs.Prelude.{IfErr, IfOk, IfSome, length, map, sum_by, ◌+◌, ◌≡◌};
 ghost use Rattle.std.specs.Prelude.{◌≤◌};
 ghost use Rattle.argus_commands.specs.Script.{plain_script};
 ghost use Rattle.argus_receipts.specs.Receipt.{plain_receipt};
@@ -8,15 +8,13 @@ ghost use Rattle.argus_runs.specs.declared.run_fault.RunFault.TheVariants.{Memor
 ghost use Rattle.argus_shown.specs.Shown.{IsShown};
 
 use crate::gate::Gate;
-use crate::run_report::RunReport;
 use crate::team::Team;
 use crate::walking::walk;
 use argus_commands::Script;
 use argus_memory::{Heap, OutOfMemory};
-use argus_receipts::Receipt;
 use argus_runs::RunFault;
 use argus_sharing::{Seat, Shared, Sharing};
-use argus_shown::shown;
+use argus_shown::{RunReport, has_risen, report_of};
 use std::sync::Wait;
 use std::thread::Threads;
 
@@ -83,7 +81,7 @@ pub fn run_shared<N: Sharing + Send + Sync, R: Threads + Wait + Drop + Send + Sy
     if !has_risen(before, after, receipts.len()) {
         return Err(RunFault::Memory);
     }
-    match reported(heap, script, receipts) {
+    match report_of(heap, script, receipts) {
         Ok(Some(report)) => Ok(report),
         Ok(None) | Err(OutOfMemory) => Err(RunFault::Memory),
     }
@@ -98,30 +96,4 @@ fn made_by<N: Sharing>(seats: &[Seat<N>]) -> Option<u128>
         made = made.checked_add(u128::from(seat.made()))?;
     }
     Some(made)
-}
-
-// Whether so many calls were made between these two counts.
-fn has_risen(before: u128, after: u128, calls: usize) -> bool
-    ensures { result ≡ true → after ≡ before + calls }
-{
-    match before.checked_add(calls as u128) {
-        Some(wanted) => after == wanted,
-        None => false,
-    }
-}
-
-// The receipts with what they show; None where they don't tell a run of the script.
-fn reported(
-    heap: Heap,
-    script: &Script,
-    receipts: Vec<Receipt, Heap>,
-) -> Result<Option<RunReport>, OutOfMemory>
-    ensures shown { IfOk result (λ found. IfSome found (λ report. IsShown (plain_script script.now)
-        (map plain_receipt report.receipts.items) report.outcomes.items)) }
-    ensures same { IfOk result (λ found. IfSome found (λ report. report.receipts ≡ receipts)) }
-{
-    match shown(heap, script, receipts.as_slice())? {
-        Some(outcomes) => Ok(Some(RunReport { outcomes, receipts })),
-        None => Ok(None),
-    }
 }

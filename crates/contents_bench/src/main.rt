@@ -37,8 +37,12 @@ fn main(rt: HostRuntime) -> anyhow::Result<()> {
         println!(rt; "{HELP}")?;
         return Ok(());
     };
-    let kind = kind.as_str().parse::<Kind>()?;
-    let count = count.as_str().parse::<u32>()?;
+    tell(rt, kind.as_str(), count.as_str())
+}
+
+fn tell(rt: HostRuntime, kind: &str, count: &str) -> anyhow::Result<()> {
+    let kind = kind.parse::<Kind>()?;
+    let count = count.parse::<u32>()?;
     let nanos = timing::nanos_each(&rt, rt.alloc(), kind, count)?;
     println!(rt; "{kind} n={count} ns_each={nanos:.1}")?;
     Ok(())

@@ -28,9 +28,14 @@ fn nested(heap: Heap, size: u16) -> Result<Vec<Value, Heap>, OutOfMemory> {
     let mut fields = Vec::with_capacity(heap, 4)?;
     fields.push(Value::Int(1))?;
     fields.push(Value::Sequence(ints(heap, size)?))?;
+    push_text_and_choice(heap, &mut fields)?;
+    Ok(fields)
+}
+
+fn push_text_and_choice(heap: Heap, fields: &mut Vec<Value, Heap>) -> Result<(), OutOfMemory> {
     fields.push(Value::Text(String::from_str(heap, "a text")?))?;
     fields.push(Value::Choice(1, Box::new(heap, Value::Null)?))?;
-    Ok(fields)
+    Ok(())
 }
 
 fn array(heap: Heap, size: u16) -> Result<Option<Content>, OutOfMemory>

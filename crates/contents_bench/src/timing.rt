@@ -20,16 +20,30 @@ pub(crate) fn nanos_each(
     turns: u32,
 ) -> anyhow::Result<f64> {
     let heap = Heap::new(alloc)?;
-    let mut content = sample(heap, kind)?;
-    let taken = match kind.work {
-        Work::Made => time_copies(rt, heap, &content, turns)?,
-        _ => {
-            let before = rt.process_cpu_time()?;
-            repeat(heap, &mut content, kind, turns)?;
-            rt.process_cpu_time()?.saturating_sub(before)
-        }
-    };
+    let taken = time(rt, heap, kind, turns)?;
     Ok(taken.as_secs_f64() * 1e9 / turns as f64)
+}
+
+fn time(rt: &impl CpuClock, heap: Heap, kind: Kind, turns: u32) -> anyhow::Result<Duration> {
+    let mut content = sample(heap, kind)?;
+    match kind.work {
+        Work::Made => time_copies(rt, heap, &content, turns),
+        _ => time_turns(rt, heap, &mut content, kind, turns),
+    }
+}
+
+fn time_turns(
+    rt: &impl CpuClock,
+    heap: Heap,
+    content: &mut Option<Content>,
+    kind: Kind,
+    turns: u32,
+) -> anyhow::Result<Duration>
+    requires { KeepsLimits (plain_option content.old) }
+{
+    let before = rt.process_cpu_time()?;
+    repeat(heap, content, kind, turns)?;
+    Ok(rt.process_cpu_time()?.saturating_sub(before))
 }
 
 // What so many copies take until each is made. The clock stands while they are dropped.
@@ -62,13 +76,25 @@ fn repeat(
     requires { KeepsLimits (plain_option content.old) }
 {
     for turn in 0..turns {
-        match kind.work {
-            Work::Duplicate | Work::Made | Work::Nested => duplicate(heap, content)?,
-            Work::CopyStore => change_copy(heap, content, &kind.change(turn))?,
-            _ => change_in_place(content, kind.change(turn))?,
-        }
+        take_turn(heap, content, kind, turn)?;
     }
     Ok(())
+}
+
+fn take_turn(
+    heap: Heap,
+    content: &mut Option<Content>,
+    kind: Kind,
+    turn: u32,
+) -> Result<(), OutOfMemory>
+    requires { KeepsLimits (plain_option content.old) }
+    ensures { KeepsLimits (plain_option content.new) }
+{
+    match kind.work {
+        Work::Duplicate | Work::Made | Work::Nested => duplicate(heap, content),
+        Work::CopyStore => change_copy(heap, content, &kind.change(turn)),
+        _ => change_in_place(content, kind.change(turn)),
+    }
 }
 
 // What each turn does is a function of its own, so that a turn prepares its own locals alone.

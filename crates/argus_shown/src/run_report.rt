@@ -1,13 +1,15 @@
-//! `RunReport`: what a run by several workers reports.
+//! `RunReport`: what a run reports, with the receipts that show it.
 
+use crate::arm_outcome::ArmOutcome;
 use argus_memory::Heap;
 use argus_receipts::Receipt;
-use argus_shown::ArmOutcome;
 
-/// What a run by several workers reports.
+/// What a run reports, with the receipts that show it.
 ///
 /// ```text
-/// let report = run_shared(&rt, heap, &shared, &mut seats, &script, &NoGate, 2, 0)?;
+/// let Some(report) = report_of(heap, &script, receipts)? else {
+///     return Err(RunFault::Memory);
+/// };
 /// let guardian = shared.settle(seats, report.receipts.as_slice())?;
 /// ```
 #[derive(Drop)]
