@@ -1,6 +1,7 @@
 //! `read_change`: the change that a line spells.
 
 use crate::line_error::LineError;
+use crate::number::{int_in, number_in};
 use argus_contents::Change;
 use argus_frame::FaultKind;
 use argus_memory::Heap;
@@ -35,15 +36,13 @@ fn read_change_at(heap: Heap, word: &str, rest: &str) -> Result<Change, LineErro
 
 // An index, or a bound.
 fn place_in(text: &str) -> Result<i64, LineError> {
-    match text.parse::<i64>() {
-        Ok(place) => Ok(place),
-        Err(_) => Err(LineError::Fault(FaultKind::BadWord)),
-    }
+    Ok(int_in(text).ok_or(FaultKind::BadWord)?)
 }
 
 // A field, or a tag.
 fn part_in(text: &str) -> Result<u8, LineError> {
-    match text.parse::<u8>() {
+    let number = number_in(text).ok_or(FaultKind::BadWord)?;
+    match u8::try_from(number) {
         Ok(part) => Ok(part),
         Err(_) => Err(LineError::Fault(FaultKind::BadWord)),
     }

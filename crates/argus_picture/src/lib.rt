@@ -19,6 +19,7 @@ mod limits;
 mod line;
 mod line_error;
 mod line_reading;
+mod number;
 mod object;
 mod object_drawing;
 mod origin;

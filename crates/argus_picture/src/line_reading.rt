@@ -3,6 +3,7 @@
 use crate::access::Access;
 use crate::call::Call;
 use crate::line::Line;
+use crate::number::{number_in, small_number_in};
 use crate::reply::Reply;
 
 /// What the line says; None where it is none of a journal's listing.
@@ -19,8 +20,8 @@ fn read_opening<'a>(text: &'a str) -> Option<Line<'a>> {
     if word == "entries" {
         let (entries, actions) = rest.split_once(" actions ")?;
         return Some(Line::Folded {
-            entries: entries.parse::<u64>().ok()?,
-            actions: actions.parse::<u32>().ok()?,
+            entries: number_in(entries)?,
+            actions: small_number_in(actions)?,
         });
     }
     let (shape, content) = rest.split_once(' ')?;
@@ -40,7 +41,7 @@ fn read_entry<'a>(line: &'a str) -> Option<Line<'a>> {
         return None;
     }
     Some(Line::Entry {
-        number: number.parse::<u64>().ok()?,
+        number: number_in(number)?,
         call,
         reply,
     })
@@ -120,10 +121,10 @@ fn read_reply<'a>(call: &str, reply: &'a str) -> Reply<'a> {
 
 /// The number of an action, as `a3`.
 pub(crate) fn action_in(text: &str) -> Option<u32> {
-    text.strip_prefix("a")?.parse::<u32>().ok()
+    small_number_in(text.strip_prefix("a")?)
 }
 
 /// The number of an object, as `o2`.
 pub(crate) fn object_in(text: &str) -> Option<usize> {
-    text.strip_prefix("o")?.parse::<usize>().ok()
+    usize::try_from(number_in(text.strip_prefix("o")?)?).ok()
 }
