@@ -42,5 +42,5 @@ impl<N: Sharing, R: Wait + Drop> Callee for Seated<'_, N, R> {
 }
 
 fn told_by(receipt: Receipt) -> Told {
-    Told::by(receipt.reply)
+    Told::by(receipt.into_reply())
 }

@@ -2,18 +2,15 @@
 
 ghost use Rattle.std.specs.Prelude.{◌≡◌, Some, None, length, IfOk, OnErr};
 ghost use Rattle.argus_contents.specs.Answer.{plain_answer};
-ghost use Rattle.argus_contents.specs.Change.{absent_outcome, array_outcome, CreatesWithin};
-ghost use Rattle.argus_contents.specs.Change.{outcome, plain_change, variant_outcome};
+ghost use Rattle.argus_contents.specs.Change.{array_outcome, CreatesWithin};
+ghost use Rattle.argus_contents.specs.Change.{outcome, plain_change};
 ghost use Rattle.argus_contents.specs.Content.{arr, KeepsBounds, KeepsLimits, plain_content};
-ghost use Rattle.argus_contents.specs.Content.{plain_option, var};
-ghost use Rattle.argus_contents.specs.Value.{plain_list, plain_value};
+ghost use Rattle.argus_contents.specs.Content.{plain_option};
+ghost use Rattle.argus_contents.specs.Value.{plain_list};
 
 use crate::answer::Answer;
-use crate::array::alter_array;
 use crate::change::Change;
 use crate::content::Content;
-use crate::record::alter_record;
-use crate::signal::Signal;
 use crate::value::Value;
 use argus_memory::{Heap, OutOfMemory};
 use std::collections::VecDeque;
@@ -68,27 +65,17 @@ pub fn alter_in_place(content: &mut Option<Content>, change: Change) -> Result<A
     ensures kept { CreatesWithin (plain_change change) → KeepsLimits (plain_option content.new) }
 {
     match content.take() {
-        None => Ok(alter_absent(content, change)),
-        Some(Content::Rec(mut fields)) => {
-            let answer = alter_record(&mut fields, change);
-            *content = Some(Content::Rec(fields));
-            Ok(answer)
-        }
-        Some(Content::Arr { low, items }) => {
-            let (left, answer) = alter_parts(low, items, change);
+        None => Ok(change.alter_absent(content)),
+        Some(whole) => {
+            let (left, answer) = whole.altered(change);
             *content = Some(left);
             answer
-        }
-        Some(Content::Var { mut tag, mut value }) => {
-            let answer = alter_variant(&mut tag, &mut value, change);
-            *content = Some(Content::Var { tag, value });
-            Ok(answer)
         }
     }
 }
 
-// An array that was taken apart is changed and put together again.
-fn alter_parts(
+/// An array that was taken apart is changed and put together again.
+pub(crate) fn alter_parts(
     mut low: i64,
     mut items: VecDeque<Value, Heap>,
     change: Change,
@@ -99,52 +86,6 @@ fn alter_parts(
     ensures err { OnErr result.1 (plain_content result.0 ≡ arr low (plain_list items.items)) }
     ensures kept { KeepsLimits (Some (plain_content result.0)) }
 {
-    let answer = alter_array(&mut low, &mut items, change);
+    let answer = change.alter_array(&mut low, &mut items);
     (Content::Arr { low, items }, answer)
-}
-
-fn alter_absent(content: &mut Option<Content>, change: Change) -> Answer
-    requires { plain_option content.old ≡ None }
-    ensures { (plain_option content.new, plain_answer result)
-        ≡ absent_outcome (plain_change change) }
-{
-    match change {
-        Change::Create(made) => {
-            *content = Some(made);
-            Answer::Done
-        }
-        Change::Touch => Answer::Done,
-        Change::SetField(_, _)
-        | Change::Store(_, _)
-        | Change::Addh(_)
-        | Change::Addl(_)
-        | Change::Remh
-        | Change::Reml
-        | Change::SetLow(_)
-        | Change::Trim(_, _)
-        | Change::ChangeTag(_, _) => Answer::Signal(Signal::Absent),
-    }
-}
-
-fn alter_variant(tag: &mut u8, value: &mut Value, change: Change) -> Answer
-    ensures { (Some (var tag.new (plain_value value.new)), plain_answer result)
-        ≡ variant_outcome (plain_change change) tag.old (plain_value value.old) }
-{
-    match change {
-        Change::Create(_) => Answer::Signal(Signal::Exists),
-        Change::Touch => Answer::Done,
-        Change::ChangeTag(new_tag, new_value) => {
-            *tag = new_tag;
-            *value = new_value;
-            Answer::Done
-        }
-        Change::SetField(_, _)
-        | Change::Store(_, _)
-        | Change::Addh(_)
-        | Change::Addl(_)
-        | Change::Remh
-        | Change::Reml
-        | Change::SetLow(_)
-        | Change::Trim(_, _) => Answer::Signal(Signal::Absent),
-    }
 }

@@ -18,7 +18,7 @@ use crate::value::Value;
 ///     ..
 /// }
 /// ```
-#[derive(Debug, Drop)]
+#[derive(Debug)]
 pub enum Answer {
     /// The change was made.
     Done,
@@ -32,6 +32,17 @@ pub enum Answer {
     Body(Content),
     /// Nothing was changed, for this reason.
     Signal(Signal),
+}
+
+// By hand, so that each place where an answer ends is one call; a derived one is written out there.
+impl Drop for Answer {
+    fn drop(self) {
+        match self {
+            Answer::Done | Answer::Num(_) | Answer::Flag(_) | Answer::Signal(_) => {}
+            Answer::Val(_) => {}
+            Answer::Body(_) => {}
+        }
+    }
 }
 
 impl PartialEq for Answer {

@@ -4,7 +4,7 @@ ghost use Rattle.std.specs.Prelude.{◌≡◌, ◌≤◌, ◌-◌, Some, length,
 ghost use Rattle.std.specs.Prelude.{OnErr};
 ghost use Rattle.argus_contents.specs.Answer.{plain_answer, value_or};
 ghost use Rattle.argus_contents.specs.Change.{addh, addl, is_full_high, is_full_low};
-ghost use Rattle.argus_contents.specs.Change.{is_out_of_limits, Leaves, plain_change, reml};
+ghost use Rattle.argus_contents.specs.Change.{is_out_of_limits, Leaves, reml};
 ghost use Rattle.argus_contents.specs.Change.{set_low, store, trim, trim_refusal};
 ghost use Rattle.argus_contents.specs.Content.{KeepsBounds};
 ghost use Rattle.argus_contents.specs.declared.limits.TheConstants.{MAX_ITEMS};
@@ -12,37 +12,11 @@ ghost use Rattle.argus_contents.specs.Value.{plain_value, plain_list};
 
 use crate::answer::Answer;
 use crate::asking::place_in;
-use crate::change::Change;
 use crate::limits::{MAX_BOUND, MAX_ITEMS, MIN_BOUND};
 use crate::signal::Signal;
 use crate::value::Value;
 use argus_memory::{Heap, OutOfMemory};
 use std::collections::VecDeque;
-
-pub(crate) fn alter_array(
-    low: &mut i64,
-    items: &mut VecDeque<Value, Heap>,
-    change: Change,
-) -> Result<Answer, OutOfMemory>
-    requires { KeepsBounds low.old (length items.old.items) }
-    ensures ok { IfOk result (λ answer. Leaves (plain_change change)
-        low.old items.old.items low.new items.new.items answer) }
-    ensures err_low { OnErr result (low.new ≡ low.old) }
-    ensures err_items { OnErr result (items.new.items ≡ items.old.items) }
-{
-    match change {
-        Change::Create(_) => Ok(Answer::Signal(Signal::Exists)),
-        Change::Touch => Ok(Answer::Done),
-        Change::Store(index, value) => Ok(store_item(*low, items, index, value)),
-        Change::Addh(value) => add_high(*low, items, value),
-        Change::Addl(value) => add_low(low, items, value),
-        Change::Remh => Ok(remove_high(items)),
-        Change::Reml => Ok(remove_low(low, items)),
-        Change::SetLow(bound) => Ok(move_low(low, items, bound)),
-        Change::Trim(from, count) => Ok(trim_items(low, items, from, count)),
-        Change::SetField(_, _) | Change::ChangeTag(_, _) => Ok(Answer::Signal(Signal::Absent)),
-    }
-}
 
 /// Whether no value can be added at the high end.
 pub(crate) fn is_full_high(low: i64, size: usize) -> bool
@@ -84,7 +58,12 @@ pub(crate) fn trim_refusal(low: i64, size: usize, from: i64, count: i64) -> Opti
     None
 }
 
-fn store_item(low: i64, items: &mut VecDeque<Value, Heap>, index: i64, value: Value) -> Answer
+pub(crate) fn store_item(
+    low: i64,
+    items: &mut VecDeque<Value, Heap>,
+    index: i64,
+    value: Value,
+) -> Answer
     requires { KeepsBounds low (length items.old.items) }
     ensures { Leaves (store index (plain_value value))
         low items.old.items low items.new.items result }
@@ -98,7 +77,7 @@ fn store_item(low: i64, items: &mut VecDeque<Value, Heap>, index: i64, value: Va
     }
 }
 
-fn add_high(
+pub(crate) fn add_high(
     low: i64,
     items: &mut VecDeque<Value, Heap>,
     value: Value,
@@ -115,7 +94,7 @@ fn add_high(
     Ok(Answer::Done)
 }
 
-fn add_low(
+pub(crate) fn add_low(
     low: &mut i64,
     items: &mut VecDeque<Value, Heap>,
     value: Value,
@@ -134,7 +113,7 @@ fn add_low(
     Ok(Answer::Done)
 }
 
-fn remove_high(items: &mut VecDeque<Value, Heap>) -> Answer
+pub(crate) fn remove_high(items: &mut VecDeque<Value, Heap>) -> Answer
     ensures items { plain_list items.new.items ≡ take (length (plain_list items.old.items) - 1)
         (plain_list items.old.items) }
     ensures answer { plain_answer result ≡ value_or Signal.Bounds
@@ -146,7 +125,7 @@ fn remove_high(items: &mut VecDeque<Value, Heap>) -> Answer
     }
 }
 
-fn remove_low(low: &mut i64, items: &mut VecDeque<Value, Heap>) -> Answer
+pub(crate) fn remove_low(low: &mut i64, items: &mut VecDeque<Value, Heap>) -> Answer
     requires { KeepsBounds low.old (length items.old.items) }
     ensures { Leaves reml low.old items.old.items low.new items.new.items result }
 {
@@ -165,7 +144,7 @@ fn remove_low(low: &mut i64, items: &mut VecDeque<Value, Heap>) -> Answer
     }
 }
 
-fn move_low(low: &mut i64, items: &VecDeque<Value, Heap>, bound: i64) -> Answer
+pub(crate) fn move_low(low: &mut i64, items: &VecDeque<Value, Heap>, bound: i64) -> Answer
     requires { KeepsBounds low.old (length items.now.items) }
     ensures { Leaves (set_low bound) low.old items.now.items low.new items.now.items result }
 {
@@ -176,7 +155,12 @@ fn move_low(low: &mut i64, items: &VecDeque<Value, Heap>, bound: i64) -> Answer
     Answer::Done
 }
 
-fn trim_items(low: &mut i64, items: &mut VecDeque<Value, Heap>, from: i64, count: i64) -> Answer
+pub(crate) fn trim_items(
+    low: &mut i64,
+    items: &mut VecDeque<Value, Heap>,
+    from: i64,
+    count: i64,
+) -> Answer
     requires { KeepsBounds low.old (length items.old.items) }
     ensures { Leaves (trim from count) low.old items.old.items low.new items.new.items result }
 {

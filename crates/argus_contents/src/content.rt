@@ -1,11 +1,16 @@
 //! `Content`: what an atomic object holds.
 
-ghost use Rattle.std.specs.Prelude.{◌≡◌, ◌↔◌, true, IfOk};
-ghost use Rattle.argus_contents.specs.Content.{plain_content, plain_option};
+ghost use Rattle.std.specs.Prelude.{◌≡◌, ◌↔◌, true, IfOk, OnErr, Some};
+ghost use Rattle.argus_contents.specs.Answer.{plain_answer};
+ghost use Rattle.argus_contents.specs.Change.{CreatesWithin, outcome, plain_change};
+ghost use Rattle.argus_contents.specs.Content.{KeepsLimits, plain_content, plain_option};
 ghost use Rattle.argus_contents.specs.Decided.{said_equivalence, content_decided};
 ghost use Rattle.argus_contents.specs.Same.{same_content, same_values};
 ghost use Rattle.argus_contents.specs.Value.{plain_list, listed};
 
+use crate::altering::alter_parts;
+use crate::answer::Answer;
+use crate::change::Change;
 use crate::value::{self, Value, append_copies, duplicate_all};
 use argus_memory::{Heap, OutOfMemory};
 use std::collections::VecDeque;
@@ -22,7 +27,7 @@ use std::collections::VecDeque;
 /// let empty = Content::Arr { low: 1, items: VecDeque::new(heap) };
 /// let two = Content::Arr { low: 1, items: VecDeque::from_vec(items) };
 /// ```
-#[derive(Debug, Drop)]
+#[derive(Debug)]
 pub enum Content {
     /// A value for each name of the record's shape, in order.
     Rec(Vec<Value, Heap>),
@@ -41,6 +46,17 @@ pub enum Content {
 // A tag, the low bound and the queue.
 const _: () = prove!(size_of::<Content>() == 64);
 
+// By hand, so that each place where a content ends is one call; a derived one is written out there.
+impl Drop for Content {
+    fn drop(self) {
+        match self {
+            Content::Rec(_) => {}
+            Content::Arr { low: _, items: _ } => {}
+            Content::Var { tag: _, value: _ } => {}
+        }
+    }
+}
+
 impl Content {
     /// A content equal to this one. `OutOfMemory`: nothing was copied.
     pub fn duplicate(&self, heap: Heap) -> Result<Content, OutOfMemory>
@@ -56,6 +72,29 @@ impl Content {
                 tag: *tag,
                 value: value.duplicate(heap)?,
             }),
+        }
+    }
+
+    /// The content that the change leaves in place of this one, and its answer; after `OutOfMemory`
+    /// this one.
+    pub(crate) fn altered(self, change: Change) -> (Content, Result<Answer, OutOfMemory>)
+        requires { KeepsLimits (Some (plain_content self)) }
+        ensures ok { IfOk result.1 (λ answer. (Some (plain_content result.0), plain_answer answer)
+            ≡ outcome (plain_change change) (Some (plain_content self))) }
+        ensures err { OnErr result.1 (plain_content result.0 ≡ plain_content self) }
+        ensures kept { CreatesWithin (plain_change change)
+            → KeepsLimits (Some (plain_content result.0)) }
+    {
+        match self {
+            Content::Rec(mut fields) => {
+                let answer = change.alter_record(&mut fields);
+                (Content::Rec(fields), Ok(answer))
+            }
+            Content::Arr { low, items } => alter_parts(low, items, change),
+            Content::Var { mut tag, mut value } => {
+                let answer = change.alter_variant(&mut tag, &mut value);
+                (Content::Var { tag, value }, Ok(answer))
+            }
         }
     }
 

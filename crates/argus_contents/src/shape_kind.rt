@@ -5,9 +5,19 @@ use crate::ty::Ty;
 use argus_memory::Heap;
 
 /// The parts of a [`Shape`](crate::Shape), of which it isn't known yet whether they make one.
-#[derive(Debug, Drop)]
+#[derive(Debug)]
 pub(crate) enum ShapeKind {
     Rec(Vec<(Name, Ty), Heap>),
     Arr(Ty),
     Var(Vec<(Name, Ty), Heap>),
+}
+
+// By hand, so that each place where a shape ends is one call; a derived one is written out there.
+impl Drop for ShapeKind {
+    fn drop(self) {
+        match self {
+            ShapeKind::Rec(_) | ShapeKind::Var(_) => {}
+            ShapeKind::Arr(_) => {}
+        }
+    }
 }

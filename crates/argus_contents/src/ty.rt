@@ -18,7 +18,7 @@ use argus_memory::{Heap, OutOfMemory};
 /// ```text
 /// let numbers = Ty::Sequence(Box::new(heap, Ty::Int)?);      // sequence[int]
 /// ```
-#[derive(Debug, Drop)]
+#[derive(Debug)]
 pub enum Ty {
     Null,
     Bool,
@@ -31,6 +31,17 @@ pub enum Ty {
     Fields(Vec<(Name, Ty), Heap>),
     /// `oneof[..]`: a name and a type for each tag.
     Choice(Vec<(Name, Ty), Heap>),
+}
+
+// By hand, so that each place where a type ends is one call; a derived one is written out there.
+impl Drop for Ty {
+    fn drop(self) {
+        match self {
+            Ty::Null | Ty::Bool | Ty::Int | Ty::Text | Ty::Atomic => {}
+            Ty::Sequence(_) => {}
+            Ty::Fields(_) | Ty::Choice(_) => {}
+        }
+    }
 }
 
 impl Ty {

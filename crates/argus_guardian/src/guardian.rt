@@ -25,9 +25,15 @@ use std::marker::Model;
 /// assert_eq!(rt; guardian.begin_top()?, Reply::Begun(ActionId(0)));
 /// assert_eq!(rt; guardian.commit(ActionId(0))?, Reply::Answered(Answer::Done));
 /// ```
-#[derive(Drop)]
 pub struct Guardian {
     pub(crate) parts: Parts,
+}
+
+// By hand, so that each place where a guardian ends is one call; a derived one is written out there.
+impl Drop for Guardian {
+    fn drop(self) {
+        let Guardian { parts: _ } = self;
+    }
 }
 
 impl Model for Guardian {
@@ -44,6 +50,8 @@ impl Model for Guardian {
 }
 
 impl Guardian {
+    ghost use Rattle.argus_steps.specs.Parts.{Keeps, said_of};
+
     /// A guardian with no object, no action and no entry. It takes no memory.
     pub fn new(heap: Heap) -> Guardian
         ensures opening { result.opening ≡ empty }
@@ -58,6 +66,15 @@ impl Guardian {
                 journal: LegalJournal::new(heap),
             },
         }
+    }
+
+    /// What the guardian keeps, to be put together again.
+    pub(crate) fn into_parts(self) -> Parts
+        ensures keeps { Keeps result }
+        ensures said { said_of result ≡ self }
+    {
+        let Guardian { parts } = self;
+        parts
     }
 
     /// The journal, to be read: all calls since the opening, in order, each with its reply.

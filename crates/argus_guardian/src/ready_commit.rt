@@ -58,7 +58,7 @@ impl Guardian {
         ensures action { IfOk result (λ ready. ready.action ≡ a.0) }
         ensures err { IfErr result (λ guardian. guardian ≡ self) }
     {
-        let Guardian { mut parts } = self;
+        let mut parts = self.into_parts();
         match prepare_commit(&mut parts, a) {
             Ok(prepared) => Ok(ReadyCommit {
                 parts,

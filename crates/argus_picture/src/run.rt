@@ -11,7 +11,6 @@ use argus_memory::Heap;
 
 /// What the lines that were read so far tell. Actions and objects stand at their places, which are
 /// their numbers less those that the opening has folded.
-#[derive(Drop)]
 pub(crate) struct Run<'a> {
     pub first_entry: u64,
     pub first_action: u32,
@@ -23,6 +22,23 @@ pub(crate) struct Run<'a> {
     pub refused: Vec<RefusedCall<'a>, Heap>,
     pub settlings: Vec<Settling<'a>, Heap>,
     pub writes: Vec<Write, Heap>,
+}
+
+// By hand, so that each place where a run ends is one call; a derived one is written out there.
+impl Drop for Run<'_> {
+    fn drop(self) {
+        let Run {
+            first_entry: _,
+            first_action: _,
+            entries: _,
+            actions: _,
+            objects: _,
+            holds: _,
+            refused: _,
+            settlings: _,
+            writes: _,
+        } = self;
+    }
 }
 
 impl<'a> Run<'a> {

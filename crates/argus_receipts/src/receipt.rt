@@ -1,5 +1,7 @@
 //! `Receipt`: a call as it was made, its reply, and where both stand in the journal.
 
+ghost use Rattle.std.specs.Prelude.{◌≡◌};
+
 use argus_entries::{Call, Reply};
 
 /// A call that was made on a shared guardian, with its reply, and the number of its entry in the
@@ -10,9 +12,38 @@ use argus_entries::{Call, Reply};
 /// assert_eq!(rt; receipt.reply, Reply::Begun(ActionId(0)));
 /// assert_eq!(rt; receipt.at, 0);
 /// ```
-#[derive(Debug, Drop)]
+#[derive(Debug)]
 pub struct Receipt {
     pub at: u64,
     pub call: Call,
     pub reply: Reply,
+}
+
+// By hand, so that each place where a receipt ends is one call; a derived one is written out there.
+impl Drop for Receipt {
+    fn drop(self) {
+        let Receipt {
+            at: _,
+            call: _,
+            reply: _,
+        } = self;
+    }
+}
+
+impl Receipt {
+    /// The reply, taken out of the receipt.
+    ///
+    /// ```text
+    /// let reply = shared.call(&rt, &mut seat, Call::BeginTop)?.into_reply();
+    /// ```
+    pub fn into_reply(self) -> Reply
+        ensures { result ≡ self.reply }
+    {
+        let Receipt {
+            at: _,
+            call: _,
+            reply: taken,
+        } = self;
+        taken
+    }
 }

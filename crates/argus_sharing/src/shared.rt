@@ -42,10 +42,19 @@ use std::sync::{Condvar, Mutex, Wait};
 /// let Parts { shared, mut seats, mut lookers } = parts;
 /// let receipt = shared.call(&rt, &mut seats[0], Call::BeginTop)?;
 /// ```
-#[derive(Drop)]
 pub struct Shared<N: Sharing, R: Wait + Drop> {
     pub(crate) locked: Mutex<Locked<N, R>>,
     pub(crate) freed: Condvar,
+}
+
+// By hand, so that each place where a sharing ends is one call; a derived one is written out there.
+impl<N: Sharing, R: Wait + Drop> Drop for Shared<N, R> {
+    fn drop(self) {
+        let Shared {
+            locked: _,
+            freed: _,
+        } = self;
+    }
 }
 
 impl<N: Sharing, R: Wait + Drop> Shared<N, R> {

@@ -39,7 +39,7 @@ fn are_same_contents(heap: Heap, one: &str, other: &str) -> Result<bool, RowFaul
 }
 
 fn are_same_turned(heap: Heap, one: &str, other: &str) -> Result<bool, RowFault> {
-    let turned = turned(heap, read_content(heap, one)?)?;
+    let turned = turned(heap, &read_content(heap, one)?)?;
     Ok(turned == read_content(heap, other)?)
 }
 
@@ -67,14 +67,13 @@ fn shape_of(heap: Heap, text: &str) -> Result<Shape, RowFault> {
 }
 
 // The same array, its queue made from the middle on.
-fn turned(heap: Heap, content: Content) -> Result<Content, OutOfMemory> {
+fn turned(heap: Heap, content: &Content) -> Result<Content, OutOfMemory> {
     match content {
         Content::Arr { low, items } => {
-            let items = made_from_middle(heap, &items)?;
-            Ok(Content::Arr { low, items })
+            let items = made_from_middle(heap, items)?;
+            Ok(Content::Arr { low: *low, items })
         }
-        Content::Rec(fields) => Ok(Content::Rec(fields)),
-        Content::Var { tag, value } => Ok(Content::Var { tag, value }),
+        Content::Rec(_) | Content::Var { .. } => content.duplicate(heap),
     }
 }
 

@@ -1,13 +1,13 @@
 //! Contents that keep the limits of arrays, as operations want them.
 
-ghost use Rattle.std.specs.Prelude.{◌≡◌, ◌↔◌, IfOk, true};
-ghost use Rattle.argus_contents.specs.Content.{KeepsBounds, KeepsLimits, plain_option};
+ghost use Rattle.std.specs.Prelude.{◌≡◌, ◌↔◌, IfOk, Some, true};
+ghost use Rattle.argus_contents.specs.Content.{KeepsBounds, KeepsLimits, plain_content};
+ghost use Rattle.argus_contents.specs.Content.{plain_option};
 
+use argus_contents::Content;
 use argus_contents::limits::{MAX_BOUND, MAX_ITEMS, MIN_BOUND};
-use argus_contents::{Content, Value};
 use argus_memory::Heap;
 use argus_texts::read_content;
-use std::collections::VecDeque;
 use test_rows::RowFault;
 
 /// The content that is spelled, or `absent`.
@@ -23,20 +23,19 @@ pub(crate) fn kept_of(heap: Heap, text: &str) -> Result<Option<Content>, RowFaul
 fn within_limits(content: Content) -> Result<Option<Content>, RowFault>
     ensures { IfOk result (λ content. KeepsLimits (plain_option content)) }
 {
-    match content {
-        Content::Rec(fields) => Ok(Some(Content::Rec(fields))),
-        Content::Arr { low, items } => array_within_limits(low, items),
-        Content::Var { tag, value } => Ok(Some(Content::Var { tag, value })),
+    if is_within_limits(&content) {
+        Ok(Some(content))
+    } else {
+        Err(RowFault::NotSpelled)
     }
 }
 
-fn array_within_limits(low: i64, items: VecDeque<Value, Heap>) -> Result<Option<Content>, RowFault>
-    ensures { IfOk result (λ content. KeepsLimits (plain_option content)) }
+fn is_within_limits(content: &Content) -> bool
+    ensures { result ≡ true → KeepsLimits (Some (plain_content content.now)) }
 {
-    if keeps_limits(low, items.len()) {
-        Ok(Some(Content::Arr { low, items }))
-    } else {
-        Err(RowFault::NotSpelled)
+    match content {
+        Content::Arr { low, items } => keeps_limits(*low, items.len()),
+        Content::Rec(_) | Content::Var { .. } => true,
     }
 }
 

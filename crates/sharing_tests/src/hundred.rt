@@ -6,8 +6,8 @@ use crate::sharing::{budgets, share};
 use crate::task::Task;
 use anyhow::{Result, bail, ensure};
 use argus_actions::ActionId;
-use argus_contents::{Content, ObjId, Value};
-use argus_entries::Call;
+use argus_contents::{Answer, Content, ObjId, Value};
+use argus_entries::{Call, Reply};
 use argus_guardian::Guardian;
 use argus_memory::Heap;
 use argus_sharing::{Parts, Receipt, Seat, Shared, Sharing};
@@ -102,10 +102,22 @@ pub(crate) fn commit_once<N: Sharing, R: Wait + Drop>(
         bail!("no seat");
     };
     let receipts = commit_by(&rt, &shared, seat, commit);
-    match shared.settle(seats, receipts.as_slice()) {
-        Ok(guardian) => Ok(guardian),
+    let settled = shared.settle(seats, receipts.as_slice());
+    let done = are_done(receipts);
+    match settled {
+        Ok(guardian) if done => Ok(guardian),
+        Ok(_) => bail!("a commit isn't done"),
         Err(unsettled) => bail!("a commit isn't settled: {}", unsettled.fault),
     }
+}
+
+fn are_done(receipts: Vec<Receipt, Heap>) -> bool {
+    let mut done = true;
+    for receipt in receipts {
+        let reply = receipt.into_reply();
+        done = done && reply == Reply::Answered(Answer::Done);
+    }
+    done
 }
 
 // The receipt of the commit, or none where it was refused memory.
@@ -152,7 +164,10 @@ fn is_held(guardian: &Guardian, o: ObjId, holder: Option<ActionId>) -> bool {
 
 fn is_zero(content: &Option<Content>) -> bool {
     match content {
-        Some(Content::Rec(values)) => matches!(values.as_slice(), [Value::Int(0)]),
+        Some(Content::Rec(values)) => match values.as_slice() {
+            [only] => matches!(only, Value::Int(0)),
+            [] | [_, _, ..] => false,
+        },
         Some(Content::Arr { .. }) | Some(Content::Var { .. }) | None => false,
     }
 }

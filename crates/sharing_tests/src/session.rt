@@ -4,11 +4,11 @@ use crate::caller::{make_kept, make_waiting};
 use crate::reading::number_of;
 use crate::row::Row;
 use crate::sharing::budgets;
-use crate::telling::{entry_of, tell_checkpoint, tell_fault, tell_last, tell_look, tell_shown};
+use crate::telling::{tell_checkpoint, tell_fault, tell_last, tell_look, tell_shown};
 use crate::waiting::{Meanwhile, wait_meanwhile};
 use argus_board::Looker;
 use argus_contents::ObjId;
-use argus_entries::{Call, Entry, Reply};
+use argus_entries::{Call, Reply};
 use argus_guardian::Guardian;
 use argus_memory::{Heap, OutOfMemory};
 use argus_sharing::{Parts, Receipt, Seat, SettleFault, Shared, Sharing, Unsettled};
@@ -307,7 +307,9 @@ fn copy_named(
 }
 
 fn copy(receipt: &Receipt, out: &mut Vec<Receipt, Heap>) -> Result<(), RowFault> {
-    let Entry { call, reply } = entry_of(*out.allocator(), receipt)?;
+    let heap = *out.allocator();
+    let call = receipt.call.duplicate(heap)?;
+    let reply = receipt.reply.duplicate(heap)?;
     out.push(Receipt {
         at: receipt.at,
         call,

@@ -9,8 +9,8 @@ use test_rows::{RowFault, Setting, tell_number};
 
 /// The low bound of an array, how many items it has, and its items.
 pub(crate) fn answer_array(setting: Setting, text: &str) -> Result<String<Heap>, RowFault> {
-    match read_content(setting.texts, text)? {
-        Content::Arr { low, items } => Ok(told_array(setting.texts, low, &items)?),
+    match &read_content(setting.texts, text)? {
+        Content::Arr { low, items } => Ok(told_array(setting.texts, *low, items)?),
         Content::Rec(_) | Content::Var { .. } => Err(RowFault::NotSpelled),
     }
 }

@@ -9,13 +9,13 @@ pub returns-clause-board : goal.returns-clause-board
 returns-clause-board g c =
     let inv = c.self.invariant in
     let was = c.self.inside.shown in
-    follows_other g.N.Board.opening was.guardian c.call-2.new.self (plain_call c.args.call)
+    follows_other g.N.Board.opening was.guardian c.call.new.self (plain_call c.args.call)
     (was.board.published ++ was.board.pending) c.requires c.journal_is_legal.ensures.legal inv.2
     c.in_ok-reply.ensures.ok
 
 pub invariant_of-self-2 : goal.invariant_of-self-2
 invariant_of-self-2 g c =
     let inv = c.self.invariant in
-    let made : next_number c.call-2.new.self ≡ next_number c.self.inside.shown.guardian + 1 =
+    let made : next_number c.call.new.self ≡ next_number c.self.inside.shown.guardian + 1 =
     ap next_number c.in_ok-reply.ensures.ok ∙ omega arith in
     (inv.0, omega (arith, made, inv.1, c.counted-at.ensures.total), returns-clause-board g c)
