@@ -2,7 +2,7 @@
 
 use crate::telling::{status_name, tell_link, tell_refusal};
 use argus_actions::{ActionId, ActionRefusal, ActionTree};
-use argus_memory::Heap;
+use argus_memory::Room;
 use test_rows::{RowFault, action, first_word, tell_flag, tell_number, tell_word};
 
 /// Adds what the question that begins with this word is answered.
@@ -10,7 +10,7 @@ pub(crate) fn answer_question(
     tree: &ActionTree,
     word: &str,
     rest: &str,
-    out: &mut String<Heap>,
+    out: &mut String<Room>,
 ) -> Result<(), RowFault> {
     match word {
         "length" => tell_number(u64::from(tree.len()), out)?,

@@ -1,14 +1,14 @@
 //! The laws of a tree: each can be called, and does nothing.
 
 use argus_actions::{ActionId, ActionTree, Status};
-use argus_memory::Heap;
+use argus_memory::Room;
 use test_rows::{RowFault, action, first_word, tell_word};
 
 /// Calls the law of this name, of the actions that come behind it.
 pub(crate) fn call_law(
     tree: &ActionTree,
     text: &str,
-    out: &mut String<Heap>,
+    out: &mut String<Room>,
 ) -> Result<(), RowFault> {
     let (name, rest) = first_word(text);
     match name {

@@ -1,11 +1,11 @@
 //! What a tree answers, as text.
 
 use argus_actions::{ActionError, ActionId, ActionRefusal, Status};
-use argus_memory::{Heap, OutOfMemory};
+use argus_memory::{OutOfMemory, Room};
 use test_rows::{RowFault, tell_action, tell_word};
 
 /// Adds `refused Over`; want of memory is told by the tester.
-pub(crate) fn tell_error(error: ActionError, out: &mut String<Heap>) -> Result<(), RowFault> {
+pub(crate) fn tell_error(error: ActionError, out: &mut String<Room>) -> Result<(), RowFault> {
     tell_word("refused", out)?;
     tell_name(error, out)
 }
@@ -13,7 +13,7 @@ pub(crate) fn tell_error(error: ActionError, out: &mut String<Heap>) -> Result<(
 /// Adds a refusal that is foreseen, or `none`.
 pub(crate) fn tell_refusal(
     refusal: Option<ActionRefusal>,
-    out: &mut String<Heap>,
+    out: &mut String<Room>,
 ) -> Result<(), RowFault> {
     match refusal {
         Some(refusal) => tell_name(ActionError::from(refusal), out),
@@ -21,7 +21,7 @@ pub(crate) fn tell_refusal(
     }
 }
 
-fn tell_name(error: ActionError, out: &mut String<Heap>) -> Result<(), RowFault> {
+fn tell_name(error: ActionError, out: &mut String<Room>) -> Result<(), RowFault> {
     match error {
         ActionError::Refused(refusal) => Ok(tell_word(refusal_name(refusal), out)?),
         ActionError::OutOfMemory => Err(RowFault::OutOfMemory),
@@ -29,7 +29,7 @@ fn tell_name(error: ActionError, out: &mut String<Heap>) -> Result<(), RowFault>
 }
 
 /// Adds the action that a link leads to, or `none`.
-pub(crate) fn tell_link(link: Option<ActionId>, out: &mut String<Heap>) -> Result<(), OutOfMemory> {
+pub(crate) fn tell_link(link: Option<ActionId>, out: &mut String<Room>) -> Result<(), OutOfMemory> {
     match link {
         Some(a) => tell_action(a, out),
         None => tell_word("none", out),

@@ -7,7 +7,7 @@ use crate::laws::call_law;
 use crate::telling::tell_error;
 use argus_actions::{ActionId, ActionTree};
 use argus_contents::limits::MAX_ACTIONS;
-use argus_memory::{Heap, OutOfMemory};
+use argus_memory::{OutOfMemory, Room};
 use test_rows::{RowFault, Setting, Subject, action, first_word, tell_action, tell_word};
 
 /// A tree of actions that rows are told to.
@@ -28,9 +28,9 @@ impl Subject for Trees {
         }
     }
 
-    fn answer(&mut self, setting: Setting, asked: &str) -> Result<String<Heap>, RowFault> {
+    fn answer(&mut self, setting: Setting, asked: &str) -> Result<String<Room>, RowFault> {
         let (word, rest) = first_word(asked);
-        let mut out = String::new(setting.texts);
+        let mut out = String::new(setting.texts.room());
         match word {
             "starting_at" => self.start(setting, rest.parse::<u32>()?, &mut out)?,
             "begin_top" | "begin_sub" | "begin_nested" => {
@@ -62,7 +62,7 @@ impl Trees {
         &mut self,
         setting: Setting,
         first: u32,
-        out: &mut String<Heap>,
+        out: &mut String<Room>,
     ) -> Result<(), RowFault> {
         if first > MAX_ACTIONS {
             return Err(RowFault::NotSpelled);
@@ -77,7 +77,7 @@ impl Trees {
         setting: Setting,
         word: &str,
         rest: &str,
-        out: &mut String<Heap>,
+        out: &mut String<Room>,
     ) -> Result<(), RowFault> {
         let before = self.picture();
         setting.limit();
@@ -91,7 +91,7 @@ impl Trees {
         Ok(())
     }
 
-    fn reserve(&mut self, setting: Setting, out: &mut String<Heap>) -> Result<(), RowFault> {
+    fn reserve(&mut self, setting: Setting, out: &mut String<Room>) -> Result<(), RowFault> {
         let before = self.picture();
         setting.limit();
         match self.tree.reserve() {
@@ -104,7 +104,7 @@ impl Trees {
         Ok(())
     }
 
-    fn end(&mut self, word: &str, a: ActionId, out: &mut String<Heap>) -> Result<(), RowFault> {
+    fn end(&mut self, word: &str, a: ActionId, out: &mut String<Room>) -> Result<(), RowFault> {
         match ended(&mut self.tree, word, a)? {
             Ok(()) => tell_word("done", out)?,
             Err(error) => tell_error(error, out)?,

@@ -27,7 +27,7 @@ use crate::origin::Origin;
 use crate::status::Status;
 use crate::walk::{abort_siblings, abort_under, climbs, finish, push_begun};
 use argus_contents::limits::{MAX_ACTION_DEPTH, MAX_ACTIONS};
-use argus_memory::{Heap, OutOfMemory};
+use argus_memory::{Heap, OutOfMemory, Room};
 use std::marker::Model;
 
 /// The actions that were begun, numbered from 0.
@@ -47,7 +47,7 @@ use std::marker::Model;
 pub struct ActionTree {
     // The number of the first action that has a node; those below are folded.
     first: u32,
-    nodes: Vec<Node, Heap>,
+    nodes: Vec<Node, Room>,
 }
 
 impl Model for ActionTree {
@@ -98,7 +98,7 @@ impl ActionTree {
     {
         ActionTree {
             first,
-            nodes: Vec::new(heap),
+            nodes: Vec::new(heap.room()),
         }
     }
 

@@ -16,7 +16,7 @@ use crate::node::{NONE, Node};
 use crate::origin::Origin;
 use crate::status::Status;
 use argus_contents::limits::{MAX_ACTION_DEPTH, MAX_ACTIONS};
-use argus_memory::Heap;
+use argus_memory::Room;
 
 /// Whether `x` is `y`, or above it. A parent is older than its subactions, so it ends below `x`.
 pub(crate) fn climbs(nodes: &[Node], first: u32, x: u32, y: u32) -> bool
@@ -88,7 +88,7 @@ pub(crate) fn adopt(nodes: &mut [Node], first: u32, origin: Origin, number: u32)
 }
 
 /// Begins an action of this origin in the room that is there, and gives its number.
-pub(crate) fn push_begun(nodes: &mut Vec<Node, Heap>, first: u32, origin: Origin) -> u32
+pub(crate) fn push_begun(nodes: &mut Vec<Node, Room>, first: u32, origin: Origin) -> u32
     requires nodes { AreNodes first nodes.old.items }
     requires few { first + vec_len nodes.old < MAX_ACTIONS }
     requires room { vec_len nodes.old < vec_capacity nodes.old }

@@ -138,20 +138,20 @@ impl<K: Callee> Client<K> {
 
 /// A record of this integer.
 pub(crate) fn record(heap: Heap, number: i64) -> Result<Content, OutOfMemory> {
-    let mut values = Vec::new(heap);
+    let mut values = Vec::new(heap.room());
     values.push(Value::Int(number))?;
     Ok(Content::Rec(values))
 }
 
 fn record_shape(heap: Heap) -> Result<Shape, BenchError> {
     let name = Name::new(heap, "n")?;
-    let mut fields = Vec::new(heap);
+    let mut fields = Vec::new(heap.room());
     fields.push((name, Ty::Int))?;
     Ok(Shape::rec(fields)?)
 }
 
 fn array(heap: Heap, count: u16) -> Result<Content, OutOfMemory> {
-    let zeros = (0..count).map(|_| Value::Int(0)).collect(heap)?;
+    let zeros = (0..count).map(|_| Value::Int(0)).collect(heap.room())?;
     Ok(Content::Arr {
         low: 1,
         items: VecDeque::from_vec(zeros),

@@ -11,7 +11,7 @@ use crate::seated::Seated;
 use crate::stopwatch::Stopwatch;
 use crate::turning::{RECORDS, turn_counts};
 use crate::working::add_records;
-use argus_memory::{Heap, OutOfMemory};
+use argus_memory::{Heap, OutOfMemory, Room};
 use argus_sharing::{Seat, Shared, Sharing};
 use std::alloc::AllocError;
 use std::rt::Clock;
@@ -37,7 +37,7 @@ pub(crate) fn time_threads<
     heap: Heap,
     shared: &Shared<N, R>,
     last: Seat<N>,
-    seats: Vec<Seat<N>, Heap>,
+    seats: Vec<Seat<N>, Room>,
     is_hot: bool,
     turns: u32,
 ) -> Result<Outcome, BenchError> {
@@ -54,7 +54,7 @@ fn time_jobs<N: Sharing + Send + Sync, R: Threads + Wait + Clock + Drop + Send +
     rt: &R,
     heap: Heap,
     shared: &Shared<N, R>,
-    jobs: Vec<(Job, Seat<N>), Heap>,
+    jobs: Vec<(Job, Seat<N>), Room>,
 ) -> Result<Figure, BenchError> {
     let watch = Stopwatch::start(rt)?;
     let made = count_all(rt, heap, shared, jobs)?;
@@ -68,11 +68,11 @@ fn time_jobs<N: Sharing + Send + Sync, R: Threads + Wait + Clock + Drop + Send +
 // Each seat with its thread's job.
 fn jobs_for<N: Sharing>(
     heap: Heap,
-    seats: Vec<Seat<N>, Heap>,
+    seats: Vec<Seat<N>, Room>,
     turns: u32,
     is_hot: bool,
-) -> Result<Vec<(Job, Seat<N>), Heap>, OutOfMemory> {
-    let mut jobs = Vec::new(heap);
+) -> Result<Vec<(Job, Seat<N>), Room>, OutOfMemory> {
+    let mut jobs = Vec::new(heap.room());
     let mut number = 0u32;
     for seat in seats {
         let job = Job {
@@ -91,8 +91,8 @@ fn count_all<N: Sharing + Send + Sync, R: Threads + Wait + Drop + Send + Sync>(
     rt: &R,
     heap: Heap,
     shared: &Shared<N, R>,
-    jobs: Vec<(Job, Seat<N>), Heap>,
-) -> Result<Vec<u32, Heap>, AllocError> {
+    jobs: Vec<(Job, Seat<N>), Room>,
+) -> Result<Vec<u32, Room>, AllocError> {
     map_vec(rt, jobs, &|job| count_often(rt, heap, shared, job))
 }
 

@@ -14,7 +14,7 @@ use crate::turning::{pair, turn_pair};
 use crate::working::number_in;
 use argus_board::Looker;
 use argus_contents::Content;
-use argus_memory::{Heap, OutOfMemory};
+use argus_memory::{Heap, OutOfMemory, Room};
 use argus_sharing::{Seat, Shared, Sharing};
 use std::alloc::AllocError;
 use std::rt::Clock;
@@ -38,7 +38,7 @@ pub(crate) fn time_lookers<
     heap: Heap,
     shared: &Shared<N, R>,
     seat: Seat<N>,
-    lookers: Vec<Looker<N>, Heap>,
+    lookers: Vec<Looker<N>, Room>,
     is_busy: bool,
     millis: u32,
 ) -> Result<Outcome, BenchError> {
@@ -60,7 +60,7 @@ pub(crate) fn time_lookers<
 fn look_apart<N: Sharing + Send + Sync, R: Threads + Wait + Drop + Send + Sync>(
     rt: &R,
     heap: Heap,
-    lookers: Vec<Looker<N>, Heap>,
+    lookers: Vec<Looker<N>, Room>,
     is_over: &AtomicU64,
 ) -> Result<Looks, OutOfMemory> {
     let seeds = AtomicU64::new(7);
@@ -79,10 +79,10 @@ fn added_up(looked: &[Looks]) -> Looks {
 fn look_all<N: Sharing + Send + Sync, R: Threads + Wait + Drop + Send + Sync>(
     rt: &R,
     heap: Heap,
-    lookers: Vec<Looker<N>, Heap>,
+    lookers: Vec<Looker<N>, Room>,
     seeds: &AtomicU64,
     is_over: &AtomicU64,
-) -> Result<Vec<Looks, Heap>, AllocError> {
+) -> Result<Vec<Looks, Room>, AllocError> {
     map_vec(
         rt,
         lookers,

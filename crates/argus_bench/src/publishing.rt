@@ -39,7 +39,7 @@ fn time_publishes<N: Board, R: Wait + Clock + Copy + Drop>(
     requires first { N.first ≡ [] }
     requires leads { Leads N.opening N.before N.first }
 {
-    let mut board = BoardWriter::<N, R>::new(rt, heap, Vec::new(heap), keeper, 0)?;
+    let mut board = BoardWriter::<N, R>::new(rt, heap, Vec::new(heap.room()), keeper, 0)?;
     time_often(&rt, heap, &mut board, turns)
 }
 
@@ -75,7 +75,7 @@ fn publish_often<N: Board, R: Wait + Drop>(
 
 // Both records with this number.
 fn effect(heap: Heap, pair: [ObjId; 2], number: u32) -> Result<Effect, OutOfMemory> {
-    let mut effect = Vec::with_capacity(heap, 2)?;
+    let mut effect = Vec::with_capacity(heap.room(), 2)?;
     leave(heap, &mut effect, pair[0], number)?;
     leave(heap, &mut effect, pair[1], number)?;
     Ok(effect)

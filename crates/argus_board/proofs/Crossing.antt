@@ -48,16 +48,16 @@ pair_syncs : IsSync pair_row
 pair_syncs = let pair = tuple_type (object_row ∷ option_row content_row ∷ []) in
     recorded_sync _ pair.D pair.to pair.to_one (struct_sync (shape pair) (search sendable, (option_syncs, tt)))
 
-pub effect_sends : IsSend (list_row pair_row memory.heap memory.rests)
+pub effect_sends : IsSend (list_row pair_row memory.room memory.rests)
 effect_sends = memory.list_sends pair_row pair_sends
 
-pub effect_syncs : IsSync (list_row pair_row memory.heap memory.rests)
+pub effect_syncs : IsSync (list_row pair_row memory.room memory.rests)
 effect_syncs = memory.list_syncs pair_row pair_syncs
 
-pub contents_sends : IsSend (list_row (option_row content_row) memory.heap memory.rests)
+pub contents_sends : IsSend (list_row (option_row content_row) memory.room memory.rests)
 contents_sends = memory.list_sends (option_row content_row) option_sends
 
-pub contents_syncs : IsSync (list_row (option_row content_row) memory.heap memory.rests)
+pub contents_syncs : IsSync (list_row (option_row content_row) memory.room memory.rests)
 contents_syncs = memory.list_syncs (option_row content_row) option_syncs
 
 pub table_sends : IsSend table_row
@@ -81,8 +81,8 @@ change_syncs = search (sendable, change_field_syncs)
 inside_sends : (N R : RattleType) (g : Ghosts N.Denot) → IsSend R → IsSend (declared_row (inside N R g))
 inside_sends N R g s = let t = inside N R g in
     recorded_send _ t.D t.to t.to_one (struct_send (shape t) (
-      publisher_send table_row change_row view_row (published_row N) memory.heap (Tuple (contents_row ∷ front_row ∷ [])) absorbs
-          (keeps N g no_dict) memory.rests table_sends change_sends memory.heap_sends table_syncs memory.heap_syncs memory.heap_frees,
+      publisher_send table_row change_row view_row (published_row N) memory.room (Tuple (contents_row ∷ front_row ∷ [])) absorbs
+          (keeps N g no_dict) memory.rests table_sends change_sends memory.room_sends table_syncs memory.room_syncs memory.room_frees,
       (keeper_field_sends, (front_field_sends, (s, tt))),
     ))
 
@@ -92,8 +92,8 @@ writer_sends N R g s = view_send _ _ _ _ _ (inside_sends N R g s)
 looker_inside_sends : (N : RattleType) (g : Ghosts N.Denot) → IsSend (declared_row (looker_inside N g))
 looker_inside_sends N g = let t = looker_inside N g in
     recorded_send _ t.D t.to t.to_one (struct_send (shape t) (
-      place_send table_row view_row (published_row N) memory.heap (keeps N g no_dict) memory.rests memory.heap_sends
-          table_syncs memory.heap_syncs memory.heap_frees,
+      place_send table_row view_row (published_row N) memory.room (keeps N g no_dict) memory.rests memory.room_sends
+          table_syncs memory.room_syncs memory.room_frees,
       (front_field_sends, tt),
     ))
 

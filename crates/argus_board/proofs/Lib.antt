@@ -4,3 +4,4 @@ pub mod Crossing
 pub mod History
 pub mod Prefixes
 pub mod Rule
+mod Showing

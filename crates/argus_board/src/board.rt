@@ -15,7 +15,7 @@ use std::marker::Brand;
 ///     requires first { N.first ≡ [] }
 ///     requires leads { Leads N.opening N.before N.first }
 /// {
-///     let board = BoardWriter::<N, R>::new(rt, heap, Vec::new(heap), keeper, 1)?;
+///     let board = BoardWriter::<N, R>::new(rt, heap, Vec::new(heap.room()), keeper, 1)?;
 ///     ..
 /// }
 ///

@@ -15,7 +15,7 @@ use crate::looking::duplicate_contents;
 use crate::published::Publisher;
 use crate::publishing::{hand, opened, place_of, publish};
 use argus_contents::Content;
-use argus_memory::{Heap, OutOfMemory};
+use argus_memory::{Heap, OutOfMemory, Room};
 use std::marker::Model;
 use std::snapshot::Snapshot;
 use std::sync::Wait;
@@ -91,7 +91,7 @@ impl<N: Board, R: Wait + Drop> BoardWriter<N, R> {
     pub fn new(
         rt: R,
         heap: Heap,
-        contents: Vec<Option<Content>, Heap>,
+        contents: Vec<Option<Content>, Room>,
         keeper: Keeper,
         lookers: u32,
     ) -> Result<BoardWriter<N, R>, OutOfMemory>

@@ -12,7 +12,7 @@ use crate::look_fault::LookFault;
 use crate::looking::copies_of;
 use crate::published::{BoardReader, Looks, Publisher};
 use argus_contents::{Content, ObjId};
-use argus_memory::{Heap, OutOfMemory};
+use argus_memory::{Heap, OutOfMemory, Room};
 use core::mem::replace_with;
 use std::marker::Model;
 
@@ -74,7 +74,7 @@ impl<N: Board> Looker<N> {
         &mut self,
         heap: Heap,
         objects: &[ObjId],
-    ) -> Result<Vec<Option<Content>, Heap>, LookFault>
+    ) -> Result<Vec<Option<Content>, Room>, LookFault>
         ensures later { IsPrefix self.old self.new }
         ensures answer { IfOk result (λ found. plain_contents found.items
             ≡ map (λ o. table N.opening self.new o.0) objects.now) }
@@ -88,7 +88,7 @@ impl<N: Board> Looker<N> {
         self,
         heap: Heap,
         objects: &[ObjId],
-    ) -> (Looker<N>, Result<Vec<Option<Content>, Heap>, LookFault>)
+    ) -> (Looker<N>, Result<Vec<Option<Content>, Room>, LookFault>)
         ensures later { IsPrefix self result.0 }
         ensures answer { IfOk result.1 (λ found. plain_contents found.items
             ≡ map (λ o. table N.opening result.0 o.0) objects.now) }

@@ -3,7 +3,7 @@
 use crate::board::Board;
 use crate::change::Change;
 use crate::table::Table;
-use argus_memory::Heap;
+use argus_memory::Room;
 use atomic_table::{Join, Split};
 use crossbeam_utils::rule::{Outcome, Protocol};
 use left_right::reader::Reader;
@@ -65,7 +65,7 @@ impl Join<View> for Notes {
 }
 
 /// A looker's end, under the rule.
-pub(crate) type BoardReader<N> = Reader<Table, View, Published<N>, Heap>;
+pub(crate) type BoardReader<N> = Reader<Table, View, Published<N>, Room>;
 
 /// The publisher's end, under the rule.
-pub(crate) type Publisher<N> = Writer<Table, Change, View, Published<N>, Heap>;
+pub(crate) type Publisher<N> = Writer<Table, Change, View, Published<N>, Room>;

@@ -14,7 +14,7 @@ use crate::front::Front;
 use crate::published::{BoardReader, Looks, Notes, Publisher};
 use crate::table::Table;
 use argus_contents::Content;
-use argus_memory::{Heap, OutOfMemory};
+use argus_memory::{Heap, OutOfMemory, Room};
 use core::mem::replace_with;
 use std::alloc::AllocError;
 use std::sync::Wait;
@@ -22,8 +22,8 @@ use std::sync::Wait;
 /// A publisher of these contents, of which `copy` has the same, with room for so many readers.
 pub(crate) fn opened<N: Board>(
     heap: Heap,
-    contents: Vec<Option<Content>, Heap>,
-    copy: Vec<Option<Content>, Heap>,
+    contents: Vec<Option<Content>, Room>,
+    copy: Vec<Option<Content>, Room>,
     front: &Front,
     readers: usize,
 ) -> Result<Publisher<N>, OutOfMemory>
@@ -43,7 +43,7 @@ pub(crate) fn opened<N: Board>(
         contents: copy,
         front: front.again(),
     };
-    let publisher = Publisher::<N>::new(heap, first, second, readers)?;
+    let publisher = Publisher::<N>::new(heap.room(), first, second, readers)?;
     Ok(publisher)
 }
 

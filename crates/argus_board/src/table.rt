@@ -7,7 +7,7 @@ use crate::effect::duplicate_effect;
 use crate::front::Front;
 use crate::writing::{pad, required, write};
 use argus_contents::Content;
-use argus_memory::Heap;
+use argus_memory::Room;
 use left_right::Absorb;
 use std::alloc::AllocError;
 use std::marker::Model;
@@ -16,7 +16,7 @@ use std::marker::Model;
 /// then. The board has two copies of it.
 #[derive(Drop)]
 pub struct Table {
-    pub contents: Vec<Option<Content>, Heap>,
+    pub contents: Vec<Option<Content>, Room>,
     pub front: Front,
 }
 
@@ -45,7 +45,7 @@ impl Absorb<Change> for Table {
     fn absorb_first(&mut self, operation: &Change, _other: &Table) -> Result<(), AllocError> {
         match operation {
             Change::Leaves(effect) => {
-                let Ok(copy) = duplicate_effect(*self.contents.allocator(), effect) else {
+                let Ok(copy) = duplicate_effect(self.contents.allocator().heap(), effect) else {
                     return Err(AllocError);
                 };
                 pad(&mut self.contents, required(copy.as_slice()))?;

@@ -5,7 +5,7 @@ ghost use Rattle.argus_board.specs.Effects.{needed, padded, plain_contents, plai
 
 use crate::effect::Effect;
 use argus_contents::{Content, ObjId};
-use argus_memory::Heap;
+use argus_memory::Room;
 use std::alloc::AllocError;
 
 /// How many objects a table has to have for all that the effect names.
@@ -20,7 +20,7 @@ pub(crate) fn required(effect: &[(ObjId, Option<Content>)]) -> usize
 }
 
 /// Makes the contents so many at least: the new ones are absent. At `Err` nothing changed.
-pub(crate) fn pad(contents: &mut Vec<Option<Content>, Heap>, count: usize) -> Result<(), AllocError>
+pub(crate) fn pad(contents: &mut Vec<Option<Content>, Room>, count: usize) -> Result<(), AllocError>
     ensures ok { OnOk result (plain_contents contents.new.items
         ≡ padded (plain_contents contents.old.items) count) }
     ensures err { OnErr result (contents.new.items ≡ contents.old.items) }
@@ -34,7 +34,7 @@ pub(crate) fn pad(contents: &mut Vec<Option<Content>, Heap>, count: usize) -> Re
 }
 
 /// Writes each object of the effect. There are so many at least.
-pub(crate) fn write(contents: &mut Vec<Option<Content>, Heap>, effect: Effect)
+pub(crate) fn write(contents: &mut Vec<Option<Content>, Room>, effect: Effect)
     requires { needed (plain_effect effect.items) ≤ length contents.old.items }
     ensures { plain_contents contents.new.items
         ≡ written (plain_contents contents.old.items) (plain_effect effect.items) }
@@ -46,7 +46,7 @@ pub(crate) fn write(contents: &mut Vec<Option<Content>, Heap>, effect: Effect)
 }
 
 /// Puts a content in the place of another.
-fn put(contents: &mut Vec<Option<Content>, Heap>, at: usize, content: Option<Content>)
+fn put(contents: &mut Vec<Option<Content>, Room>, at: usize, content: Option<Content>)
     requires { at < length contents.old.items }
     ensures { contents.new.items ≡ set contents.old.items at content }
 {

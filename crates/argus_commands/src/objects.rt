@@ -7,7 +7,7 @@ ghost use Rattle.argus_contents.specs.declared.limits.TheConstants.{MAX_OBJECTS}
 ghost use Rattle.argus_commands.specs.Objects.{no_objects, number_of, shape_at};
 
 use argus_contents::{Name, Shape};
-use argus_memory::{Heap, OutOfMemory};
+use argus_memory::{Heap, OutOfMemory, Room};
 use std::collections::BTreeMap;
 use std::marker::Model;
 
@@ -16,9 +16,9 @@ use std::marker::Model;
 /// slow; the names in it are borrowed from the script.
 #[derive(Drop)]
 pub(crate) struct Objects<'a> {
-    names: Vec<Name, Heap>,
-    shapes: Vec<Shape, Heap>,
-    numbers: BTreeMap<&'a str, u32, Heap>,
+    names: Vec<Name, Room>,
+    shapes: Vec<Shape, Room>,
+    numbers: BTreeMap<&'a str, u32, Room>,
 }
 
 impl<'a> Model for Objects<'a> {
@@ -39,9 +39,9 @@ impl<'a> Objects<'a> {
         ensures { result ≡ no_objects }
     {
         Objects {
-            names: Vec::new(heap),
-            shapes: Vec::new(heap),
-            numbers: BTreeMap::new(heap),
+            names: Vec::new(heap.room()),
+            shapes: Vec::new(heap.room()),
+            numbers: BTreeMap::new(heap.room()),
         }
     }
 
@@ -91,7 +91,7 @@ impl<'a> Objects<'a> {
     }
 
     /// The names and the shapes.
-    pub(crate) fn into_lists(self) -> (Vec<Name, Heap>, Vec<Shape, Heap>)
+    pub(crate) fn into_lists(self) -> (Vec<Name, Room>, Vec<Shape, Room>)
         ensures names { result.0.items ≡ self.entry.names }
         ensures shapes { result.1.items ≡ self.entry.shapes }
     {

@@ -3,7 +3,7 @@
 use crate::level::Level;
 use crate::opening::Opening;
 use crate::step::Step;
-use argus_memory::Heap;
+use argus_memory::Room;
 
 /// A block or an arm that is being read: the line with which it began, and the steps that stand
 /// before it in what is around it.
@@ -11,5 +11,5 @@ use argus_memory::Heap;
 pub(crate) struct OpenBlock {
     pub opening: Opening,
     pub level: Level,
-    pub before: Vec<Step, Heap>,
+    pub before: Vec<Step, Room>,
 }

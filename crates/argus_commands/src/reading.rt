@@ -26,15 +26,15 @@ use crate::open_block::OpenBlock;
 use crate::opening::Opening;
 use crate::place::Place;
 use crate::step::Step;
-use argus_memory::{Heap, OutOfMemory};
+use argus_memory::{Heap, OutOfMemory, Room};
 use std::mem;
 
 /// A script that is being read: its objects so far, what is open, and the steps in the innermost.
 #[derive(Drop)]
 pub(crate) struct Reading<'a> {
     pub objects: Objects<'a>,
-    pub blocks: Vec<OpenBlock, Heap>,
-    pub steps: Vec<Step, Heap>,
+    pub blocks: Vec<OpenBlock, Room>,
+    pub steps: Vec<Step, Room>,
 }
 
 impl<'a> Reading<'a> {
@@ -46,8 +46,8 @@ impl<'a> Reading<'a> {
     {
         Reading {
             objects: Objects::new(heap),
-            blocks: Vec::new(heap),
-            steps: Vec::new(heap),
+            blocks: Vec::new(heap.room()),
+            steps: Vec::new(heap.room()),
         }
     }
 
@@ -109,7 +109,7 @@ impl<'a> Reading<'a> {
         ensures sound { OnOk result (IsSound self.new.blocks.items self.new.steps.items) }
     {
         self.blocks.reserve(1)?;
-        let before = mem::replace(&mut self.steps, Vec::new(heap));
+        let before = mem::replace(&mut self.steps, Vec::new(heap.room()));
         self.blocks.push_reserved(OpenBlock {
             opening,
             level,

@@ -6,7 +6,7 @@ ghost use Rattle.argus_commands.specs.Script.{plain_script};
 
 use crate::step::Step;
 use argus_contents::{Name, Shape};
-use argus_memory::Heap;
+use argus_memory::Room;
 
 /// A script that was read: the objects that it declares, and its steps.
 ///
@@ -16,9 +16,9 @@ use argus_memory::Heap;
 /// ```
 #[derive(Drop)]
 pub struct Script {
-    pub(crate) names: Vec<Name, Heap>,
-    pub(crate) shapes: Vec<Shape, Heap>,
-    pub(crate) steps: Vec<Step, Heap>,
+    pub(crate) names: Vec<Name, Room>,
+    pub(crate) shapes: Vec<Shape, Room>,
+    pub(crate) steps: Vec<Step, Room>,
 }
 
 impl Script {

@@ -2,7 +2,7 @@
 
 use crate::opening::Opening;
 use argus_contents::{Change, Query};
-use argus_memory::Heap;
+use argus_memory::Room;
 
 /// A step of a script. Objects are numbered from 0, in the order of their declarations; fields and
 /// tags in the order of their object's shape.
@@ -26,5 +26,5 @@ pub enum Step {
     Leave,
     AbortLeave,
     LeaveAll,
-    Block(Opening, Vec<Step, Heap>),
+    Block(Opening, Vec<Step, Room>),
 }

@@ -12,7 +12,7 @@ use crate::answer::Answer;
 use crate::change::Change;
 use crate::content::Content;
 use crate::value::Value;
-use argus_memory::{Heap, OutOfMemory};
+use argus_memory::{Heap, OutOfMemory, Room};
 use std::collections::VecDeque;
 
 /// The content that the change leaves, and its answer; [`Change`] has the table.
@@ -77,7 +77,7 @@ pub fn alter_in_place(content: &mut Option<Content>, change: Change) -> Result<A
 /// An array that was taken apart is changed and put together again.
 pub(crate) fn alter_parts(
     mut low: i64,
-    mut items: VecDeque<Value, Heap>,
+    mut items: VecDeque<Value, Room>,
     change: Change,
 ) -> (Content, Result<Answer, OutOfMemory>)
     requires { KeepsBounds low (length items.items) }

@@ -16,7 +16,7 @@ use crate::content::Content;
 use crate::limits::MAX_BOUND;
 use crate::signal::Signal;
 use crate::value::Value;
-use argus_memory::{Heap, OutOfMemory};
+use argus_memory::{Heap, OutOfMemory, Room};
 use std::collections::VecDeque;
 
 /// What [`alter`](crate::alter) answers, without the content that it leaves; [`Change`] has the
@@ -100,7 +100,7 @@ fn variant_answer(tag: u8, value: &Value, change: &Change) -> Answer
 fn array_answer(
     heap: Heap,
     low: i64,
-    items: &VecDeque<Value, Heap>,
+    items: &VecDeque<Value, Room>,
     change: &Change,
 ) -> Result<Answer, OutOfMemory>
     requires { KeepsBounds low (length items.now.items) }
@@ -132,7 +132,7 @@ fn done_unless(is_refused: bool, why: Signal) -> Answer
     }
 }
 
-fn store_answer(low: i64, items: &VecDeque<Value, Heap>, index: i64, value: &Value) -> Answer
+fn store_answer(low: i64, items: &VecDeque<Value, Room>, index: i64, value: &Value) -> Answer
     requires { KeepsBounds low (length items.now.items) }
     ensures { plain_answer result ≡ (array_outcome (store index (plain_value value.now)) low
         (plain_list items.now.items)).1 }
@@ -143,7 +143,7 @@ fn store_answer(low: i64, items: &VecDeque<Value, Heap>, index: i64, value: &Val
     }
 }
 
-fn first_answer(heap: Heap, low: i64, items: &VecDeque<Value, Heap>) -> Result<Answer, OutOfMemory>
+fn first_answer(heap: Heap, low: i64, items: &VecDeque<Value, Room>) -> Result<Answer, OutOfMemory>
     requires { KeepsBounds low (length items.now.items) }
     ensures { IfOk result (λ answer. plain_answer answer
         ≡ (array_outcome reml low (plain_list items.now.items)).1) }
@@ -154,7 +154,7 @@ fn first_answer(heap: Heap, low: i64, items: &VecDeque<Value, Heap>) -> Result<A
     value_or_signal(heap, items.front(), Signal::Bounds)
 }
 
-fn trim_answer(low: i64, items: &VecDeque<Value, Heap>, from: i64, count: i64) -> Answer
+fn trim_answer(low: i64, items: &VecDeque<Value, Room>, from: i64, count: i64) -> Answer
     requires { KeepsBounds low (length items.now.items) }
     ensures { plain_answer result ≡ (array_outcome (trim from count) low
         (plain_list items.now.items)).1 }

@@ -15,7 +15,7 @@ use crate::asking::place_in;
 use crate::limits::{MAX_BOUND, MAX_ITEMS, MIN_BOUND};
 use crate::signal::Signal;
 use crate::value::Value;
-use argus_memory::{Heap, OutOfMemory};
+use argus_memory::{OutOfMemory, Room};
 use std::collections::VecDeque;
 
 /// Whether no value can be added at the high end.
@@ -60,7 +60,7 @@ pub(crate) fn trim_refusal(low: i64, size: usize, from: i64, count: i64) -> Opti
 
 pub(crate) fn store_item(
     low: i64,
-    items: &mut VecDeque<Value, Heap>,
+    items: &mut VecDeque<Value, Room>,
     index: i64,
     value: Value,
 ) -> Answer
@@ -79,7 +79,7 @@ pub(crate) fn store_item(
 
 pub(crate) fn add_high(
     low: i64,
-    items: &mut VecDeque<Value, Heap>,
+    items: &mut VecDeque<Value, Room>,
     value: Value,
 ) -> Result<Answer, OutOfMemory>
     requires { KeepsBounds low (length items.old.items) }
@@ -96,7 +96,7 @@ pub(crate) fn add_high(
 
 pub(crate) fn add_low(
     low: &mut i64,
-    items: &mut VecDeque<Value, Heap>,
+    items: &mut VecDeque<Value, Room>,
     value: Value,
 ) -> Result<Answer, OutOfMemory>
     requires { KeepsBounds low.old (length items.old.items) }
@@ -113,7 +113,7 @@ pub(crate) fn add_low(
     Ok(Answer::Done)
 }
 
-pub(crate) fn remove_high(items: &mut VecDeque<Value, Heap>) -> Answer
+pub(crate) fn remove_high(items: &mut VecDeque<Value, Room>) -> Answer
     ensures items { plain_list items.new.items ≡ take (length (plain_list items.old.items) - 1)
         (plain_list items.old.items) }
     ensures answer { plain_answer result ≡ value_or Signal.Bounds
@@ -125,7 +125,7 @@ pub(crate) fn remove_high(items: &mut VecDeque<Value, Heap>) -> Answer
     }
 }
 
-pub(crate) fn remove_low(low: &mut i64, items: &mut VecDeque<Value, Heap>) -> Answer
+pub(crate) fn remove_low(low: &mut i64, items: &mut VecDeque<Value, Room>) -> Answer
     requires { KeepsBounds low.old (length items.old.items) }
     ensures { Leaves reml low.old items.old.items low.new items.new.items result }
 {
@@ -144,7 +144,7 @@ pub(crate) fn remove_low(low: &mut i64, items: &mut VecDeque<Value, Heap>) -> An
     }
 }
 
-pub(crate) fn move_low(low: &mut i64, items: &VecDeque<Value, Heap>, bound: i64) -> Answer
+pub(crate) fn move_low(low: &mut i64, items: &VecDeque<Value, Room>, bound: i64) -> Answer
     requires { KeepsBounds low.old (length items.now.items) }
     ensures { Leaves (set_low bound) low.old items.now.items low.new items.now.items result }
 {
@@ -157,7 +157,7 @@ pub(crate) fn move_low(low: &mut i64, items: &VecDeque<Value, Heap>, bound: i64)
 
 pub(crate) fn trim_items(
     low: &mut i64,
-    items: &mut VecDeque<Value, Heap>,
+    items: &mut VecDeque<Value, Room>,
     from: i64,
     count: i64,
 ) -> Answer
@@ -174,7 +174,7 @@ pub(crate) fn trim_items(
 }
 
 // What comes before the place leaves.
-fn drop_first(items: &mut VecDeque<Value, Heap>, place: usize)
+fn drop_first(items: &mut VecDeque<Value, Room>, place: usize)
     requires { place ≤ length items.old.items }
     ensures { items.new.items ≡ drop place items.old.items }
 {

@@ -14,7 +14,7 @@ use crate::content::{Content, duplicate_items};
 use crate::query::Query;
 use crate::signal::Signal;
 use crate::value::{Value, duplicate_all};
-use argus_memory::{Heap, OutOfMemory};
+use argus_memory::{Heap, OutOfMemory, Room};
 use std::collections::VecDeque;
 
 /// What the query answers of the content; [`Query`] has the table.
@@ -58,7 +58,7 @@ fn ask_record(heap: Heap, fields: &[Value], query: &Query) -> Result<Answer, Out
 fn ask_array(
     heap: Heap,
     low: i64,
-    items: &VecDeque<Value, Heap>,
+    items: &VecDeque<Value, Room>,
     query: &Query,
 ) -> Result<Answer, OutOfMemory>
     requires { KeepsBounds low (length items.now.items) }
@@ -79,7 +79,7 @@ fn ask_array(
     }
 }
 
-fn whole_array(heap: Heap, low: i64, items: &VecDeque<Value, Heap>) -> Result<Answer, OutOfMemory>
+fn whole_array(heap: Heap, low: i64, items: &VecDeque<Value, Room>) -> Result<Answer, OutOfMemory>
     ensures { IfOk result (λ answer. plain_answer answer
         ≡ body (arr low (plain_list items.now.items))) }
 {
@@ -116,7 +116,7 @@ fn ask_variant(heap: Heap, tag: u8, value: &Value, query: &Query) -> Result<Answ
 fn fetch(
     heap: Heap,
     low: i64,
-    items: &VecDeque<Value, Heap>,
+    items: &VecDeque<Value, Room>,
     index: i64,
 ) -> Result<Answer, OutOfMemory>
     requires { KeepsBounds low (length items.now.items) }
@@ -129,7 +129,7 @@ fn fetch(
     }
 }
 
-fn item_at(items: &VecDeque<Value, Heap>, place: usize) -> Option<&Value>
+fn item_at(items: &VecDeque<Value, Room>, place: usize) -> Option<&Value>
     ensures { plain_found result ≡ slice_get (plain_list items.now.items) place }
 {
     items.get(place)

@@ -15,7 +15,7 @@ use crate::content::Content;
 use crate::record::set_field;
 use crate::signal::Signal;
 use crate::value::Value;
-use argus_memory::{Heap, OutOfMemory};
+use argus_memory::{Heap, OutOfMemory, Room};
 use std::collections::VecDeque;
 
 /// An operation that changes a content. It needs a write lock.
@@ -52,6 +52,9 @@ use std::collections::VecDeque;
 /// | `Trim(i, n)` | `NegativeSize` if `n < 0` |
 /// | | `Bounds` if `i < low` or `i > high + 1` |
 /// | | `Limits` if `i` is past the greatest bound |
+///
+/// It isn't taken apart by a pattern outside this crate: a part is taken out by `&mut`, with an
+/// empty one in its place.
 ///
 /// Source: in the manner of the built-in atomic types of the Argus Reference Manual
 /// (MIT/LCS/TR-400, 1987); the signals and their order are this project's own.
@@ -135,7 +138,7 @@ impl Change {
     }
 
     /// What the change does to the fields of a record.
-    pub(crate) fn alter_record(self, fields: &mut Vec<Value, Heap>) -> Answer
+    pub(crate) fn alter_record(self, fields: &mut Vec<Value, Room>) -> Answer
         ensures { (Some (rec (plain_list fields.new.items)), plain_answer result)
             ≡ record_outcome (plain_change self) (plain_list fields.old.items) }
     {
@@ -158,7 +161,7 @@ impl Change {
     pub(crate) fn alter_array(
         self,
         low: &mut i64,
-        items: &mut VecDeque<Value, Heap>,
+        items: &mut VecDeque<Value, Room>,
     ) -> Result<Answer, OutOfMemory>
         requires { KeepsBounds low.old (length items.old.items) }
         ensures ok { IfOk result (λ answer. Leaves (plain_change self)

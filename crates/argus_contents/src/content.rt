@@ -12,7 +12,7 @@ use crate::altering::alter_parts;
 use crate::answer::Answer;
 use crate::change::Change;
 use crate::value::{self, Value, append_copies, duplicate_all};
-use argus_memory::{Heap, OutOfMemory};
+use argus_memory::{Heap, OutOfMemory, Room};
 use std::collections::VecDeque;
 
 /// What an atomic object holds: the fields of a record, an array or a variant.
@@ -21,20 +21,23 @@ use std::collections::VecDeque;
 /// costs the same however long it is. A queue is made from a `Vec`, and gives one back, without
 /// taking memory.
 ///
+/// It isn't taken apart by a pattern outside this crate: a part is taken out by `&mut`, with an
+/// empty one in its place.
+///
 /// Source: the built-in atomic types of the Argus Reference Manual (MIT/LCS/TR-400, 1987).
 ///
 /// ```text
-/// let empty = Content::Arr { low: 1, items: VecDeque::new(heap) };
+/// let empty = Content::Arr { low: 1, items: VecDeque::new(heap.room()) };
 /// let two = Content::Arr { low: 1, items: VecDeque::from_vec(items) };
 /// ```
 #[derive(Debug)]
 pub enum Content {
     /// A value for each name of the record's shape, in order.
-    Rec(Vec<Value, Heap>),
+    Rec(Vec<Value, Room>),
     /// The index of the first item, and the items.
     Arr {
         low: i64,
-        items: VecDeque<Value, Heap>,
+        items: VecDeque<Value, Room>,
     },
     /// The number of a tag, and a value of the tag's type.
     Var {
@@ -149,7 +152,7 @@ fn is_same(a: &Content, b: &Content) -> bool
 }
 
 // Queues of the same items may be split at different places.
-fn have_same_items(a: &VecDeque<Value, Heap>, b: &VecDeque<Value, Heap>) -> bool
+fn have_same_items(a: &VecDeque<Value, Room>, b: &VecDeque<Value, Room>) -> bool
     ensures { result ≡ same_values (listed (plain_list a.now.items))
         (listed (plain_list b.now.items)) }
 {
@@ -159,12 +162,12 @@ fn have_same_items(a: &VecDeque<Value, Heap>, b: &VecDeque<Value, Heap>) -> bool
 /// Items equal to these, in the same order.
 pub(crate) fn duplicate_items(
     heap: Heap,
-    items: &VecDeque<Value, Heap>,
-) -> Result<VecDeque<Value, Heap>, OutOfMemory>
+    items: &VecDeque<Value, Room>,
+) -> Result<VecDeque<Value, Room>, OutOfMemory>
     ensures { IfOk result (λ copies. plain_list copies.items ≡ plain_list items.now.items) }
 {
     let (front, back) = items.as_slices();
-    let mut copies = Vec::with_capacity(heap, items.len())?;
+    let mut copies = Vec::with_capacity(heap.room(), items.len())?;
     append_copies(heap, front, &mut copies)?;
     append_copies(heap, back, &mut copies)?;
     Ok(VecDeque::from_vec(copies))

@@ -27,7 +27,7 @@ mod value;
 pub use altering::{alter, alter_copy, alter_in_place};
 pub use answer::Answer;
 pub use answering::change_answer;
-pub use argus_memory::{Heap, OutOfMemory};
+pub use argus_memory::{Heap, OutOfMemory, Room};
 pub use asking::ask;
 pub use change::Change;
 pub use content::Content;

@@ -9,7 +9,7 @@ ghost use Rattle.argus_contents.specs.Name.{is_name, is_name_byte};
 
 use crate::limits::MAX_NAME_BYTES;
 use crate::name_error::NameError;
-use argus_memory::{Heap, OutOfMemory};
+use argus_memory::{Heap, OutOfMemory, Room};
 use std::marker::Model;
 
 /// A name of a field of a record or of a tag of a variant: 1 to 32 bytes of `[a-z0-9_]`.
@@ -22,7 +22,7 @@ use std::marker::Model;
 /// ```
 #[derive(Debug, Drop)]
 pub struct Name {
-    text: String<Heap>,
+    text: String<Room>,
 }
 
 impl Model for Name {
@@ -59,7 +59,7 @@ impl Name {
             return Err(NameError::BadName);
         }
         Ok(Name {
-            text: String::from_str(heap, text)?,
+            text: String::from_str(heap.room(), text)?,
         })
     }
 
@@ -76,7 +76,7 @@ impl Name {
     {
         let text = &self.text;
         Ok(Name {
-            text: String::from_str(heap, text.as_str())?,
+            text: String::from_str(heap.room(), text.as_str())?,
         })
     }
 }

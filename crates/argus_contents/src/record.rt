@@ -9,9 +9,9 @@ ghost use Rattle.argus_contents.specs.Value.{plain_value, plain_list};
 use crate::answer::Answer;
 use crate::signal::Signal;
 use crate::value::Value;
-use argus_memory::Heap;
+use argus_memory::Room;
 
-pub(crate) fn set_field(fields: &mut Vec<Value, Heap>, field: u8, value: Value) -> Answer
+pub(crate) fn set_field(fields: &mut Vec<Value, Room>, field: u8, value: Value) -> Answer
     ensures { (Some (rec (plain_list fields.new.items)), plain_answer result)
         ≡ set_in field (plain_value value) (plain_list fields.old.items) }
 {

@@ -15,7 +15,7 @@ use crate::shape_kind::ShapeKind;
 use crate::shape_view::ShapeView;
 use crate::shaping::fault_in;
 use crate::ty::{self, Ty, duplicate_fields};
-use argus_memory::{Heap, OutOfMemory};
+use argus_memory::{Heap, OutOfMemory, Room};
 use std::marker::Model;
 
 /// What an object was declared to hold: a record, an array or a variant. It never changes.
@@ -25,7 +25,7 @@ use std::marker::Model;
 /// Source: the built-in atomic types of the Argus Reference Manual (MIT/LCS/TR-400, 1987).
 ///
 /// ```text
-/// let mut fields = Vec::new(heap);
+/// let mut fields = Vec::new(heap.room());
 /// fields.push((Name::new(heap, "balance")?, Ty::Int))?;
 /// let account = Shape::rec(fields)?;              // atomic_record[balance:int]
 /// let numbers = Shape::arr(Ty::Int)?;             // atomic_array[int]
@@ -52,7 +52,7 @@ impl Shape {
     ghost use Rattle.argus_contents.specs.ShapeKind.{plain_kind};
 
     /// A record with these fields. The fault is the first that applies anywhere in it.
-    pub fn rec(fields: Vec<(Name, Ty), Heap>) -> Result<Shape, ShapeFault>
+    pub fn rec(fields: Vec<(Name, Ty), Room>) -> Result<Shape, ShapeFault>
         ensures ok { IfOk result (λ shape. shape ≡ rec (plain_fields fields.items)) }
         ensures fault { result_err result ≡ fault_of (rec (plain_fields fields.items)) }
     {
@@ -68,7 +68,7 @@ impl Shape {
     }
 
     /// A variant with these tags. The fault is the first that applies anywhere in it.
-    pub fn var(tags: Vec<(Name, Ty), Heap>) -> Result<Shape, ShapeFault>
+    pub fn var(tags: Vec<(Name, Ty), Room>) -> Result<Shape, ShapeFault>
         ensures ok { IfOk result (λ shape. shape ≡ var (plain_fields tags.items)) }
         ensures fault { result_err result ≡ fault_of (var (plain_fields tags.items)) }
     {

@@ -6,7 +6,7 @@ use thiserror::Error;
 /// first of this list is answered.
 ///
 /// ```text
-/// match Shape::rec(Vec::new(heap)) {
+/// match Shape::rec(Vec::new(heap.room())) {
 ///     Ok(shape) => ..,
 ///     Err(fault) => ..,                       // here: ShapeFault::NoNames
 /// }

@@ -2,14 +2,14 @@
 
 use crate::name::Name;
 use crate::ty::Ty;
-use argus_memory::Heap;
+use argus_memory::Room;
 
 /// The parts of a [`Shape`](crate::Shape), of which it isn't known yet whether they make one.
 #[derive(Debug)]
 pub(crate) enum ShapeKind {
-    Rec(Vec<(Name, Ty), Heap>),
+    Rec(Vec<(Name, Ty), Room>),
     Arr(Ty),
-    Var(Vec<(Name, Ty), Heap>),
+    Var(Vec<(Name, Ty), Room>),
 }
 
 // By hand, so that each place where a shape ends is one call; a derived one is written out there.

@@ -6,7 +6,7 @@ ghost use Rattle.argus_contents.specs.Same.{same_fields, same_ty};
 ghost use Rattle.argus_contents.specs.Ty.{plain_ty, plain_fields};
 
 use crate::name::Name;
-use argus_memory::{Heap, OutOfMemory};
+use argus_memory::{Heap, OutOfMemory, Room};
 
 /// The type of a value.
 ///
@@ -16,7 +16,7 @@ use argus_memory::{Heap, OutOfMemory};
 /// Source: the built-in immutable types of the Argus Reference Manual (MIT/LCS/TR-400, 1987).
 ///
 /// ```text
-/// let numbers = Ty::Sequence(Box::new(heap, Ty::Int)?);      // sequence[int]
+/// let numbers = Ty::Sequence(Box::new(heap.room(), Ty::Int)?);      // sequence[int]
 /// ```
 #[derive(Debug)]
 pub enum Ty {
@@ -26,11 +26,11 @@ pub enum Ty {
     Text,
     /// A reference to an object, of whatever shape.
     Atomic,
-    Sequence(Box<Ty, Heap>),
+    Sequence(Box<Ty, Room>),
     /// `struct[..]`: a name and a type for each part.
-    Fields(Vec<(Name, Ty), Heap>),
+    Fields(Vec<(Name, Ty), Room>),
     /// `oneof[..]`: a name and a type for each tag.
-    Choice(Vec<(Name, Ty), Heap>),
+    Choice(Vec<(Name, Ty), Room>),
 }
 
 // By hand, so that each place where a type ends is one call; a derived one is written out there.
@@ -113,7 +113,7 @@ fn duplicate_ty(heap: Heap, ty: &Ty) -> Result<Ty, OutOfMemory>
         Ty::Atomic => Ok(Ty::Atomic),
         Ty::Sequence(item) => {
             let copy = duplicate_ty(heap, item)?;
-            Ok(Ty::Sequence(Box::new(heap, copy)?))
+            Ok(Ty::Sequence(Box::new(heap.room(), copy)?))
         }
         Ty::Fields(fields) => Ok(Ty::Fields(duplicate_fields(heap, fields)?)),
         Ty::Choice(tags) => Ok(Ty::Choice(duplicate_fields(heap, tags)?)),
@@ -125,10 +125,10 @@ fn duplicate_ty(heap: Heap, ty: &Ty) -> Result<Ty, OutOfMemory>
 pub(crate) fn duplicate_fields(
     heap: Heap,
     fields: &[(Name, Ty)],
-) -> Result<Vec<(Name, Ty), Heap>, OutOfMemory>
+) -> Result<Vec<(Name, Ty), Room>, OutOfMemory>
     ensures { IfOk result (λ copies. plain_fields copies.items ≡ plain_fields fields.now) }
 {
-    let mut copies = Vec::with_capacity(heap, fields.len())?;
+    let mut copies = Vec::with_capacity(heap.room(), fields.len())?;
     for (name, ty) in fields {
         let name = name.duplicate(heap)?;
         copies.push((name, duplicate_ty(heap, ty)?))?;

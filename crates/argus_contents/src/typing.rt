@@ -19,7 +19,7 @@ use crate::shape::Shape;
 use crate::shape_view::ShapeView;
 use crate::ty::Ty;
 use crate::value::Value;
-use argus_memory::Heap;
+use argus_memory::Room;
 use std::collections::VecDeque;
 
 /// Whether the value is of the type, where so many objects are declared: the constructors agree,
@@ -130,7 +130,7 @@ fn keeps_limits(low: i64, size: usize) -> bool
     low + size as i64 - 1 <= MAX_BOUND
 }
 
-fn items_have_type(items: &VecDeque<Value, Heap>, ty: &Ty, declared: u32) -> bool
+fn items_have_type(items: &VecDeque<Value, Room>, ty: &Ty, declared: u32) -> bool
     ensures { result ≡ all_typed (plain_ty ty.now) declared (listed (plain_list items.now.items)) }
 {
     let (front, back) = items.as_slices();

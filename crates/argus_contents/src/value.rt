@@ -6,7 +6,7 @@ ghost use Rattle.argus_contents.specs.Value.{plain_value, plain_list, listed};
 ghost use Rattle.argus_contents.specs.Decided.{said_equivalence, value_decided};
 
 use crate::obj_id::ObjId;
-use argus_memory::{Heap, OutOfMemory};
+use argus_memory::{Heap, OutOfMemory, Room};
 
 /// An immutable value.
 ///
@@ -21,12 +21,15 @@ use argus_memory::{Heap, OutOfMemory};
 /// | `Fields` | `struct[..]` | a value for each name of the type, in order |
 /// | `Choice` | `oneof[..]` | the number of a tag from 0, and a value of the tag's type |
 ///
+/// It isn't taken apart by a pattern outside this crate: a part is taken out by `&mut`, with an
+/// empty one in its place.
+///
 /// Source: the built-in immutable types of the Argus Reference Manual (MIT/LCS/TR-400, 1987).
 ///
 /// ```text
-/// let mut fields = Vec::new(heap);
+/// let mut fields = Vec::new(heap.room());
 /// fields.push(Value::Int(5))?;
-/// fields.push(Value::Text(String::from_str(heap, "five")?))?;
+/// fields.push(Value::Text(String::from_str(heap.room(), "five")?))?;
 /// let pair = Value::Fields(fields);
 /// ```
 #[derive(Debug)]
@@ -34,11 +37,11 @@ pub enum Value {
     Null,
     Bool(bool),
     Int(i64),
-    Text(String<Heap>),
+    Text(String<Room>),
     Atomic(ObjId),
-    Sequence(Vec<Value, Heap>),
-    Fields(Vec<Value, Heap>),
-    Choice(u8, Box<Value, Heap>),
+    Sequence(Vec<Value, Room>),
+    Fields(Vec<Value, Room>),
+    Choice(u8, Box<Value, Room>),
 }
 
 // A tag, with what is small behind it, and the widest owner: a text or a list.
@@ -119,23 +122,23 @@ fn duplicate_value(heap: Heap, value: &Value) -> Result<Value, OutOfMemory>
         Value::Null => Ok(Value::Null),
         Value::Bool(truth) => Ok(Value::Bool(*truth)),
         Value::Int(number) => Ok(Value::Int(*number)),
-        Value::Text(text) => Ok(Value::Text(String::from_str(heap, text.as_str())?)),
+        Value::Text(text) => Ok(Value::Text(String::from_str(heap.room(), text.as_str())?)),
         Value::Atomic(object) => Ok(Value::Atomic(*object)),
         Value::Sequence(items) => Ok(Value::Sequence(duplicate_all(heap, items)?)),
         Value::Fields(fields) => Ok(Value::Fields(duplicate_all(heap, fields)?)),
         Value::Choice(tag, part) => {
             let copy = duplicate_value(heap, part)?;
-            Ok(Value::Choice(*tag, Box::new(heap, copy)?))
+            Ok(Value::Choice(*tag, Box::new(heap.room(), copy)?))
         }
     }
 }
 
 /// Values equal to these, in the same order.
 #[cycle(duplicate)]
-pub(crate) fn duplicate_all(heap: Heap, values: &[Value]) -> Result<Vec<Value, Heap>, OutOfMemory>
+pub(crate) fn duplicate_all(heap: Heap, values: &[Value]) -> Result<Vec<Value, Room>, OutOfMemory>
     ensures { IfOk result (λ copies. plain_list copies.items ≡ plain_list values.now) }
 {
-    let mut copies = Vec::with_capacity(heap, values.len())?;
+    let mut copies = Vec::with_capacity(heap.room(), values.len())?;
     append_copies(heap, values, &mut copies)?;
     Ok(copies)
 }
@@ -147,7 +150,7 @@ pub(crate) fn duplicate_all(heap: Heap, values: &[Value]) -> Result<Vec<Value, H
 pub(crate) fn append_copies(
     heap: Heap,
     values: &[Value],
-    copies: &mut Vec<Value, Heap>,
+    copies: &mut Vec<Value, Room>,
 ) -> Result<(), OutOfMemory>
     ensures { OnOk result (plain_list copies.new.items ≡ plain_list copies.old.items
         ++ plain_list values.now) }

@@ -12,19 +12,18 @@ use Rattle.argus_guardian.specs.contracts.guardian.Guardian.TheInside.{the_type 
 use Rattle.argus_journal.proofs.Crossing as journal
 use Rattle.argus_journal.specs.contracts.legal_journal.LegalJournal.{the_field as legal_field}
 use Rattle.argus_memory.proofs.Crossing as memory
-use Rattle.argus_memory.proofs.limited.Limited.TheSendSync.{the_field_send as heap_field_sends}
+use Rattle.argus_memory.proofs.heap.Heap.TheSendSync.{the_field_send as heap_field_sends}
 use Rattle.argus_objects.proofs.Crossing as objects
 use Rattle.argus_objects.proofs.holdings.Holdings.TheSendSync.{the_field_send as holdings_field_sends}
 use Rattle.argus_steps.specs.contracts.atomic_object.AtomicObject.{the_row as object_row}
 use Rattle.argus_steps.specs.contracts.parts.Parts.{the_field as parts_field, the_type as parts_type}
-use Rattle.std.proofs.Crossing.{crosses as std_crosses, send}
-use Rattle.std.specs.contracts.alloc.Global.{the_row as global}
+use Rattle.std.proofs.Crossing.{crosses as std_crosses}
 use Rattle.std.specs.contracts.vec.Vec.{the_row as list_row}
 
 object_sends : IsSend object_row
 object_sends = search (sendable, contents.crosses, objects.crosses) depth 40
 
-objects_sends : IsSend (list_row object_row memory.heap memory.rests)
+objects_sends : IsSend (list_row object_row memory.room memory.rests)
 objects_sends = memory.list_sends object_row object_sends
 
 legal_field_sends : IsSend legal_field.row
@@ -32,7 +31,7 @@ legal_field_sends = search (sendable, journal.objects_sends, journal.entries_sen
 
 parts_field_sends : IsSend parts_field.row
 parts_field_sends = struct_send (shape parts_type) (
-  heap_field_sends global send,
+  heap_field_sends,
   (actions.tree_sends, (objects_sends, (holdings_field_sends, (legal_field_sends, tt)))),
 )
 
@@ -49,7 +48,7 @@ kept_field_sends = search (sendable, entries.reply_field_sends, memory.crosses) 
 embedded_inside_sends : IsSend (declared_row embedded_inside)
 embedded_inside_sends = let t = embedded_inside in
     recorded_send _ t.D t.to t.to_one (struct_send (shape t) (
-      heap_field_sends global send,
+      heap_field_sends,
       (guardian_sends, (search (sendable, std_crosses) depth 40, (kept_field_sends, tt))),
     ))
 

@@ -13,7 +13,7 @@ use argus_contents::Name;
 use argus_entries::write_entry;
 use argus_guardian::Guardian;
 use argus_listings::{Listing, list};
-use argus_memory::{Heap, OutOfMemory};
+use argus_memory::{Heap, OutOfMemory, Room};
 use argus_streams::Watched;
 
 /// The line of the entry with this number; None where the journal hasn't it.
@@ -21,7 +21,7 @@ pub(crate) fn entry_text(
     heap: Heap,
     guardian: &Guardian,
     at: u64,
-) -> Result<Option<Vec<u8, Heap>>, OutOfMemory>
+) -> Result<Option<Vec<u8, Room>>, OutOfMemory>
     ensures { IfOk result (λ told. option_map (λ t. t.items) told
         ≡ option_map (entry_spelling at)
         (entry_at guardian.now.opening guardian.now.entries at)) }
@@ -29,7 +29,7 @@ pub(crate) fn entry_text(
     let Some(entry) = guardian.journal().journal().get(at) else {
         return Ok(None);
     };
-    let mut text = String::new(heap);
+    let mut text = String::new(heap.room());
     write_entry(at, entry, &mut text)?;
     Ok(Some(text.into_bytes()))
 }
@@ -39,12 +39,12 @@ pub(crate) fn listing_text(
     heap: Heap,
     guardian: &Guardian,
     listing: Listing,
-) -> Result<Vec<u8, Heap>, OutOfMemory>
+) -> Result<Vec<u8, Room>, OutOfMemory>
     ensures { IfOk result (λ text. text.items ≡ listing_of listing
         (object_names (declared guardian.now.opening guardian.now.entries)) guardian.now) }
 {
     let names = object_names(heap, guardian.objects())?;
-    let mut writer = Watched::new(Vec::new(heap));
+    let mut writer = Watched::new(Vec::new(heap.room()));
     // A write to a list fails for want of memory alone.
     match list(heap, guardian, names.as_slice(), listing, &mut writer) {
         Ok(()) => {}
@@ -57,10 +57,10 @@ pub(crate) fn listing_text(
 }
 
 /// The names of so many objects.
-fn object_names(heap: Heap, count: u32) -> Result<Vec<Name, Heap>, OutOfMemory>
+fn object_names(heap: Heap, count: u32) -> Result<Vec<Name, Room>, OutOfMemory>
     ensures { IfOk result (λ names. names.items ≡ object_names count) }
 {
-    let mut names = Vec::new(heap);
+    let mut names = Vec::new(heap.room());
     for o in 0..count {
         let name = object_name(heap, o)?;
         names.push(name)?;
@@ -73,7 +73,7 @@ fn object_names(heap: Heap, count: u32) -> Result<Vec<Name, Heap>, OutOfMemory>
 fn object_name(heap: Heap, o: u32) -> Result<Name, OutOfMemory>
     ensures { IfOk result (λ name. name ≡ object_name o) }
 {
-    let mut text = String::new(heap);
+    let mut text = String::new(heap.room());
     append_number("o", o, &mut text)?;
     match Name::new(heap, text.as_str()) {
         Ok(name) => Ok(name),

@@ -1,7 +1,7 @@
 //! `Kept`: what an embedded guardian keeps of the last call, or of the last question.
 
 use argus_entries::Reply;
-use argus_memory::Heap;
+use argus_memory::Room;
 
 /// What is kept until the next call or question: a reply, whose text is made when it is asked for,
 /// so that no memory is wanted between a call and its reply; or the text of a question's answer.
@@ -9,5 +9,5 @@ use argus_memory::Heap;
 pub(crate) enum Kept {
     Nothing,
     Reply(Reply),
-    Text(Vec<u8, Heap>),
+    Text(Vec<u8, Room>),
 }

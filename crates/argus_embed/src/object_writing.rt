@@ -12,7 +12,7 @@ ghost use Rattle.argus_listings.specs.Listing.{content_text};
 use argus_actions::ActionId;
 use argus_contents::{Content, ObjId};
 use argus_guardian::Guardian;
-use argus_memory::{Heap, OutOfMemory};
+use argus_memory::{Heap, OutOfMemory, Room};
 use argus_objects::Version;
 use argus_texts::write_content;
 
@@ -21,7 +21,7 @@ pub(crate) fn base_text(
     heap: Heap,
     guardian: &Guardian,
     o: ObjId,
-) -> Result<Option<Vec<u8, Heap>>, OutOfMemory>
+) -> Result<Option<Vec<u8, Room>>, OutOfMemory>
     ensures { IfOk result (λ told. option_map (λ t. t.items) told
         ≡ option_map content_text (where_declared guardian.now o.0
         (base_of guardian.now.opening guardian.now.entries o.0))) }
@@ -29,7 +29,7 @@ pub(crate) fn base_text(
     let Some(content) = guardian.base(o) else {
         return Ok(None);
     };
-    let mut text = String::new(heap);
+    let mut text = String::new(heap.room());
     append_content(content, &mut text)?;
     Ok(Some(text.into_bytes()))
 }
@@ -39,7 +39,7 @@ pub(crate) fn readers_text(
     heap: Heap,
     guardian: &Guardian,
     o: ObjId,
-) -> Result<Option<Vec<u8, Heap>>, OutOfMemory>
+) -> Result<Option<Vec<u8, Room>>, OutOfMemory>
     ensures { IfOk result (λ told. option_map (λ t. t.items) told
         ≡ option_map action_lines (where_declared guardian.now o.0
         (readers_of guardian.now.opening guardian.now.entries o.0))) }
@@ -47,7 +47,7 @@ pub(crate) fn readers_text(
     let Some(readers) = guardian.holders(o) else {
         return Ok(None);
     };
-    let mut text = String::new(heap);
+    let mut text = String::new(heap.room());
     append_readers(readers, &mut text)?;
     Ok(Some(text.into_bytes()))
 }
@@ -57,7 +57,7 @@ pub(crate) fn versions_text(
     heap: Heap,
     guardian: &Guardian,
     o: ObjId,
-) -> Result<Option<Vec<u8, Heap>>, OutOfMemory>
+) -> Result<Option<Vec<u8, Room>>, OutOfMemory>
     ensures { IfOk result (λ told. option_map (λ t. t.items) told
         ≡ option_map seen_lines (where_declared guardian.now o.0
         (versions_of guardian.now.opening guardian.now.entries o.0))) }
@@ -65,12 +65,12 @@ pub(crate) fn versions_text(
     let Some(versions) = guardian.versions(o) else {
         return Ok(None);
     };
-    let mut text = String::new(heap);
+    let mut text = String::new(heap.room());
     append_versions(versions, &mut text)?;
     Ok(Some(text.into_bytes()))
 }
 
-fn append_readers(readers: &[ActionId], text: &mut String<Heap>) -> Result<(), OutOfMemory>
+fn append_readers(readers: &[ActionId], text: &mut String<Room>) -> Result<(), OutOfMemory>
     ensures { OnOk result (string_bytes text.new
         ≡ string_bytes text.old ++ action_lines (map (λ a. a.0) readers.now)) }
 {
@@ -80,7 +80,7 @@ fn append_readers(readers: &[ActionId], text: &mut String<Heap>) -> Result<(), O
     Ok(())
 }
 
-fn append_versions(versions: &[Version], text: &mut String<Heap>) -> Result<(), OutOfMemory>
+fn append_versions(versions: &[Version], text: &mut String<Room>) -> Result<(), OutOfMemory>
     ensures { OnOk result (string_bytes text.new
         ≡ string_bytes text.old ++ seen_lines (map version_told versions.now)) }
 {
@@ -90,7 +90,7 @@ fn append_versions(versions: &[Version], text: &mut String<Heap>) -> Result<(), 
     Ok(())
 }
 
-fn append_reader(reader: ActionId, text: &mut String<Heap>) -> Result<(), OutOfMemory>
+fn append_reader(reader: ActionId, text: &mut String<Room>) -> Result<(), OutOfMemory>
     ensures { OnOk result (string_bytes text.new ≡ string_bytes text.old ++ action_line reader.0) }
 {
     append_number("a", reader.0, text)?;
@@ -101,7 +101,7 @@ fn append_reader(reader: ActionId, text: &mut String<Heap>) -> Result<(), OutOfM
 fn append_version(
     holder: ActionId,
     content: &Option<Content>,
-    text: &mut String<Heap>,
+    text: &mut String<Room>,
 ) -> Result<(), OutOfMemory>
     ensures { OnOk result (string_bytes text.new
         ≡ string_bytes text.old ++ seen_line (holder.0, plain_option content.now)) }
@@ -113,7 +113,7 @@ fn append_version(
     Ok(())
 }
 
-fn append_content(content: &Option<Content>, text: &mut String<Heap>) -> Result<(), OutOfMemory>
+fn append_content(content: &Option<Content>, text: &mut String<Room>) -> Result<(), OutOfMemory>
     ensures { OnOk result (string_bytes text.new
         ≡ string_bytes text.old ++ content_text (plain_option content.now)) }
 {
@@ -130,7 +130,7 @@ fn append_content(content: &Option<Content>, text: &mut String<Heap>) -> Result<
 pub(crate) fn append_number(
     word: &str,
     number: u32,
-    text: &mut String<Heap>,
+    text: &mut String<Room>,
 ) -> Result<(), OutOfMemory>
     ensures { OnOk result (string_bytes text.new
         ≡ string_bytes text.old ++ (word.now ++ decimal number)) }

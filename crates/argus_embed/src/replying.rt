@@ -11,7 +11,7 @@ use crate::embedded::Embedded;
 use crate::kept::Kept;
 use argus_contents::Answer;
 use argus_entries::Reply;
-use argus_memory::{Heap, OutOfMemory};
+use argus_memory::{Heap, OutOfMemory, Room};
 use argus_texts::{write_content, write_value};
 
 impl Embedded {
@@ -34,7 +34,7 @@ impl Embedded {
 }
 
 /// The text that belongs to the reply, if any.
-fn reply_bytes(heap: Heap, reply: &Reply) -> Result<Option<Vec<u8, Heap>>, OutOfMemory>
+fn reply_bytes(heap: Heap, reply: &Reply) -> Result<Option<Vec<u8, Room>>, OutOfMemory>
     ensures { IfOk result (λ bytes. option_map (λ b. b.items) bytes
         ≡ reply_text (plain_reply reply.now)) }
 {
@@ -45,11 +45,11 @@ fn reply_bytes(heap: Heap, reply: &Reply) -> Result<Option<Vec<u8, Heap>>, OutOf
 }
 
 /// The written form of an answer that is a value or a content.
-fn answer_bytes(heap: Heap, answer: &Answer) -> Result<Option<Vec<u8, Heap>>, OutOfMemory>
+fn answer_bytes(heap: Heap, answer: &Answer) -> Result<Option<Vec<u8, Room>>, OutOfMemory>
     ensures { IfOk result (λ bytes. option_map (λ b. b.items) bytes
         ≡ answer_text (plain_answer answer.now)) }
 {
-    let mut text = String::new(heap);
+    let mut text = String::new(heap.room());
     match answer {
         Answer::Val(value) => write_value(value, &mut text)?,
         Answer::Body(content) => write_content(content, &mut text)?,

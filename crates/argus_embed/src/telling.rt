@@ -20,7 +20,7 @@ use crate::outcome::Outcome;
 use crate::question::Question;
 use argus_actions::ActionId;
 use argus_contents::ObjId;
-use argus_memory::Heap;
+use argus_memory::Room;
 use std::mem::replace;
 
 impl Embedded {
@@ -78,7 +78,7 @@ impl Embedded {
     }
 
     /// Keeps the text, where there is one.
-    fn keep(&mut self, text: Option<Vec<u8, Heap>>) -> Result<Outcome, EmbedError>
+    fn keep(&mut self, text: Option<Vec<u8, Room>>) -> Result<Outcome, EmbedError>
         ensures kept { IfOk result (λ outcome.
             IsText (option_map (λ t. t.items) text) self.old self.new outcome) }
         ensures none { IfErr result (λ e. (e ≡ NotThere) × (text ≡ None)) }

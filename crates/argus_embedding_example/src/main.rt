@@ -13,7 +13,7 @@ use argus_board::Keeper;
 use argus_contents::{Change, Content, ObjId, Shape, Ty, Value};
 use argus_entries::{Call, Reply};
 use argus_guardian::Guardian;
-use argus_memory::{Heap, OutOfMemory};
+use argus_memory::{Heap, OutOfMemory, Room};
 use argus_sharing::{Parts, Receipt, Seat, Shared, Sharing};
 use std::collections::VecDeque;
 use std::marker::Brand;
@@ -26,7 +26,7 @@ const ACCOUNT: ObjId = ObjId(0);
 fn main(rt: HostRuntime) -> Result<()> {
     let heap = Heap::new(rt.alloc())?;
     let mut guardian = Guardian::new(heap);
-    let items = VecDeque::new(heap);
+    let items = VecDeque::new(heap.room());
     let empty = Change::Create(Content::Arr { low: 1, items });
     guardian.call(Call::Declare(Shape::arr(Ty::Int)?))?;
     guardian.call(Call::BeginTop)?;
@@ -84,8 +84,8 @@ fn pay<N: Sharing, R: Wait + Drop>(
     shared: &Shared<N, R>,
     mut seat: Seat<N>,
     amount: i64,
-) -> Result<(Seat<N>, Vec<Receipt, Heap>), OutOfMemory> {
-    let mut receipts = Vec::new(heap);
+) -> Result<(Seat<N>, Vec<Receipt, Room>), OutOfMemory> {
+    let mut receipts = Vec::new(heap.room());
     if let Some(a) = begin(&rt, shared, &mut seat, &mut receipts)? {
         let payment = Call::Alter(a, ACCOUNT, Change::Addh(Value::Int(amount)));
         receipts.push(shared.call_waiting(&rt, &mut seat, payment, 1000)?)?;
@@ -99,7 +99,7 @@ fn begin<N: Sharing, R: Wait + Drop>(
     rt: &R,
     shared: &Shared<N, R>,
     seat: &mut Seat<N>,
-    receipts: &mut Vec<Receipt, Heap>,
+    receipts: &mut Vec<Receipt, Room>,
 ) -> Result<Option<ActionId>, OutOfMemory> {
     let begun = shared.call(rt, seat, Call::BeginTop)?;
     let action = match begun.reply {

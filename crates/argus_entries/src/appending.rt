@@ -11,10 +11,10 @@ ghost use Rattle.argus_texts.specs.ShapeSpelling.{shape_spelling};
 ghost use Rattle.argus_texts.specs.Spelling.{spelling};
 
 use argus_contents::{Content, Shape, Value};
-use argus_memory::{Heap, OutOfMemory};
+use argus_memory::{OutOfMemory, Room};
 use argus_texts::{write_content, write_shape, write_value};
 
-pub(crate) fn append(text: &str, out: &mut String<Heap>) -> Result<(), OutOfMemory>
+pub(crate) fn append(text: &str, out: &mut String<Room>) -> Result<(), OutOfMemory>
     ensures grew { Grew (string_bytes out.old) (string_bytes out.new) }
     ensures written { OnOk result (string_bytes out.new
         ≡ string_bytes out.old ++ text.now) }
@@ -27,7 +27,7 @@ pub(crate) fn append(text: &str, out: &mut String<Heap>) -> Result<(), OutOfMemo
 pub(crate) fn append_number(
     word: &str,
     number: u64,
-    out: &mut String<Heap>,
+    out: &mut String<Room>,
 ) -> Result<(), OutOfMemory>
     ensures grew { Grew (string_bytes out.old) (string_bytes out.new) }
     ensures written { OnOk result (string_bytes out.new
@@ -39,7 +39,7 @@ pub(crate) fn append_number(
 }
 
 /// A word and an integer.
-pub(crate) fn append_int(word: &str, number: i64, out: &mut String<Heap>) -> Result<(), OutOfMemory>
+pub(crate) fn append_int(word: &str, number: i64, out: &mut String<Room>) -> Result<(), OutOfMemory>
     ensures grew { Grew (string_bytes out.old) (string_bytes out.new) }
     ensures written { OnOk result (string_bytes out.new
         ≡ string_bytes out.old ++ (word.now ++ signed_decimal number)) }
@@ -53,7 +53,7 @@ pub(crate) fn append_int(word: &str, number: i64, out: &mut String<Heap>) -> Res
 pub(crate) fn append_value(
     word: &str,
     value: &Value,
-    out: &mut String<Heap>,
+    out: &mut String<Room>,
 ) -> Result<(), OutOfMemory>
     ensures grew { Grew (string_bytes out.old) (string_bytes out.new) }
     ensures written { OnOk result (string_bytes out.new
@@ -67,7 +67,7 @@ pub(crate) fn append_value(
 pub(crate) fn append_content(
     word: &str,
     content: &Content,
-    out: &mut String<Heap>,
+    out: &mut String<Room>,
 ) -> Result<(), OutOfMemory>
     ensures grew { Grew (string_bytes out.old) (string_bytes out.new) }
     ensures written { OnOk result (string_bytes out.new
@@ -81,7 +81,7 @@ pub(crate) fn append_content(
 pub(crate) fn append_shape(
     word: &str,
     shape: &Shape,
-    out: &mut String<Heap>,
+    out: &mut String<Room>,
 ) -> Result<(), OutOfMemory>
     ensures grew { Grew (string_bytes out.old) (string_bytes out.new) }
     ensures written { OnOk result (string_bytes out.new

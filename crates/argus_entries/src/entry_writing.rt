@@ -20,7 +20,7 @@ use crate::refusal::Refusal;
 use crate::reply::Reply;
 use argus_actions::ActionId;
 use argus_contents::{Answer, ObjId, Signal};
-use argus_memory::{Heap, OutOfMemory};
+use argus_memory::{OutOfMemory, Room};
 
 /// Appends the line of the entry with this number, without a line end: the number, the call, an
 /// arrow and the reply. At `OutOfMemory` the text is cut back to what it was.
@@ -28,7 +28,7 @@ use argus_memory::{Heap, OutOfMemory};
 /// ```text
 /// write_entry(4, &entry, &mut out)?;       // 4 ask a0 o0 field 0 -> val 7
 /// ```
-pub fn write_entry(at: u64, entry: &Entry, out: &mut String<Heap>) -> Result<(), OutOfMemory>
+pub fn write_entry(at: u64, entry: &Entry, out: &mut String<Room>) -> Result<(), OutOfMemory>
     ensures written { OnOk result (string_bytes out.new
         ≡ string_bytes out.old ++ entry_spelling at (plain_entry entry.now)) }
     ensures unchanged { OnErr result (string_bytes out.new ≡ string_bytes out.old) }
@@ -41,7 +41,7 @@ pub fn write_entry(at: u64, entry: &Entry, out: &mut String<Heap>) -> Result<(),
     result
 }
 
-fn append_entry(at: u64, entry: &Entry, out: &mut String<Heap>) -> Result<(), OutOfMemory>
+fn append_entry(at: u64, entry: &Entry, out: &mut String<Room>) -> Result<(), OutOfMemory>
     ensures grew { Grew (string_bytes out.old) (string_bytes out.new) }
     ensures written { OnOk result (string_bytes out.new
         ≡ string_bytes out.old ++ entry_spelling at (plain_entry entry.now)) }
@@ -53,7 +53,7 @@ fn append_entry(at: u64, entry: &Entry, out: &mut String<Heap>) -> Result<(), Ou
     append_reply(&entry.reply, out)
 }
 
-fn append_call(call: &Call, out: &mut String<Heap>) -> Result<(), OutOfMemory>
+fn append_call(call: &Call, out: &mut String<Room>) -> Result<(), OutOfMemory>
     ensures grew { Grew (string_bytes out.old) (string_bytes out.new) }
     ensures written { OnOk result (string_bytes out.new
         ≡ string_bytes out.old ++ call_spelling (plain_call call.now)) }
@@ -85,7 +85,7 @@ fn append_place(
     word: &str,
     a: ActionId,
     o: ObjId,
-    out: &mut String<Heap>,
+    out: &mut String<Room>,
 ) -> Result<(), OutOfMemory>
     ensures grew { Grew (string_bytes out.old) (string_bytes out.new) }
     ensures written { OnOk result (string_bytes out.new
@@ -95,7 +95,7 @@ fn append_place(
     append_number(" o", u64::from(o.0), out)
 }
 
-fn append_reply(reply: &Reply, out: &mut String<Heap>) -> Result<(), OutOfMemory>
+fn append_reply(reply: &Reply, out: &mut String<Room>) -> Result<(), OutOfMemory>
     ensures grew { Grew (string_bytes out.old) (string_bytes out.new) }
     ensures written { OnOk result (string_bytes out.new
         ≡ string_bytes out.old ++ reply_spelling (plain_reply reply.now)) }
@@ -111,7 +111,7 @@ fn append_reply(reply: &Reply, out: &mut String<Heap>) -> Result<(), OutOfMemory
     }
 }
 
-fn append_answer(answer: &Answer, out: &mut String<Heap>) -> Result<(), OutOfMemory>
+fn append_answer(answer: &Answer, out: &mut String<Room>) -> Result<(), OutOfMemory>
     ensures grew { Grew (string_bytes out.old) (string_bytes out.new) }
     ensures written { OnOk result (string_bytes out.new
         ≡ string_bytes out.old ++ answer_spelling (plain_answer answer.now)) }

@@ -7,9 +7,9 @@ ghost use Rattle.argus_texts.specs.Grown.{Grew};
 
 use crate::appending::{append, append_content, append_int, append_number, append_value};
 use argus_contents::{Change, Query};
-use argus_memory::{Heap, OutOfMemory};
+use argus_memory::{OutOfMemory, Room};
 
-pub(crate) fn append_query(query: &Query, out: &mut String<Heap>) -> Result<(), OutOfMemory>
+pub(crate) fn append_query(query: &Query, out: &mut String<Room>) -> Result<(), OutOfMemory>
     ensures grew { Grew (string_bytes out.old) (string_bytes out.new) }
     ensures written { OnOk result (string_bytes out.new
         ≡ string_bytes out.old ++ query_spelling query.now) }
@@ -28,7 +28,7 @@ pub(crate) fn append_query(query: &Query, out: &mut String<Heap>) -> Result<(), 
     }
 }
 
-pub(crate) fn append_change(change: &Change, out: &mut String<Heap>) -> Result<(), OutOfMemory>
+pub(crate) fn append_change(change: &Change, out: &mut String<Room>) -> Result<(), OutOfMemory>
     ensures grew { Grew (string_bytes out.old) (string_bytes out.new) }
     ensures written { OnOk result (string_bytes out.new
         ≡ string_bytes out.old ++ change_spelling (plain_change change.now)) }

@@ -80,7 +80,7 @@ fn tell_picture<T: Threads + Wait + Files + Print + Alloc + Copy + Drop + Send +
         listing: Listing::Journal,
         checkpoint: false,
     };
-    let mut writer = Watched::new(Vec::new(heap));
+    let mut writer = Watched::new(Vec::new(heap.room()));
     run(
         rt,
         heap,
@@ -141,7 +141,7 @@ fn tell_run<T: Threads + Wait + Print + Copy + Drop + Send + Sync, R: Read + Dro
 ) -> Result<()>
     requires { KeepsRanges asked }
 {
-    let mut writer = Watched::new(Vec::new(heap));
+    let mut writer = Watched::new(Vec::new(heap.room()));
     let result = run(rt, heap, &mut Watched::new(reader), &mut writer, asked);
     rt.print(from_utf8(writer.get_ref())?)?;
     match result {

@@ -5,7 +5,7 @@ use crate::family::Family;
 use crate::story::{declared, shape_of};
 use argus_contents::{ObjId, Shape, ShapeView};
 use argus_journal::Journal;
-use argus_memory::{Heap, OutOfMemory};
+use argus_memory::{OutOfMemory, Room};
 use std::fmt::Write;
 use test_rows::first_word;
 
@@ -97,7 +97,7 @@ pub(crate) fn add_call(
     journal: &Journal,
     family: &Family,
     crowd: u32,
-    out: &mut String<Heap>,
+    out: &mut String<Room>,
 ) -> Result<(), OutOfMemory> {
     let objects = declared(journal);
     if objects == 0 || (objects < 4 && chance.once_in(10)) || chance.once_in(60) {
@@ -135,7 +135,7 @@ fn any_verb(chance: &mut Chance, is_crowded: bool) -> &'static str {
     }
 }
 
-fn add_verb(verb: &str, a: u32, out: &mut String<Heap>) -> Result<(), OutOfMemory> {
+fn add_verb(verb: &str, a: u32, out: &mut String<Room>) -> Result<(), OutOfMemory> {
     out.push_str(verb)?;
     if verb != "begin_top" {
         write!(out, " a{a}")?;
@@ -160,7 +160,7 @@ fn add_access(
     journal: &Journal,
     a: u32,
     objects: u32,
-    out: &mut String<Heap>,
+    out: &mut String<Room>,
 ) -> Result<(), OutOfMemory> {
     let o = if chance.once_in(30) {
         objects

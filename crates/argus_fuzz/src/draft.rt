@@ -2,7 +2,7 @@
 
 use crate::chance::Chance;
 use crate::line::{ACCESSES, Kind, Line, OBJECTS};
-use argus_memory::{Heap, OutOfMemory};
+use argus_memory::{Heap, OutOfMemory, Room};
 
 // Where the next line of a draft stands.
 #[derive(Clone, Copy)]
@@ -18,16 +18,16 @@ enum Place {
 /// A script as if by chance, line by line; each line may stand where it does.
 #[derive(Drop)]
 pub(crate) struct Draft {
-    places: Vec<Place, Heap>,
-    lines: Vec<Line, Heap>,
+    places: Vec<Place, Room>,
+    lines: Vec<Line, Room>,
 }
 
 impl Draft {
     /// The lines of a script that declares its objects and has some ten lines more.
-    pub(crate) fn any(heap: Heap, chance: &mut Chance) -> Result<Vec<Line, Heap>, OutOfMemory> {
+    pub(crate) fn any(heap: Heap, chance: &mut Chance) -> Result<Vec<Line, Room>, OutOfMemory> {
         let mut draft = Draft {
-            places: Vec::new(heap),
-            lines: Vec::new(heap),
+            places: Vec::new(heap.room()),
+            lines: Vec::new(heap.room()),
         };
         for o in 0..OBJECTS {
             draft.put(Line::Declare(o))?;
@@ -40,7 +40,7 @@ impl Draft {
     }
 
     // Ends all blocks that are open.
-    fn close(self) -> Result<Vec<Line, Heap>, OutOfMemory> {
+    fn close(self) -> Result<Vec<Line, Room>, OutOfMemory> {
         let Draft { places, mut lines } = self;
         for place in places.as_slice() {
             match place {

@@ -4,7 +4,7 @@ use argus_actions::ActionId;
 use argus_contents::limits::MAX_ACTION_DEPTH;
 use argus_entries::{Call, Entry, Reply};
 use argus_journal::{Journal, Owner};
-use argus_memory::{Heap, OutOfMemory};
+use argus_memory::{Heap, OutOfMemory, Room};
 
 // What an action was begun by: a parent, a creator, or nobody.
 #[derive(Clone, Copy)]
@@ -27,22 +27,22 @@ struct Member {
 pub(crate) struct Family {
     // The number of the first member: those below were folded by a checkpoint.
     first: u32,
-    members: Vec<Member, Heap>,
-    committed: Vec<u32, Heap>,
+    members: Vec<Member, Room>,
+    committed: Vec<u32, Room>,
     // What was named by an abort, and what was a live sibling of one that ended all others.
-    ended: Vec<u32, Heap>,
+    ended: Vec<u32, Room>,
     // Of each member, once all entries are taken.
-    owners: Vec<Option<Owner>, Heap>,
+    owners: Vec<Option<Owner>, Room>,
 }
 
 impl Family {
     pub(crate) fn of(heap: Heap, journal: &Journal) -> Result<Family, OutOfMemory> {
         let mut family = Family {
             first: journal.first_action(),
-            members: Vec::new(heap),
-            committed: Vec::new(heap),
-            ended: Vec::new(heap),
-            owners: Vec::new(heap),
+            members: Vec::new(heap.room()),
+            committed: Vec::new(heap.room()),
+            ended: Vec::new(heap.room()),
+            owners: Vec::new(heap.room()),
         };
         for at in journal.first_entry()..journal.len() {
             if let Some(entry) = journal.get(at) {

@@ -5,7 +5,7 @@ use crate::difference::Difference;
 use crate::line::{Kind, Line, access};
 use crate::told::Told;
 use argus_actions::ActionId;
-use argus_memory::Heap;
+use argus_memory::{Heap, Room};
 use test_rows::first_word;
 
 // What a block is: one that its own action ends with, an arm, a coenter, or an `if`.
@@ -36,10 +36,10 @@ struct Open {
 pub(crate) struct Follower {
     heap: Heap,
     pub(crate) checked: Checked,
-    open: Vec<Open, Heap>,
+    open: Vec<Open, Room>,
     // The arms that were begun and haven't come yet, the next one last; none where its begin was
     // refused.
-    waiting: Vec<Option<ActionId>, Heap>,
+    waiting: Vec<Option<ActionId>, Room>,
 }
 
 impl Follower {
@@ -47,8 +47,8 @@ impl Follower {
         Follower {
             heap,
             checked,
-            open: Vec::new(heap),
-            waiting: Vec::new(heap),
+            open: Vec::new(heap.room()),
+            waiting: Vec::new(heap.room()),
         }
     }
 
@@ -118,7 +118,7 @@ impl Follower {
     // Makes the call of this action; `rest` is what stands behind it.
     fn call(&mut self, verb: &str, a: ActionId, rest: &str) -> Result<Told, Difference> {
         let gap = if rest.is_empty() { "" } else { " " };
-        let text = format!(in self.heap; "{verb} a{}{gap}{rest}", a.0)?;
+        let text = format!(in self.heap.room(); "{verb} a{}{gap}{rest}", a.0)?;
         self.checked.call(text.as_str())
     }
 

@@ -1,6 +1,6 @@
 //! `Line`: a line of a script, and what it says.
 
-use argus_memory::{Heap, OutOfMemory};
+use argus_memory::{Heap, OutOfMemory, Room};
 use std::fmt::Write;
 
 /// How many objects a script declares.
@@ -51,8 +51,8 @@ pub(crate) enum Line {
 }
 
 /// The lines as a script's text.
-pub(crate) fn text_of(heap: Heap, lines: &[Line]) -> Result<String<Heap>, OutOfMemory> {
-    let mut out = String::new(heap);
+pub(crate) fn text_of(heap: Heap, lines: &[Line]) -> Result<String<Room>, OutOfMemory> {
+    let mut out = String::new(heap.room());
     for line in lines {
         say(*line, &mut out)?;
         out.push_str("\n")?;
@@ -60,7 +60,7 @@ pub(crate) fn text_of(heap: Heap, lines: &[Line]) -> Result<String<Heap>, OutOfM
     Ok(out)
 }
 
-fn say(line: Line, out: &mut String<Heap>) -> Result<(), OutOfMemory> {
+fn say(line: Line, out: &mut String<Room>) -> Result<(), OutOfMemory> {
     let (words, object, rest) = words_of(line);
     out.push_str(words)?;
     if let Some(o) = object {

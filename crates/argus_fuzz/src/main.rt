@@ -23,7 +23,7 @@ mod team_trial;
 mod told;
 
 use anyhow::{Result, ensure};
-use argus_memory::{Budget, Heap, Limited};
+use argus_memory::{Budget, Heap};
 use difference::Difference;
 use script_trial::run_script;
 use sequence::Sequence;
@@ -79,7 +79,7 @@ fn main(rt: HostRuntime) -> Result<()> {
     let budget = Budget::new(rt.alloc())?;
     let heaps = Heaps {
         heap: Heap::new(rt.alloc())?,
-        tight: Limited::with_budget(rt.alloc(), budget),
+        tight: Heap::with_budget(rt.alloc(), budget),
         budget,
     };
     let calls = try_sequences(&rt, heaps, sequences, seed)?;

@@ -10,7 +10,7 @@ use argus_commands::{Script, parse};
 use argus_entries::write_entry;
 use argus_guardian::Guardian;
 use argus_journal::Journal;
-use argus_memory::{Budget, Heap, OutOfMemory};
+use argus_memory::{Budget, Heap, OutOfMemory, Room};
 use argus_runs::run_serial;
 use argus_streams::Watched;
 
@@ -41,9 +41,9 @@ fn run_lines(
     heap: Heap,
     lines: &[Line],
     guardian: &mut Guardian,
-) -> Result<Vec<u8, Heap>, Difference> {
+) -> Result<Vec<u8, Room>, Difference> {
     let script = parsed(heap, lines)?;
-    let mut writer = Watched::new(Vec::new(heap));
+    let mut writer = Watched::new(Vec::new(heap.room()));
     run_serial(heap, guardian, &script, &mut writer)?;
     match writer.into_inner() {
         Some(written) => Ok(written),
@@ -92,8 +92,8 @@ fn compare_journals(journal: &Journal, wanted: &Journal) -> Result<(), Differenc
     must(journal.len() == wanted.len(), Difference::Script)
 }
 
-fn told_lines(heap: Heap, journal: &Journal) -> Result<String<Heap>, OutOfMemory> {
-    let mut lines = String::new(heap);
+fn told_lines(heap: Heap, journal: &Journal) -> Result<String<Room>, OutOfMemory> {
+    let mut lines = String::new(heap.room());
     for at in 0..journal.len() {
         if let Some(entry) = journal.get(at) {
             write_entry(at, entry, &mut lines)?;

@@ -9,7 +9,7 @@ use crate::family::Family;
 use crate::told::Told;
 use argus_actions::ActionId;
 use argus_contents::ObjId;
-use argus_memory::{Budget, Heap};
+use argus_memory::{Budget, Heap, Room};
 
 /// Calls as if by chance, made to two guardians that are held against the definitions. One of them
 /// is never checkpointed; of the other the journal is folded now and then, and allocations are
@@ -60,12 +60,12 @@ impl Sequence {
         if self.chance.once_in(8) {
             self.folded.checkpoint()?;
         }
-        let mut text = String::new(self.heap);
+        let mut text = String::new(self.heap.room());
         self.make_call(crowd, &mut text)
     }
 
     // The text is empty before.
-    fn make_call(&mut self, crowd: u32, text: &mut String<Heap>) -> Result<(), Difference> {
+    fn make_call(&mut self, crowd: u32, text: &mut String<Room>) -> Result<(), Difference> {
         self.add_call(crowd, text)?;
         let _told = self.whole.call(text.as_str())?;
         self.call_folded(text.as_str())?;
@@ -73,7 +73,7 @@ impl Sequence {
     }
 
     // Adds the next call, and asks whether an action could have the locks of an object.
-    fn add_call(&mut self, crowd: u32, text: &mut String<Heap>) -> Result<(), Difference> {
+    fn add_call(&mut self, crowd: u32, text: &mut String<Room>) -> Result<(), Difference> {
         let family = self.whole.family()?;
         self.add_call_of(&family, crowd, text)
     }
@@ -82,7 +82,7 @@ impl Sequence {
         &mut self,
         family: &Family,
         crowd: u32,
-        text: &mut String<Heap>,
+        text: &mut String<Room>,
     ) -> Result<(), Difference> {
         let journal = self.whole.guardian.journal().journal();
         add_call(&mut self.chance, journal, family, crowd, text)?;

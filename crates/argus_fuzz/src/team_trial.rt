@@ -9,7 +9,7 @@ use crate::draft::Draft;
 use crate::line::text_of;
 use crate::script_trial::compare_lines;
 use argus_cli::{Listing, Options, run};
-use argus_memory::{Budget, Heap};
+use argus_memory::{Budget, Heap, Room};
 use argus_streams::Watched;
 use std::str;
 use std::sync::Wait;
@@ -47,11 +47,11 @@ fn listed_by<T: Threads + Wait + Copy + Drop + Send + Sync>(
     heap: Heap,
     script: &[u8],
     workers: u32,
-) -> Result<Vec<u8, Heap>, Difference>
+) -> Result<Vec<u8, Room>, Difference>
     requires { (1 ≤ workers) × (workers ≤ 8) }
 {
     let mut reader = Watched::new(script);
-    let mut writer = Watched::new(Vec::new(heap));
+    let mut writer = Watched::new(Vec::new(heap.room()));
     let asked = Options {
         workers,
         patience: 0,

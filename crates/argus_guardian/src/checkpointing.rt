@@ -20,7 +20,7 @@ use crate::guardian::Guardian;
 use argus_actions::{ActionId, ActionTree};
 use argus_contents::{Content, Shape};
 use argus_journal::limits::MAX_FIRST_ENTRY;
-use argus_memory::{Heap, OutOfMemory};
+use argus_memory::{Heap, OutOfMemory, Room};
 use argus_objects::Holdings;
 use argus_steps::{AtomicObject, Parts, is_live};
 
@@ -43,10 +43,10 @@ fn is_busy(tree: &ActionTree, first: u32) -> bool
 fn copies_of(
     heap: Heap,
     objects: &[AtomicObject],
-) -> Result<Vec<(Shape, Option<Content>), Heap>, OutOfMemory>
+) -> Result<Vec<(Shape, Option<Content>), Room>, OutOfMemory>
     ensures { IfOk result (λ copies. map plain_object copies.items ≡ opened_objects objects.now) }
 {
-    let mut copies = Vec::new(heap);
+    let mut copies = Vec::new(heap.room());
     for object in objects {
         let shape = object.shape.duplicate(heap)?;
         let base = Content::duplicate_option(heap, object.cell.base())?;

@@ -61,7 +61,7 @@ impl Guardian {
             parts: Parts {
                 heap,
                 tree: ActionTree::new(heap),
-                objects: Vec::new(heap),
+                objects: Vec::new(heap.room()),
                 holdings: Holdings::new(heap),
                 journal: LegalJournal::new(heap),
             },

@@ -14,7 +14,7 @@ ghost use Rattle.argus_objects.specs.Object.{newest_first};
 use crate::guardian::Guardian;
 use argus_actions::ActionId;
 use argus_contents::{Content, ObjId};
-use argus_memory::{Heap, OutOfMemory};
+use argus_memory::{Heap, OutOfMemory, Room};
 use argus_objects::Version;
 use argus_steps::{AtomicObject, Parts, is_live};
 
@@ -29,7 +29,7 @@ impl Guardian {
     pub fn effect(
         &self,
         a: ActionId,
-    ) -> Result<Option<Vec<(ObjId, Option<Content>), Heap>>, OutOfMemory>
+    ) -> Result<Option<Vec<(ObjId, Option<Content>), Room>>, OutOfMemory>
         ensures { IfOk result (λ effect. option_map (λ pairs. effect_told pairs.items) effect
             ≡ effect_if_live self.now a.0) }
     {
@@ -41,7 +41,7 @@ impl Guardian {
 pub(crate) fn effect_in(
     parts: &Parts,
     a: ActionId,
-) -> Result<Option<Vec<(ObjId, Option<Content>), Heap>>, OutOfMemory>
+) -> Result<Option<Vec<(ObjId, Option<Content>), Room>>, OutOfMemory>
     requires { Keeps parts.now }
     ensures { IfOk result (λ effect. option_map (λ pairs. effect_told pairs.items) effect
         ≡ effect_if_live (said_of parts.now) a.0) }
@@ -62,12 +62,12 @@ fn written_numbers(
     objects: &[AtomicObject],
     listed: &[ObjId],
     a: ActionId,
-) -> Result<Vec<u32, Heap>, OutOfMemory>
+) -> Result<Vec<u32, Room>, OutOfMemory>
     requires { AreThere listed.now (length objects.now) }
     ensures { (d : AtomicObject) → IfOk result (λ numbers. numbers.items
         ≡ written_in a objects.now d listed.now) }
 {
-    let mut numbers = Vec::new(heap);
+    let mut numbers = Vec::new(heap.room());
     for o in listed {
         let object = &objects[o.0 as usize];
         add_if_written(&mut numbers, object, *o, a)?;
@@ -77,7 +77,7 @@ fn written_numbers(
 
 /// Adds the object's number where the action has a version of it.
 fn add_if_written(
-    numbers: &mut Vec<u32, Heap>,
+    numbers: &mut Vec<u32, Room>,
     object: &AtomicObject,
     o: ObjId,
     a: ActionId,
@@ -121,12 +121,12 @@ fn contents_of(
     objects: &[AtomicObject],
     numbers: &[u32],
     a: ActionId,
-) -> Result<Vec<(ObjId, Option<Content>), Heap>, OutOfMemory>
+) -> Result<Vec<(ObjId, Option<Content>), Room>, OutOfMemory>
     requires { All (λ o. o < length objects.now) numbers.now }
     ensures { (d : AtomicObject) → IfOk result (λ pairs. effect_told pairs.items
         ≡ map (λ o. (o, version_in a objects.now d o)) numbers.now) }
 {
-    let mut contents = Vec::new(heap);
+    let mut contents = Vec::new(heap.room());
     for number in numbers {
         let object = &objects[*number as usize];
         let content = version_content(heap, object.cell.versions(), a)?;

@@ -13,7 +13,7 @@ use crate::leaving::effect_in;
 use argus_actions::ActionId;
 use argus_contents::{Content, ObjId};
 use argus_entries::Reply;
-use argus_memory::{Heap, OutOfMemory};
+use argus_memory::{OutOfMemory, Room};
 use argus_steps::{Parts, Prepared, make, prepare_commit};
 use std::marker::Model;
 
@@ -74,7 +74,7 @@ impl ReadyCommit {
     /// What the commit leaves for good: of a topaction each object that it has written, in
     /// increasing number, with its content; None of a subaction, and where the commit is refused.
     /// `OutOfMemory`: there was no memory for the list or for the copies in it.
-    pub fn effect(&self) -> Result<Option<Vec<(ObjId, Option<Content>), Heap>>, OutOfMemory>
+    pub fn effect(&self) -> Result<Option<Vec<(ObjId, Option<Content>), Room>>, OutOfMemory>
         ensures { IfOk result (λ effect. option_to_list (option_map (λ pairs.
             effect_told pairs.items) effect)
             ≡ added_by_call self.now.journal (commit self.now.action)) }

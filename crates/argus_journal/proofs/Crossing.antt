@@ -33,16 +33,16 @@ object_syncs : IsSync object_row
 object_syncs = let pair = tuple_type (shape_row ∷ option_row content_row ∷ []) in
     recorded_sync _ pair.D pair.to pair.to_one (struct_sync (shape pair) (contents.shape_syncs, (option_syncs, tt)))
 
-pub objects_sends : IsSend (list_row object_row memory.heap memory.rests)
+pub objects_sends : IsSend (list_row object_row memory.room memory.rests)
 objects_sends = memory.list_sends object_row object_sends
 
-pub objects_syncs : IsSync (list_row object_row memory.heap memory.rests)
+pub objects_syncs : IsSync (list_row object_row memory.room memory.rests)
 objects_syncs = memory.list_syncs object_row object_syncs
 
-pub entries_sends : IsSend (list_row entry_row memory.heap memory.rests)
+pub entries_sends : IsSend (list_row entry_row memory.room memory.rests)
 entries_sends = memory.list_sends entry_row entries.entry_sends
 
-pub entries_syncs : IsSync (list_row entry_row memory.heap memory.rests)
+pub entries_syncs : IsSync (list_row entry_row memory.room memory.rests)
 entries_syncs = memory.list_syncs entry_row entries.entry_syncs
 
 pub journal_sends : IsSend journal_row

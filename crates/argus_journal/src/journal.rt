@@ -13,7 +13,7 @@ ghost use Rattle.argus_journal.specs.declared.limits.TheConstants.{MAX_FIRST_ENT
 
 use argus_contents::{Content, ObjId, Shape};
 use argus_entries::Entry;
-use argus_memory::{Heap, OutOfMemory};
+use argus_memory::{Heap, OutOfMemory, Room};
 
 /// The calls that were made to a guardian, in order, each with its reply.
 ///
@@ -29,10 +29,10 @@ use argus_memory::{Heap, OutOfMemory};
 /// ```
 #[derive(Drop)]
 pub struct Journal {
-    objects: Vec<(Shape, Option<Content>), Heap>,
+    objects: Vec<(Shape, Option<Content>), Room>,
     first_action: u32,
     first_entry: u64,
-    entries: Vec<Entry, Heap>,
+    entries: Vec<Entry, Room>,
     ghost few_objects: { length objects.items ≤ MAX_OBJECTS },
     ghost few_actions: { first_action ≤ MAX_ACTIONS },
     ghost numbered: { first_entry ≤ MAX_FIRST_ENTRY },
@@ -48,7 +48,7 @@ impl Journal {
         ensures opening { opening_of result ≡ empty }
         ensures entries { entries_of result ≡ [] }
     {
-        Journal::starting_at(heap, Vec::new(heap), 0, 0)
+        Journal::starting_at(heap, Vec::new(heap.room()), 0, 0)
     }
 
     /// A journal with no entry that goes on where another ended: with these objects, in the order
@@ -58,7 +58,7 @@ impl Journal {
     /// entries; each content fits its shape, where all these objects are declared.
     pub fn starting_at(
         heap: Heap,
-        objects: Vec<(Shape, Option<Content>), Heap>,
+        objects: Vec<(Shape, Option<Content>), Room>,
         first_action: u32,
         first_entry: u64,
     ) -> Journal
@@ -73,7 +73,7 @@ impl Journal {
             objects,
             first_action,
             first_entry,
-            entries: Vec::new(heap),
+            entries: Vec::new(heap.room()),
         }
     }
 
@@ -132,7 +132,7 @@ impl Journal {
     /// the entries.
     ///
     /// The journal has to be legal, and the number of its next entry at most `MAX_FIRST_ENTRY`.
-    pub fn fold(&mut self, objects: Vec<(Shape, Option<Content>), Heap>, first_action: u32)
+    pub fn fold(&mut self, objects: Vec<(Shape, Option<Content>), Room>, first_action: u32)
         requires legal { Legal (opening_of self.old) (entries_of self.old) }
         requires numbered { next_entry_number (opening_of self.old) (entries_of self.old)
             ≤ MAX_FIRST_ENTRY }

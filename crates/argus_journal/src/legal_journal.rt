@@ -13,7 +13,7 @@ ghost use Rattle.argus_journal.specs.declared.limits.TheConstants.{MAX_FIRST_ENT
 use crate::journal::Journal;
 use argus_contents::{Content, Shape};
 use argus_entries::Entry;
-use argus_memory::{Heap, OutOfMemory};
+use argus_memory::{Heap, OutOfMemory, Room};
 
 /// A journal of which it is known that each reply is the answer of the entries before it. So every
 /// law of a legal journal holds of it, and its opening is sound and within the limits.
@@ -47,7 +47,7 @@ impl LegalJournal {
     /// it. It takes no memory.
     pub fn starting_at(
         heap: Heap,
-        objects: Vec<(Shape, Option<Content>), Heap>,
+        objects: Vec<(Shape, Option<Content>), Room>,
         first_action: u32,
         first_entry: u64,
     ) -> LegalJournal
@@ -100,7 +100,7 @@ impl LegalJournal {
 
     /// Folds the entries into the opening, as `Journal::fold` does. It takes no memory, and
     /// gives back the room of the entries.
-    pub fn fold(&mut self, objects: Vec<(Shape, Option<Content>), Heap>, first_action: u32)
+    pub fn fold(&mut self, objects: Vec<(Shape, Option<Content>), Room>, first_action: u32)
         requires numbered { next_entry_number (opening_in self.old) (entries_in self.old)
             ≤ MAX_FIRST_ENTRY }
         requires is_fold { let s = opening_in self.old in let j = entries_in self.old in

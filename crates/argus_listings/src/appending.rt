@@ -9,10 +9,10 @@ ghost use Rattle.argus_listings.specs.Listing.{readers_line, readers_text, versi
 
 use argus_actions::ActionId;
 use argus_contents::{Content, Name};
-use argus_memory::{Heap, OutOfMemory};
+use argus_memory::{OutOfMemory, Room};
 use argus_texts::write_content;
 
-pub(crate) fn append(piece: &str, text: &mut String<Heap>) -> Result<(), OutOfMemory>
+pub(crate) fn append(piece: &str, text: &mut String<Room>) -> Result<(), OutOfMemory>
     ensures { OnOk result (string_bytes text.new ≡ string_bytes text.old ++ piece.now) }
 {
     text.push_str(piece)?;
@@ -23,7 +23,7 @@ pub(crate) fn append(piece: &str, text: &mut String<Heap>) -> Result<(), OutOfMe
 pub(crate) fn append_number(
     word: &str,
     number: u64,
-    text: &mut String<Heap>,
+    text: &mut String<Room>,
 ) -> Result<(), OutOfMemory>
     ensures { OnOk result (string_bytes text.new
         ≡ string_bytes text.old ++ (word.now ++ decimal number)) }
@@ -35,7 +35,7 @@ pub(crate) fn append_number(
 
 pub(crate) fn append_content(
     content: &Option<Content>,
-    text: &mut String<Heap>,
+    text: &mut String<Room>,
 ) -> Result<(), OutOfMemory>
     ensures { OnOk result (string_bytes text.new
         ≡ string_bytes text.old ++ content_text (plain_option content.now)) }
@@ -51,7 +51,7 @@ pub(crate) fn append_object_line(
     name: &Name,
     words: &str,
     content: &Option<Content>,
-    text: &mut String<Heap>,
+    text: &mut String<Room>,
 ) -> Result<(), OutOfMemory>
     ensures { OnOk result (string_bytes text.new ≡ string_bytes text.old
         ++ object_line name.now words.now (plain_option content.now)) }
@@ -67,7 +67,7 @@ pub(crate) fn append_version_line(
     name: &Name,
     holder: ActionId,
     content: &Option<Content>,
-    text: &mut String<Heap>,
+    text: &mut String<Room>,
 ) -> Result<(), OutOfMemory>
     ensures { OnOk result (string_bytes text.new ≡ string_bytes text.old
         ++ version_line name.now (holder.0, plain_option content.now)) }
@@ -83,7 +83,7 @@ pub(crate) fn append_version_line(
 pub(crate) fn append_readers_line(
     name: &Name,
     readers: &[ActionId],
-    text: &mut String<Heap>,
+    text: &mut String<Room>,
 ) -> Result<(), OutOfMemory>
     ensures { OnOk result (string_bytes text.new ≡ string_bytes text.old
         ++ readers_line name.now (map (λ a. a.0) readers.now)) }
@@ -94,7 +94,7 @@ pub(crate) fn append_readers_line(
     append("\n", text)
 }
 
-fn append_readers(readers: &[ActionId], text: &mut String<Heap>) -> Result<(), OutOfMemory>
+fn append_readers(readers: &[ActionId], text: &mut String<Room>) -> Result<(), OutOfMemory>
     ensures { OnOk result (string_bytes text.new ≡ string_bytes text.old
         ++ readers_text (map (λ a. a.0) readers.now)) }
 {
@@ -104,7 +104,7 @@ fn append_readers(readers: &[ActionId], text: &mut String<Heap>) -> Result<(), O
     append_each_reader(readers, text)
 }
 
-fn append_each_reader(readers: &[ActionId], text: &mut String<Heap>) -> Result<(), OutOfMemory>
+fn append_each_reader(readers: &[ActionId], text: &mut String<Room>) -> Result<(), OutOfMemory>
     ensures { OnOk result (string_bytes text.new ≡ string_bytes text.old
         ++ flat_map reader_text (map (λ a. a.0) readers.now)) }
 {

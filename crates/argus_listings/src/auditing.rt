@@ -12,7 +12,7 @@ use crate::appending::{append, append_number, append_object_line, append_version
 use argus_contents::{Name, ObjId};
 use argus_guardian::Guardian;
 use argus_journal::{Journal, replay_base, replay_for};
-use argus_memory::{Heap, OutOfMemory};
+use argus_memory::{Heap, OutOfMemory, Room};
 use argus_objects::Version;
 
 /// The lines of a declared object: its base, and the version of each who holds it for writing. The
@@ -22,7 +22,7 @@ pub(crate) fn append_audit(
     guardian: &Guardian,
     o: ObjId,
     name: &Name,
-    text: &mut String<Heap>,
+    text: &mut String<Room>,
 ) -> Result<(), OutOfMemory>
     requires { o.0 < declared guardian.now.opening guardian.now.entries }
     ensures { OnOk result (string_bytes text.new
@@ -41,7 +41,7 @@ fn append_base_again(
     journal: &Journal,
     o: ObjId,
     name: &Name,
-    text: &mut String<Heap>,
+    text: &mut String<Room>,
 ) -> Result<(), OutOfMemory>
     requires { Legal (opening_of journal.now) (entries_of journal.now) }
     ensures { OnOk result (string_bytes text.new ≡ string_bytes text.old
@@ -58,7 +58,7 @@ fn append_versions_again(
     o: ObjId,
     name: &Name,
     versions: &[Version],
-    text: &mut String<Heap>,
+    text: &mut String<Room>,
 ) -> Result<(), OutOfMemory>
     requires { Legal (opening_of journal.now) (entries_of journal.now) }
     ensures { OnOk result (string_bytes text.new ≡ string_bytes text.old
@@ -76,7 +76,7 @@ fn append_versions_again(
 }
 
 /// The last line of an audit.
-pub(crate) fn append_length(guardian: &Guardian, text: &mut String<Heap>) -> Result<(), OutOfMemory>
+pub(crate) fn append_length(guardian: &Guardian, text: &mut String<Room>) -> Result<(), OutOfMemory>
     ensures { OnOk result (string_bytes text.new
         ≡ string_bytes text.old ++ length_line guardian.now) }
 {

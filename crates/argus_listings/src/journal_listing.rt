@@ -18,7 +18,7 @@ use crate::pouring::pour_long;
 use argus_contents::{Content, ObjId, Shape};
 use argus_entries::{Entry, write_entry};
 use argus_journal::Journal;
-use argus_memory::{Heap, OutOfMemory};
+use argus_memory::{OutOfMemory, Room};
 use argus_streams::Watched;
 use argus_texts::write_shape;
 use std::io::Write;
@@ -26,7 +26,7 @@ use std::io::Write;
 /// The lines of the opening, where entries went before it.
 pub(crate) fn write_opening<W: Write + Drop>(
     journal: &Journal,
-    text: &mut String<Heap>,
+    text: &mut String<Room>,
     writer: &mut Watched<W>,
 ) -> Result<(), ListError>
     requires { has_failed writer.old ≡ false }
@@ -45,7 +45,7 @@ pub(crate) fn write_opening<W: Write + Drop>(
     write_opened(journal, text, writer)
 }
 
-fn append_folded(entries: u64, actions: u32, text: &mut String<Heap>) -> Result<(), OutOfMemory>
+fn append_folded(entries: u64, actions: u32, text: &mut String<Room>) -> Result<(), OutOfMemory>
     ensures { OnOk result (string_bytes text.new
         ≡ string_bytes text.old ++ folded_line entries actions) }
 {
@@ -57,7 +57,7 @@ fn append_folded(entries: u64, actions: u32, text: &mut String<Heap>) -> Result<
 // The lines of the opening's objects.
 fn write_opened<W: Write + Drop>(
     journal: &Journal,
-    text: &mut String<Heap>,
+    text: &mut String<Room>,
     writer: &mut Watched<W>,
 ) -> Result<(), ListError>
     requires few { length (opening_of journal.now).objects ≤ MAX_OBJECTS }
@@ -84,7 +84,7 @@ fn append_opened(
     o: u32,
     shape: &Shape,
     content: &Option<Content>,
-    text: &mut String<Heap>,
+    text: &mut String<Room>,
 ) -> Result<(), OutOfMemory>
     ensures { OnOk result (string_bytes text.new ≡ string_bytes text.old
         ++ opened_line o (shape.now, plain_option content.now)) }
@@ -100,7 +100,7 @@ fn append_opened(
 /// The lines of the entries since the opening.
 pub(crate) fn write_entries<W: Write + Drop>(
     journal: &Journal,
-    text: &mut String<Heap>,
+    text: &mut String<Room>,
     writer: &mut Watched<W>,
 ) -> Result<(), ListError>
     requires { has_failed writer.old ≡ false }
@@ -123,7 +123,7 @@ pub(crate) fn write_entries<W: Write + Drop>(
     Ok(())
 }
 
-fn append_entry(at: u64, entry: &Entry, text: &mut String<Heap>) -> Result<(), OutOfMemory>
+fn append_entry(at: u64, entry: &Entry, text: &mut String<Room>) -> Result<(), OutOfMemory>
     ensures { OnOk result (string_bytes text.new
         ≡ string_bytes text.old ++ entry_line at (plain_entry entry.now)) }
 {

@@ -15,7 +15,7 @@ use crate::pouring::pour_long;
 use crate::stacking::{append_base, append_stack};
 use argus_contents::{Name, ObjId};
 use argus_guardian::Guardian;
-use argus_memory::{Heap, OutOfMemory};
+use argus_memory::{Heap, OutOfMemory, Room};
 use argus_streams::Watched;
 use std::io::Write;
 
@@ -25,7 +25,7 @@ pub(crate) fn write_objects<W: Write + Drop>(
     guardian: &Guardian,
     names: &[Name],
     listing: Listing,
-    text: &mut String<Heap>,
+    text: &mut String<Room>,
     writer: &mut Watched<W>,
 ) -> Result<(), ListError>
     requires { has_failed writer.old ≡ false }
@@ -62,7 +62,7 @@ fn append_object(
     o: ObjId,
     name: &Name,
     listing: Listing,
-    text: &mut String<Heap>,
+    text: &mut String<Room>,
 ) -> Result<(), OutOfMemory>
     requires { o.0 < declared guardian.now.opening guardian.now.entries }
     ensures { OnOk result (string_bytes text.new

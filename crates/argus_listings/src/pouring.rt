@@ -6,7 +6,7 @@ ghost use Rattle.argus_listings.specs.declared.list_error.ListError.TheVariants.
 ghost use Rattle.argus_streams.specs.Watched.{has_failed, inner_of};
 
 use crate::list_error::ListError;
-use argus_memory::Heap;
+use argus_memory::Room;
 use argus_streams::{Watched, write_whole};
 use std::io::Write;
 
@@ -15,7 +15,7 @@ const LONG: usize = 65_536;
 
 /// Writes the text out if it is long.
 pub(crate) fn pour_long<W: Write + Drop>(
-    text: &mut String<Heap>,
+    text: &mut String<Room>,
     writer: &mut Watched<W>,
 ) -> Result<(), ListError>
     requires { has_failed writer.old ≡ false }
@@ -34,7 +34,7 @@ pub(crate) fn pour_long<W: Write + Drop>(
 
 /// Writes the text out, and empties it.
 pub(crate) fn pour<W: Write + Drop>(
-    text: &mut String<Heap>,
+    text: &mut String<Room>,
     writer: &mut Watched<W>,
 ) -> Result<(), ListError>
     requires { has_failed writer.old ≡ false }

@@ -10,7 +10,7 @@ ghost use Rattle.argus_listings.specs.Listing.{version_lines};
 use crate::appending::{append_object_line, append_readers_line, append_version_line};
 use argus_contents::{Name, ObjId};
 use argus_guardian::Guardian;
-use argus_memory::{Heap, OutOfMemory};
+use argus_memory::{OutOfMemory, Room};
 use argus_objects::Version;
 
 /// The lines of a declared object: its base, its readers and its versions.
@@ -18,7 +18,7 @@ pub(crate) fn append_stack(
     guardian: &Guardian,
     o: ObjId,
     name: &Name,
-    text: &mut String<Heap>,
+    text: &mut String<Room>,
 ) -> Result<(), OutOfMemory>
     requires { o.0 < declared guardian.now.opening guardian.now.entries }
     ensures { OnOk result (string_bytes text.new
@@ -35,7 +35,7 @@ pub(crate) fn append_base(
     o: ObjId,
     name: &Name,
     words: &str,
-    text: &mut String<Heap>,
+    text: &mut String<Room>,
 ) -> Result<(), OutOfMemory>
     requires { o.0 < declared guardian.now.opening guardian.now.entries }
     ensures { OnOk result (string_bytes text.new ≡ string_bytes text.old
@@ -52,7 +52,7 @@ fn append_readers(
     guardian: &Guardian,
     o: ObjId,
     name: &Name,
-    text: &mut String<Heap>,
+    text: &mut String<Room>,
 ) -> Result<(), OutOfMemory>
     requires { o.0 < declared guardian.now.opening guardian.now.entries }
     ensures { OnOk result (string_bytes text.new ≡ string_bytes text.old
@@ -68,7 +68,7 @@ fn append_versions(
     guardian: &Guardian,
     o: ObjId,
     name: &Name,
-    text: &mut String<Heap>,
+    text: &mut String<Room>,
 ) -> Result<(), OutOfMemory>
     requires { o.0 < declared guardian.now.opening guardian.now.entries }
     ensures { OnOk result (string_bytes text.new ≡ string_bytes text.old
@@ -83,7 +83,7 @@ fn append_versions(
 fn append_each_version(
     name: &Name,
     versions: &[Version],
-    text: &mut String<Heap>,
+    text: &mut String<Room>,
 ) -> Result<(), OutOfMemory>
     ensures { OnOk result (string_bytes text.new ≡ string_bytes text.old
         ++ version_lines name.now (map version_told versions.now)) }

@@ -15,7 +15,7 @@ use crate::object_listing::write_objects;
 use crate::pouring::pour;
 use argus_contents::Name;
 use argus_guardian::Guardian;
-use argus_memory::Heap;
+use argus_memory::{Heap, Room};
 use argus_streams::Watched;
 use std::io::Write;
 
@@ -52,7 +52,7 @@ pub fn list<W: Write + Drop>(
         (W.contents (inner_of writer.new)) (take n (listing_of listing names.now guardian.now))) }
     ensures failed { IfErr result (λ e. e ≡ Write → has_failed writer.new ≡ true) }
 {
-    let mut text = String::new(heap);
+    let mut text = String::new(heap.room());
     write_listing(heap, guardian, names, listing, &mut text, writer)?;
     pour(&mut text, writer)
 }
@@ -63,7 +63,7 @@ fn write_listing<W: Write + Drop>(
     guardian: &Guardian,
     names: &[Name],
     listing: Listing,
-    text: &mut String<Heap>,
+    text: &mut String<Room>,
     writer: &mut Watched<W>,
 ) -> Result<(), ListError>
     requires { has_failed writer.old ≡ false }

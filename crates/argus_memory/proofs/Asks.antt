@@ -13,25 +13,25 @@ use denote.Memory.{hidden_shr}
 use denote.Steps.{nothing}
 use denote.Triple.Statement.{Contract}
 use denote.Triple.Spec.{triple_of}
-use Rattle.argus_memory.specs.declared.budget.Budget.{Budget}
-use Rattle.argus_memory.specs.contracts.budget.Budget as BU
-use Rattle.argus_memory.specs.contracts.budget.is_spent as TK
+use Rattle.argus_memory.specs.declared.count.Count.{Count}
+use Rattle.argus_memory.specs.contracts.count.Count as CO
+use Rattle.argus_memory.specs.contracts.count.is_spent as TK
 
 module _ {M : Type 1} {𝓤 : Ura M} (𝓛 : Logic 𝓤) (at_mem : Memory → SProp 𝓤) (run : Routine → Fun 𝓤) where
   abbrev pub Asks : Contract 𝓤
   Asks = triple_of 𝓛 TK.signature (TK.spec 𝓛 at_mem run)
 
-  abbrev pub at_asks : Lft → Share → Budget → ℕ × ℕ → Asks.Ghost
+  abbrev pub at_asks : Lft → Share → Count → ℕ × ℕ → Asks.Ghost
   at_asks κ q b c = (((κ, tt), (q, tt), tt, (record { ref_ptr = c; now = b }, tt), (vptr c.0 c.1 ∷ [], tt)), tt)
 
 module _ {M : Type 1} {𝓤 : Ura M} (𝓛 : Logic 𝓤) (at_mem : Memory → SProp 𝓤) (run : Routine → Fun 𝓤) (κ : Lft)
-    (q : Share) (b : Budget) (c : ℕ × ℕ) where
+    (q : Share) (b : Count) (c : ℕ × ℕ) where
   open 𝓛 use {H, A}
 
-  pub Asks-goes : ent 𝓤 (sep 𝓤 (sem 𝓛 (hidden_shr BU.the_row κ b c.0 c.1)) (A.lft κ q))
+  pub Asks-goes : ent 𝓤 (sep 𝓤 (sem 𝓛 (hidden_shr CO.the_row κ b c.0 c.1)) (A.lft κ q))
       ((Asks 𝓛 at_mem run).pre (at_asks 𝓛 at_mem run κ q b c))
   Asks-goes =
-      qed 𝓛 (‵ (hidden_shr BU.the_row κ b c.0 c.1) ∷ ‵ (flft κ q) ∷ []) ∵ feq_i ! (List Val) (vptr c.0 c.1 ∷ [])
+      qed 𝓛 (‵ (hidden_shr CO.the_row κ b c.0 c.1) ∷ ‵ (flft κ q) ∷ []) ∵ feq_i ! (List Val) (vptr c.0 c.1 ∷ [])
       (vptr c.0 c.1 ∷ []) refl $ fjoin ! $
       nothing ! $ move ! (1 ∷ []) $ fjoin ! $ nothing ! $ move ! (2 ∷ []) $ join ! $ join ! $ nothing ! $ move !
       (1 ∷ []) $ done !

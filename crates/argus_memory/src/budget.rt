@@ -4,7 +4,7 @@ use std::alloc::{AllocError, Global};
 use std::sync::atomic::{AtomicU64, Ordering};
 
 // From here on a count stands for no limit.
-const UNLIMITED: u64 = 1 << 62;
+pub(crate) const UNLIMITED: u64 = 1 << 62;
 
 /// How many allocations a [`Heap`](crate::Heap) may still make. All copies share one count.
 ///
@@ -18,7 +18,7 @@ const UNLIMITED: u64 = 1 << 62;
 /// ```
 #[derive(Clone, Copy)]
 pub struct Budget {
-    left: &'static AtomicU64,
+    pub(crate) left: &'static AtomicU64,
 }
 
 impl Budget {
@@ -45,19 +45,4 @@ impl Budget {
         let left = self.left.load(Ordering::SeqCst);
         if left < UNLIMITED { Some(left) } else { None }
     }
-}
-
-// Takes one from the budget, if it has a limit; true where nothing was left.
-#[inline(always)]
-pub(crate) fn is_spent(budget: &Budget) -> bool {
-    budget.left.load(Ordering::Relaxed) < UNLIMITED && was_last(budget)
-}
-
-#[cold]
-#[inline(never)]
-fn was_last(budget: &Budget) -> bool {
-    budget
-        .left
-        .fetch_update(Ordering::SeqCst, Ordering::SeqCst, |n| n.checked_sub(1))
-        .is_err()
 }

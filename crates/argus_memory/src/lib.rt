@@ -1,11 +1,13 @@
 //! The allocator of all Argus crates, and the error that want of memory is.
 //!
-//! Every type that owns memory holds a [`Heap`]: one word, freely copied. It is made over the
-//! program's allocator, and may have a [`Budget`], past which each allocation is refused. So a user
-//! can bound what a guardian takes, and a test can refuse each allocation of a call in turn.
+//! Memory is had of a [`Heap`]: one word, freely copied, over the program's allocator. It may have
+//! a [`Budget`], past which each allocation is refused. So a user can bound what a guardian takes,
+//! and a test can refuse each allocation of a call in turn. What a list, a text or a box holds is a
+//! [`Room`] of its heap.
 //!
 //! ```text
-//! let heap = Heap::new(rt.alloc())?;              // no limit
+//! let heap = Heap::new(rt.alloc())?;               // no limit
+//! let mut names = Vec::new(heap.room());
 //! let budget = Budget::new(rt.alloc())?;
 //! let tight = Heap::with_budget(rt.alloc(), budget);
 //! budget.allow(3);                                 // three more allocations, then refusals
@@ -13,11 +15,14 @@
 #![tactic(auto)]
 
 mod budget;
+mod count;
+mod heap;
 mod limited;
 mod out_of_memory;
 #[cfg(test)]
 mod tests;
 
 pub use budget::Budget;
-pub use limited::{Heap, Limited};
+pub use heap::Heap;
+pub use limited::{Limited, Room};
 pub use out_of_memory::OutOfMemory;

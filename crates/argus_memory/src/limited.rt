@@ -1,56 +1,46 @@
-//! `Limited`: an allocator with a budget, and `Heap`, the one of this project.
+//! `Limited`: an allocator with a budget, and `Room`, the one of this project.
 
-use crate::budget::{Budget, is_spent};
+use crate::count::{Count, is_spent};
 use std::alloc::{AllocError, Allocator, Global};
 
 /// An allocator that answers as its inner one does, and refuses once its budget is used up.
 ///
 /// A refusal is an `AllocError`, as where the machine has no memory left, and changes nothing.
-///
-/// ```text
-/// let budget = Budget::new(rt.alloc())?;
-/// let tight = Limited::with_budget(rt.alloc(), budget);
-/// budget.allow(1);
-/// let mut names = Vec::with_capacity(tight, 4)?;   // the one allocation; the next is refused
-/// ```
-#[derive(Clone, Copy)]
+#[derive(Drop)]
 pub struct Limited<B: Allocator> {
     // The proofs in proofs/limited count on this order: the inner allocator, then one word.
     inner: B,
-    budget: Budget,
+    count: Count,
 }
 
-/// The allocator of this project: one word over the program's own.
+/// What a list, a text, a box or a map holds to have its memory by: one word, of a
+/// [`Heap`](crate::Heap).
 ///
 /// ```text
-/// fn main(rt: HostRuntime) -> Result<(), AllocError> {
-///     let heap = Heap::new(rt.alloc())?;
-///     let mut names = Vec::new(heap);
-///     ..
+/// let mut names: Vec<String<Room>, Room> = Vec::new(heap.room());
+/// let same = names.allocator().heap();
 /// ```
-pub type Heap = Limited<Global>;
-
-impl Limited<Global> {
-    /// A heap without a limit. Make it once, first in `main`, and copy it.
-    ///
-    /// `AllocError` comes where the inner allocator refuses the word of its budget.
-    pub fn new(inner: Global) -> Result<Heap, AllocError> {
-        Ok(Limited::with_budget(inner, Budget::new(inner)?))
-    }
-}
+pub type Room = Limited<Global>;
 
 impl<B: Allocator> Limited<B> {
-    /// It refuses each allocation once the budget is used up.
-    pub fn with_budget(inner: B, budget: Budget) -> Limited<B> {
-        Limited { inner, budget }
+    pub(crate) fn over(inner: B, count: Count) -> Limited<B> {
+        Limited { inner, count }
+    }
+
+    pub(crate) fn inner(&self) -> &B {
+        &self.inner
+    }
+
+    pub(crate) fn count(&self) -> &Count {
+        &self.count
     }
 }
 
 unsafe impl<B: Allocator> Allocator for Limited<B> {
-    ghost dealloc_token = { λ heap ty ptr. B.dealloc_token heap.inner ty ptr };
+    ghost dealloc_token = { λ room ty ptr. B.dealloc_token room.inner ty ptr };
 
     fn allocate(&self, size: usize, align: usize) -> Result<*mut u8, AllocError> {
-        if is_spent(&self.budget) {
+        if is_spent(&self.count) {
             return Err(AllocError);
         }
         self.inner.allocate(size, align)
@@ -67,7 +57,7 @@ unsafe impl<B: Allocator> Allocator for Limited<B> {
         old_cap: usize,
         new_cap: usize,
     ) -> Result<*mut T, AllocError> {
-        if is_spent(&self.budget) {
+        if is_spent(&self.count) {
             return Err(AllocError);
         }
         self.inner.grow(ptr, len, old_cap, new_cap)

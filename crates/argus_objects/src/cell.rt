@@ -24,7 +24,7 @@ use crate::versions::{
 };
 use argus_actions::{ActionId, ActionTree};
 use argus_contents::{Answer, Change, Content};
-use argus_memory::{Heap, OutOfMemory};
+use argus_memory::{Heap, OutOfMemory, Room};
 use std::marker::Model;
 
 /// One object: its base, which no action holds, the actions that hold read locks, and the versions
@@ -44,8 +44,8 @@ use std::marker::Model;
 #[derive(Drop)]
 pub struct Cell {
     base: Option<Content>,
-    readers: Vec<ActionId, Heap>,
-    versions: Vec<Version, Heap>,
+    readers: Vec<ActionId, Room>,
+    versions: Vec<Version, Room>,
 }
 
 impl Model for Cell {
@@ -81,8 +81,8 @@ impl Cell {
     {
         Cell {
             base,
-            readers: Vec::new(heap),
-            versions: Vec::new(heap),
+            readers: Vec::new(heap.room()),
+            versions: Vec::new(heap.room()),
         }
     }
 

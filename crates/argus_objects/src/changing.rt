@@ -11,7 +11,7 @@ ghost use Rattle.argus_objects.specs.Moves.{changed_top, newest_content, with_ve
 use crate::version::Version;
 use argus_actions::ActionId;
 use argus_contents::{Answer, Change, Content, alter_copy, alter_in_place};
-use argus_memory::{Heap, OutOfMemory};
+use argus_memory::{OutOfMemory, Room};
 
 /// The content of the newest version, or the base.
 pub(crate) fn content_on_top<'a>(
@@ -32,7 +32,7 @@ pub(crate) fn content_on_top<'a>(
 /// After `OutOfMemory` the versions are as before.
 pub(crate) fn change_version(
     base: &Option<Content>,
-    versions: &mut Vec<Version, Heap>,
+    versions: &mut Vec<Version, Room>,
     a: ActionId,
     change: Change,
 ) -> Result<Answer, OutOfMemory>
@@ -52,7 +52,7 @@ pub(crate) fn change_version(
     if held > 0 && versions[held - 1].holder.0 == a.0 {
         return alter_in_place(&mut versions[held - 1].content, change);
     }
-    let heap = *versions.allocator();
+    let heap = versions.allocator().heap();
     let (content, answer) = alter_copy(heap, content_on_top(base, versions.as_slice()), change)?;
     versions.push(Version { holder: a, content })?;
     Ok(answer)

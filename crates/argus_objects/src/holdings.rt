@@ -8,14 +8,30 @@ ghost use Rattle.argus_objects.specs.Holdings.{room_of, SameLists, TakesOnePlace
 
 use argus_actions::ActionId;
 use argus_contents::ObjId;
-use argus_memory::{Heap, OutOfMemory};
+use argus_memory::{Heap, OutOfMemory, Room};
 use indexmap::IndexSet;
+use std::alloc::Global;
 use std::collections::HashMap;
 use std::hash::{BuildHasherDefault, FoldHasher};
 
 type Hasher = BuildHasherDefault<FoldHasher>;
 
-type Objects = IndexSet<ObjId, Hasher, Heap>;
+// An `IndexSet` takes only allocators that are `Copy`, which a room isn't: each of its growths is
+// asked of the heap first.
+type Objects = IndexSet<ObjId, Hasher, Global>;
+
+// Makes room for so many more objects.
+fn reserve_in(heap: Heap, objects: &mut Objects, additional: usize) -> Result<(), OutOfMemory>
+    ensures same { objects.new.keys ≡ objects.old.keys }
+    ensures ok { OnOk result (additional ≤ spare objects.new) }
+    ensures room { spare objects.old ≤ spare objects.new }
+{
+    if objects.capacity() - objects.len() < additional {
+        let _ = heap.ask()?;
+        objects.reserve(additional)?;
+    }
+    Ok(())
+}
 
 // Notes these objects in their order, in the room that is there.
 fn note_all(into: &mut Objects, objects: &[ObjId])
@@ -41,7 +57,7 @@ fn note_all(into: &mut Objects, objects: &[ObjId])
 #[derive(Drop)]
 pub struct Holdings {
     heap: Heap,
-    lists: HashMap<u32, Objects, Hasher, Heap>,
+    lists: HashMap<u32, Objects, Hasher, Room>,
 }
 
 impl Holdings {
@@ -51,7 +67,7 @@ impl Holdings {
     {
         Holdings {
             heap,
-            lists: HashMap::with_hasher(heap, BuildHasherDefault::default()),
+            lists: HashMap::with_hasher(heap.room(), BuildHasherDefault::default()),
         }
     }
 
@@ -135,10 +151,10 @@ impl Holdings {
         ensures rooms { KeepsRooms self.old self.new }
     {
         if let Some(objects) = self.lists.get_mut(&a.0) {
-            objects.reserve(additional)?;
-            return Ok(());
+            return reserve_in(self.heap, objects, additional);
         }
-        let mut objects: Objects = IndexSet::with_hasher(self.heap, BuildHasherDefault::default());
+        let hasher = BuildHasherDefault::default();
+        let mut objects: Objects = IndexSet::with_hasher(self.heap.ask()?, hasher);
         objects.reserve(additional)?;
         self.lists.insert(a.0, objects)?;
         Ok(())

@@ -7,7 +7,7 @@ ghost use Rattle.argus_objects.specs.Moves.{is_reader, with_reader, without_read
 ghost use Rattle.argus_objects.specs.Moves.{readers_inherited, readers_discarded};
 
 use argus_actions::{ActionId, ActionTree};
-use argus_memory::Heap;
+use argus_memory::Room;
 
 pub(crate) fn has_reader(readers: &[ActionId], a: ActionId) -> bool
     ensures { result ≡ is_reader a readers.now }
@@ -35,7 +35,7 @@ pub(crate) fn all_readers_above(readers: &[ActionId], tree: &ActionTree, a: Acti
 }
 
 /// Puts `a` in its place in the room that is there, if it isn't a reader.
-pub(crate) fn add_reader(readers: &mut Vec<ActionId, Heap>, a: ActionId)
+pub(crate) fn add_reader(readers: &mut Vec<ActionId, Room>, a: ActionId)
     requires room { vec_len readers.old < vec_capacity readers.old }
     requires ascending { is_ascending readers.old.items ≡ true }
     ensures { readers.new.items ≡ with_reader a readers.old.items }
@@ -49,7 +49,7 @@ pub(crate) fn add_reader(readers: &mut Vec<ActionId, Heap>, a: ActionId)
     }
 }
 
-pub(crate) fn drop_reader(readers: &mut Vec<ActionId, Heap>, a: ActionId)
+pub(crate) fn drop_reader(readers: &mut Vec<ActionId, Room>, a: ActionId)
     ensures readers { readers.new.items ≡ without_reader a readers.old.items }
     ensures capacity { vec_capacity readers.new ≡ vec_capacity readers.old }
 {
@@ -57,7 +57,7 @@ pub(crate) fn drop_reader(readers: &mut Vec<ActionId, Heap>, a: ActionId)
 }
 
 /// Puts the parent in the place of `s`.
-pub(crate) fn inherit_reader(readers: &mut Vec<ActionId, Heap>, s: ActionId, parent: ActionId)
+pub(crate) fn inherit_reader(readers: &mut Vec<ActionId, Room>, s: ActionId, parent: ActionId)
     requires { is_ascending readers.old.items ≡ true }
     ensures { readers.new.items ≡ readers_inherited s parent readers.old.items }
 {
@@ -67,7 +67,7 @@ pub(crate) fn inherit_reader(readers: &mut Vec<ActionId, Heap>, s: ActionId, par
     }
 }
 
-pub(crate) fn discard_readers(readers: &mut Vec<ActionId, Heap>, tree: &ActionTree, a: ActionId)
+pub(crate) fn discard_readers(readers: &mut Vec<ActionId, Room>, tree: &ActionTree, a: ActionId)
     ensures { readers.new.items ≡ readers_discarded tree.now a readers.old.items }
 {
     readers.retain(|x| !tree.is_ancestor(a, *x));

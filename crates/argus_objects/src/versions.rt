@@ -14,7 +14,7 @@ ghost use Rattle.argus_objects.specs.Moves.{versions_inherited, versions_discard
 use crate::version::Version;
 use argus_actions::{ActionId, ActionTree};
 use argus_contents::Content;
-use argus_memory::Heap;
+use argus_memory::Room;
 
 pub(crate) fn has_version(versions: &[Version], a: ActionId) -> bool
     ensures { result ≡ list_any (λ v. v.holder.0 == a.0) versions.now }
@@ -80,7 +80,7 @@ pub(crate) fn are_all_related(readers: &[ActionId], versions: &[Version], tree: 
 
 /// Makes this the content of `a`'s version, which is pushed in the room that is there if `a` had
 /// none.
-pub(crate) fn put_version(versions: &mut Vec<Version, Heap>, a: ActionId, content: Option<Content>)
+pub(crate) fn put_version(versions: &mut Vec<Version, Room>, a: ActionId, content: Option<Content>)
     requires room { vec_len versions.old < vec_capacity versions.old }
     requires ascending { is_ascending (writers versions.old.items) ≡ true }
     requires newest { are_up_to a (writers versions.old.items) ≡ true }
@@ -96,7 +96,7 @@ pub(crate) fn put_version(versions: &mut Vec<Version, Heap>, a: ActionId, conten
 }
 
 // Takes the version of `t` out, and gives its content.
-fn take_version(versions: &mut Vec<Version, Heap>, t: ActionId) -> Option<Option<Content>>
+fn take_version(versions: &mut Vec<Version, Room>, t: ActionId) -> Option<Option<Content>>
     requires { is_ascending (writers versions.old.items) ≡ true }
     ensures content { option_map plain_option result
         ≡ version_of t (newest_first versions.old.items) }
@@ -116,7 +116,7 @@ fn take_version(versions: &mut Vec<Version, Heap>, t: ActionId) -> Option<Option
 /// Makes the version of `t`, if it has one, the base.
 pub(crate) fn settle_version(
     base: &mut Option<Content>,
-    versions: &mut Vec<Version, Heap>,
+    versions: &mut Vec<Version, Room>,
     t: ActionId,
 )
     requires { is_ascending (writers versions.old.items) ≡ true }
@@ -130,7 +130,7 @@ pub(crate) fn settle_version(
     }
 }
 
-fn drop_version(versions: &mut Vec<Version, Heap>, a: ActionId)
+fn drop_version(versions: &mut Vec<Version, Room>, a: ActionId)
     ensures { newest_first versions.new.items ≡ without_version a
         (newest_first versions.old.items) }
 {
@@ -150,7 +150,7 @@ fn hand_over(versions: &mut [Version], s: ActionId, parent: ActionId)
 }
 
 /// Makes the version of `s`, if it has one, the parent's only one.
-pub(crate) fn inherit_version(versions: &mut Vec<Version, Heap>, s: ActionId, parent: ActionId)
+pub(crate) fn inherit_version(versions: &mut Vec<Version, Room>, s: ActionId, parent: ActionId)
     ensures { newest_first versions.new.items ≡ versions_inherited s parent
         (newest_first versions.old.items) }
 {
@@ -160,7 +160,7 @@ pub(crate) fn inherit_version(versions: &mut Vec<Version, Heap>, s: ActionId, pa
     }
 }
 
-pub(crate) fn discard_versions(versions: &mut Vec<Version, Heap>, tree: &ActionTree, a: ActionId)
+pub(crate) fn discard_versions(versions: &mut Vec<Version, Room>, tree: &ActionTree, a: ActionId)
     ensures { newest_first versions.new.items ≡ versions_discarded tree.now a
         (newest_first versions.old.items) }
 {

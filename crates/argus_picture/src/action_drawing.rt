@@ -9,14 +9,14 @@ use crate::origin::Origin;
 use crate::refused_call::RefusedCall;
 use crate::run::Run;
 use argus_frame::{BAR, Frame, bar_top, entry_left};
-use argus_memory::{Heap, OutOfMemory};
+use argus_memory::{OutOfMemory, Room};
 use std::fmt::Write;
 
 /// Draws the ties, then the bars, then what was refused.
 pub(crate) fn draw_actions(
     run: &Run<'_>,
     frame: &Frame,
-    out: &mut String<Heap>,
+    out: &mut String<Room>,
 ) -> Result<(), OutOfMemory> {
     for action in &run.actions {
         draw_tie(run, frame, action, out)?;
@@ -30,7 +30,7 @@ fn draw_tie(
     run: &Run<'_>,
     frame: &Frame,
     action: &Action<'_>,
-    out: &mut String<Heap>,
+    out: &mut String<Room>,
 ) -> Result<(), OutOfMemory> {
     let (Some(row), Some(upper)) = (action.row, run.row(action.origin.creator())) else {
         return Ok(());
@@ -46,7 +46,7 @@ fn draw_tie(
     Ok(())
 }
 
-fn draw_bars(run: &Run<'_>, frame: &Frame, out: &mut String<Heap>) -> Result<(), OutOfMemory> {
+fn draw_bars(run: &Run<'_>, frame: &Frame, out: &mut String<Room>) -> Result<(), OutOfMemory> {
     let mut number = u64::from(run.first_action);
     for action in &run.actions {
         if let Some(row) = action.row {
@@ -75,7 +75,7 @@ fn draw_bar(
     life: Life,
     row: u32,
     number: u64,
-    out: &mut String<Heap>,
+    out: &mut String<Room>,
 ) -> Result<(), OutOfMemory> {
     let x = entry_left(frame, life.begin);
     let y = bar_top(frame, row);
@@ -111,7 +111,7 @@ pub(crate) fn room_for(number: u64) -> u64 {
 }
 
 // The sign at the end of a bar.
-fn draw_end(fate: Fate, x: u64, y: u64, out: &mut String<Heap>) -> Result<(), OutOfMemory> {
+fn draw_end(fate: Fate, x: u64, y: u64, out: &mut String<Room>) -> Result<(), OutOfMemory> {
     let (class, sign) = match fate {
         Fate::Committed => return Ok(()),
         Fate::Live => ("arrow", "l8 7l-8 7z"),
@@ -125,7 +125,7 @@ fn draw_end(fate: Fate, x: u64, y: u64, out: &mut String<Heap>) -> Result<(), Ou
 
 // Each refused call, on the bar of who made it, or above all bars. A name that finds no room behind
 // the one before it stands in the title alone.
-fn draw_refused(run: &Run<'_>, frame: &Frame, out: &mut String<Heap>) -> Result<(), OutOfMemory> {
+fn draw_refused(run: &Run<'_>, frame: &Frame, out: &mut String<Room>) -> Result<(), OutOfMemory> {
     let mut taken = [0u64; MAX_ROWS + 1];
     for call in &run.refused {
         let row = run.row(call.caller);
@@ -156,7 +156,7 @@ fn draw_mark(
     frame: &Frame,
     x: u64,
     row: Option<u32>,
-    out: &mut String<Heap>,
+    out: &mut String<Room>,
 ) -> Result<(), OutOfMemory> {
     let y = top_of(frame, row).saturating_add(1);
     write!(out, "<path class=\"mark\" d=\"M{x} {y}l6 6l-6 6l-6 -6z\"/>")?;
@@ -167,7 +167,7 @@ fn draw_why(
     frame: &Frame,
     call: &RefusedCall<'_>,
     row: Option<u32>,
-    out: &mut String<Heap>,
+    out: &mut String<Room>,
 ) -> Result<(), OutOfMemory> {
     let x = entry_left(frame, call.at).saturating_sub(4);
     let y = top_of(frame, row).saturating_add(24);
@@ -183,7 +183,7 @@ fn draw_against(
     frame: &Frame,
     call: &RefusedCall<'_>,
     row: Option<u32>,
-    out: &mut String<Heap>,
+    out: &mut String<Room>,
 ) -> Result<(), OutOfMemory> {
     let (Some(row), Some(holder)) = (row, run.row(call.holder)) else {
         return Ok(());

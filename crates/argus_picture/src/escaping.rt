@@ -1,10 +1,10 @@
 //! Texts in a picture: escaped.
 
-use argus_memory::{Heap, OutOfMemory};
+use argus_memory::{OutOfMemory, Room};
 
 /// Appends the text, so that it stands in the picture as it is: nothing in it is markup. A
 /// character that no XML text may have stands as `U+FFFD`.
-pub(crate) fn append_escaped(text: &str, out: &mut String<Heap>) -> Result<(), OutOfMemory> {
+pub(crate) fn append_escaped(text: &str, out: &mut String<Room>) -> Result<(), OutOfMemory> {
     for character in text.chars() {
         match character {
             '&' => out.push_str("&amp;")?,
@@ -23,7 +23,7 @@ pub(crate) fn append_escaped(text: &str, out: &mut String<Heap>) -> Result<(), O
 pub(crate) fn open_group(
     first: &str,
     last: &str,
-    out: &mut String<Heap>,
+    out: &mut String<Room>,
 ) -> Result<(), OutOfMemory> {
     out.push_str("<g><title>")?;
     append_escaped(first, out)?;
@@ -39,7 +39,7 @@ pub(crate) fn open_group(
 pub(crate) fn append_shortened(
     text: &str,
     letters: usize,
-    out: &mut String<Heap>,
+    out: &mut String<Room>,
 ) -> Result<(), OutOfMemory> {
     match text.char_indices().nth(letters) {
         Some((end, _)) => {

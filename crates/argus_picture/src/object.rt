@@ -6,7 +6,7 @@ ghost use Rattle.argus_contents.specs.Content.{KeepsLimits, plain_option};
 use crate::line_error::LineError;
 use argus_contents::{Change, Content, Shape, alter_in_place, change_fits, fits};
 use argus_frame::FaultKind;
-use argus_memory::Heap;
+use argus_memory::{Heap, Room};
 use argus_texts::{read_content, read_shape, write_content};
 
 /// A declared object: its shape, what is in it for good, and the line that tells it.
@@ -40,8 +40,8 @@ pub(crate) fn object_told<'a>(
 }
 
 /// What is in the object for good, as it is written.
-pub(crate) fn base_text(heap: Heap, base: &Option<Content>) -> Result<String<Heap>, LineError> {
-    let mut text = String::new(heap);
+pub(crate) fn base_text(heap: Heap, base: &Option<Content>) -> Result<String<Room>, LineError> {
+    let mut text = String::new(heap.room());
     match base {
         Some(content) => write_content(content, &mut text)?,
         None => text.push_str("absent")?,

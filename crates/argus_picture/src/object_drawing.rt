@@ -8,21 +8,21 @@ use crate::object::Object;
 use crate::run::Run;
 use crate::settling::Settling;
 use argus_frame::{Frame, LANE, entry_left, lane_at, width};
-use argus_memory::{Heap, OutOfMemory};
+use argus_memory::{OutOfMemory, Room};
 use std::fmt::Write;
 
 /// Draws the lanes, then the locks, then the commits.
 pub(crate) fn draw_objects(
     run: &Run<'_>,
     frame: &Frame,
-    out: &mut String<Heap>,
+    out: &mut String<Room>,
 ) -> Result<(), OutOfMemory> {
     draw_lanes(run, frame, out)?;
     draw_holds(run, frame, out)?;
     draw_settlings(run, frame, out)
 }
 
-fn draw_lanes(run: &Run<'_>, frame: &Frame, out: &mut String<Heap>) -> Result<(), OutOfMemory> {
+fn draw_lanes(run: &Run<'_>, frame: &Frame, out: &mut String<Room>) -> Result<(), OutOfMemory> {
     let mut lane = 0u32;
     for object in &run.objects {
         if lane >= frame.lanes {
@@ -38,7 +38,7 @@ fn draw_lane(
     frame: &Frame,
     lane: u32,
     object: &Object<'_>,
-    out: &mut String<Heap>,
+    out: &mut String<Room>,
 ) -> Result<(), OutOfMemory> {
     let y = lane_at(frame, lane);
     let wide = width(frame).saturating_sub(16);
@@ -55,7 +55,7 @@ fn draw_lane(
     Ok(())
 }
 
-fn draw_holds(run: &Run<'_>, frame: &Frame, out: &mut String<Heap>) -> Result<(), OutOfMemory> {
+fn draw_holds(run: &Run<'_>, frame: &Frame, out: &mut String<Room>) -> Result<(), OutOfMemory> {
     for hold in &run.holds {
         if let (Some(lane), Some(strip)) = (lane_of(frame, hold.object), hold.strip) {
             let top = lane_at(frame, lane).saturating_add(3);
@@ -74,7 +74,7 @@ fn draw_hold(
     hold: &Hold<'_>,
     y: u64,
     number: u64,
-    out: &mut String<Heap>,
+    out: &mut String<Room>,
 ) -> Result<(), OutOfMemory> {
     let x = entry_left(frame, hold.begin);
     let end = entry_left(frame, hold.end.unwrap_or(frame.entries));
@@ -96,7 +96,7 @@ fn draw_hold(
 
 // Each commit that changed what is in an object, the last first. A content has room up to the next
 // commit of its lane; where that is too little it stands in the title alone.
-fn draw_settlings(run: &Run<'_>, frame: &Frame, out: &mut String<Heap>) -> Result<(), OutOfMemory> {
+fn draw_settlings(run: &Run<'_>, frame: &Frame, out: &mut String<Room>) -> Result<(), OutOfMemory> {
     let mut ends = [width(frame); MAX_LANES as usize];
     for settling in run.settlings.iter().rev() {
         if let Some(lane) = lane_of(frame, settling.object) {
@@ -119,7 +119,7 @@ fn draw_settling(
     settling: &Settling<'_>,
     x: u64,
     top: u64,
-    out: &mut String<Heap>,
+    out: &mut String<Room>,
 ) -> Result<(), OutOfMemory> {
     out.push_str("<g><title>")?;
     append_escaped(settling.line, out)?;
@@ -143,7 +143,7 @@ fn draw_base(
     x: u64,
     top: u64,
     room: u64,
-    out: &mut String<Heap>,
+    out: &mut String<Room>,
 ) -> Result<(), OutOfMemory> {
     let letters = letters_within(room);
     if letters < 3 && letters < base.len() {

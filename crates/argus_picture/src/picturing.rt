@@ -8,7 +8,7 @@ use crate::object_drawing::draw_objects;
 use crate::picture_error::PictureError;
 use crate::run::Run;
 use argus_frame::{FaultKind, Frame, ListingFault, Step, entry_left, height, width};
-use argus_memory::{Heap, OutOfMemory};
+use argus_memory::{Heap, OutOfMemory, Room};
 use std::fmt::Write;
 use std::str::from_utf8;
 
@@ -20,10 +20,10 @@ use std::str::from_utf8;
 /// ```text
 /// let text = picture(heap, b"0 begin_top -> a0\n1 commit a0 -> done\n")?;
 /// ```
-pub fn picture(heap: Heap, listing: &[u8]) -> Result<String<Heap>, PictureError> {
+pub fn picture(heap: Heap, listing: &[u8]) -> Result<String<Room>, PictureError> {
     let text = text_of(listing)?;
     let run = read_run(heap, text)?;
-    let mut out = String::new(heap);
+    let mut out = String::new(heap.room());
     draw_run(&run, &mut out)?;
     Ok(out)
 }
@@ -62,7 +62,7 @@ fn read_run<'a>(heap: Heap, text: &'a str) -> Result<Run<'a>, PictureError> {
     Ok(run)
 }
 
-fn draw_run(run: &Run<'_>, out: &mut String<Heap>) -> Result<(), OutOfMemory> {
+fn draw_run(run: &Run<'_>, out: &mut String<Room>) -> Result<(), OutOfMemory> {
     let frame = frame_of(run);
     let (wide, high) = (width(&frame), height(&frame));
     out.push_str("<svg xmlns=\"http://www.w3.org/2000/svg\" version=\"1.1\"")?;
@@ -108,7 +108,7 @@ fn draw_axis(
     run: &Run<'_>,
     frame: &Frame,
     high: u64,
-    out: &mut String<Heap>,
+    out: &mut String<Room>,
 ) -> Result<(), OutOfMemory> {
     let bottom = high.saturating_sub(34);
     let tick = frame.step.tick();
@@ -131,7 +131,7 @@ fn draw_counts(
     run: &Run<'_>,
     frame: &Frame,
     high: u64,
-    out: &mut String<Heap>,
+    out: &mut String<Room>,
 ) -> Result<(), OutOfMemory> {
     let (line, entries) = (high.saturating_sub(14), frame.entries);
     let (actions, objects) = (run.actions.len(), run.objects.len());

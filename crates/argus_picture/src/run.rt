@@ -7,7 +7,7 @@ use crate::object::Object;
 use crate::refused_call::RefusedCall;
 use crate::settling::Settling;
 use crate::write::Write;
-use argus_memory::Heap;
+use argus_memory::{Heap, Room};
 
 /// What the lines that were read so far tell. Actions and objects stand at their places, which are
 /// their numbers less those that the opening has folded.
@@ -16,12 +16,12 @@ pub(crate) struct Run<'a> {
     pub first_action: u32,
     /// How many entries were read.
     pub entries: u32,
-    pub actions: Vec<Action<'a>, Heap>,
-    pub objects: Vec<Object<'a>, Heap>,
-    pub holds: Vec<Hold<'a>, Heap>,
-    pub refused: Vec<RefusedCall<'a>, Heap>,
-    pub settlings: Vec<Settling<'a>, Heap>,
-    pub writes: Vec<Write, Heap>,
+    pub actions: Vec<Action<'a>, Room>,
+    pub objects: Vec<Object<'a>, Room>,
+    pub holds: Vec<Hold<'a>, Room>,
+    pub refused: Vec<RefusedCall<'a>, Room>,
+    pub settlings: Vec<Settling<'a>, Room>,
+    pub writes: Vec<Write, Room>,
 }
 
 // By hand, so that each place where a run ends is one call; a derived one is written out there.
@@ -48,12 +48,12 @@ impl<'a> Run<'a> {
             first_entry: 0,
             first_action: 0,
             entries: 0,
-            actions: Vec::new(heap),
-            objects: Vec::new(heap),
-            holds: Vec::new(heap),
-            refused: Vec::new(heap),
-            settlings: Vec::new(heap),
-            writes: Vec::new(heap),
+            actions: Vec::new(heap.room()),
+            objects: Vec::new(heap.room()),
+            holds: Vec::new(heap.room()),
+            refused: Vec::new(heap.room()),
+            settlings: Vec::new(heap.room()),
+            writes: Vec::new(heap.room()),
         }
     }
 

@@ -1,6 +1,6 @@
 //! `Settling`: a commit that changed what is in an object for good.
 
-use argus_memory::Heap;
+use argus_memory::Room;
 
 /// A commit of a topaction that had written the object: its entry and its line, and what is in the
 /// object then, as it is written.
@@ -9,5 +9,5 @@ pub(crate) struct Settling<'a> {
     pub object: usize,
     pub at: u32,
     pub line: &'a str,
-    pub base: String<Heap>,
+    pub base: String<Room>,
 }

@@ -14,7 +14,7 @@ use crate::refused_call::RefusedCall;
 use crate::reply::Reply;
 use crate::run::Run;
 use argus_frame::FaultKind;
-use argus_memory::Heap;
+use argus_memory::{Heap, Room};
 
 impl<'a> Run<'a> {
     /// One more line.
@@ -263,7 +263,7 @@ impl<'a> Run<'a> {
         others: bool,
         line: &'a str,
     ) -> Result<(), LineError> {
-        let mut doomed: Vec<bool, Heap> = Vec::new(heap);
+        let mut doomed: Vec<bool, Room> = Vec::new(heap.room());
         for at in 0..self.actions.len() {
             let fate = self.fate_at(at, place, others, doomed.as_slice());
             doomed.push(fate.is_some())?;

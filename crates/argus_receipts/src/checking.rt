@@ -1,7 +1,7 @@
 //! `check`: whether receipts and seats tell a journal.
 
 ghost use Rattle.std.specs.Prelude.{◌≡◌, ◌≤◌, ◌++◌, ◌∷◌, [], All, None, Some, map};
-ghost use Rattle.std.specs.Prelude.{IfErr, OnOk};
+ghost use Rattle.std.specs.Prelude.{IfErr, IfOk, OnOk};
 ghost use Rattle.argus_entries.specs.Call.{plain_call};
 ghost use Rattle.argus_entries.specs.Entry.{plain_entry};
 ghost use Rattle.argus_entries.specs.Reply.{plain_reply};
@@ -17,12 +17,13 @@ use crate::receipt::Receipt;
 use crate::settle_fault::SettleFault;
 use argus_entries::Entry;
 use argus_journal::Journal;
-use argus_memory::Heap;
+use argus_memory::{Heap, OutOfMemory};
 use indexmap::IndexSet;
+use std::alloc::Global;
 use std::hash::{BuildHasherDefault, FoldHasher};
 
 // The numbers of receipts that stand in the journal: nobody can choose them to collide.
-type Numbers = IndexSet<u64, BuildHasherDefault<FoldHasher>, Heap>;
+type Numbers = IndexSet<u64, BuildHasherDefault<FoldHasher>, Global>;
 
 /// Whether receipts and seats tell a journal: each receipt's entry stands there at its number, no
 /// two receipts have one number, and since the journal had `start` entries the seats made as many
@@ -65,6 +66,15 @@ pub fn check(
     }
 }
 
+// No numbers, and room for so many.
+fn room_for(heap: Heap, count: usize) -> Result<Numbers, OutOfMemory>
+    ensures { IfOk result (λ numbers. numbers.keys ≡ []) }
+{
+    let hasher = BuildHasherDefault::default();
+    let numbers = IndexSet::with_capacity_and_hasher(heap.ask()?, count, hasher)?;
+    Ok(numbers)
+}
+
 // Whether each receipt is without a fault.
 fn check_receipts(heap: Heap, journal: &Journal, receipts: &[Receipt]) -> Result<(), SettleFault>
     ensures ok { OnOk result (first_fault (opening_of journal.now) (entries_of journal.now) []
@@ -72,7 +82,10 @@ fn check_receipts(heap: Heap, journal: &Journal, receipts: &[Receipt]) -> Result
     ensures err { IfErr result (IsFault (first_fault (opening_of journal.now)
         (entries_of journal.now) [] (map plain_receipt receipts.now))) }
 {
-    let mut earlier: Numbers = IndexSet::with_hasher(heap, BuildHasherDefault::default());
+    if receipts.is_empty() {
+        return Ok(());
+    }
+    let mut earlier = room_for(heap, receipts.len())?;
     for receipt in receipts {
         check_receipt(journal, &mut earlier, receipt)?;
     }

@@ -13,7 +13,7 @@ use crate::stopped::Stopped;
 use argus_actions::ActionId;
 use argus_commands::{ActionKind, Opening, Step};
 use argus_entries::{Call, Reply};
-use argus_memory::Heap;
+use argus_memory::{Heap, Room};
 
 /// Begins a block or an arm: its action, if it was begun.
 ///
@@ -84,7 +84,7 @@ pub fn begin_arms<C: Caller>(
     caller: &mut C,
     arms: &[Step],
     within: Option<ActionId>,
-) -> Result<Vec<Option<ActionId>, Heap>, Stopped>
+) -> Result<Vec<Option<ActionId>, Room>, Stopped>
     requires ready { C.ready caller.old }
     ensures ready { C.ready caller.new }
     ensures kept { C.keeps caller.old caller.new }
@@ -95,7 +95,7 @@ pub fn begin_arms<C: Caller>(
         (C.state caller.old))) }
     ensures len { IfOk result (λ v. length v.items ≡ length arms.now) }
 {
-    let mut begun = Vec::new(heap);
+    let mut begun = Vec::new(heap.room());
     for arm in arms {
         let action = begin_arm(caller, arm, within)?;
         begun.push(action)?;

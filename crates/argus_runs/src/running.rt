@@ -14,7 +14,7 @@ use crate::stopped::Stopped;
 use argus_commands::{Script, Step};
 use argus_contents::{ObjId, Shape};
 use argus_entries::Call;
-use argus_memory::Heap;
+use argus_memory::{Heap, Room};
 
 /// Runs a whole script, and answers for which numbers of objects its names stand, in the order of
 /// their declarations: 65,535, which no object has, where a declaration was refused.
@@ -25,7 +25,7 @@ pub fn run_script<C: Caller>(
     heap: Heap,
     caller: &mut C,
     script: &Script,
-) -> Result<Vec<ObjId, Heap>, Stopped>
+) -> Result<Vec<ObjId, Room>, Stopped>
     requires ready { C.ready caller.old }
     ensures ready { C.ready caller.new }
     ensures kept { C.keeps caller.old caller.new }
@@ -36,7 +36,7 @@ pub fn run_script<C: Caller>(
         (C.state caller.new) (run_script C.State C.reply C.hand (plain_script script.now)
         (C.state caller.old))) }
 {
-    let mut numbers = Vec::new(heap);
+    let mut numbers = Vec::new(heap.room());
     for step in script.steps() {
         run_at_top(heap, caller, script.shapes(), &mut numbers, step)?;
     }
@@ -47,7 +47,7 @@ fn run_at_top<C: Caller>(
     heap: Heap,
     caller: &mut C,
     shapes: &[Shape],
-    numbers: &mut Vec<ObjId, Heap>,
+    numbers: &mut Vec<ObjId, Room>,
     step: &Step,
 ) -> Result<(), Stopped>
     requires ready { C.ready caller.old }
@@ -81,7 +81,7 @@ pub fn declare<C: Caller>(
     heap: Heap,
     caller: &mut C,
     shapes: &[Shape],
-    numbers: &mut Vec<ObjId, Heap>,
+    numbers: &mut Vec<ObjId, Room>,
 ) -> Result<(), Stopped>
     requires ready { C.ready caller.old }
     ensures ready { C.ready caller.new }

@@ -112,7 +112,7 @@ fn run_owned<W: Write + Drop>(
     let mut serial = Serial {
         guardian,
         writer,
-        line: String::new(heap),
+        line: String::new(heap.room()),
         cut: false,
     };
     let result = run_whole(heap, &mut serial, script);

@@ -15,7 +15,7 @@ use argus_contents::ObjId;
 use argus_entries::{Call, Reply, write_entry};
 use argus_guardian::Guardian;
 use argus_journal::Journal;
-use argus_memory::{Heap, OutOfMemory};
+use argus_memory::{Heap, OutOfMemory, Room};
 use argus_streams::{Watched, write_whole};
 use std::io::Write;
 use std::mem::drop;
@@ -26,7 +26,7 @@ use std::mem::drop;
 pub(crate) struct Serial<W: Write + Drop> {
     pub(crate) guardian: Guardian,
     pub(crate) writer: Watched<W>,
-    pub(crate) line: String<Heap>,
+    pub(crate) line: String<Room>,
     // A line was not written whole.
     pub(crate) cut: bool,
 }
@@ -115,7 +115,7 @@ fn next_number(guardian: &Guardian) -> u64
 fn write_line<W: Write + Drop>(
     guardian: &Guardian,
     at: u64,
-    line: &mut String<Heap>,
+    line: &mut String<Room>,
     writer: &mut Watched<W>,
 ) -> Result<(), Stopped>
     requires { has_failed writer.old ≡ false }
@@ -133,7 +133,7 @@ fn write_line<W: Write + Drop>(
     }
 }
 
-fn append_line(journal: &Journal, at: u64, line: &mut String<Heap>) -> Result<(), OutOfMemory>
+fn append_line(journal: &Journal, at: u64, line: &mut String<Room>) -> Result<(), OutOfMemory>
     ensures { OnOk result (string_bytes line.new ≡ string_bytes line.old
         ++ line_if at (entry_at (opening_of journal.now) (entries_of journal.now) at)) }
 {

@@ -13,7 +13,7 @@ use Rattle.argus_guardian.specs.contracts.guardian.Guardian.TheInside.{the_type 
 use Rattle.argus_journal.proofs.Crossing as journal
 use Rattle.argus_journal.specs.contracts.legal_journal.LegalJournal.{the_field as legal_field}
 use Rattle.argus_memory.proofs.Crossing as memory
-use Rattle.argus_memory.proofs.limited.Limited.TheSendSync.{the_field_send as heap_field_sends}
+use Rattle.argus_memory.proofs.heap.Heap.TheSendSync.{the_field_send as heap_field_sends}
 use Rattle.argus_objects.proofs.Crossing as objects
 use Rattle.argus_objects.proofs.holdings.Holdings.TheSendSync.{the_field_send as holdings_field_sends}
 use Rattle.argus_receipts.specs.contracts.receipt.Receipt.{the_row as receipt_row}
@@ -28,14 +28,13 @@ use Rattle.argus_steps.specs.contracts.parts.Parts.{the_field as parts_field, th
 use Rattle.core.proofs.ledger.Book.TheSendSync.{the_send as book_sends}
 use Rattle.core.proofs.ledger.Share.TheSendSync.{the_send as share_sends}
 use Rattle.core.specs.declared.ledger.Ledger.{Ghosts as Ledgered}
-use Rattle.std.proofs.Crossing.{crosses as std_crosses, send}
-use Rattle.std.specs.contracts.alloc.Global.{the_row as global}
+use Rattle.std.proofs.Crossing.{crosses as std_crosses}
 use Rattle.std.specs.contracts.vec.Vec.{the_row as list_row}
 
 object_sends : IsSend object_row
 object_sends = search (sendable, contents.crosses, objects.crosses) depth 40
 
-objects_sends : IsSend (list_row object_row memory.heap memory.rests)
+objects_sends : IsSend (list_row object_row memory.room memory.rests)
 objects_sends = memory.list_sends object_row object_sends
 
 legal_field_sends : IsSend legal_field.row
@@ -43,7 +42,7 @@ legal_field_sends = search (sendable, journal.objects_sends, journal.entries_sen
 
 parts_field_sends : IsSend parts_field.row
 parts_field_sends = struct_send (shape parts_type) (
-  heap_field_sends global send,
+  heap_field_sends,
   (actions.tree_sends, (objects_sends, (holdings_field_sends, (legal_field_sends, tt)))),
 )
 
@@ -62,7 +61,7 @@ module _ (N R : RattleType) (a : Named N.Denot) (l : Ledgered N.Denot) (g : Ghos
   locked_inside_sends : IsSend (declared_row (inside N R a l g))
   locked_inside_sends = let t = inside N R a l g in
       recorded_send _ t.D t.to t.to_one (struct_send (shape t) (
-        heap_field_sends global send,
+        heap_field_sends,
         (shown_field_sends N R g s, (book_sends N l, (search sendable, tt))),
       ))
 

@@ -14,7 +14,7 @@ use crate::sharing::Sharing;
 use argus_board::{BoardWriter, Keeper, Looker};
 use argus_contents::{Content, ObjId};
 use argus_guardian::Guardian;
-use argus_memory::{Heap, OutOfMemory};
+use argus_memory::{Heap, OutOfMemory, Room};
 use std::sync::Wait;
 use std::sync::ledger::Share;
 
@@ -23,12 +23,12 @@ pub(crate) fn seats_over<N: Sharing>(
     heap: Heap,
     mut share: Share<N>,
     count: u32,
-) -> Result<Vec<Seat<N>, Heap>, OutOfMemory>
+) -> Result<Vec<Seat<N>, Room>, OutOfMemory>
     requires { (share.amount ≡ 0) × (share.parts ≡ count) }
     ensures { IfOk result (λ seats. All (λ seat. seat.made ≡ 0) seats.items
         × (length seats.items ≡ count)) }
 {
-    let mut seats = Vec::new(heap);
+    let mut seats = Vec::new(heap.room());
     for _i in 0..count {
         seats.push(Seat::over(share.split_off(1, 0)))?;
     }
@@ -40,11 +40,11 @@ pub(crate) fn lookers_at<N: Sharing, R: Wait + Drop>(
     heap: Heap,
     board: &BoardWriter<N, R>,
     count: u32,
-) -> Result<Vec<Looker<N>, Heap>, OutOfMemory>
+) -> Result<Vec<Looker<N>, Room>, OutOfMemory>
     ensures { IfOk result (λ lookers. All (λ looker. looker ≡ N.before) lookers.items
         × (length lookers.items ≡ count)) }
 {
-    let mut lookers = Vec::new(heap);
+    let mut lookers = Vec::new(heap.room());
     for _i in 0..count {
         lookers.push(board.looker()?)?;
     }
@@ -74,10 +74,10 @@ pub(crate) fn board_of<N: Sharing, R: Wait + Drop>(
 }
 
 /// What is in the guardian's objects for good, in the order of their numbers.
-fn bases_of(heap: Heap, guardian: &Guardian) -> Result<Vec<Option<Content>, Heap>, OutOfMemory>
+fn bases_of(heap: Heap, guardian: &Guardian) -> Result<Vec<Option<Content>, Room>, OutOfMemory>
     ensures { IfOk result (λ bases. plain_contents bases.items ≡ bases_told guardian.now) }
 {
-    let mut bases = Vec::with_capacity(heap, guardian.objects() as usize)?;
+    let mut bases = Vec::with_capacity(heap.room(), guardian.objects() as usize)?;
     for number in 0..guardian.objects() {
         let base = duplicate_base(heap, guardian, ObjId(number))?;
         bases.push(base)?;

@@ -4,7 +4,7 @@ use crate::seat::Seat;
 use crate::shared::Shared;
 use crate::sharing::Sharing;
 use argus_board::Looker;
-use argus_memory::Heap;
+use argus_memory::Room;
 use std::sync::Wait;
 
 /// What sharing a guardian gives: the shared guardian, and its seats and lookers.
@@ -16,6 +16,6 @@ use std::sync::Wait;
 #[derive(Drop)]
 pub struct Parts<N: Sharing, R: Wait + Drop> {
     pub shared: Shared<N, R>,
-    pub seats: Vec<Seat<N>, Heap>,
-    pub lookers: Vec<Looker<N>, Heap>,
+    pub seats: Vec<Seat<N>, Room>,
+    pub lookers: Vec<Looker<N>, Room>,
 }

@@ -27,7 +27,7 @@ use crate::unsettled::Unsettled;
 use argus_board::{Keeper, Looker};
 use argus_entries::{Call, Reply};
 use argus_guardian::{CheckpointError, Guardian};
-use argus_memory::{Heap, OutOfMemory};
+use argus_memory::{Heap, OutOfMemory, Room};
 use argus_receipts::Receipt;
 use std::sync::ledger::Blank;
 use std::sync::{Condvar, Mutex, Wait};
@@ -211,7 +211,7 @@ impl<N: Sharing, R: Wait + Drop> Shared<N, R> {
     /// ```
     pub fn settle(
         self,
-        seats: Vec<Seat<N>, Heap>,
+        seats: Vec<Seat<N>, Room>,
         receipts: &[Receipt],
     ) -> Result<Guardian, Unsettled<N, R>>
         ensures stand { IfOk result (λ guardian. All (Stands guardian.opening guardian.entries)

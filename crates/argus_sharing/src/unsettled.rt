@@ -3,7 +3,7 @@
 use crate::seat::Seat;
 use crate::shared::Shared;
 use crate::sharing::Sharing;
-use argus_memory::Heap;
+use argus_memory::Room;
 use argus_receipts::SettleFault;
 use std::sync::Wait;
 
@@ -18,5 +18,5 @@ use std::sync::Wait;
 pub struct Unsettled<N: Sharing, R: Wait + Drop> {
     pub fault: SettleFault,
     pub shared: Shared<N, R>,
-    pub seats: Vec<Seat<N>, Heap>,
+    pub seats: Vec<Seat<N>, Room>,
 }

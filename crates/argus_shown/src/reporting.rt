@@ -8,7 +8,7 @@ ghost use Rattle.argus_shown.specs.Shown.{IsShown};
 use crate::run_report::RunReport;
 use crate::showing::shown;
 use argus_commands::Script;
-use argus_memory::{Heap, OutOfMemory};
+use argus_memory::{Heap, OutOfMemory, Room};
 use argus_receipts::Receipt;
 
 /// The receipts, in script order, with what they show; `None` where they don't show a run of the
@@ -20,7 +20,7 @@ use argus_receipts::Receipt;
 pub fn report_of(
     heap: Heap,
     script: &Script,
-    receipts: Vec<Receipt, Heap>,
+    receipts: Vec<Receipt, Room>,
 ) -> Result<Option<RunReport>, OutOfMemory>
     ensures shown { IfOk result (λ found. IfSome found (λ report. IsShown (plain_script script.now)
         (map plain_receipt report.receipts.items) report.outcomes.items)) }

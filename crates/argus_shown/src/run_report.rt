@@ -1,7 +1,7 @@
 //! `RunReport`: what a run reports, with the receipts that show it.
 
 use crate::arm_outcome::ArmOutcome;
-use argus_memory::Heap;
+use argus_memory::Room;
 use argus_receipts::Receipt;
 
 /// What a run reports, with the receipts that show it.
@@ -15,8 +15,8 @@ use argus_receipts::Receipt;
 #[derive(Drop)]
 pub struct RunReport {
     /// What became of each arm of each outermost coenter that ran, in script order.
-    pub outcomes: Vec<ArmOutcome, Heap>,
+    pub outcomes: Vec<ArmOutcome, Room>,
     /// One for each call that was made, in script order: the Begin calls of a coenter's arms, and
     /// then each arm's calls, arm after arm.
-    pub receipts: Vec<Receipt, Heap>,
+    pub receipts: Vec<Receipt, Room>,
 }

@@ -12,7 +12,7 @@ use crate::ordering::in_order;
 use crate::teller::Teller;
 use crate::watcher::Watcher;
 use argus_commands::Script;
-use argus_memory::{Heap, OutOfMemory};
+use argus_memory::{Heap, OutOfMemory, Room};
 use argus_receipts::Receipt;
 use argus_runs::run_script;
 
@@ -35,7 +35,7 @@ pub fn shown(
     heap: Heap,
     script: &Script,
     receipts: &[Receipt],
-) -> Result<Option<Vec<ArmOutcome, Heap>>, OutOfMemory>
+) -> Result<Option<Vec<ArmOutcome, Room>>, OutOfMemory>
     ensures { IfOk result (λ found. IfSome found (λ outcomes. IsShown (plain_script script.now)
         (map plain_receipt receipts.now) outcomes.items)) }
 {
@@ -43,11 +43,11 @@ pub fn shown(
         teller: Teller {
             heap,
             left: receipts,
-            calls: Vec::new(heap),
+            calls: Vec::new(heap.room()),
             arm: None,
             ended: Ended::Refused,
             coenters: 0,
-            outcomes: Vec::new(heap),
+            outcomes: Vec::new(heap.room()),
             unfit: false,
         },
     };

@@ -20,7 +20,7 @@ use argus_actions::ActionId;
 use argus_commands::Step;
 use argus_contents::ObjId;
 use argus_entries::{Call, Refusal, Reply};
-use argus_memory::Heap;
+use argus_memory::{Heap, Room};
 use argus_receipts::Receipt;
 use argus_runs::{Caller, Flow, Stopped, run_steps};
 use std::slice;
@@ -32,13 +32,13 @@ pub(crate) struct Teller<'a> {
     pub(crate) heap: Heap,
     // The receipts still to be told.
     pub(crate) left: &'a [Receipt],
-    pub(crate) calls: Vec<MadeCall, Heap>,
+    pub(crate) calls: Vec<MadeCall, Room>,
     // The arm that runs, and how it stands after the calls so far.
     pub(crate) arm: Option<ArmNumber>,
     pub(crate) ended: Ended,
     // The outermost coenters that ran, and what became of their arms.
     pub(crate) coenters: u32,
-    pub(crate) outcomes: Vec<ArmOutcome, Heap>,
+    pub(crate) outcomes: Vec<ArmOutcome, Room>,
     // The next receipt wasn't the call's own.
     pub(crate) unfit: bool,
 }

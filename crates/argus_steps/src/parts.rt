@@ -3,7 +3,7 @@
 use crate::atomic_object::AtomicObject;
 use argus_actions::ActionTree;
 use argus_journal::LegalJournal;
-use argus_memory::Heap;
+use argus_memory::{Heap, Room};
 use argus_objects::Holdings;
 
 /// What a guardian keeps: the actions, the objects, what each action holds, and the journal.
@@ -14,7 +14,7 @@ use argus_objects::Holdings;
 /// let mut parts = Parts {
 ///     heap,
 ///     tree: ActionTree::new(heap),
-///     objects: Vec::new(heap),
+///     objects: Vec::new(heap.room()),
 ///     holdings: Holdings::new(heap),
 ///     journal: LegalJournal::new(heap),
 /// };
@@ -23,7 +23,7 @@ use argus_objects::Holdings;
 pub struct Parts {
     pub heap: Heap,
     pub tree: ActionTree,
-    pub objects: Vec<AtomicObject, Heap>,
+    pub objects: Vec<AtomicObject, Room>,
     pub holdings: Holdings,
     pub journal: LegalJournal,
 }

@@ -7,7 +7,7 @@ ghost use Rattle.argus_streams.specs.declared.input_error.InputError.TheVariants
 
 use crate::input_error::InputError;
 use crate::watched::Watched;
-use argus_memory::Heap;
+use argus_memory::{Heap, Room};
 use std::io::Read;
 
 // How much is read at once.
@@ -26,13 +26,13 @@ pub fn read_up_to<R: Read + Drop>(
     heap: Heap,
     reader: &mut Watched<R>,
     limit: usize,
-) -> Result<Vec<u8, Heap>, InputError>
+) -> Result<Vec<u8, Room>, InputError>
     requires { has_failed reader.old ≡ false }
     ensures read { IfOk result (λ bytes. ReadUpTo limit (R.remaining (inner_of reader.old))
         (R.remaining (inner_of reader.new)) bytes.items) }
     ensures failed { IfErr result (λ e. e ≡ InputError.Read → has_failed reader.new ≡ true) }
 {
-    let mut all = Vec::new(heap);
+    let mut all = Vec::new(heap.room());
     let mut chunk = [0u8; CHUNK];
     while all.len() < limit {
         let size = CHUNK.min(limit - all.len());

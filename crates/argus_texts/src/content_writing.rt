@@ -10,12 +10,12 @@ ghost use Rattle.argus_texts.specs.Bytes.{close_bracket};
 
 use crate::writing::{append, append_inside, append_int, append_tag, append_value};
 use argus_contents::{Content, Value};
-use argus_memory::{Heap, OutOfMemory};
+use argus_memory::{OutOfMemory, Room};
 use std::collections::VecDeque;
 
 /// Appends the written form of the content, whatever its depth. At `OutOfMemory` the text is cut
 /// back to what it was.
-pub fn write_content(content: &Content, out: &mut String<Heap>) -> Result<(), OutOfMemory>
+pub fn write_content(content: &Content, out: &mut String<Room>) -> Result<(), OutOfMemory>
     ensures written { OnOk result
         (string_bytes out.new
         ≡ string_bytes out.old ++ content_spelling (plain_content content.now)) }
@@ -29,7 +29,7 @@ pub fn write_content(content: &Content, out: &mut String<Heap>) -> Result<(), Ou
     result
 }
 
-fn append_content(content: &Content, out: &mut String<Heap>) -> Result<(), OutOfMemory>
+fn append_content(content: &Content, out: &mut String<Room>) -> Result<(), OutOfMemory>
     ensures grew { Grew (string_bytes out.old) (string_bytes out.new) }
     ensures written { OnOk result
         (string_bytes out.new
@@ -54,7 +54,7 @@ fn append_content(content: &Content, out: &mut String<Heap>) -> Result<(), OutOf
 }
 
 /// The items with commas between them, and the closing bracket.
-fn append_items(items: &VecDeque<Value, Heap>, out: &mut String<Heap>) -> Result<(), OutOfMemory>
+fn append_items(items: &VecDeque<Value, Room>, out: &mut String<Room>) -> Result<(), OutOfMemory>
     ensures grew { Grew (string_bytes out.old) (string_bytes out.new) }
     ensures written { OnOk result
         (string_bytes out.new
@@ -71,7 +71,7 @@ fn append_items(items: &VecDeque<Value, Heap>, out: &mut String<Heap>) -> Result
 }
 
 /// A comma and a value, for each of them.
-fn append_more(values: &[Value], out: &mut String<Heap>) -> Result<(), OutOfMemory>
+fn append_more(values: &[Value], out: &mut String<Room>) -> Result<(), OutOfMemory>
     ensures grew { Grew (string_bytes out.old) (string_bytes out.new) }
     ensures written { OnOk result
         (string_bytes out.new ≡ string_bytes out.old ++ commas (listed (plain_list values.now))) }

@@ -10,14 +10,14 @@ ghost use Rattle.argus_texts.specs.Spelling.{escape, escaped};
 
 use crate::scan::split_ascii;
 use crate::stop::Stop;
-use argus_memory::Heap;
+use argus_memory::{Heap, Room};
 
 /// The text up to its closing quote, and what is behind that.
-pub(crate) fn quoted(heap: Heap, text: &str) -> Result<(String<Heap>, &str), Stop>
+pub(crate) fn quoted(heap: Heap, text: &str) -> Result<(String<Room>, &str), Stop>
     ensures read { IfOk result (λ r. Reads Quoted text.now (string_bytes r.0) r.1.now) }
     ensures stops { IfErr result (λ e. OnLeft e (λ left. Stops Quoted text.now left)) }
 {
-    let mut read = String::new(heap);
+    let mut read = String::new(heap.room());
     let mut rest = text;
     loop {
         let (plain, others) = split_plain(rest);

@@ -17,7 +17,7 @@ use crate::scan::{expect, split_ascii, strip, word};
 use crate::stop::Stop;
 use argus_contents::limits::MAX_VALUE_DEPTH;
 use argus_contents::{ObjId, Value};
-use argus_memory::Heap;
+use argus_memory::{Heap, Room};
 
 /// The value whose written form the text is, where that has a depth of at most 16.
 ///
@@ -121,7 +121,7 @@ fn compound(heap: Heap, text: &str, levels: usize) -> Result<(Value, &str), Stop
         return Err(Stop::Left(text.len()));
     }
     let (tag, part, rest) = choice(heap, others, levels - 1)?;
-    Ok((Value::Choice(tag, Box::new(heap, part)?), rest))
+    Ok((Value::Choice(tag, Box::new(heap.room(), part)?), rest))
 }
 
 /// The tag and the value behind an opening angle, and what is behind the closing one.
@@ -146,7 +146,7 @@ pub(crate) fn inside(
     text: &str,
     levels: usize,
     close: u8,
-) -> Result<(Vec<Value, Heap>, &str), Stop>
+) -> Result<(Vec<Value, Room>, &str), Stop>
     requires { IsClose close }
     ensures read { IfOk result
         (λ r. Reads (Insides close levels) text.now (listed (plain_list r.0.items)) r.1.now) }
@@ -159,19 +159,19 @@ pub(crate) fn inside(
         }
         return items(heap, text, levels, close);
     };
-    Ok((Vec::new(heap), others))
+    Ok((Vec::new(heap.room()), others))
 }
 
 /// The values from the first on, up to the closing byte, and what is behind that.
 #[cycle(reading)]
-fn items(heap: Heap, text: &str, levels: usize, close: u8) -> Result<(Vec<Value, Heap>, &str), Stop>
+fn items(heap: Heap, text: &str, levels: usize, close: u8) -> Result<(Vec<Value, Room>, &str), Stop>
     requires { (0 < levels) × IsClose close }
     ensures read { IfOk result
         (λ r. Reads (Insides close levels) text.now (listed (plain_list r.0.items)) r.1.now) }
     ensures stops { IfErr result
         (λ e. OnLeft e (λ left. Stops (Items close levels) text.now left)) }
 {
-    let mut items = Vec::new(heap);
+    let mut items = Vec::new(heap.room());
     let mut rest = text;
     loop {
         let (item, behind) = one_value(heap, rest, levels)?;

@@ -14,7 +14,7 @@ use crate::scan::{split_ascii, strip, strip_word};
 use crate::unread::Unread;
 use argus_contents::limits::{MAX_NAMES, MAX_VALUE_DEPTH};
 use argus_contents::{Name, NameError, Shape, Ty};
-use argus_memory::{Heap, OutOfMemory};
+use argus_memory::{Heap, OutOfMemory, Room};
 
 /// The shape whose written form the text is; None exactly where the text is the form of no shape
 /// that can be made: each list has 1 to 64 distinct names, and types have a depth of at most 16.
@@ -120,7 +120,7 @@ fn compound(heap: Heap, text: &str, levels: usize) -> Result<(Ty, &str), Unread>
 {
     if let Some(others) = strip_word(text, "sequence[") {
         let (item, rest) = closed_ty(heap, others, levels - 1)?;
-        return Ok((Ty::Sequence(Box::new(heap, item)?), rest));
+        return Ok((Ty::Sequence(Box::new(heap.room(), item)?), rest));
     }
     if let Some(others) = strip_word(text, "struct[") {
         let (fields, rest) = names(heap, others, levels - 1)?;
@@ -149,13 +149,13 @@ fn closed_ty(heap: Heap, text: &str, levels: usize) -> Result<(Ty, &str), Unread
 
 /// The names with their types before the closing bracket, and what is behind that.
 #[cycle(shape_reading)]
-fn names(heap: Heap, text: &str, levels: usize) -> Result<(Vec<(Name, Ty), Heap>, &str), Unread>
+fn names(heap: Heap, text: &str, levels: usize) -> Result<(Vec<(Name, Ty), Room>, &str), Unread>
     ensures read { IfOk result
         (λ r. Reads (Lists AreNamed) text.now (plain_fields r.0.items) r.1.now) }
     ensures refused { IfErr result
         (λ e. OnNoForm e (BeginsNo (Lists (IsList MAX_NAMES levels)) text.now)) }
 {
-    let mut names = Vec::new(heap);
+    let mut names = Vec::new(heap.room());
     let mut rest = text;
     for _ in 0..MAX_NAMES {
         let (name, ty, behind) = field(heap, rest, levels)?;

@@ -8,14 +8,14 @@ ghost use Rattle.argus_texts.specs.Bytes.{colon};
 
 use crate::writing::append;
 use argus_contents::{Name, Shape, ShapeView, Ty};
-use argus_memory::{Heap, OutOfMemory};
+use argus_memory::{OutOfMemory, Room};
 
 /// Appends the written form of the shape. At `OutOfMemory` the text is cut back to what it was.
 ///
 /// ```text
 /// write_shape(&shape, &mut out)?;          // atomic_record[balance:int]
 /// ```
-pub fn write_shape(shape: &Shape, out: &mut String<Heap>) -> Result<(), OutOfMemory>
+pub fn write_shape(shape: &Shape, out: &mut String<Room>) -> Result<(), OutOfMemory>
     ensures written { OnOk result
         (string_bytes out.new ≡ string_bytes out.old ++ shape_spelling shape.now) }
     ensures unchanged { OnErr result (string_bytes out.new ≡ string_bytes out.old) }
@@ -28,7 +28,7 @@ pub fn write_shape(shape: &Shape, out: &mut String<Heap>) -> Result<(), OutOfMem
     result
 }
 
-fn append_shape(shape: &Shape, out: &mut String<Heap>) -> Result<(), OutOfMemory>
+fn append_shape(shape: &Shape, out: &mut String<Room>) -> Result<(), OutOfMemory>
     ensures grew { Grew (string_bytes out.old) (string_bytes out.new) }
     ensures written { OnOk result
         (string_bytes out.new ≡ string_bytes out.old ++ shape_spelling shape.now) }
@@ -51,7 +51,7 @@ fn append_shape(shape: &Shape, out: &mut String<Heap>) -> Result<(), OutOfMemory
 }
 
 #[cycle(shape_writing)]
-fn append_ty(ty: &Ty, out: &mut String<Heap>) -> Result<(), OutOfMemory>
+fn append_ty(ty: &Ty, out: &mut String<Room>) -> Result<(), OutOfMemory>
     ensures grew { Grew (string_bytes out.old) (string_bytes out.new) }
     ensures written { OnOk result
         (string_bytes out.new ≡ string_bytes out.old ++ ty_spelling (plain_ty ty.now)) }
@@ -80,7 +80,7 @@ fn append_ty(ty: &Ty, out: &mut String<Heap>) -> Result<(), OutOfMemory>
 
 /// The names with their types, with commas between them, and the closing bracket.
 #[cycle(shape_writing)]
-fn append_names(names: &[(Name, Ty)], out: &mut String<Heap>) -> Result<(), OutOfMemory>
+fn append_names(names: &[(Name, Ty)], out: &mut String<Room>) -> Result<(), OutOfMemory>
     ensures grew { Grew (string_bytes out.old) (string_bytes out.new) }
     ensures written { OnOk result
         (string_bytes out.new ≡ string_bytes out.old ++ names_inside (plain_fields names.now)) }
@@ -98,7 +98,7 @@ fn append_names(names: &[(Name, Ty)], out: &mut String<Heap>) -> Result<(), OutO
 
 /// A name, a colon and its type.
 #[cycle(shape_writing)]
-fn append_field(name: &Name, ty: &Ty, out: &mut String<Heap>) -> Result<(), OutOfMemory>
+fn append_field(name: &Name, ty: &Ty, out: &mut String<Room>) -> Result<(), OutOfMemory>
     ensures grew { Grew (string_bytes out.old) (string_bytes out.new) }
     ensures written { OnOk result
         (string_bytes out.new

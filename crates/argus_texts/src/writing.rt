@@ -11,11 +11,11 @@ ghost use Rattle.argus_texts.specs.Bytes.{colon, less_than, quote};
 use crate::quoted::split_plain;
 use crate::scan::split_ascii;
 use argus_contents::Value;
-use argus_memory::{Heap, OutOfMemory};
+use argus_memory::{OutOfMemory, Room};
 
 /// Appends the written form of the value, whatever its depth. At `OutOfMemory` the text is cut back
 /// to what it was.
-pub fn write_value(value: &Value, out: &mut String<Heap>) -> Result<(), OutOfMemory>
+pub fn write_value(value: &Value, out: &mut String<Room>) -> Result<(), OutOfMemory>
     ensures written { OnOk result
         (string_bytes out.new ≡ string_bytes out.old ++ spelling (plain_value value.now)) }
     ensures unchanged { OnErr result (string_bytes out.new ≡ string_bytes out.old) }
@@ -29,7 +29,7 @@ pub fn write_value(value: &Value, out: &mut String<Heap>) -> Result<(), OutOfMem
 }
 
 #[cycle(writing)]
-pub(crate) fn append_value(value: &Value, out: &mut String<Heap>) -> Result<(), OutOfMemory>
+pub(crate) fn append_value(value: &Value, out: &mut String<Room>) -> Result<(), OutOfMemory>
     ensures grew { Grew (string_bytes out.old) (string_bytes out.new) }
     ensures written { OnOk result
         (string_bytes out.new ≡ string_bytes out.old ++ spelling (plain_value value.now)) }
@@ -65,7 +65,7 @@ pub(crate) fn append_value(value: &Value, out: &mut String<Heap>) -> Result<(), 
 pub(crate) fn append_inside(
     values: &[Value],
     close: char,
-    out: &mut String<Heap>,
+    out: &mut String<Room>,
 ) -> Result<(), OutOfMemory>
     requires { close < 128 }
     ensures grew { Grew (string_bytes out.old) (string_bytes out.new) }
@@ -85,7 +85,7 @@ pub(crate) fn append_inside(
 }
 
 /// The opening angle, the tag and the colon.
-pub(crate) fn append_tag(tag: u8, out: &mut String<Heap>) -> Result<(), OutOfMemory>
+pub(crate) fn append_tag(tag: u8, out: &mut String<Room>) -> Result<(), OutOfMemory>
     ensures grew { Grew (string_bytes out.old) (string_bytes out.new) }
     ensures written { OnOk result
         (string_bytes out.new ≡ string_bytes out.old ++ less_than ∷ (decimal tag ++ colon ∷ [])) }
@@ -95,7 +95,7 @@ pub(crate) fn append_tag(tag: u8, out: &mut String<Heap>) -> Result<(), OutOfMem
     append(":", out)
 }
 
-pub(crate) fn append_int(number: i64, out: &mut String<Heap>) -> Result<(), OutOfMemory>
+pub(crate) fn append_int(number: i64, out: &mut String<Room>) -> Result<(), OutOfMemory>
     ensures grew { Grew (string_bytes out.old) (string_bytes out.new) }
     ensures written { OnOk result
         (string_bytes out.new ≡ string_bytes out.old ++ signed_decimal number) }
@@ -104,7 +104,7 @@ pub(crate) fn append_int(number: i64, out: &mut String<Heap>) -> Result<(), OutO
     append(digits.format(number), out)
 }
 
-fn append_nat(number: u32, out: &mut String<Heap>) -> Result<(), OutOfMemory>
+fn append_nat(number: u32, out: &mut String<Room>) -> Result<(), OutOfMemory>
     ensures grew { Grew (string_bytes out.old) (string_bytes out.new) }
     ensures written { OnOk result (string_bytes out.new ≡ string_bytes out.old ++ decimal number) }
 {
@@ -113,7 +113,7 @@ fn append_nat(number: u32, out: &mut String<Heap>) -> Result<(), OutOfMemory>
 }
 
 /// The text between quotes.
-fn append_quoted(text: &str, out: &mut String<Heap>) -> Result<(), OutOfMemory>
+fn append_quoted(text: &str, out: &mut String<Room>) -> Result<(), OutOfMemory>
     ensures grew { Grew (string_bytes out.old) (string_bytes out.new) }
     ensures written { OnOk result
         (string_bytes out.new ≡ string_bytes out.old ++ quote ∷ (escaped text.now ++ quote ∷ [])) }
@@ -145,7 +145,7 @@ fn escape_of(byte: u8) -> &'static str
 }
 
 /// Appends the text.
-pub(crate) fn append(text: &str, out: &mut String<Heap>) -> Result<(), OutOfMemory>
+pub(crate) fn append(text: &str, out: &mut String<Room>) -> Result<(), OutOfMemory>
     ensures grew { Grew (string_bytes out.old) (string_bytes out.new) }
     ensures written { OnOk result (string_bytes out.new ≡ string_bytes out.old ++ text.now) }
 {
@@ -153,7 +153,7 @@ pub(crate) fn append(text: &str, out: &mut String<Heap>) -> Result<(), OutOfMemo
     Ok(())
 }
 
-fn append_char(char: char, out: &mut String<Heap>) -> Result<(), OutOfMemory>
+fn append_char(char: char, out: &mut String<Room>) -> Result<(), OutOfMemory>
     requires { char < 128 }
     ensures grew { Grew (string_bytes out.old) (string_bytes out.new) }
     ensures written { OnOk result (string_bytes out.new ≡ string_bytes out.old ++ char ∷ []) }

@@ -9,9 +9,9 @@
 #![tactic(auto)]
 
 pub use argus_contents::{
-    Answer, Change, Content, Heap, Name, NameError, ObjId, OutOfMemory, Query, Shape, ShapeFault,
-    ShapeView, Signal, Ty, Value, alter, alter_copy, alter_in_place, ask, change_fits, fits,
-    limits, query_fits, typed,
+    Answer, Change, Content, Heap, Name, NameError, ObjId, OutOfMemory, Query, Room, Shape,
+    ShapeFault, ShapeView, Signal, Ty, Value, alter, alter_copy, alter_in_place, ask, change_fits,
+    fits, limits, query_fits, typed,
 };
 pub use argus_texts::{
     ReadError, ReadFault, contents_are_read_back, each_content_is_told, each_shape_is_told,

@@ -11,15 +11,13 @@ use Rattle.argus_commands.specs.contracts.step.Step.{the_field as step_field, th
 use Rattle.argus_contents.proofs.Crossing as contents
 use Rattle.argus_contents.specs.contracts.obj_id.ObjId.{the_row as object_row}
 use Rattle.argus_memory.proofs.Crossing as memory
-use Rattle.argus_memory.proofs.limited.Limited.TheSendSync.{the_field_sync as heap_field_syncs}
+use Rattle.argus_memory.proofs.heap.Heap.TheSendSync.{the_field_sync as heap_field_syncs}
 use Rattle.argus_receipts.specs.contracts.receipt.Receipt.{the_row as receipt_row}
 use Rattle.argus_runs.specs.contracts.stopped.Stopped.{the_row as stopped_row}
 use Rattle.argus_sharing.proofs.Crossing as sharing
 use Rattle.argus_sharing.specs.declared.sharing.Sharing.{Ghosts as Named}
 use Rattle.argus_workers.specs.contracts.handing_out.Handed.{the_row as handed_row, the_type as handed_type}
 use Rattle.core.specs.declared.ledger.Ledger.{Ghosts as Ledgered}
-use Rattle.std.proofs.Crossing.{sync}
-use Rattle.std.specs.contracts.alloc.Global.{the_row as global}
 use Rattle.std.specs.contracts.option.Option.{the_row as option_row}
 use Rattle.std.specs.contracts.result.Result.{the_row as result_row}
 use Rattle.std.specs.contracts.vec.Vec.{the_row as list_row}
@@ -31,17 +29,17 @@ step_field_syncs = sync-Step (search sendable) contents.query_field_syncs conten
 pub step_syncs : IsSync step_row
 step_syncs = search (sendable, step_field_syncs)
 
-pub receipts_sends : IsSend (list_row receipt_row memory.heap memory.rests)
+pub receipts_sends : IsSend (list_row receipt_row memory.room memory.rests)
 receipts_sends = memory.list_sends receipt_row sharing.receipt_sends
 
 -- what an arm left
 abbrev pub left_row : RattleType
-left_row = result_row (list_row receipt_row memory.heap memory.rests) stopped_row
+left_row = result_row (list_row receipt_row memory.room memory.rests) stopped_row
 
 pub left_sends : IsSend left_row
 left_sends = search (sendable, receipts_sends) depth 40
 
-pub all_left_sends : IsSend (list_row left_row memory.heap memory.rests)
+pub all_left_sends : IsSend (list_row left_row memory.room memory.rests)
 all_left_sends = memory.list_sends left_row left_sends
 
 pub object_syncs : IsSync object_row
@@ -56,7 +54,7 @@ module _ (t : NamedLft) (N R G : RattleType) (a : Named N.Denot) (l : Ledgered N
       recorded_sync _ handed.D handed.to handed.to_one (struct_sync (shape handed) (
         search (sendable, sync_r) depth 40,
         (
-          heap_field_syncs global sync,
+          heap_field_syncs,
           (
             search (sendable, sharing.shared_syncs, send_r) depth 40,
             (

@@ -1,6 +1,6 @@
 //! `do_all`: the jobs of a crew, each on a thread of its own.
 
-use argus_memory::Heap;
+use argus_memory::Room;
 use std::sync::Wait;
 use std::thread;
 use std::thread::Threads;
@@ -16,7 +16,7 @@ pub(crate) trait Crew<J> {
 pub(crate) fn do_all<R: Threads + Wait, C: Crew<J> + Sync, J: Send + Drop>(
     rt: &R,
     crew: &C,
-    jobs: Vec<J, Heap>,
+    jobs: Vec<J, Room>,
 ) {
     thread::scope(thread::scope_env(), rt, move |scope| {
         for job in jobs {

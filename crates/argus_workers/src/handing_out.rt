@@ -9,7 +9,7 @@ use argus_actions::ActionId;
 use argus_commands::{Opening, Step};
 use argus_contents::ObjId;
 use argus_entries::Call;
-use argus_memory::Heap;
+use argus_memory::{Heap, Room};
 use argus_receipts::Receipt;
 use argus_runs::{Caller, Stopped};
 use argus_sharing::{Seat, Shared, Sharing};
@@ -18,14 +18,14 @@ use std::sync::Wait;
 use std::thread::Threads;
 
 /// The receipts of one arm, or that it was stopped.
-type Left = Result<Vec<Receipt, Heap>, Stopped>;
+type Left = Result<Vec<Receipt, Room>, Stopped>;
 
 // What one worker is given: its number, its seat, and room for what each of its arms leaves.
 #[derive(Drop)]
 struct Job<'a, N: Sharing> {
     number: usize,
     seat: &'a mut Seat<N>,
-    left: &'a mut Vec<Left, Heap>,
+    left: &'a mut Vec<Left, Room>,
 }
 
 // What all workers are given: what the team has in common, the arms' steps, the actions that were
@@ -56,7 +56,7 @@ pub(crate) fn hand_out<
     numbers: &[ObjId],
     arms: &[Step],
     begun: &[Option<ActionId>],
-) -> Result<Vec<Receipt, Heap>, Stopped> {
+) -> Result<Vec<Receipt, Room>, Stopped> {
     let handed = Handed {
         rt: team.rt,
         heap: team.heap,
@@ -79,10 +79,10 @@ fn rooms_for(
     heap: Heap,
     workers: usize,
     arms: usize,
-) -> Result<Vec<Vec<Left, Heap>, Heap>, AllocError> {
-    let mut rooms = Vec::with_capacity(heap, workers)?;
+) -> Result<Vec<Vec<Left, Room>, Room>, AllocError> {
+    let mut rooms = Vec::with_capacity(heap.room(), workers)?;
     for _ in 0..workers {
-        rooms.push(Vec::with_capacity(heap, arms)?)?;
+        rooms.push(Vec::with_capacity(heap.room(), arms)?)?;
     }
     Ok(rooms)
 }
@@ -92,9 +92,9 @@ fn rooms_for(
 fn run_all<N: Sharing + Send + Sync, R: Threads + Wait + Drop + Send + Sync, G: Gate + Sync>(
     handed: &Handed<N, R, G>,
     seats: &mut [Seat<N>],
-    left: &mut [Vec<Left, Heap>],
+    left: &mut [Vec<Left, Room>],
 ) -> Result<(), AllocError> {
-    let mut jobs = Vec::with_capacity(handed.heap, left.len())?;
+    let mut jobs = Vec::with_capacity(handed.heap.room(), left.len())?;
     for (number, (seat, left)) in seats.iter_mut().zip(left.iter_mut()).enumerate() {
         jobs.push(Job { number, seat, left })?;
     }
@@ -121,7 +121,7 @@ impl<'a, N: Sharing, R: Wait + Drop, G: Gate> Crew<Job<'a, N>> for Handed<'_, N,
 fn abort_unrun<N: Sharing, R: Wait + Drop, G: Gate>(
     handed: &Handed<N, R, G>,
     seats: &mut [Seat<N>],
-    left: &[Vec<Left, Heap>],
+    left: &[Vec<Left, Room>],
 ) {
     for (number, (seat, left)) in seats.iter_mut().zip(left).enumerate() {
         if left.is_empty() {
@@ -158,7 +158,7 @@ fn worker_at<'b, N: Sharing, R: Wait + Drop, G: Gate>(
         shared: handed.shared,
         patience: handed.patience,
         seat,
-        receipts: Vec::new(handed.heap),
+        receipts: Vec::new(handed.heap.room()),
     }
 }
 
@@ -199,16 +199,16 @@ fn run_one<N: Sharing, R: Wait + Drop, G: Gate>(
 // The receipts of all arms, arm after arm, if none was stopped.
 fn gathered(
     heap: Heap,
-    left: Vec<Vec<Left, Heap>, Heap>,
+    left: Vec<Vec<Left, Room>, Room>,
     arms: usize,
-) -> Result<Vec<Receipt, Heap>, Stopped> {
-    let mut lists = Vec::new(heap);
+) -> Result<Vec<Receipt, Room>, Stopped> {
+    let mut lists = Vec::new(heap.room());
     for mut list in left {
         list.reverse();
         lists.push(list)?;
     }
     let workers = lists.len();
-    let mut receipts = Vec::new(heap);
+    let mut receipts = Vec::new(heap.room());
     for k in 0..arms {
         if workers == 0 {
             return Err(Stopped);

@@ -11,7 +11,7 @@ use crate::worker::Worker;
 use argus_actions::ActionId;
 use argus_commands::{Lock, Opening, Script, Step};
 use argus_contents::ObjId;
-use argus_memory::Heap;
+use argus_memory::Room;
 use argus_receipts::Receipt;
 use argus_runs::pieces::{
     begin, begin_arms, call_to_test, declare, finish_block, flow_of, is_yes, object_at,
@@ -31,7 +31,7 @@ pub(crate) fn walk<
     team: &Team<N, R, G>,
     seats: &mut [Seat<N>],
     script: &Script,
-) -> Result<Vec<Receipt, Heap>, Stopped> {
+) -> Result<Vec<Receipt, Room>, Stopped> {
     let Some((seat, others)) = seats.split_first_mut() else {
         return Err(Stopped);
     };
@@ -41,9 +41,9 @@ pub(crate) fn walk<
         shared: team.shared,
         patience: team.patience,
         seat,
-        receipts: Vec::new(team.heap),
+        receipts: Vec::new(team.heap.room()),
     };
-    let mut numbers = Vec::new(team.heap);
+    let mut numbers = Vec::new(team.heap.room());
     for step in script.steps() {
         if let Step::Declare = step {
             declare(team.heap, &mut first, script.shapes(), &mut numbers)?;

@@ -4,7 +4,7 @@ use argus_actions::ActionId;
 use argus_commands::Step;
 use argus_contents::ObjId;
 use argus_entries::{Call, Reply};
-use argus_memory::Heap;
+use argus_memory::{Heap, Room};
 use argus_receipts::Receipt;
 use argus_runs::{Caller, Stopped};
 use argus_sharing::{Seat, Shared, Sharing};
@@ -19,7 +19,7 @@ pub(crate) struct Worker<'a, N: Sharing, R: Wait + Drop> {
     pub(crate) shared: &'a Shared<N, R>,
     pub(crate) patience: u32,
     pub(crate) seat: &'a mut Seat<N>,
-    pub(crate) receipts: Vec<Receipt, Heap>,
+    pub(crate) receipts: Vec<Receipt, Room>,
 }
 
 // Its replies come from other threads' calls, too, so no clause can say what a run comes to: the

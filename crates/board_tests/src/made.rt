@@ -6,14 +6,14 @@ use argus_memory::{Heap, OutOfMemory};
 
 /// A record of one number.
 pub(crate) fn record(heap: Heap, number: i64) -> Result<Content, OutOfMemory> {
-    let mut fields = Vec::new(heap);
+    let mut fields = Vec::new(heap.room());
     fields.push(Value::Int(number))?;
     Ok(Content::Rec(fields))
 }
 
 /// Each of these objects, with this record.
 pub(crate) fn effect(heap: Heap, objects: &[u32], number: i64) -> Result<Effect, OutOfMemory> {
-    let mut effect = Vec::new(heap);
+    let mut effect = Vec::new(heap.room());
     for object in objects {
         effect.push((ObjId(*object), Some(record(heap, number)?)))?;
     }

@@ -31,7 +31,7 @@ fn publish_and_look<N: Board + Send + Sync, R: Threads + Wait + Abort + Copy + D
     requires first { N.first ≡ [] }
     requires leads { Leads N.opening N.before N.first }
 {
-    let board = BoardWriter::<N, R>::new(rt, heap, Vec::new(heap), keeper, 1)?;
+    let board = BoardWriter::<N, R>::new(rt, heap, Vec::new(heap.room()), keeper, 1)?;
     let looker = board.looker()?;
     let (published, looked) = join(
         &rt,

@@ -1,6 +1,6 @@
 //! `Heaps`: the memory of a test.
 
-use argus_memory::{Budget, Heap, Limited};
+use argus_memory::{Budget, Heap};
 use std::alloc::{AllocError, Global};
 
 // Memory for what is read and compared, and memory of which so many allocations may be made.
@@ -17,7 +17,7 @@ impl Heaps {
         let budget = Budget::new(alloc)?;
         Ok(Heaps {
             texts: Heap::new(alloc)?,
-            counted: Limited::with_budget(alloc, budget),
+            counted: Heap::with_budget(alloc, budget),
             budget,
         })
     }

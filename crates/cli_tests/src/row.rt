@@ -1,6 +1,6 @@
 //! `Row`: a script with a command line, and what comes of it.
 
-use argus_memory::Heap;
+use argus_memory::{Heap, Room};
 use test_rows::{Block, RowFault, block_of, spell_line};
 
 // A script, the words with which the program is called, and what comes of it: its listing, with the
@@ -12,10 +12,10 @@ pub(crate) struct Row<'a> {
     pub(crate) is_large: bool,
     pub(crate) words: &'a str,
     pub(crate) fault: &'a str,
-    pub(crate) script: Vec<u8, Heap>,
-    pub(crate) listing: Vec<u8, Heap>,
+    pub(crate) script: Vec<u8, Room>,
+    pub(crate) listing: Vec<u8, Room>,
     pub(crate) lines: u32,
-    other: Vec<u8, Heap>,
+    other: Vec<u8, Room>,
 }
 
 impl<'a> Row<'a> {
@@ -43,10 +43,10 @@ impl<'a> Row<'a> {
             is_large,
             words: "",
             fault: "",
-            script: Vec::new(heap),
-            listing: Vec::new(heap),
+            script: Vec::new(heap.room()),
+            listing: Vec::new(heap.room()),
             lines: 0,
-            other: Vec::new(heap),
+            other: Vec::new(heap.room()),
         };
         for line in lines.lines() {
             row.add(line)?;

@@ -29,7 +29,7 @@ pub(crate) fn check_listing<T: Threads + Wait + Copy + Drop + Send + Sync>(
     requires { KeepsRanges asked }
 {
     let mut reader = Watched::new(row.script.as_slice());
-    let mut writer = Watched::new(Vec::new(heap));
+    let mut writer = Watched::new(Vec::new(heap.room()));
     match run(rt, heap, &mut reader, &mut writer, asked) {
         Ok(()) => ensure!(row.fault.is_empty(), "a fault is lacking"),
         Err(fault) => {
@@ -62,7 +62,7 @@ pub(crate) fn check_reader<T: Threads + Wait + Copy + Drop + Send + Sync>(
             reads_left: reads,
             reads_behind: 0,
         });
-        let mut writer = Watched::new(Vec::new(heap));
+        let mut writer = Watched::new(Vec::new(heap.room()));
         let result = run(rt, heap, &mut reader, &mut writer, asked);
         if !reader.has_failed() {
             ensure!(
@@ -95,7 +95,7 @@ pub(crate) fn check_writer<T: Threads + Wait + Copy + Drop + Send + Sync>(
     for room in 0..row.listing.len() {
         let mut reader = Watched::new(row.script.as_slice());
         let mut writer = Watched::new(Full {
-            taken: Vec::new(heap),
+            taken: Vec::new(heap.room()),
             room,
             fails: room % 2 == 0,
             writes_behind: 0,
@@ -131,7 +131,7 @@ pub(crate) fn check_memory<T: Threads + Wait + Copy + Drop + Send + Sync>(
 {
     for n in 0..MANY {
         let mut reader = Watched::new(row.script.as_slice());
-        let mut writer = Watched::new(Vec::new(heaps.texts));
+        let mut writer = Watched::new(Vec::new(heaps.texts.room()));
         heaps.allow(n);
         let result = run(rt, heaps.counted, &mut reader, &mut writer, asked);
         let is_spent = heaps.lift();

@@ -1,7 +1,7 @@
 //! `Frame`: what the scripts of a test have in common.
 
 use crate::row::Row;
-use argus_memory::Heap;
+use argus_memory::{Heap, Room};
 use test_rows::{Counted, RowFault, counted_of, spell, spell_line};
 
 // Said of a script, or of a line, that has no step.
@@ -26,9 +26,9 @@ impl<'a> Frame<'a> {
     }
 
     /// The script, with the row's line at `LINE`.
-    pub(crate) fn script(&self, texts: Heap, row: Row<'_>) -> Result<Vec<u8, Heap>, RowFault> {
+    pub(crate) fn script(&self, texts: Heap, row: Row<'_>) -> Result<Vec<u8, Room>, RowFault> {
         self.check_place("LINE", row.line)?;
-        let mut out = Vec::new(texts);
+        let mut out = Vec::new(texts.room());
         for line in self.lines.lines() {
             if let Some(text) = behind_mark("|", line) {
                 let text = if text == "LINE" { row.line } else { text };
@@ -39,8 +39,8 @@ impl<'a> Frame<'a> {
     }
 
     /// What has to come of it, with the row's answer at `STEP`. A fault stands alone.
-    pub(crate) fn wanted(&self, texts: Heap, row: Row<'_>) -> Result<Vec<u8, Heap>, RowFault> {
-        let mut out = Vec::new(texts);
+    pub(crate) fn wanted(&self, texts: Heap, row: Row<'_>) -> Result<Vec<u8, Room>, RowFault> {
+        let mut out = Vec::new(texts.room());
         if row.answer.starts_with("line ") {
             spell_line(row.answer, &mut out)?;
             return Ok(out);
@@ -74,7 +74,7 @@ fn spell_wanted(
     texts: Heap,
     text: &str,
     row: Row<'_>,
-    out: &mut Vec<u8, Heap>,
+    out: &mut Vec<u8, Room>,
 ) -> Result<(), RowFault> {
     match text.strip_suffix("STEP") {
         Some(indentation) => spell_step(indentation, row.answer, out),
@@ -83,7 +83,7 @@ fn spell_wanted(
     }
 }
 
-fn spell_step(indentation: &str, step: &str, out: &mut Vec<u8, Heap>) -> Result<(), RowFault> {
+fn spell_step(indentation: &str, step: &str, out: &mut Vec<u8, Room>) -> Result<(), RowFault> {
     if step == NOTHING {
         return Ok(());
     }
@@ -91,7 +91,7 @@ fn spell_step(indentation: &str, step: &str, out: &mut Vec<u8, Heap>) -> Result<
     spell_line(step, out)
 }
 
-fn spell_all(texts: Heap, text: &str, out: &mut Vec<u8, Heap>) -> Result<(), RowFault> {
+fn spell_all(texts: Heap, text: &str, out: &mut Vec<u8, Room>) -> Result<(), RowFault> {
     match counted_of(text) {
         None => spell_line(text, out),
         Some(counted) => spell_counted(texts, counted, out),
@@ -101,7 +101,7 @@ fn spell_all(texts: Heap, text: &str, out: &mut Vec<u8, Heap>) -> Result<(), Row
 fn spell_counted(
     texts: Heap,
     counted: Counted<'_>,
-    out: &mut Vec<u8, Heap>,
+    out: &mut Vec<u8, Room>,
 ) -> Result<(), RowFault> {
     match counted.same_row() {
         Some(line) => spell_times(texts, counted.steps(), line, out),
@@ -109,7 +109,7 @@ fn spell_counted(
     }
 }
 
-fn spell_steps(texts: Heap, counted: Counted<'_>, out: &mut Vec<u8, Heap>) -> Result<(), RowFault> {
+fn spell_steps(texts: Heap, counted: Counted<'_>, out: &mut Vec<u8, Room>) -> Result<(), RowFault> {
     for step in 0..=counted.steps() {
         let line = counted.row_at(texts, step)?;
         spell_line(line.as_str(), out)?;
@@ -122,9 +122,9 @@ fn spell_times(
     texts: Heap,
     steps: u32,
     line: &str,
-    out: &mut Vec<u8, Heap>,
+    out: &mut Vec<u8, Room>,
 ) -> Result<(), RowFault> {
-    let mut bytes = Vec::new(texts);
+    let mut bytes = Vec::new(texts.room());
     spell_line(line, &mut bytes)?;
     for _ in 0..=steps {
         out.extend_from_slice(bytes.as_slice())?;

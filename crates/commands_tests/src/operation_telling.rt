@@ -1,12 +1,12 @@
 //! What an operation says, as text. Fields and tags are told by their numbers.
 
 use argus_contents::{Change, Content, Query, Value};
-use argus_memory::{Heap, OutOfMemory};
+use argus_memory::{OutOfMemory, Room};
 use argus_texts::{write_content, write_value};
 use std::fmt::Write;
 
 /// Adds the query.
-pub(crate) fn tell_query(query: &Query, out: &mut String<Heap>) -> Result<(), OutOfMemory> {
+pub(crate) fn tell_query(query: &Query, out: &mut String<Room>) -> Result<(), OutOfMemory> {
     match query {
         Query::Whole => out.push_str("whole")?,
         Query::Field(field) => write!(out, "field {field}")?,
@@ -23,7 +23,7 @@ pub(crate) fn tell_query(query: &Query, out: &mut String<Heap>) -> Result<(), Ou
 }
 
 /// Adds the change.
-pub(crate) fn tell_change(change: &Change, out: &mut String<Heap>) -> Result<(), OutOfMemory> {
+pub(crate) fn tell_change(change: &Change, out: &mut String<Room>) -> Result<(), OutOfMemory> {
     match change {
         Change::Create(content) => tell_content(content, out),
         Change::SetField(field, value) => tell_part("set_field", i64::from(*field), value, out),
@@ -38,7 +38,7 @@ pub(crate) fn tell_change(change: &Change, out: &mut String<Heap>) -> Result<(),
 }
 
 // A change that has no value.
-fn tell_short(change: &Change, out: &mut String<Heap>) -> Result<(), OutOfMemory> {
+fn tell_short(change: &Change, out: &mut String<Room>) -> Result<(), OutOfMemory> {
     match change {
         Change::Remh => out.push_str("remh")?,
         Change::Reml => out.push_str("reml")?,
@@ -55,12 +55,12 @@ fn tell_short(change: &Change, out: &mut String<Heap>) -> Result<(), OutOfMemory
     Ok(())
 }
 
-fn tell_content(content: &Content, out: &mut String<Heap>) -> Result<(), OutOfMemory> {
+fn tell_content(content: &Content, out: &mut String<Room>) -> Result<(), OutOfMemory> {
     out.push_str("create ")?;
     write_content(content, out)
 }
 
-fn tell_item(word: &str, value: &Value, out: &mut String<Heap>) -> Result<(), OutOfMemory> {
+fn tell_item(word: &str, value: &Value, out: &mut String<Room>) -> Result<(), OutOfMemory> {
     write!(out, "{word} ")?;
     write_value(value, out)
 }
@@ -69,7 +69,7 @@ fn tell_part(
     word: &str,
     place: i64,
     value: &Value,
-    out: &mut String<Heap>,
+    out: &mut String<Room>,
 ) -> Result<(), OutOfMemory> {
     write!(out, "{word} {place} ")?;
     write_value(value, out)

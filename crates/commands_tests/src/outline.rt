@@ -1,6 +1,6 @@
 //! `Outline`: the lines that tell a script.
 
-use argus_memory::{Heap, OutOfMemory};
+use argus_memory::{Heap, OutOfMemory, Room};
 
 /// The lines that tell a script, so far.
 ///
@@ -10,7 +10,7 @@ use argus_memory::{Heap, OutOfMemory};
 /// ```
 #[derive(Drop)]
 pub(crate) struct Outline {
-    pub(crate) text: String<Heap>,
+    pub(crate) text: String<Room>,
     /// How many declarations are told.
     pub(crate) declared: usize,
 }
@@ -19,7 +19,7 @@ impl Outline {
     /// No line yet.
     pub(crate) fn new(texts: Heap) -> Outline {
         Outline {
-            text: String::new(texts),
+            text: String::new(texts.room()),
             declared: 0,
         }
     }

@@ -2,7 +2,7 @@
 
 use crate::telling::tell_answer;
 use argus_commands::{ParseError, Script, parse};
-use argus_memory::{Heap, OutOfMemory};
+use argus_memory::{Heap, OutOfMemory, Room};
 
 /// `parse` over a heap. What it answers is written in another heap, which always has memory.
 ///
@@ -27,7 +27,7 @@ impl Subject {
     }
 
     /// The same, as text.
-    pub(crate) fn answer(&self, script: &[u8]) -> Result<String<Heap>, OutOfMemory> {
+    pub(crate) fn answer(&self, script: &[u8]) -> Result<String<Room>, OutOfMemory> {
         let answer = self.parse(script);
         tell_answer(self.texts, &answer)
     }

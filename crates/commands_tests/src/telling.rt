@@ -3,7 +3,7 @@
 use crate::operation_telling::{tell_change, tell_query};
 use crate::outline::Outline;
 use argus_commands::{ActionKind, Lock, Opening, ParseError, Script, Step};
-use argus_memory::{Heap, OutOfMemory};
+use argus_memory::{Heap, OutOfMemory, Room};
 use argus_texts::write_shape;
 use std::fmt::Write;
 
@@ -11,18 +11,18 @@ use std::fmt::Write;
 pub(crate) fn tell_answer(
     texts: Heap,
     answer: &Result<Script, ParseError>,
-) -> Result<String<Heap>, OutOfMemory> {
+) -> Result<String<Room>, OutOfMemory> {
     match answer {
         Ok(script) => tell_script(texts, script),
         Err(error) => {
-            let mut out = String::new(texts);
+            let mut out = String::new(texts.room());
             writeln!(out, "{error}")?;
             Ok(out)
         }
     }
 }
 
-fn tell_script(texts: Heap, script: &Script) -> Result<String<Heap>, OutOfMemory> {
+fn tell_script(texts: Heap, script: &Script) -> Result<String<Room>, OutOfMemory> {
     let mut outline = Outline::new(texts);
     tell_steps(script.steps(), 0, script, &mut outline)?;
     let (names, shapes) = (script.names().len(), script.shapes().len());
@@ -83,7 +83,7 @@ fn tell_declaration(script: &Script, outline: &mut Outline) -> Result<(), OutOfM
     outline.end_line()
 }
 
-fn tell_work(step: &Step, out: &mut String<Heap>) -> Result<(), OutOfMemory> {
+fn tell_work(step: &Step, out: &mut String<Room>) -> Result<(), OutOfMemory> {
     match step {
         Step::Ask(object, query) => {
             write!(out, "ask o{object} ")?;
@@ -100,7 +100,7 @@ fn tell_work(step: &Step, out: &mut String<Heap>) -> Result<(), OutOfMemory> {
     }
 }
 
-fn tell_opening(opening: Opening, out: &mut String<Heap>) -> Result<(), OutOfMemory> {
+fn tell_opening(opening: Opening, out: &mut String<Room>) -> Result<(), OutOfMemory> {
     match opening {
         Opening::Enter(kind) => {
             add("enter ", out)?;
@@ -129,7 +129,7 @@ fn test_text(lock: Lock) -> &'static str {
     }
 }
 
-fn add(text: &str, out: &mut String<Heap>) -> Result<(), OutOfMemory> {
+fn add(text: &str, out: &mut String<Room>) -> Result<(), OutOfMemory> {
     out.push_str(text)?;
     Ok(())
 }

@@ -5,7 +5,7 @@ use crate::row::{no_row, row_of};
 use crate::subject::Subject;
 use crate::tight_subject::TightSubject;
 use crate::trial::Trial;
-use argus_memory::{Budget, Heap, Limited};
+use argus_memory::{Budget, Heap};
 use std::alloc::{AllocError, Global};
 use std::io;
 use std::io::Print;
@@ -33,7 +33,7 @@ impl Tester {
         let budget = Budget::new(alloc)?;
         Ok(Tester {
             texts: Heap::new(alloc)?,
-            heap: Limited::with_budget(alloc, budget),
+            heap: Heap::with_budget(alloc, budget),
             budget,
             tests: 0,
             scripts: 0,

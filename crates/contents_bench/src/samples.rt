@@ -5,7 +5,7 @@ ghost use Rattle.argus_contents.specs.Content.{KeepsLimits, plain_option};
 
 use crate::kind::Kind;
 use crate::work::Work;
-use argus_contents::{Change, Content, Heap, OutOfMemory, Value, alter_in_place};
+use argus_contents::{Change, Content, Heap, OutOfMemory, Room, Value, alter_in_place};
 use std::collections::VecDeque;
 
 /// The content that the work is done on.
@@ -19,22 +19,24 @@ pub(crate) fn sample(heap: Heap, kind: Kind) -> Result<Option<Content>, OutOfMem
     }
 }
 
-fn ints(heap: Heap, size: u16) -> Result<Vec<Value, Heap>, OutOfMemory> {
-    let values = (0..size).map(|n| Value::Int(n as i64)).collect(heap)?;
+fn ints(heap: Heap, size: u16) -> Result<Vec<Value, Room>, OutOfMemory> {
+    let values = (0..size)
+        .map(|n| Value::Int(n as i64))
+        .collect(heap.room())?;
     Ok(values)
 }
 
-fn nested(heap: Heap, size: u16) -> Result<Vec<Value, Heap>, OutOfMemory> {
-    let mut fields = Vec::with_capacity(heap, 4)?;
+fn nested(heap: Heap, size: u16) -> Result<Vec<Value, Room>, OutOfMemory> {
+    let mut fields = Vec::with_capacity(heap.room(), 4)?;
     fields.push(Value::Int(1))?;
     fields.push(Value::Sequence(ints(heap, size)?))?;
     push_text_and_choice(heap, &mut fields)?;
     Ok(fields)
 }
 
-fn push_text_and_choice(heap: Heap, fields: &mut Vec<Value, Heap>) -> Result<(), OutOfMemory> {
-    fields.push(Value::Text(String::from_str(heap, "a text")?))?;
-    fields.push(Value::Choice(1, Box::new(heap, Value::Null)?))?;
+fn push_text_and_choice(heap: Heap, fields: &mut Vec<Value, Room>) -> Result<(), OutOfMemory> {
+    fields.push(Value::Text(String::from_str(heap.room(), "a text")?))?;
+    fields.push(Value::Choice(1, Box::new(heap.room(), Value::Null)?))?;
     Ok(())
 }
 
@@ -53,6 +55,6 @@ fn empty(heap: Heap) -> Option<Content>
 {
     Some(Content::Arr {
         low: 1,
-        items: VecDeque::new(heap),
+        items: VecDeque::new(heap.room()),
     })
 }

@@ -7,7 +7,7 @@ use crate::copying::answer_copy;
 use crate::fitting::{answer_change_fit, answer_fit, answer_query_fit, answer_type};
 use crate::naming::answer_name;
 use crate::shaping::answer_shape;
-use argus_memory::Heap;
+use argus_memory::Room;
 use test_rows::{RowFault, Setting, Subject, first_word};
 
 /// The calls of `argus_contents` that rows make.
@@ -24,7 +24,7 @@ impl Subject for Calls {
         Calls
     }
 
-    fn answer(&mut self, setting: Setting, asked: &str) -> Result<String<Heap>, RowFault> {
+    fn answer(&mut self, setting: Setting, asked: &str) -> Result<String<Room>, RowFault> {
         let (word, rest) = first_word(asked);
         match word {
             "ask" => answer_query(setting, rest),

@@ -4,7 +4,7 @@ ghost use Rattle.argus_contents.specs.Content.{KeepsLimits, plain_option};
 
 use crate::kept::kept_of;
 use argus_contents::{Answer, Change, Content, alter, alter_copy, alter_in_place, change_answer};
-use argus_memory::{Heap, OutOfMemory};
+use argus_memory::{Heap, OutOfMemory, Room};
 use test_rows::{RowFault, Setting, change_of, first_word, tell_answer, tell_content, tell_word};
 
 /// What the change in the row answers and leaves, made in the way of this word.
@@ -12,7 +12,7 @@ pub(crate) fn answer_change(
     setting: Setting,
     way: &str,
     text: &str,
-) -> Result<String<Heap>, RowFault> {
+) -> Result<String<Room>, RowFault> {
     let (content, change) = first_word(text);
     let content = kept_of(setting.texts, content)?;
     let change = change_of(setting.texts, change)?;
@@ -24,7 +24,7 @@ fn made(
     way: &str,
     content: &Option<Content>,
     change: Change,
-) -> Result<String<Heap>, RowFault>
+) -> Result<String<Room>, RowFault>
     requires { KeepsLimits (plain_option content.now) }
 {
     // a copy has room for its items alone
@@ -46,7 +46,7 @@ fn in_each_way(
     content: &Option<Content>,
     full: Option<Content>,
     change: Change,
-) -> Result<String<Heap>, RowFault>
+) -> Result<String<Room>, RowFault>
     requires content { KeepsLimits (plain_option content.now) }
     requires full { KeepsLimits (plain_option full) }
 {
@@ -63,7 +63,7 @@ fn as_foreseen(
     setting: Setting,
     content: &Option<Content>,
     change: &Change,
-) -> Result<String<Heap>, RowFault>
+) -> Result<String<Room>, RowFault>
     requires { KeepsLimits (plain_option content.now) }
 {
     let answer = foreseen(setting, content, change)?;
@@ -79,7 +79,7 @@ fn copied_and_in_place(
     content: &Option<Content>,
     full: Option<Content>,
     change: Change,
-) -> Result<String<Heap>, RowFault>
+) -> Result<String<Room>, RowFault>
     requires content { KeepsLimits (plain_option content.now) }
     requires full { KeepsLimits (plain_option full) }
 {
@@ -92,7 +92,7 @@ fn copied_and_in_place(
     Ok(out)
 }
 
-fn tell_other(out: &mut String<Heap>) -> Result<(), OutOfMemory> {
+fn tell_other(out: &mut String<Room>) -> Result<(), OutOfMemory> {
     tell_word("and something else where it is made otherwise", out)
 }
 
@@ -101,11 +101,11 @@ fn foreseen(
     setting: Setting,
     content: &Option<Content>,
     change: &Change,
-) -> Result<String<Heap>, RowFault>
+) -> Result<String<Room>, RowFault>
     requires { KeepsLimits (plain_option content.now) }
 {
     let answer = change_answer(setting.heap, content, change)?;
-    let mut out = String::new(setting.texts);
+    let mut out = String::new(setting.texts.room());
     tell_answer(&answer, &mut out)?;
     Ok(out)
 }
@@ -114,7 +114,7 @@ fn altered(
     setting: Setting,
     content: &Option<Content>,
     change: &Change,
-) -> Result<String<Heap>, RowFault>
+) -> Result<String<Room>, RowFault>
     requires { KeepsLimits (plain_option content.now) }
 {
     let (left, answer) = alter(setting.heap, content, change)?;
@@ -125,7 +125,7 @@ fn altered_copy(
     setting: Setting,
     content: &Option<Content>,
     change: Change,
-) -> Result<String<Heap>, RowFault>
+) -> Result<String<Room>, RowFault>
     requires { KeepsLimits (plain_option content.now) }
 {
     let (left, answer) = alter_copy(setting.heap, content, change)?;
@@ -137,7 +137,7 @@ fn altered_in_place(
     setting: Setting,
     mut content: Option<Content>,
     change: Change,
-) -> Result<String<Heap>, RowFault>
+) -> Result<String<Room>, RowFault>
     requires { KeepsLimits (plain_option content) }
 {
     let before = content_text(setting.texts, &content)?;
@@ -150,15 +150,15 @@ fn altered_in_place(
     }
 }
 
-fn content_text(texts: Heap, content: &Option<Content>) -> Result<String<Heap>, OutOfMemory> {
-    let mut out = String::new(texts);
+fn content_text(texts: Heap, content: &Option<Content>) -> Result<String<Room>, OutOfMemory> {
+    let mut out = String::new(texts.room());
     tell_content(content, &mut out)?;
     Ok(out)
 }
 
 // The answer, and what is left.
-fn told(texts: Heap, answer: &Answer, left: &Option<Content>) -> Result<String<Heap>, OutOfMemory> {
-    let mut out = String::new(texts);
+fn told(texts: Heap, answer: &Answer, left: &Option<Content>) -> Result<String<Room>, OutOfMemory> {
+    let mut out = String::new(texts.room());
     tell_answer(answer, &mut out)?;
     tell_word("leaves", &mut out)?;
     tell_content(left, &mut out)?;

@@ -1,20 +1,20 @@
 //! What is equal.
 
 use argus_contents::{Content, Shape, Value};
-use argus_memory::{Heap, OutOfMemory};
+use argus_memory::{Heap, OutOfMemory, Room};
 use argus_texts::{read_content, read_shape, read_value};
 use std::collections::VecDeque;
 use test_rows::{RowFault, Setting, answer_of, change_of, first_word, query_of};
 
 /// Whether the two of the row are equal: `KIND ONE and OTHER`.
-pub(crate) fn answer_comparison(setting: Setting, text: &str) -> Result<String<Heap>, RowFault> {
+pub(crate) fn answer_comparison(setting: Setting, text: &str) -> Result<String<Room>, RowFault> {
     let (kind, both) = first_word(text);
     let Some((one, other)) = both.split_once(" and ") else {
         return Err(RowFault::NotSpelled);
     };
     let is_same = are_same(setting.texts, kind, one, other)?;
     let word = if is_same { "true" } else { "false" };
-    Ok(String::from_str(setting.texts, word)?)
+    Ok(String::from_str(setting.texts.room(), word)?)
 }
 
 fn are_same(heap: Heap, kind: &str, one: &str, other: &str) -> Result<bool, RowFault> {
@@ -79,10 +79,10 @@ fn turned(heap: Heap, content: &Content) -> Result<Content, OutOfMemory> {
 
 fn made_from_middle(
     heap: Heap,
-    items: &VecDeque<Value, Heap>,
-) -> Result<VecDeque<Value, Heap>, OutOfMemory> {
+    items: &VecDeque<Value, Room>,
+) -> Result<VecDeque<Value, Room>, OutOfMemory> {
     let middle = items.len() / 2;
-    let mut made = VecDeque::new(heap);
+    let mut made = VecDeque::new(heap.room());
     for item in items.iter().skip(middle) {
         made.push_back(item.duplicate(heap)?)?;
     }
@@ -93,9 +93,9 @@ fn made_from_middle(
 // Those before this place, from the last to the first.
 fn add_before(
     heap: Heap,
-    items: &VecDeque<Value, Heap>,
+    items: &VecDeque<Value, Room>,
     place: usize,
-    made: &mut VecDeque<Value, Heap>,
+    made: &mut VecDeque<Value, Room>,
 ) -> Result<(), OutOfMemory> {
     for step in 0..place {
         if let Some(item) = items.get(place.saturating_sub(1).saturating_sub(step)) {

@@ -1,12 +1,12 @@
 //! Copies, which have to be equal to what they are copies of.
 
 use argus_contents::{Shape, ShapeView};
-use argus_memory::Heap;
+use argus_memory::Room;
 use argus_texts::{read_content, read_shape, read_value, write_content, write_shape, write_value};
 use test_rows::{RowFault, Setting, change_of, first_word};
 
 /// The text of the copy: `KIND ONE`; of a change whether it's the same.
-pub(crate) fn answer_copy(setting: Setting, text: &str) -> Result<String<Heap>, RowFault> {
+pub(crate) fn answer_copy(setting: Setting, text: &str) -> Result<String<Room>, RowFault> {
     let (kind, source) = first_word(text);
     match kind {
         "value" => copied_value(setting, source),
@@ -18,33 +18,36 @@ pub(crate) fn answer_copy(setting: Setting, text: &str) -> Result<String<Heap>, 
     }
 }
 
-fn copied_value(setting: Setting, text: &str) -> Result<String<Heap>, RowFault> {
+fn copied_value(setting: Setting, text: &str) -> Result<String<Room>, RowFault> {
     let value = read_value(setting.texts, text)?;
     setting.limit();
     let copy = value.duplicate(setting.heap)?;
-    let mut out = String::new(setting.texts);
+    let mut out = String::new(setting.texts.room());
     write_value(&copy, &mut out)?;
     sameness(copy == value, out)
 }
 
-fn copied_content(setting: Setting, text: &str) -> Result<String<Heap>, RowFault> {
+fn copied_content(setting: Setting, text: &str) -> Result<String<Room>, RowFault> {
     let content = read_content(setting.texts, text)?;
     setting.limit();
     let copy = content.duplicate(setting.heap)?;
-    let mut out = String::new(setting.texts);
+    let mut out = String::new(setting.texts.room());
     write_content(&copy, &mut out)?;
     sameness(copy == content, out)
 }
 
-fn copied_change(setting: Setting, text: &str) -> Result<String<Heap>, RowFault> {
+fn copied_change(setting: Setting, text: &str) -> Result<String<Room>, RowFault> {
     let change = change_of(setting.texts, text)?;
     setting.limit();
     let copy = change.duplicate(setting.heap)?;
-    sameness(copy == change, String::from_str(setting.texts, "same")?)
+    sameness(
+        copy == change,
+        String::from_str(setting.texts.room(), "same")?,
+    )
 }
 
 // The type is that of an array's items.
-fn copied_type(setting: Setting, text: &str) -> Result<String<Heap>, RowFault> {
+fn copied_type(setting: Setting, text: &str) -> Result<String<Room>, RowFault> {
     let Some(shape) = read_shape(setting.texts, text)? else {
         return Err(RowFault::NotSpelled);
     };
@@ -58,7 +61,7 @@ fn copied_type(setting: Setting, text: &str) -> Result<String<Heap>, RowFault> {
     }
 }
 
-fn copied_shape(setting: Setting, text: &str) -> Result<String<Heap>, RowFault> {
+fn copied_shape(setting: Setting, text: &str) -> Result<String<Room>, RowFault> {
     let Some(shape) = read_shape(setting.texts, text)? else {
         return Err(RowFault::NotSpelled);
     };
@@ -67,13 +70,13 @@ fn copied_shape(setting: Setting, text: &str) -> Result<String<Heap>, RowFault> 
     shape_text(setting, &copy, &shape)
 }
 
-fn shape_text(setting: Setting, copy: &Shape, source: &Shape) -> Result<String<Heap>, RowFault> {
-    let mut out = String::new(setting.texts);
+fn shape_text(setting: Setting, copy: &Shape, source: &Shape) -> Result<String<Room>, RowFault> {
+    let mut out = String::new(setting.texts.room());
     write_shape(copy, &mut out)?;
     sameness(copy == source, out)
 }
 
-fn sameness(is_same: bool, text: String<Heap>) -> Result<String<Heap>, RowFault> {
+fn sameness(is_same: bool, text: String<Room>) -> Result<String<Room>, RowFault> {
     if is_same {
         Ok(text)
     } else {

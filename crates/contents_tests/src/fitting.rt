@@ -1,12 +1,12 @@
 //! What suits types and shapes.
 
 use argus_contents::{Shape, ShapeView, change_fits, fits, query_fits, typed};
-use argus_memory::{Heap, OutOfMemory};
+use argus_memory::{Heap, OutOfMemory, Room};
 use argus_texts::{read_content, read_shape, read_value};
 use test_rows::{RowFault, Setting, change_of, first_word, query_of};
 
 /// Whether a value is of a type, which is that of an array's items, where so many are declared.
-pub(crate) fn answer_type(setting: Setting, text: &str) -> Result<String<Heap>, RowFault> {
+pub(crate) fn answer_type(setting: Setting, text: &str) -> Result<String<Room>, RowFault> {
     let (shape, rest) = shape_in(setting.texts, text)?;
     let (declared, value) = first_word(rest);
     let declared = declared.parse::<u32>()?;
@@ -18,7 +18,7 @@ pub(crate) fn answer_type(setting: Setting, text: &str) -> Result<String<Heap>, 
 }
 
 /// Whether a content fits a shape, where so many are declared.
-pub(crate) fn answer_fit(setting: Setting, text: &str) -> Result<String<Heap>, RowFault> {
+pub(crate) fn answer_fit(setting: Setting, text: &str) -> Result<String<Room>, RowFault> {
     let (shape, rest) = shape_in(setting.texts, text)?;
     let (declared, content) = first_word(rest);
     let declared = declared.parse::<u32>()?;
@@ -27,14 +27,14 @@ pub(crate) fn answer_fit(setting: Setting, text: &str) -> Result<String<Heap>, R
 }
 
 /// Whether a query suits a shape.
-pub(crate) fn answer_query_fit(setting: Setting, text: &str) -> Result<String<Heap>, RowFault> {
+pub(crate) fn answer_query_fit(setting: Setting, text: &str) -> Result<String<Room>, RowFault> {
     let (shape, query) = shape_in(setting.texts, text)?;
     let query = query_of(query)?;
     flag_text(setting, query_fits(&shape, &query))
 }
 
 /// Whether a change suits a shape, where so many are declared.
-pub(crate) fn answer_change_fit(setting: Setting, text: &str) -> Result<String<Heap>, RowFault> {
+pub(crate) fn answer_change_fit(setting: Setting, text: &str) -> Result<String<Room>, RowFault> {
     let (shape, rest) = shape_in(setting.texts, text)?;
     let (declared, change) = first_word(rest);
     let declared = declared.parse::<u32>()?;
@@ -52,11 +52,11 @@ fn shape_in<'a>(heap: Heap, text: &'a str) -> Result<(Shape, &'a str), RowFault>
 }
 
 // What takes no memory is refused none.
-fn flag_text(setting: Setting, is_so: bool) -> Result<String<Heap>, RowFault> {
+fn flag_text(setting: Setting, is_so: bool) -> Result<String<Room>, RowFault> {
     let word = if is_so { "true" } else { "false" };
     Ok(text_of(setting.texts, word)?)
 }
 
-fn text_of(texts: Heap, word: &str) -> Result<String<Heap>, OutOfMemory> {
-    Ok(String::from_str(texts, word)?)
+fn text_of(texts: Heap, word: &str) -> Result<String<Room>, OutOfMemory> {
+    Ok(String::from_str(texts.room(), word)?)
 }

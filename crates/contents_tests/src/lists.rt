@@ -1,7 +1,7 @@
 //! `Lists`: lists of names with types, as rows spell them, faulty ones too.
 
 use argus_contents::{Name, OutOfMemory, Ty};
-use argus_memory::Heap;
+use argus_memory::{Heap, Room};
 use std::mem;
 use test_rows::{RowFault, tell_marked};
 
@@ -19,16 +19,16 @@ const MOST: u32 = 100;
 #[derive(Drop)]
 pub(crate) struct Lists {
     heap: Heap,
-    outer: Vec<Vec<(Name, Ty), Heap>, Heap>,
-    inmost: Vec<(Name, Ty), Heap>,
+    outer: Vec<Vec<(Name, Ty), Room>, Room>,
+    inmost: Vec<(Name, Ty), Room>,
 }
 
 impl Lists {
     pub(crate) fn new(heap: Heap) -> Lists {
         Lists {
             heap,
-            outer: Vec::new(heap),
-            inmost: Vec::new(heap),
+            outer: Vec::new(heap.room()),
+            inmost: Vec::new(heap.room()),
         }
     }
 
@@ -55,7 +55,7 @@ impl Lists {
     }
 
     /// The list, where each one in it has ended.
-    pub(crate) fn finish(self) -> Result<Vec<(Name, Ty), Heap>, RowFault> {
+    pub(crate) fn finish(self) -> Result<Vec<(Name, Ty), Room>, RowFault> {
         if self.outer.is_empty() {
             Ok(self.inmost)
         } else {
@@ -64,12 +64,12 @@ impl Lists {
     }
 
     fn begin_list(&mut self) -> Result<(), RowFault> {
-        let outer = mem::replace(&mut self.inmost, Vec::new(self.heap));
+        let outer = mem::replace(&mut self.inmost, Vec::new(self.heap.room()));
         self.outer.push(outer)?;
         Ok(())
     }
 
-    fn end_list(&mut self) -> Result<Vec<(Name, Ty), Heap>, RowFault> {
+    fn end_list(&mut self) -> Result<Vec<(Name, Ty), Room>, RowFault> {
         match self.outer.pop() {
             Some(outer) => Ok(mem::replace(&mut self.inmost, outer)),
             None => Err(RowFault::NotSpelled),
@@ -84,7 +84,7 @@ impl Lists {
     // So many names that differ, as n0.
     fn add_names(&mut self, count: u32) -> Result<(), RowFault> {
         for number in 0..count {
-            let mut name = String::new(self.heap);
+            let mut name = String::new(self.heap.room());
             tell_marked("n", u64::from(number), &mut name)?;
             self.add_name(name.as_str(), Ty::Int)?;
         }
@@ -104,7 +104,7 @@ pub(crate) fn sequences(heap: Heap, count: &str) -> Result<Ty, RowFault> {
 fn around_int(heap: Heap, count: u32) -> Result<Ty, OutOfMemory> {
     let mut ty = Ty::Int;
     for _ in 0..count {
-        ty = Ty::Sequence(Box::new(heap, ty)?);
+        ty = Ty::Sequence(Box::new(heap.room(), ty)?);
     }
     Ok(ty)
 }

@@ -1,11 +1,11 @@
 //! What makes a name.
 
 use argus_contents::{Name, NameError};
-use argus_memory::Heap;
+use argus_memory::Room;
 use test_rows::{RowFault, Setting};
 
 /// Whether the text makes a name, which is then copied.
-pub(crate) fn answer_name(setting: Setting, text: &str) -> Result<String<Heap>, RowFault> {
+pub(crate) fn answer_name(setting: Setting, text: &str) -> Result<String<Room>, RowFault> {
     setting.limit();
     let said = match Name::new(setting.heap, text) {
         Ok(name) => said_of(setting, &name, text)?,
@@ -13,7 +13,7 @@ pub(crate) fn answer_name(setting: Setting, text: &str) -> Result<String<Heap>, 
         Err(NameError::BadName) => "BadName of a name",
         Err(NameError::OutOfMemory) => return Err(RowFault::OutOfMemory),
     };
-    Ok(String::from_str(setting.texts, said)?)
+    Ok(String::from_str(setting.texts.room(), said)?)
 }
 
 fn said_of(setting: Setting, name: &Name, text: &str) -> Result<&'static str, RowFault> {

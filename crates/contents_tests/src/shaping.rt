@@ -2,7 +2,7 @@
 
 use crate::lists::{Lists, sequences};
 use argus_contents::{Name, Shape, ShapeFault, ShapeView, Ty};
-use argus_memory::Heap;
+use argus_memory::{Heap, Room};
 use test_rows::{RowFault, Setting};
 
 /// Whether the words make a shape of this kind, which is then copied.
@@ -10,7 +10,7 @@ pub(crate) fn answer_shape(
     setting: Setting,
     kind: &str,
     words: &str,
-) -> Result<String<Heap>, RowFault> {
+) -> Result<String<Room>, RowFault> {
     let made = match kind {
         "record" => Shape::rec(list_of(setting.texts, words)?),
         "array" => Shape::arr(sequences(setting.texts, words)?),
@@ -21,10 +21,10 @@ pub(crate) fn answer_shape(
         Ok(shape) => said_of(setting, &shape)?,
         Err(fault) => fault_name(fault),
     };
-    Ok(String::from_str(setting.texts, said)?)
+    Ok(String::from_str(setting.texts.room(), said)?)
 }
 
-fn list_of(heap: Heap, words: &str) -> Result<Vec<(Name, Ty), Heap>, RowFault> {
+fn list_of(heap: Heap, words: &str) -> Result<Vec<(Name, Ty), Room>, RowFault> {
     let mut lists = Lists::new(heap);
     for word in words.split(' ') {
         lists.add(word)?;
@@ -48,8 +48,8 @@ fn said_of(setting: Setting, shape: &Shape) -> Result<&'static str, RowFault> {
     }
 }
 
-fn copied_list(heap: Heap, list: &[(Name, Ty)]) -> Result<Vec<(Name, Ty), Heap>, RowFault> {
-    let mut copy = Vec::new(heap);
+fn copied_list(heap: Heap, list: &[(Name, Ty)]) -> Result<Vec<(Name, Ty), Room>, RowFault> {
+    let mut copy = Vec::new(heap.room());
     for (name, ty) in list {
         copy.push((name.duplicate(heap)?, ty.duplicate(heap)?))?;
     }

@@ -2,7 +2,7 @@
 
 use crate::reading::{question_of, request_of};
 use argus_embed::{EmbedError, Embedded, Outcome};
-use argus_memory::{Heap, OutOfMemory};
+use argus_memory::{Heap, OutOfMemory, Room};
 use std::fmt::Write;
 use std::str::from_utf8;
 use test_rows::{RowFault, Setting, Subject, first_word, tell_word};
@@ -28,7 +28,7 @@ impl Subject for Host {
         }
     }
 
-    fn answer(&mut self, setting: Setting, asked: &str) -> Result<String<Heap>, RowFault> {
+    fn answer(&mut self, setting: Setting, asked: &str) -> Result<String<Room>, RowFault> {
         let (word, rest) = first_word(asked);
         let before = self.kept(setting.texts)?;
         let told = match word {
@@ -67,7 +67,7 @@ impl Host {
         texts: Heap,
         told: Result<Outcome, EmbedError>,
         before: &str,
-    ) -> Result<String<Heap>, RowFault> {
+    ) -> Result<String<Room>, RowFault> {
         let kept = self.kept(texts)?;
         match told {
             Ok(outcome) => {
@@ -84,13 +84,13 @@ impl Host {
     }
 
     // The size that is told for so much room, with the text or `too small`; or `none`.
-    fn copied(&self, setting: Setting, room: &str) -> Result<String<Heap>, RowFault> {
+    fn copied(&self, setting: Setting, room: &str) -> Result<String<Room>, RowFault> {
         let size = room.parse::<usize>()?;
-        let mut buffer = Vec::from_elem(setting.texts, b'?', size)?;
+        let mut buffer = Vec::from_elem(setting.texts.room(), b'?', size)?;
         setting.limit();
         let copied = self.bank.reply(buffer.as_mut_slice());
         setting.lift();
-        let mut out = String::new(setting.texts);
+        let mut out = String::new(setting.texts.room());
         match copied? {
             None => out.push_str("none")?,
             Some(needed) if needed <= buffer.len() => {
@@ -106,9 +106,9 @@ impl Host {
     }
 
     // The text that is kept, or `none`; `nothing` where it is empty.
-    fn kept(&self, texts: Heap) -> Result<String<Heap>, OutOfMemory> {
-        let mut room = Vec::from_elem(texts, 0u8, ROOM)?;
-        let mut out = String::new(texts);
+    fn kept(&self, texts: Heap) -> Result<String<Room>, OutOfMemory> {
+        let mut room = Vec::from_elem(texts.room(), 0u8, ROOM)?;
+        let mut out = String::new(texts.room());
         match self.bank.reply(room.as_mut_slice())? {
             Some(0) => out.push_str("nothing")?,
             Some(size) if size <= ROOM => push_lines(&room[..size], &mut out)?,
@@ -123,14 +123,14 @@ fn has_text(outcome: Outcome) -> bool {
     matches!(outcome, Outcome::Value | Outcome::Content | Outcome::Text)
 }
 
-fn codes_text(texts: Heap, codes: (u32, i64)) -> Result<String<Heap>, OutOfMemory> {
-    let mut out = String::new(texts);
+fn codes_text(texts: Heap, codes: (u32, i64)) -> Result<String<Room>, OutOfMemory> {
+    let mut out = String::new(texts.room());
     write!(out, "{} {}", codes.0, codes.1)?;
     Ok(out)
 }
 
 // The text, with a bar for each line's end.
-fn push_lines(bytes: &[u8], out: &mut String<Heap>) -> Result<(), OutOfMemory> {
+fn push_lines(bytes: &[u8], out: &mut String<Room>) -> Result<(), OutOfMemory> {
     let Ok(text) = from_utf8(bytes) else {
         return tell_word("no text", out);
     };

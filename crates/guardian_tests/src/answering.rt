@@ -7,7 +7,7 @@ use argus_contents::{Content, ObjId};
 use argus_entries::write_entry;
 use argus_guardian::Guardian;
 use argus_journal::{Owner, owner_of, replay_base, replay_for};
-use argus_memory::{Heap, OutOfMemory};
+use argus_memory::{Heap, OutOfMemory, Room};
 use test_rows::{tell_action, tell_content, tell_flag, tell_number, tell_object, tell_word};
 
 /// Adds what the guardian answers, in the heap that may be refused memory.
@@ -15,7 +15,7 @@ pub(crate) fn tell_answer(
     guardian: &Guardian,
     heap: Heap,
     question: Question,
-    out: &mut String<Heap>,
+    out: &mut String<Room>,
 ) -> Result<(), OutOfMemory> {
     match question {
         Question::Objects => tell_number(u64::from(guardian.objects()), out),
@@ -37,15 +37,15 @@ pub(crate) fn tell_answer(
     }
 }
 
-fn tell_length(guardian: &Guardian, out: &mut String<Heap>) -> Result<(), OutOfMemory> {
+fn tell_length(guardian: &Guardian, out: &mut String<Room>) -> Result<(), OutOfMemory> {
     tell_number(guardian.journal().journal().len(), out)
 }
 
-fn tell_first_entry(guardian: &Guardian, out: &mut String<Heap>) -> Result<(), OutOfMemory> {
+fn tell_first_entry(guardian: &Guardian, out: &mut String<Room>) -> Result<(), OutOfMemory> {
     tell_number(guardian.journal().journal().first_entry(), out)
 }
 
-fn tell_first_action(guardian: &Guardian, out: &mut String<Heap>) -> Result<(), OutOfMemory> {
+fn tell_first_action(guardian: &Guardian, out: &mut String<Room>) -> Result<(), OutOfMemory> {
     let first = guardian.journal().journal().first_action();
     tell_number(u64::from(first), out)
 }
@@ -53,7 +53,7 @@ fn tell_first_action(guardian: &Guardian, out: &mut String<Heap>) -> Result<(), 
 fn tell_effect(
     guardian: &Guardian,
     a: ActionId,
-    out: &mut String<Heap>,
+    out: &mut String<Room>,
 ) -> Result<(), OutOfMemory> {
     match guardian.effect(a)? {
         Some(effect) if effect.is_empty() => tell_word("nothing", out),
@@ -64,7 +64,7 @@ fn tell_effect(
 
 fn tell_contents(
     contents: &[(ObjId, Option<Content>)],
-    out: &mut String<Heap>,
+    out: &mut String<Room>,
 ) -> Result<(), OutOfMemory> {
     for (o, content) in contents {
         tell_object(*o, out)?;
@@ -84,7 +84,7 @@ fn status_in(guardian: &Guardian, a: ActionId) -> &'static str {
     }
 }
 
-fn tell_owner(guardian: &Guardian, a: ActionId, out: &mut String<Heap>) -> Result<(), OutOfMemory> {
+fn tell_owner(guardian: &Guardian, a: ActionId, out: &mut String<Room>) -> Result<(), OutOfMemory> {
     match owner_of(guardian.journal().journal(), a) {
         None => tell_word("unbegun", out),
         Some(Owner::Folded) => tell_word("folded", out),
@@ -99,7 +99,7 @@ fn tell_replay(
     heap: Heap,
     a: ActionId,
     o: ObjId,
-    out: &mut String<Heap>,
+    out: &mut String<Room>,
 ) -> Result<(), OutOfMemory> {
     let content = replay_for(heap, guardian.journal().journal(), a, o)?;
     tell_content(&content, out)
@@ -109,7 +109,7 @@ fn tell_replay_base(
     guardian: &Guardian,
     heap: Heap,
     o: ObjId,
-    out: &mut String<Heap>,
+    out: &mut String<Room>,
 ) -> Result<(), OutOfMemory> {
     let content = replay_base(heap, guardian.journal().journal(), o)?;
     tell_content(&content, out)
@@ -119,7 +119,7 @@ fn tell_replay_base(
 pub(crate) fn tell_entry(
     guardian: &Guardian,
     at: u64,
-    out: &mut String<Heap>,
+    out: &mut String<Room>,
 ) -> Result<(), OutOfMemory> {
     match guardian.journal().journal().get(at) {
         Some(entry) => {

@@ -3,7 +3,7 @@
 use argus_contents::{Name, NameError};
 use argus_guardian::Guardian;
 use argus_listings::{ListError, Listing, list};
-use argus_memory::{Heap, OutOfMemory};
+use argus_memory::{Heap, OutOfMemory, Room};
 use argus_streams::Watched;
 use std::str::from_utf8;
 use test_rows::{Full, RowFault, tell_word};
@@ -20,8 +20,8 @@ pub(crate) fn listing_of(text: &str) -> Result<Listing, RowFault> {
 }
 
 /// The names that stand in a row behind `list` and the listing's word.
-pub(crate) fn names_in(texts: Heap, asked: &str) -> Result<Vec<Name, Heap>, OutOfMemory> {
-    let mut names = Vec::new(texts);
+pub(crate) fn names_in(texts: Heap, asked: &str) -> Result<Vec<Name, Room>, OutOfMemory> {
+    let mut names = Vec::new(texts.room());
     for word in asked.split(' ').skip(2) {
         match Name::new(texts, word) {
             Ok(name) => names.push(name)?,
@@ -39,9 +39,9 @@ pub(crate) fn tell_listing(
     texts: Heap,
     names: &[Name],
     listing: Listing,
-    out: &mut String<Heap>,
+    out: &mut String<Room>,
 ) -> Result<(), OutOfMemory> {
-    let mut writer = Watched::new(Vec::new(texts));
+    let mut writer = Watched::new(Vec::new(texts.room()));
     match list(heap, guardian, names, listing, &mut writer) {
         Ok(()) => {}
         Err(ListError::OutOfMemory) => return Err(OutOfMemory),
@@ -66,7 +66,7 @@ fn is_cut_at(
     room: usize,
 ) -> bool {
     let mut writer = Watched::new(Full {
-        taken: Vec::new(texts),
+        taken: Vec::new(texts.room()),
         room,
         fails: room % 2 == 0,
         writes_behind: 0,
@@ -77,7 +77,7 @@ fn is_cut_at(
     fault == Some(ListError::Write) && is_front && full.writes_behind == 1
 }
 
-fn tell_lines(written: &[u8], out: &mut String<Heap>) -> Result<(), OutOfMemory> {
+fn tell_lines(written: &[u8], out: &mut String<Room>) -> Result<(), OutOfMemory> {
     if written.is_empty() {
         return tell_word("nothing", out);
     }
@@ -87,7 +87,7 @@ fn tell_lines(written: &[u8], out: &mut String<Heap>) -> Result<(), OutOfMemory>
     }
 }
 
-fn tell_each_line(text: &str, out: &mut String<Heap>) -> Result<(), OutOfMemory> {
+fn tell_each_line(text: &str, out: &mut String<Room>) -> Result<(), OutOfMemory> {
     let mut is_first = true;
     for line in text.split('\n') {
         if !is_first {

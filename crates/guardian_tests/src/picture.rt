@@ -4,13 +4,13 @@ use crate::answering::tell_entry;
 use crate::telling::{tell_base, tell_readers, tell_shape, tell_versions};
 use argus_contents::ObjId;
 use argus_guardian::Guardian;
-use argus_memory::{Heap, OutOfMemory};
+use argus_memory::{Heap, OutOfMemory, Room};
 use test_rows::tell_number;
 
 /// What the guardian tells of its journal and of each object. Two that are the same stand for the
 /// same entries, objects, locks and versions.
-pub(crate) fn picture(guardian: &Guardian, texts: Heap) -> Result<String<Heap>, OutOfMemory> {
-    let mut out = String::new(texts);
+pub(crate) fn picture(guardian: &Guardian, texts: Heap) -> Result<String<Room>, OutOfMemory> {
+    let mut out = String::new(texts.room());
     tell_journal(guardian, &mut out)?;
     for number in 0..guardian.objects() {
         tell_all_of(guardian, ObjId(number), &mut out)?;
@@ -18,7 +18,7 @@ pub(crate) fn picture(guardian: &Guardian, texts: Heap) -> Result<String<Heap>, 
     Ok(out)
 }
 
-fn tell_journal(guardian: &Guardian, out: &mut String<Heap>) -> Result<(), OutOfMemory> {
+fn tell_journal(guardian: &Guardian, out: &mut String<Room>) -> Result<(), OutOfMemory> {
     let journal = guardian.journal().journal();
     tell_number(journal.first_entry(), out)?;
     tell_number(u64::from(journal.first_action()), out)?;
@@ -28,7 +28,7 @@ fn tell_journal(guardian: &Guardian, out: &mut String<Heap>) -> Result<(), OutOf
     Ok(())
 }
 
-fn tell_all_of(guardian: &Guardian, o: ObjId, out: &mut String<Heap>) -> Result<(), OutOfMemory> {
+fn tell_all_of(guardian: &Guardian, o: ObjId, out: &mut String<Room>) -> Result<(), OutOfMemory> {
     tell_shape(guardian, o, out)?;
     tell_base(guardian, o, out)?;
     tell_readers(guardian, o, out)?;

@@ -13,7 +13,7 @@ use argus_board::Keeper;
 use argus_entries::Call;
 use argus_guardian::Guardian;
 use argus_journal::Journal;
-use argus_memory::{Heap, OutOfMemory};
+use argus_memory::{Heap, OutOfMemory, Room};
 use argus_sharing::{Parts, Receipt, Seat, Shared, Sharing};
 use std::marker::Brand;
 use std::sync::Wait;
@@ -145,7 +145,7 @@ fn call_and_settle<N: Sharing, R: Wait + Drop>(
     journal: &Journal,
     patience: Option<u32>,
 ) -> Result<Guardian> {
-    let mut receipts = Vec::new(heap);
+    let mut receipts = Vec::new(heap.room());
     call_by(rt, &mut parts, journal, patience, &mut receipts)?;
     match parts.shared.settle(parts.seats, receipts.as_slice()) {
         Ok(guardian) => Ok(guardian),
@@ -159,14 +159,14 @@ fn call_by<N: Sharing, R: Wait + Drop>(
     parts: &mut Parts<N, R>,
     journal: &Journal,
     patience: Option<u32>,
-    receipts: &mut Vec<Receipt, Heap>,
+    receipts: &mut Vec<Receipt, Room>,
 ) -> Result<(), OutOfMemory> {
     let Some(seat) = parts.seats.last_mut() else {
         return Err(OutOfMemory);
     };
     for at in journal.first_entry()..journal.len() {
         if let Some(entry) = journal.get(at) {
-            let call = entry.call.duplicate(*receipts.allocator())?;
+            let call = entry.call.duplicate(receipts.allocator().heap())?;
             receipts.push(receipt_of(rt, &parts.shared, seat, call, patience)?)?;
         }
     }

@@ -3,7 +3,7 @@
 use argus_actions::ActionId;
 use argus_contents::ObjId;
 use argus_guardian::Guardian;
-use argus_memory::{Heap, OutOfMemory};
+use argus_memory::{OutOfMemory, Room};
 use argus_objects::Version;
 use argus_texts::write_shape;
 use test_rows::{tell_action, tell_content, tell_word};
@@ -11,7 +11,7 @@ use test_rows::{tell_action, tell_content, tell_word};
 pub(crate) fn tell_shape(
     guardian: &Guardian,
     o: ObjId,
-    out: &mut String<Heap>,
+    out: &mut String<Room>,
 ) -> Result<(), OutOfMemory> {
     match guardian.shape(o) {
         Some(shape) => {
@@ -25,7 +25,7 @@ pub(crate) fn tell_shape(
 pub(crate) fn tell_base(
     guardian: &Guardian,
     o: ObjId,
-    out: &mut String<Heap>,
+    out: &mut String<Room>,
 ) -> Result<(), OutOfMemory> {
     match guardian.base(o) {
         Some(content) => tell_content(content, out),
@@ -36,7 +36,7 @@ pub(crate) fn tell_base(
 pub(crate) fn tell_readers(
     guardian: &Guardian,
     o: ObjId,
-    out: &mut String<Heap>,
+    out: &mut String<Room>,
 ) -> Result<(), OutOfMemory> {
     match guardian.holders(o) {
         Some([]) => tell_word("none", out),
@@ -45,7 +45,7 @@ pub(crate) fn tell_readers(
     }
 }
 
-fn tell_actions(actions: &[ActionId], out: &mut String<Heap>) -> Result<(), OutOfMemory> {
+fn tell_actions(actions: &[ActionId], out: &mut String<Room>) -> Result<(), OutOfMemory> {
     for a in actions {
         tell_action(*a, out)?;
     }
@@ -55,7 +55,7 @@ fn tell_actions(actions: &[ActionId], out: &mut String<Heap>) -> Result<(), OutO
 pub(crate) fn tell_versions(
     guardian: &Guardian,
     o: ObjId,
-    out: &mut String<Heap>,
+    out: &mut String<Room>,
 ) -> Result<(), OutOfMemory> {
     match guardian.versions(o) {
         Some([]) => tell_word("none", out),
@@ -64,7 +64,7 @@ pub(crate) fn tell_versions(
     }
 }
 
-fn tell_stack(versions: &[Version], out: &mut String<Heap>) -> Result<(), OutOfMemory> {
+fn tell_stack(versions: &[Version], out: &mut String<Room>) -> Result<(), OutOfMemory> {
     for version in versions {
         tell_action(version.holder, out)?;
         tell_content(&version.content, out)?;

@@ -8,7 +8,7 @@ use crate::row::Row;
 use argus_entries::{Call, Entry, Reply, write_entry};
 use argus_guardian::{CheckpointError, Guardian};
 use argus_journal::Journal;
-use argus_memory::{Heap, OutOfMemory};
+use argus_memory::{Heap, OutOfMemory, Room};
 use test_rows::{RowFault, Setting, Subject, tell_word};
 
 /// A guardian that rows are told to.
@@ -21,22 +21,22 @@ use test_rows::{RowFault, Setting, Subject, tell_word};
 pub(crate) struct TestedGuardian {
     pub(crate) guardian: Guardian,
     // What it was before the row, where allocations are refused.
-    before: String<Heap>,
+    before: String<Room>,
 }
 
 impl Subject for TestedGuardian {
     fn new(setting: Setting) -> TestedGuardian {
         TestedGuardian {
             guardian: Guardian::new(setting.heap),
-            before: String::new(setting.texts),
+            before: String::new(setting.texts.room()),
         }
     }
 
-    fn answer(&mut self, setting: Setting, asked: &str) -> Result<String<Heap>, RowFault> {
+    fn answer(&mut self, setting: Setting, asked: &str) -> Result<String<Room>, RowFault> {
         if is_first_try(setting) {
             self.before = picture(&self.guardian, setting.texts)?;
         }
-        let mut out = String::new(setting.texts);
+        let mut out = String::new(setting.texts.room());
         self.tell(setting, asked, &mut out)?;
         Ok(out)
     }
@@ -47,7 +47,7 @@ impl TestedGuardian {
         &mut self,
         setting: Setting,
         asked: &str,
-        out: &mut String<Heap>,
+        out: &mut String<Room>,
     ) -> Result<(), RowFault> {
         let row = row_of(setting.heap, asked)?;
         setting.limit();
@@ -76,7 +76,7 @@ impl TestedGuardian {
 // Whether no allocation is allowed: so it is when a row is told for the first time, where each
 // allocation is refused in turn.
 fn is_first_try(setting: Setting) -> bool {
-    let mut probe: Vec<u8, Heap> = Vec::new(setting.heap);
+    let mut probe: Vec<u8, Room> = Vec::new(setting.heap.room());
     setting.limit();
     let is_refused = probe.push(0).is_err();
     setting.lift();
@@ -89,7 +89,7 @@ fn tell_row(
     setting: Setting,
     row: Row,
     asked: &str,
-    out: &mut String<Heap>,
+    out: &mut String<Room>,
 ) -> Result<(), OutOfMemory> {
     match row {
         Row::Call(call) => tell_call(guardian, call, asked, out),
@@ -108,7 +108,7 @@ fn tell_call(
     guardian: &mut Guardian,
     call: Call,
     asked: &str,
-    out: &mut String<Heap>,
+    out: &mut String<Room>,
 ) -> Result<(), OutOfMemory> {
     let at = guardian.journal().journal().len();
     let reply = guardian.call(call)?;
@@ -120,7 +120,7 @@ fn tell_added(
     at: u64,
     reply: &Reply,
     asked: &str,
-    out: &mut String<Heap>,
+    out: &mut String<Room>,
 ) -> Result<(), OutOfMemory> {
     match journal.get(at) {
         Some(entry) if entry.reply == *reply && journal.len() == at.saturating_add(1) => {
@@ -131,8 +131,8 @@ fn tell_added(
 }
 
 // Adds the reply as the entry's line has it, which has to have the call as the row does.
-fn tell_reply(entry: &Entry, asked: &str, out: &mut String<Heap>) -> Result<(), OutOfMemory> {
-    let mut line = String::new(*out.allocator());
+fn tell_reply(entry: &Entry, asked: &str, out: &mut String<Room>) -> Result<(), OutOfMemory> {
+    let mut line = String::new(out.allocator().heap().room());
     write_entry(0, entry, &mut line)?;
     match line.as_str().split_once(" -> ") {
         Some((call, reply)) if call.strip_prefix("0 ").unwrap_or("") == asked => {
@@ -142,7 +142,7 @@ fn tell_reply(entry: &Entry, asked: &str, out: &mut String<Heap>) -> Result<(), 
     }
 }
 
-fn tell_checkpoint(guardian: &mut Guardian, out: &mut String<Heap>) -> Result<(), OutOfMemory> {
+fn tell_checkpoint(guardian: &mut Guardian, out: &mut String<Room>) -> Result<(), OutOfMemory> {
     match guardian.checkpoint() {
         Ok(()) => tell_word("done", out),
         Err(CheckpointError::Busy) => tell_word("Busy", out),

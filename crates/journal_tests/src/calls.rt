@@ -6,7 +6,7 @@ use crate::journal_making::answer_journal;
 use crate::openings::answer_opening;
 use crate::receipts::answer_receipts;
 use crate::writing::answer_line;
-use argus_memory::Heap;
+use argus_memory::Room;
 use test_rows::{RowFault, Setting, Subject, first_word};
 
 /// The calls of `argus_entries`, `argus_journal` and `argus_receipts` that rows make.
@@ -23,7 +23,7 @@ impl Subject for Calls {
         Calls
     }
 
-    fn answer(&mut self, setting: Setting, asked: &str) -> Result<String<Heap>, RowFault> {
+    fn answer(&mut self, setting: Setting, asked: &str) -> Result<String<Room>, RowFault> {
         let (word, rest) = first_word(asked);
         match word {
             "line" => answer_line(setting, rest),

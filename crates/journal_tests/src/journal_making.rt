@@ -3,12 +3,12 @@
 use crate::entry_reading::entry_of;
 use argus_entries::{Entry, write_entry};
 use argus_journal::Journal;
-use argus_memory::{Heap, OutOfMemory};
+use argus_memory::{Heap, OutOfMemory, Room};
 use test_rows::{RowFault, Setting, tell_word};
 
 /// The lines of a journal of these entries. Room is made for one after another; where that is
 /// refused the journal has to be as it was.
-pub(crate) fn answer_journal(setting: Setting, text: &str) -> Result<String<Heap>, RowFault> {
+pub(crate) fn answer_journal(setting: Setting, text: &str) -> Result<String<Room>, RowFault> {
     let mut journal = Journal::new(setting.heap);
     setting.limit();
     for entry in text.split(" | ") {
@@ -34,8 +34,8 @@ fn add_entry(journal: &mut Journal, entry: Entry) -> Result<(), RowFault> {
     }
 }
 
-fn lines_of(texts: Heap, journal: &Journal) -> Result<String<Heap>, RowFault> {
-    let mut out = String::new(texts);
+fn lines_of(texts: Heap, journal: &Journal) -> Result<String<Room>, RowFault> {
+    let mut out = String::new(texts.room());
     for at in 0..journal.len() {
         if let Some(entry) = journal.get(at) {
             add_line(at, entry, &mut out)?;
@@ -47,7 +47,7 @@ fn lines_of(texts: Heap, journal: &Journal) -> Result<String<Heap>, RowFault> {
     Ok(out)
 }
 
-fn add_line(at: u64, entry: &Entry, out: &mut String<Heap>) -> Result<(), OutOfMemory> {
+fn add_line(at: u64, entry: &Entry, out: &mut String<Room>) -> Result<(), OutOfMemory> {
     out.push_str(if at == 0 { " " } else { " | " })?;
     write_entry(at, entry, out)
 }

@@ -12,7 +12,7 @@ use argus_actions::ActionId;
 use argus_contents::{Content, Name, Shape, Ty, Value};
 use argus_entries::{Call, Entry, Reply};
 use argus_journal::LegalJournal;
-use argus_memory::{Heap, OutOfMemory};
+use argus_memory::{Heap, OutOfMemory, Room};
 use test_rows::{RowFault, Setting};
 
 /// What the journal of this word is asked.
@@ -20,7 +20,7 @@ pub(crate) fn answer_opening(
     setting: Setting,
     word: &str,
     question: &str,
-) -> Result<String<Heap>, RowFault> {
+) -> Result<String<Room>, RowFault> {
     match word {
         "new" => answer_question(setting, &LegalJournal::new(setting.texts), question),
         "begun" => answer_question(setting, &begun(setting.texts)?, question),
@@ -36,7 +36,7 @@ fn account(heap: Heap) -> Result<Shape, OutOfMemory>
     let Ok(name) = Name::new(heap, "balance") else {
         return Err(OutOfMemory);
     };
-    let mut fields = Vec::new(heap);
+    let mut fields = Vec::new(heap.room());
     fields.push((name, Ty::Int))?;
     let Ok(shape) = Shape::rec(fields) else {
         return Err(OutOfMemory);
@@ -45,14 +45,14 @@ fn account(heap: Heap) -> Result<Shape, OutOfMemory>
 }
 
 // One record that holds this number.
-fn holding(heap: Heap, n: u32) -> Result<Vec<(Shape, Option<Content>), Heap>, OutOfMemory>
+fn holding(heap: Heap, n: u32) -> Result<Vec<(Shape, Option<Content>), Room>, OutOfMemory>
     ensures { IfOk result (λ objects. map plain_object objects.items
         ≡ (account, Some (rec (int (pos n) ∷ []))) ∷ []) }
 {
     let shape = account(heap)?;
-    let mut fields = Vec::new(heap);
+    let mut fields = Vec::new(heap.room());
     fields.push(Value::Int(i64::from(n)))?;
-    let mut objects = Vec::new(heap);
+    let mut objects = Vec::new(heap.room());
     objects.push((shape, Some(Content::Rec(fields))))?;
     Ok(objects)
 }
@@ -75,12 +75,12 @@ fn later(heap: Heap) -> Result<LegalJournal, OutOfMemory> {
 
 // Three actions and seven entries went before, then a topaction was begun and all was folded.
 fn folded(heap: Heap) -> Result<LegalJournal, OutOfMemory> {
-    let mut journal = LegalJournal::starting_at(heap, Vec::new(heap), 3, 7);
+    let mut journal = LegalJournal::starting_at(heap, Vec::new(heap.room()), 3, 7);
     let begin = Entry {
         call: Call::BeginTop,
         reply: Reply::Begun(ActionId(3)),
     };
     say(&mut journal, begin)?;
-    journal.fold(Vec::new(heap), 4);
+    journal.fold(Vec::new(heap.room()), 4);
     Ok(journal)
 }

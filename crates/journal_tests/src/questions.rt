@@ -4,7 +4,7 @@ use crate::kept::owner_in;
 use argus_contents::{Content, Shape};
 use argus_entries::write_entry;
 use argus_journal::{LegalJournal, Owner, replay_base, replay_for};
-use argus_memory::{Heap, OutOfMemory};
+use argus_memory::{OutOfMemory, Room};
 use argus_texts::write_shape;
 use test_rows::{
     RowFault, Setting, action, first_word, object, pair, tell_action, tell_content, tell_number,
@@ -16,9 +16,9 @@ pub(crate) fn answer_question(
     setting: Setting,
     journal: &LegalJournal,
     text: &str,
-) -> Result<String<Heap>, RowFault> {
+) -> Result<String<Room>, RowFault> {
     let (word, rest) = first_word(text);
-    let mut out = String::new(setting.texts);
+    let mut out = String::new(setting.texts.room());
     match word {
         "length" => tell_number(journal.journal().len(), &mut out)?,
         "first_entry" => tell_number(journal.journal().first_entry(), &mut out)?,
@@ -36,7 +36,7 @@ fn answer_replay(
     journal: &LegalJournal,
     word: &str,
     text: &str,
-) -> Result<String<Heap>, RowFault> {
+) -> Result<String<Room>, RowFault> {
     let content = match word {
         "replay" => {
             let (a, o) = pair(text)?;
@@ -50,12 +50,12 @@ fn answer_replay(
         }
         _ => return Err(RowFault::NotSpelled),
     };
-    let mut out = String::new(setting.texts);
+    let mut out = String::new(setting.texts.room());
     tell_content(&content, &mut out)?;
     Ok(out)
 }
 
-fn tell_entry(journal: &LegalJournal, at: u64, out: &mut String<Heap>) -> Result<(), OutOfMemory> {
+fn tell_entry(journal: &LegalJournal, at: u64, out: &mut String<Room>) -> Result<(), OutOfMemory> {
     match journal.journal().get(at) {
         Some(entry) => write_entry(at, entry, out),
         None => tell_word("none", out),
@@ -64,7 +64,7 @@ fn tell_entry(journal: &LegalJournal, at: u64, out: &mut String<Heap>) -> Result
 
 fn tell_opened(
     opened: Option<(&Shape, &Option<Content>)>,
-    out: &mut String<Heap>,
+    out: &mut String<Room>,
 ) -> Result<(), OutOfMemory> {
     match opened {
         Some((shape, content)) => {
@@ -75,7 +75,7 @@ fn tell_opened(
     }
 }
 
-fn tell_owner(owner: Option<Owner>, out: &mut String<Heap>) -> Result<(), OutOfMemory> {
+fn tell_owner(owner: Option<Owner>, out: &mut String<Room>) -> Result<(), OutOfMemory> {
     match owner {
         None => tell_word("unbegun", out),
         Some(Owner::Folded) => tell_word("folded", out),

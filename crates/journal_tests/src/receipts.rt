@@ -4,13 +4,13 @@ use argus_actions::ActionId;
 use argus_contents::OutOfMemory;
 use argus_entries::{Call, Entry, Reply};
 use argus_journal::Journal;
-use argus_memory::Heap;
+use argus_memory::{Heap, Room};
 use argus_receipts::{Receipt, SettleFault, check};
 use test_rows::{RowFault, Setting, action, first_word, tell_number, tell_word};
 
 /// What is answered to so many calls of the seats and these receipts, as `3 8:a6 6:a4`: since the
 /// journal's first entry, or, behind `now`, since its last.
-pub(crate) fn answer_receipts(setting: Setting, text: &str) -> Result<String<Heap>, RowFault> {
+pub(crate) fn answer_receipts(setting: Setting, text: &str) -> Result<String<Room>, RowFault> {
     let (word, rest) = first_word(text);
     let journal = three_begun(setting.texts)?;
     let (start, text) = if word == "now" {
@@ -30,7 +30,7 @@ pub(crate) fn answer_receipts(setting: Setting, text: &str) -> Result<String<Hea
 
 // Topactions 4 and on, of a journal whose first entry has number 6: entries 6 to 8.
 fn three_begun(heap: Heap) -> Result<Journal, OutOfMemory> {
-    let mut journal = Journal::starting_at(heap, Vec::new(heap), 4, 6);
+    let mut journal = Journal::starting_at(heap, Vec::new(heap.room()), 4, 6);
     for number in 4..7 {
         journal.reserve()?;
         journal.push(Entry {
@@ -41,8 +41,8 @@ fn three_begun(heap: Heap) -> Result<Journal, OutOfMemory> {
     Ok(journal)
 }
 
-fn receipts_of(heap: Heap, words: &str) -> Result<Vec<Receipt, Heap>, RowFault> {
-    let mut receipts = Vec::new(heap);
+fn receipts_of(heap: Heap, words: &str) -> Result<Vec<Receipt, Room>, RowFault> {
+    let mut receipts = Vec::new(heap.room());
     for word in words.split(' ') {
         if !word.is_empty() {
             receipts.push(receipt_of(word)?)?;
@@ -63,8 +63,8 @@ fn receipt_of(word: &str) -> Result<Receipt, RowFault> {
     }
 }
 
-fn told(setting: Setting, answer: Result<(), SettleFault>) -> Result<String<Heap>, RowFault> {
-    let mut out = String::new(setting.texts);
+fn told(setting: Setting, answer: Result<(), SettleFault>) -> Result<String<Room>, RowFault> {
+    let mut out = String::new(setting.texts.room());
     match answer {
         Ok(()) => tell_word("good", &mut out)?,
         Err(SettleFault::NotThere(at)) => tell_at("NotThere", at, &mut out)?,
@@ -79,7 +79,7 @@ fn told(setting: Setting, answer: Result<(), SettleFault>) -> Result<String<Heap
     Ok(out)
 }
 
-fn tell_at(word: &str, at: u64, out: &mut String<Heap>) -> Result<(), OutOfMemory> {
+fn tell_at(word: &str, at: u64, out: &mut String<Room>) -> Result<(), OutOfMemory> {
     tell_word(word, out)?;
     tell_number(at, out)
 }

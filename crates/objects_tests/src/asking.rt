@@ -2,7 +2,7 @@
 
 use crate::picture::{tell_readers, tell_versions};
 use argus_actions::{ActionId, ActionTree};
-use argus_memory::Heap;
+use argus_memory::Room;
 use argus_objects::Cell;
 use test_rows::{RowFault, action, tell_content, tell_flag};
 
@@ -12,7 +12,7 @@ pub(crate) fn answer_question(
     tree: &ActionTree,
     word: &str,
     rest: &str,
-    out: &mut String<Heap>,
+    out: &mut String<Room>,
 ) -> Result<(), RowFault> {
     match word {
         "lawful" => tell_flag(cell.lawful(tree), out)?,
@@ -31,7 +31,7 @@ fn tell_visible(
     cell: &Cell,
     tree: &ActionTree,
     a: ActionId,
-    out: &mut String<Heap>,
+    out: &mut String<Room>,
 ) -> Result<(), RowFault> {
     if !cell.may_read(tree, a) {
         return Err(RowFault::NotSpelled);

@@ -3,7 +3,7 @@
 use crate::picture::cell_picture;
 use argus_actions::{ActionId, ActionTree};
 use argus_contents::{Change, Content};
-use argus_memory::Heap;
+use argus_memory::Room;
 use argus_objects::Cell;
 use argus_texts::read_content;
 use test_rows::{RowFault, Setting, action, change_of, first_word, tell_answer, tell_word};
@@ -15,7 +15,7 @@ pub(crate) fn answer_grant(
     tree: &ActionTree,
     setting: Setting,
     asked: &str,
-    out: &mut String<Heap>,
+    out: &mut String<Room>,
 ) -> Result<(), RowFault> {
     let before = cell_picture(cell, setting.texts)?;
     match grant(cell, tree, setting, asked, out) {
@@ -31,7 +31,7 @@ fn grant(
     tree: &ActionTree,
     setting: Setting,
     asked: &str,
-    out: &mut String<Heap>,
+    out: &mut String<Room>,
 ) -> Result<(), RowFault> {
     let (word, rest) = first_word(asked);
     let (actor, rest) = first_word(rest);
@@ -103,7 +103,7 @@ fn grant_change(
     tree: &ActionTree,
     a: ActionId,
     change: Change,
-    out: &mut String<Heap>,
+    out: &mut String<Room>,
 ) -> Result<(), RowFault> {
     if !cell.lawful(tree) || !cell.may_read(tree, a) || !cell.may_write(tree, a) {
         return Err(RowFault::NotSpelled);

@@ -3,7 +3,7 @@
 use crate::picture::{lists_picture, tell_objects};
 use argus_actions::ActionId;
 use argus_contents::ObjId;
-use argus_memory::Heap;
+use argus_memory::Room;
 use argus_objects::Holdings;
 use test_rows::{RowFault, Setting, action, first_word, pair, tell_number, tell_word};
 
@@ -13,7 +13,7 @@ pub(crate) fn answer_list(
     setting: Setting,
     word: &str,
     rest: &str,
-    out: &mut String<Heap>,
+    out: &mut String<Room>,
 ) -> Result<(), RowFault> {
     let before = lists_picture(lists, setting.texts)?;
     match change(lists, setting, word, rest, out) {
@@ -29,7 +29,7 @@ fn change(
     setting: Setting,
     word: &str,
     rest: &str,
-    out: &mut String<Heap>,
+    out: &mut String<Room>,
 ) -> Result<(), RowFault> {
     setting.limit();
     match word {

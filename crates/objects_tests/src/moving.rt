@@ -1,7 +1,7 @@
 //! How a cell is told that an action ends.
 
 use argus_actions::{ActionId, ActionTree};
-use argus_memory::Heap;
+use argus_memory::Room;
 use argus_objects::Cell;
 use test_rows::{RowFault, action, tell_word};
 
@@ -11,7 +11,7 @@ pub(crate) fn answer_move(
     tree: &ActionTree,
     word: &str,
     rest: &str,
-    out: &mut String<Heap>,
+    out: &mut String<Room>,
 ) -> Result<(), RowFault> {
     let a = action(rest)?;
     match word {

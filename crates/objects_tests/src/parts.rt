@@ -5,7 +5,7 @@ use crate::granting::answer_grant;
 use crate::listing::answer_list;
 use crate::moving::answer_move;
 use argus_actions::{ActionError, ActionId, ActionTree};
-use argus_memory::Heap;
+use argus_memory::Room;
 use argus_objects::{Cell, Holdings};
 use argus_texts::read_content;
 use test_rows::{RowFault, Setting, Subject, action, first_word, tell_action, tell_word};
@@ -32,9 +32,9 @@ impl Subject for Parts {
         }
     }
 
-    fn answer(&mut self, setting: Setting, asked: &str) -> Result<String<Heap>, RowFault> {
+    fn answer(&mut self, setting: Setting, asked: &str) -> Result<String<Room>, RowFault> {
         let (word, rest) = first_word(asked);
-        let mut out = String::new(setting.texts);
+        let mut out = String::new(setting.texts.room());
         match word {
             "begin_top" | "begin_sub" => tell_action(self.begin(word, rest)?, &mut out)?,
             "commit" => self.commit(action(rest)?, &mut out)?,
@@ -69,7 +69,7 @@ impl Parts {
         }
     }
 
-    fn commit(&mut self, a: ActionId, out: &mut String<Heap>) -> Result<(), RowFault> {
+    fn commit(&mut self, a: ActionId, out: &mut String<Room>) -> Result<(), RowFault> {
         match self.tree.commit(a) {
             Ok(()) => tell_word("done", out)?,
             Err(_) => return Err(RowFault::NotSpelled),
@@ -82,7 +82,7 @@ impl Parts {
         &mut self,
         setting: Setting,
         text: &str,
-        out: &mut String<Heap>,
+        out: &mut String<Room>,
     ) -> Result<(), RowFault> {
         let content = read_content(setting.heap, text)?;
         self.cell = Cell::new(setting.heap, Some(content));

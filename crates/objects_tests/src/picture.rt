@@ -2,13 +2,13 @@
 
 use argus_actions::ActionId;
 use argus_contents::ObjId;
-use argus_memory::{Heap, OutOfMemory};
+use argus_memory::{Heap, OutOfMemory, Room};
 use argus_objects::{Cell, Holdings, Version};
 use test_rows::{tell_action, tell_content, tell_object, tell_word};
 
 /// All that the cell tells.
-pub(crate) fn cell_picture(cell: &Cell, texts: Heap) -> Result<String<Heap>, OutOfMemory> {
-    let mut out = String::new(texts);
+pub(crate) fn cell_picture(cell: &Cell, texts: Heap) -> Result<String<Room>, OutOfMemory> {
+    let mut out = String::new(texts.room());
     tell_content(cell.base(), &mut out)?;
     tell_readers(cell.readers(), &mut out)?;
     tell_versions(cell.versions(), &mut out)?;
@@ -16,8 +16,8 @@ pub(crate) fn cell_picture(cell: &Cell, texts: Heap) -> Result<String<Heap>, Out
 }
 
 /// The lists of the first two actions.
-pub(crate) fn lists_picture(lists: &Holdings, texts: Heap) -> Result<String<Heap>, OutOfMemory> {
-    let mut out = String::new(texts);
+pub(crate) fn lists_picture(lists: &Holdings, texts: Heap) -> Result<String<Room>, OutOfMemory> {
+    let mut out = String::new(texts.room());
     tell_objects(lists.of(ActionId(0)), &mut out)?;
     tell_objects(lists.of(ActionId(1)), &mut out)?;
     Ok(out)
@@ -26,7 +26,7 @@ pub(crate) fn lists_picture(lists: &Holdings, texts: Heap) -> Result<String<Heap
 /// Adds the readers, or `none`.
 pub(crate) fn tell_readers(
     readers: &[ActionId],
-    out: &mut String<Heap>,
+    out: &mut String<Room>,
 ) -> Result<(), OutOfMemory> {
     if readers.is_empty() {
         tell_word("none", out)?;
@@ -40,7 +40,7 @@ pub(crate) fn tell_readers(
 /// Adds the versions with their holders, or `none`.
 pub(crate) fn tell_versions(
     versions: &[Version],
-    out: &mut String<Heap>,
+    out: &mut String<Room>,
 ) -> Result<(), OutOfMemory> {
     if versions.is_empty() {
         tell_word("none", out)?;
@@ -53,7 +53,7 @@ pub(crate) fn tell_versions(
 }
 
 /// Adds the objects, or `none`.
-pub(crate) fn tell_objects(objects: &[ObjId], out: &mut String<Heap>) -> Result<(), OutOfMemory> {
+pub(crate) fn tell_objects(objects: &[ObjId], out: &mut String<Room>) -> Result<(), OutOfMemory> {
     if objects.is_empty() {
         tell_word("none", out)?;
     }

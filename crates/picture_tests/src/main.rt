@@ -5,7 +5,7 @@
 mod streams;
 
 use anyhow::{Result, bail, ensure};
-use argus_memory::{Budget, Heap, Limited};
+use argus_memory::{Budget, Heap, Room};
 use argus_picture::{DrawError, PictureError, picture};
 use std::alloc::Global;
 use std::fs;
@@ -67,7 +67,7 @@ fn check_memory(alloc: Global, listing: &[u8]) -> Result<()> {
     let budget = Budget::new(alloc)?;
     for allowed in 0..MANY {
         budget.allow(allowed);
-        match picture(Limited::with_budget(alloc, budget), listing) {
+        match picture(Heap::with_budget(alloc, budget), listing) {
             Err(PictureError::OutOfMemory) => {}
             answer => {
                 ensure!(is_same(&answer, &wanted), "another answer");
@@ -80,8 +80,8 @@ fn check_memory(alloc: Global, listing: &[u8]) -> Result<()> {
 
 // Whether two answers are the same.
 fn is_same(
-    answer: &Result<String<Heap>, PictureError>,
-    wanted: &Result<String<Heap>, PictureError>,
+    answer: &Result<String<Room>, PictureError>,
+    wanted: &Result<String<Room>, PictureError>,
 ) -> bool {
     match (answer, wanted) {
         (Ok(text), Ok(other)) => text.as_str() == other.as_str(),

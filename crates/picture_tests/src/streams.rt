@@ -3,7 +3,7 @@
 ghost use Rattle.argus_streams.specs.Watched.{has_failed};
 
 use anyhow::{Result, bail, ensure};
-use argus_memory::{Budget, Heap, Limited};
+use argus_memory::{Budget, Heap, Room};
 use argus_picture::{DrawError, PictureError, draw, picture};
 use argus_streams::Watched;
 use std::alloc::Global;
@@ -17,7 +17,7 @@ const MANY: u64 = 10_000;
 const STEP: usize = 97;
 
 // What comes of a listing.
-type Picture = Result<String<Heap>, PictureError>;
+type Picture = Result<String<Room>, PictureError>;
 
 /// Checks that `draw` writes what `picture` answers, and what it leaves where anything fails.
 pub(crate) fn check_draw(alloc: Global, listing: &[u8]) -> Result<()> {
@@ -39,7 +39,7 @@ fn check_reader(heap: Heap, listing: &[u8], wanted: &Picture) -> Result<()> {
             reads_left: reads,
             reads_behind: 0,
         });
-        let mut writer = Watched::new(Vec::new(heap));
+        let mut writer = Watched::new(Vec::new(heap.room()));
         let result = draw(heap, &mut reader, &mut writer);
         if !reader.has_failed() {
             return check_drawn(result, writer.get_ref().as_slice(), wanted);
@@ -59,13 +59,9 @@ fn check_memory(alloc: Global, heap: Heap, listing: &[u8], wanted: &Picture) -> 
     let budget = Budget::new(alloc)?;
     for allowed in 0..MANY {
         let mut reader = Watched::new(listing);
-        let mut writer = Watched::new(Vec::new(heap));
+        let mut writer = Watched::new(Vec::new(heap.room()));
         budget.allow(allowed);
-        let result = draw(
-            Limited::with_budget(alloc, budget),
-            &mut reader,
-            &mut writer,
-        );
+        let result = draw(Heap::with_budget(alloc, budget), &mut reader, &mut writer);
         if result != Err(DrawError::OutOfMemory) {
             return check_drawn(result, writer.get_ref().as_slice(), wanted);
         }
@@ -80,7 +76,7 @@ fn check_writer(heap: Heap, listing: &[u8], text: &[u8]) -> Result<()> {
     for room in (0..text.len()).step_by(STEP) {
         let mut reader = Watched::new(listing);
         let mut writer = Watched::new(Full {
-            taken: Vec::new(heap),
+            taken: Vec::new(heap.room()),
             room,
             fails: room % 2 == 0,
             writes_behind: 0,

@@ -51,7 +51,7 @@ fn run_row<W: Write + Drop>(
 }
 
 fn check_lines(heap: Heap, row: Row<'_>) -> Result<()> {
-    let mut writer = Watched::new(Vec::new(heap));
+    let mut writer = Watched::new(Vec::new(heap.room()));
     let fault = run_row(heap, heap, row, &mut writer)?;
     ensure!(fault.is_none(), "a run failed");
     ensure!(
@@ -66,7 +66,7 @@ fn check_lines(heap: Heap, row: Row<'_>) -> Result<()> {
 // How many allocations were refused in turn.
 fn check_memory(setting: Setting, row: Row<'_>) -> Result<u64> {
     for n in 0..MANY {
-        let mut writer = Watched::new(Vec::new(setting.texts));
+        let mut writer = Watched::new(Vec::new(setting.texts.room()));
         setting.allowing(n).limit();
         let fault = run_row(setting.texts, setting.heap, row, &mut writer)?;
         setting.lift();
@@ -86,7 +86,7 @@ fn check_memory(setting: Setting, row: Row<'_>) -> Result<u64> {
 fn check_writer(heap: Heap, row: Row<'_>) -> Result<()> {
     for room in 0..row.lines.len() {
         let mut writer = Watched::new(Full {
-            taken: Vec::new(heap),
+            taken: Vec::new(heap.room()),
             room,
             fails: room % 2 == 0,
             writes_behind: 0,

@@ -5,7 +5,7 @@ use anyhow::bail;
 use argus_actions::ActionId;
 use argus_contents::ObjId;
 use argus_guardian::Guardian;
-use argus_memory::Heap;
+use argus_memory::{Heap, Room};
 use test_rows::{
     RowFault, Setting, call_of, first_word, object, tell_content, tell_number, tell_word,
 };
@@ -15,8 +15,8 @@ pub(crate) fn answer_alone(
     guardian: &mut Guardian,
     setting: Setting,
     asked: &str,
-) -> Result<String<Heap>, RowFault> {
-    let mut out = String::new(setting.texts);
+) -> Result<String<Room>, RowFault> {
+    let mut out = String::new(setting.texts.room());
     let (word, rest) = first_word(asked);
     match word {
         "length" => tell_number(guardian.journal().journal().len(), &mut out)?,
@@ -26,7 +26,7 @@ pub(crate) fn answer_alone(
     Ok(out)
 }
 
-fn tell_base(guardian: &Guardian, o: ObjId, out: &mut String<Heap>) -> Result<(), RowFault> {
+fn tell_base(guardian: &Guardian, o: ObjId, out: &mut String<Room>) -> Result<(), RowFault> {
     match guardian.base(o) {
         Some(base) => Ok(tell_content(base, out)?),
         None => Ok(tell_word("undeclared", out)?),
@@ -37,7 +37,7 @@ fn make_call(
     guardian: &mut Guardian,
     heap: Heap,
     asked: &str,
-    out: &mut String<Heap>,
+    out: &mut String<Room>,
 ) -> Result<(), RowFault> {
     let at = guardian.journal().journal().len();
     make_unheard(guardian, heap, asked)?;
@@ -71,7 +71,7 @@ pub(crate) fn create(
     count: u32,
 ) -> anyhow::Result<()> {
     for number in 0..count {
-        let text = format!(in heap; "alter a{} o{number} create {{0}}", a.0)?;
+        let text = format!(in heap.room(); "alter a{} o{number} create {{0}}", a.0)?;
         make(guardian, heap, text.as_str())?;
     }
     Ok(())

@@ -4,7 +4,7 @@
 use argus_actions::ActionId;
 use argus_contents::{Answer, Change, Content, ObjId, Query, Value};
 use argus_entries::{Call, Reply};
-use argus_memory::{Heap, OutOfMemory};
+use argus_memory::{Heap, OutOfMemory, Room};
 use argus_sharing::{Receipt, Seat, Shared, Sharing};
 use std::sync::Wait;
 
@@ -30,7 +30,7 @@ pub(crate) struct Caller<'a, N: Sharing, R: Wait + Drop> {
     heap: Heap,
     shared: &'a Shared<N, R>,
     pub(crate) seat: Seat<N>,
-    pub(crate) receipts: Vec<Receipt, Heap>,
+    pub(crate) receipts: Vec<Receipt, Room>,
     count: ObjId,
 }
 
@@ -47,7 +47,7 @@ impl<'a, N: Sharing, R: Wait + Drop> Caller<'a, N, R> {
             heap,
             shared,
             seat,
-            receipts: Vec::new(heap),
+            receipts: Vec::new(heap.room()),
             count,
         }
     }
@@ -126,7 +126,7 @@ pub(crate) fn make_kept<N: Sharing, R: Wait + Drop>(
     shared: &Shared<N, R>,
     seat: &mut Seat<N>,
     call: Call,
-    receipts: &mut Vec<Receipt, Heap>,
+    receipts: &mut Vec<Receipt, Room>,
 ) -> Result<(), OutOfMemory> {
     receipts.push(shared.call(rt, seat, call)?)?;
     Ok(())
@@ -139,7 +139,7 @@ pub(crate) fn make_waiting<N: Sharing, R: Wait + Drop>(
     seat: &mut Seat<N>,
     call: Call,
     patience: u32,
-    receipts: &mut Vec<Receipt, Heap>,
+    receipts: &mut Vec<Receipt, Room>,
 ) -> Result<(), OutOfMemory> {
     receipts.push(shared.call_waiting(rt, seat, call, patience)?)?;
     Ok(())
@@ -147,7 +147,7 @@ pub(crate) fn make_waiting<N: Sharing, R: Wait + Drop>(
 
 // A record of a 0.
 fn zero(heap: Heap) -> Result<Content, OutOfMemory> {
-    let mut fields = Vec::new(heap);
+    let mut fields = Vec::new(heap.room());
     fields.push(Value::Int(0))?;
     Ok(Content::Rec(fields))
 }

@@ -10,7 +10,7 @@ use argus_actions::ActionId;
 use argus_board::Looker;
 use argus_contents::ObjId;
 use argus_guardian::Guardian;
-use argus_memory::{Heap, OutOfMemory};
+use argus_memory::{Heap, OutOfMemory, Room};
 use argus_sharing::{Parts, Receipt, Seat, Shared, Sharing};
 use std::alloc::AllocError;
 use std::io::Print;
@@ -90,9 +90,9 @@ pub(crate) fn have_all_work<
 fn watch_all<N: Sharing + Send + Sync, R: Threads + Wait + Drop + Send + Sync>(
     rt: &R,
     heap: Heap,
-    lookers: Vec<Looker<N>, Heap>,
+    lookers: Vec<Looker<N>, Room>,
     is_over: &AtomicU64,
-) -> Result<Vec<Watched<N>, Heap>, AllocError> {
+) -> Result<Vec<Watched<N>, Room>, AllocError> {
     map_vec(rt, lookers, &|looker| look_often(rt, heap, looker, is_over))
 }
 
@@ -100,8 +100,8 @@ fn call_all<N: Sharing + Send + Sync, R: Threads + Wait + Drop + Send + Sync>(
     rt: &R,
     heap: Heap,
     shared: &Shared<N, R>,
-    seats: Vec<(ObjId, Seat<N>), Heap>,
-) -> Result<Vec<Result<Called<N>, OutOfMemory>, Heap>, AllocError> {
+    seats: Vec<(ObjId, Seat<N>), Room>,
+) -> Result<Vec<Result<Called<N>, OutOfMemory>, Room>, AllocError> {
     map_vec(
         rt,
         seats,
@@ -112,9 +112,9 @@ fn call_all<N: Sharing + Send + Sync, R: Threads + Wait + Drop + Send + Sync>(
 // Each seat with the object in which it counts.
 fn numbered<N: Sharing>(
     heap: Heap,
-    seats: Vec<Seat<N>, Heap>,
-) -> Result<Vec<(ObjId, Seat<N>), Heap>, OutOfMemory> {
-    let mut numbered = Vec::new(heap);
+    seats: Vec<Seat<N>, Room>,
+) -> Result<Vec<(ObjId, Seat<N>), Room>, OutOfMemory> {
+    let mut numbered = Vec::new(heap.room());
     let mut number = ACCOUNTS;
     for seat in seats {
         numbered.push((ObjId(number), seat))?;
@@ -124,7 +124,7 @@ fn numbered<N: Sharing>(
 }
 
 /// A seat with the receipts of its calls.
-type Called<N> = (Seat<N>, Vec<Receipt, Heap>);
+type Called<N> = (Seat<N>, Vec<Receipt, Room>);
 
 fn call_often<N: Sharing, R: Wait + Drop>(
     rt: &R,
@@ -144,10 +144,10 @@ fn call_often<N: Sharing, R: Wait + Drop>(
 // All seats, and all receipts in one list.
 fn gathered<N: Sharing>(
     heap: Heap,
-    called: Vec<Result<Called<N>, OutOfMemory>, Heap>,
-) -> Result<(Vec<Seat<N>, Heap>, Vec<Receipt, Heap>), OutOfMemory> {
-    let mut seats = Vec::new(heap);
-    let mut receipts = Vec::new(heap);
+    called: Vec<Result<Called<N>, OutOfMemory>, Room>,
+) -> Result<(Vec<Seat<N>, Room>, Vec<Receipt, Room>), OutOfMemory> {
+    let mut seats = Vec::new(heap.room());
+    let mut receipts = Vec::new(heap.room());
     for one in called {
         let (seat, mut of_seat) = one?;
         seats.push(seat)?;
@@ -161,7 +161,7 @@ fn see<N: Sharing, R: Wait + Drop>(
     rt: &R,
     heap: Heap,
     shared: &Shared<N, R>,
-    watched: Vec<Watched<N>, Heap>,
+    watched: Vec<Watched<N>, Room>,
 ) -> anyhow::Result<()> {
     for one in watched {
         let Watched { mut looker, agrees } = one;

@@ -9,7 +9,7 @@ use argus_actions::ActionId;
 use argus_contents::{Answer, Content, ObjId, Value};
 use argus_entries::{Call, Reply};
 use argus_guardian::Guardian;
-use argus_memory::Heap;
+use argus_memory::{Heap, Room};
 use argus_sharing::{Parts, Receipt, Seat, Shared, Sharing};
 use std::io::Print;
 use std::sync::Wait;
@@ -111,7 +111,7 @@ pub(crate) fn commit_once<N: Sharing, R: Wait + Drop>(
     }
 }
 
-fn are_done(receipts: Vec<Receipt, Heap>) -> bool {
+fn are_done(receipts: Vec<Receipt, Room>) -> bool {
     let mut done = true;
     for receipt in receipts {
         let reply = receipt.into_reply();
@@ -126,8 +126,8 @@ fn commit_by<N: Sharing, R: Wait + Drop>(
     shared: &Shared<N, R>,
     seat: &mut Seat<N>,
     commit: &mut OneCommit,
-) -> Vec<Receipt, Heap> {
-    let mut receipts = Vec::new(commit.setting.texts);
+) -> Vec<Receipt, Room> {
+    let mut receipts = Vec::new(commit.setting.texts.room());
     commit.setting.limit();
     let made = make_kept(rt, shared, seat, Call::Commit(commit.a), &mut receipts);
     commit.setting.lift();

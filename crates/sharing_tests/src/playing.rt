@@ -6,7 +6,7 @@ use crate::sharing::budgets;
 use crate::tally::Tally;
 use anyhow::{Result, bail};
 use argus_guardian::Guardian;
-use argus_memory::Heap;
+use argus_memory::Room;
 use argus_sharing::{Parts, Sharing};
 use std::io::Print;
 use std::sync::Wait;
@@ -69,7 +69,7 @@ fn answer<N: Sharing + Send + Sync, R: Threads + Wait + Copy + Drop + Send + Syn
     is_tight: bool,
     session: &mut Session<N, R>,
     asked: &str,
-) -> Result<String<Heap>, RowFault> {
+) -> Result<String<Room>, RowFault> {
     let before = session.seen(setting.texts)?;
     for allowed in budgets(is_tight) {
         let row = row_of(setting, asked)?;

@@ -4,7 +4,7 @@ use crate::row::Row;
 use crate::waiting::WAITING;
 use argus_contents::ObjId;
 use argus_entries::Call;
-use argus_memory::Heap;
+use argus_memory::{Heap, Room};
 use test_rows::{RowFault, Setting, call_of, first_word, object, reply_of};
 
 /// What the text before a row's arrow asks for.
@@ -43,8 +43,8 @@ fn look_of(texts: Heap, text: &str) -> Result<Row, RowFault> {
     Ok(Row::Look { looker, objects })
 }
 
-fn objects_of(texts: Heap, text: &str) -> Result<Vec<ObjId, Heap>, RowFault> {
-    let mut objects = Vec::new(texts);
+fn objects_of(texts: Heap, text: &str) -> Result<Vec<ObjId, Room>, RowFault> {
+    let mut objects = Vec::new(texts.room());
     for word in text.split(' ') {
         objects.push(object(word)?)?;
     }
@@ -91,8 +91,8 @@ fn waiting_of(setting: Setting, text: &str) -> Result<Row, RowFault> {
     Ok(Row::While { calls, patience })
 }
 
-fn calls_of(setting: Setting, text: &str) -> Result<Vec<Call, Heap>, RowFault> {
-    let mut calls = Vec::new(setting.texts);
+fn calls_of(setting: Setting, text: &str) -> Result<Vec<Call, Room>, RowFault> {
+    let mut calls = Vec::new(setting.texts.room());
     for call in text.split(", ") {
         if call != "others end" {
             calls.push(call_of(setting.heap, call)?)?;

@@ -2,7 +2,7 @@
 
 use argus_contents::ObjId;
 use argus_entries::{Call, Reply};
-use argus_memory::Heap;
+use argus_memory::Room;
 
 /// What a row asks for, before its arrow. Seats, lookers and receipts have numbers from 0 on.
 ///
@@ -20,7 +20,7 @@ pub(crate) enum Row {
     /// A look at these objects.
     Look {
         looker: usize,
-        objects: Vec<ObjId, Heap>,
+        objects: Vec<ObjId, Room>,
     },
     Brief {
         looker: usize,
@@ -38,7 +38,7 @@ pub(crate) enum Row {
     },
     /// Calls that seat 0 makes while seat 1 waits in another thread.
     While {
-        calls: Vec<Call, Heap>,
+        calls: Vec<Call, Room>,
         patience: u32,
     },
 }

@@ -10,7 +10,7 @@ use argus_board::Looker;
 use argus_contents::ObjId;
 use argus_entries::{Call, Reply};
 use argus_guardian::Guardian;
-use argus_memory::{Heap, OutOfMemory};
+use argus_memory::{Heap, OutOfMemory, Room};
 use argus_sharing::{Parts, Receipt, Seat, SettleFault, Shared, Sharing, Unsettled};
 use std::sync::Wait;
 use std::thread::Threads;
@@ -25,9 +25,9 @@ use test_rows::{RowFault, Setting, first_word, tell_number, tell_word};
 #[derive(Drop)]
 pub(crate) struct Session<N: Sharing, R: Wait + Drop> {
     shared: Shared<N, R>,
-    seats: Vec<Seat<N>, Heap>,
-    lookers: Vec<Looker<N>, Heap>,
-    receipts: Vec<Receipt, Heap>,
+    seats: Vec<Seat<N>, Room>,
+    lookers: Vec<Looker<N>, Room>,
+    receipts: Vec<Receipt, Room>,
 }
 
 /// What came of a settlement: the guardian, or the session with the fault.
@@ -44,7 +44,7 @@ impl<N: Sharing + Send + Sync, R: Threads + Wait + Copy + Drop + Send + Sync> Se
             shared,
             seats,
             lookers,
-            receipts: Vec::new(texts),
+            receipts: Vec::new(texts.room()),
         }
     }
 
@@ -54,8 +54,8 @@ impl<N: Sharing + Send + Sync, R: Threads + Wait + Copy + Drop + Send + Sync> Se
         rt: R,
         setting: Setting,
         row: Row,
-    ) -> Result<String<Heap>, RowFault> {
-        let mut out = String::new(setting.texts);
+    ) -> Result<String<Room>, RowFault> {
+        let mut out = String::new(setting.texts.room());
         match row {
             Row::Call {
                 seat,
@@ -84,7 +84,7 @@ impl<N: Sharing + Send + Sync, R: Threads + Wait + Copy + Drop + Send + Sync> Se
         seat: usize,
         patience: Option<u32>,
         call: Call,
-        out: &mut String<Heap>,
+        out: &mut String<Room>,
     ) -> Result<(), RowFault> {
         let Session {
             shared,
@@ -107,7 +107,7 @@ impl<N: Sharing + Send + Sync, R: Threads + Wait + Copy + Drop + Send + Sync> Se
         heap: Heap,
         looker: usize,
         objects: &[ObjId],
-        out: &mut String<Heap>,
+        out: &mut String<Room>,
     ) -> Result<(), RowFault> {
         match self.lookers.get_mut(looker) {
             Some(looker) => tell_look(looker, heap, objects, out),
@@ -115,7 +115,7 @@ impl<N: Sharing + Send + Sync, R: Threads + Wait + Copy + Drop + Send + Sync> Se
         }
     }
 
-    fn brief(&mut self, rt: R, looker: usize, out: &mut String<Heap>) -> Result<(), RowFault> {
+    fn brief(&mut self, rt: R, looker: usize, out: &mut String<Room>) -> Result<(), RowFault> {
         let Session {
             shared,
             lookers,
@@ -127,7 +127,7 @@ impl<N: Sharing + Send + Sync, R: Threads + Wait + Copy + Drop + Send + Sync> Se
         }
     }
 
-    fn made(&self, seat: usize, out: &mut String<Heap>) -> Result<(), RowFault> {
+    fn made(&self, seat: usize, out: &mut String<Room>) -> Result<(), RowFault> {
         match self.seats.get(seat) {
             Some(seat) => Ok(tell_number(seat.made(), out)?),
             None => Err(RowFault::NotSpelled),
@@ -148,9 +148,9 @@ impl<N: Sharing + Send + Sync, R: Threads + Wait + Copy + Drop + Send + Sync> Se
     fn wait(
         &mut self,
         rt: R,
-        calls: Vec<Call, Heap>,
+        calls: Vec<Call, Room>,
         patience: u32,
-        out: &mut String<Heap>,
+        out: &mut String<Room>,
     ) -> Result<(), RowFault> {
         let Session {
             shared,
@@ -167,8 +167,8 @@ impl<N: Sharing + Send + Sync, R: Threads + Wait + Copy + Drop + Send + Sync> Se
     }
 
     /// What all lookers see of the first three objects.
-    pub(crate) fn seen(&mut self, texts: Heap) -> Result<String<Heap>, RowFault> {
-        let mut out = String::new(texts);
+    pub(crate) fn seen(&mut self, texts: Heap) -> Result<String<Room>, RowFault> {
+        let mut out = String::new(texts.room());
         for looker in self.lookers.iter_mut() {
             tell_look(looker, texts, &[ObjId(0), ObjId(1), ObjId(2)], &mut out)?;
         }
@@ -176,8 +176,8 @@ impl<N: Sharing + Send + Sync, R: Threads + Wait + Copy + Drop + Send + Sync> Se
     }
 
     /// The receipts that the words name: `all`, or numbers.
-    fn shown(&self, texts: Heap, words: &str) -> Result<Vec<Receipt, Heap>, RowFault> {
-        let mut shown = Vec::new(texts);
+    fn shown(&self, texts: Heap, words: &str) -> Result<Vec<Receipt, Room>, RowFault> {
+        let mut shown = Vec::new(texts.room());
         let receipts = self.receipts.as_slice();
         if words == "all" {
             copy_all(receipts, &mut shown)?;
@@ -196,7 +196,7 @@ impl<N: Sharing + Send + Sync, R: Threads + Wait + Copy + Drop + Send + Sync> Se
         is_tight: bool,
         asked: &str,
     ) -> (
-        Result<String<Heap>, RowFault>,
+        Result<String<Room>, RowFault>,
         Result<Guardian, Session<N, R>>,
     ) {
         let (word, words) = first_word(asked);
@@ -267,8 +267,8 @@ impl<N: Sharing + Send + Sync, R: Threads + Wait + Copy + Drop + Send + Sync> Se
 
 // The seats and the receipts, that of the call that waited last.
 fn take_back<N: Sharing>(
-    seats: &mut Vec<Seat<N>, Heap>,
-    receipts: &mut Vec<Receipt, Heap>,
+    seats: &mut Vec<Seat<N>, Room>,
+    receipts: &mut Vec<Receipt, Room>,
     meanwhile: Meanwhile<N>,
 ) -> Result<(), OutOfMemory> {
     let Meanwhile {
@@ -284,7 +284,7 @@ fn take_back<N: Sharing>(
     Ok(())
 }
 
-fn copy_all(receipts: &[Receipt], out: &mut Vec<Receipt, Heap>) -> Result<(), RowFault> {
+fn copy_all(receipts: &[Receipt], out: &mut Vec<Receipt, Room>) -> Result<(), RowFault> {
     for receipt in receipts {
         copy(receipt, out)?;
     }
@@ -295,7 +295,7 @@ fn copy_all(receipts: &[Receipt], out: &mut Vec<Receipt, Heap>) -> Result<(), Ro
 fn copy_named(
     receipts: &[Receipt],
     words: &str,
-    out: &mut Vec<Receipt, Heap>,
+    out: &mut Vec<Receipt, Room>,
 ) -> Result<(), RowFault> {
     for word in words.split(' ') {
         match receipts.get(number_of(word)?) {
@@ -306,8 +306,8 @@ fn copy_named(
     Ok(())
 }
 
-fn copy(receipt: &Receipt, out: &mut Vec<Receipt, Heap>) -> Result<(), RowFault> {
-    let heap = *out.allocator();
+fn copy(receipt: &Receipt, out: &mut Vec<Receipt, Room>) -> Result<(), RowFault> {
+    let heap = out.allocator().heap();
     let call = receipt.call.duplicate(heap)?;
     let reply = receipt.reply.duplicate(heap)?;
     out.push(Receipt {
@@ -318,8 +318,8 @@ fn copy(receipt: &Receipt, out: &mut Vec<Receipt, Heap>) -> Result<(), RowFault>
     Ok(())
 }
 
-fn told(texts: Heap, fault: Option<SettleFault>) -> Result<String<Heap>, RowFault> {
-    let mut out = String::new(texts);
+fn told(texts: Heap, fault: Option<SettleFault>) -> Result<String<Room>, RowFault> {
+    let mut out = String::new(texts.room());
     match fault {
         None => tell_word("done", &mut out)?,
         Some(fault) => tell_fault(fault, &mut out)?,

@@ -1,6 +1,6 @@
 //! `Tally`: how many tests there were, and how many wrong answers.
 
-use argus_memory::Heap;
+use argus_memory::Room;
 use std::io;
 use std::io::Print;
 use test_rows::RowFault;
@@ -40,7 +40,7 @@ impl Tally {
         &mut self,
         rt: &impl Print,
         row: &str,
-        answer: Result<String<Heap>, RowFault>,
+        answer: Result<String<Room>, RowFault>,
     ) -> io::Result<()> {
         self.rows = self.rows.saturating_add(1);
         let (_, wanted) = row.split_once(" -> ").unwrap_or((row, ""));

@@ -4,14 +4,14 @@ use argus_board::{Board, LookFault, Looker};
 use argus_contents::{Content, ObjId};
 use argus_entries::{Entry, write_entry};
 use argus_guardian::CheckpointError;
-use argus_memory::{Heap, OutOfMemory};
+use argus_memory::{Heap, OutOfMemory, Room};
 use argus_sharing::{Receipt, SettleFault};
 use std::fmt::Write;
 use test_rows::{RowFault, tell_content, tell_word};
 
 /// Adds the reply of the entry, as its line has it.
-pub(crate) fn tell_reply(entry: &Entry, out: &mut String<Heap>) -> Result<(), OutOfMemory> {
-    let mut line = String::new(*out.allocator());
+pub(crate) fn tell_reply(entry: &Entry, out: &mut String<Room>) -> Result<(), OutOfMemory> {
+    let mut line = String::new(out.allocator().heap().room());
     write_entry(0, entry, &mut line)?;
     match line.as_str().split_once(" -> ") {
         Some((_, reply)) => tell_word(reply, out),
@@ -20,9 +20,9 @@ pub(crate) fn tell_reply(entry: &Entry, out: &mut String<Heap>) -> Result<(), Ou
 }
 
 /// Adds the reply of the last receipt.
-pub(crate) fn tell_last(receipts: &[Receipt], out: &mut String<Heap>) -> Result<(), RowFault> {
+pub(crate) fn tell_last(receipts: &[Receipt], out: &mut String<Room>) -> Result<(), RowFault> {
     match receipts.last() {
-        Some(receipt) => Ok(tell_reply(&entry_of(*out.allocator(), receipt)?, out)?),
+        Some(receipt) => Ok(tell_reply(&entry_of(out.allocator().heap(), receipt)?, out)?),
         None => Err(RowFault::NotSpelled),
     }
 }
@@ -40,7 +40,7 @@ pub(crate) fn tell_look<N: Board>(
     looker: &mut Looker<N>,
     heap: Heap,
     objects: &[ObjId],
-    out: &mut String<Heap>,
+    out: &mut String<Room>,
 ) -> Result<(), RowFault> {
     match looker.look(heap, objects) {
         Ok(found) => Ok(tell_contents(found.as_slice(), out)?),
@@ -49,7 +49,7 @@ pub(crate) fn tell_look<N: Board>(
     }
 }
 
-fn tell_contents(contents: &[Option<Content>], out: &mut String<Heap>) -> Result<(), OutOfMemory> {
+fn tell_contents(contents: &[Option<Content>], out: &mut String<Room>) -> Result<(), OutOfMemory> {
     for content in contents {
         tell_content(content, out)?;
     }
@@ -57,7 +57,7 @@ fn tell_contents(contents: &[Option<Content>], out: &mut String<Heap>) -> Result
 }
 
 /// Adds `true`. False would be want of memory.
-pub(crate) fn tell_shown(is_shown: bool, out: &mut String<Heap>) -> Result<(), RowFault> {
+pub(crate) fn tell_shown(is_shown: bool, out: &mut String<Room>) -> Result<(), RowFault> {
     if is_shown {
         Ok(tell_word("true", out)?)
     } else {
@@ -68,7 +68,7 @@ pub(crate) fn tell_shown(is_shown: bool, out: &mut String<Heap>) -> Result<(), R
 /// Adds what came of a checkpoint.
 pub(crate) fn tell_checkpoint(
     outcome: Result<(), CheckpointError>,
-    out: &mut String<Heap>,
+    out: &mut String<Room>,
 ) -> Result<(), RowFault> {
     match outcome {
         Ok(()) => Ok(tell_word("done", out)?),
@@ -79,7 +79,7 @@ pub(crate) fn tell_checkpoint(
 }
 
 /// Adds the fault of a settlement, for which any number of allocations was allowed.
-pub(crate) fn tell_fault(fault: SettleFault, out: &mut String<Heap>) -> Result<(), RowFault> {
+pub(crate) fn tell_fault(fault: SettleFault, out: &mut String<Room>) -> Result<(), RowFault> {
     match fault {
         SettleFault::OutOfMemory => Err(RowFault::NeverAnswered),
         SettleFault::NotThere(_)

@@ -4,7 +4,7 @@ use crate::caller::{begun_in, make_kept};
 use argus_actions::ActionId;
 use argus_contents::{Change, ObjId, Value};
 use argus_entries::Call;
-use argus_memory::{Heap, OutOfMemory};
+use argus_memory::{OutOfMemory, Room};
 use argus_sharing::{Receipt, Seat, Shared, Sharing};
 use std::sync::Wait;
 use std::sync::atomic::{AtomicU64, Ordering};
@@ -24,7 +24,7 @@ const ANSWERED: u64 = 2;
 /// What came of a call that waited, and of those that were made meanwhile.
 #[derive(Drop)]
 pub(crate) struct Meanwhile<N: Sharing> {
-    pub(crate) made: Vec<Receipt, Heap>,
+    pub(crate) made: Vec<Receipt, Room>,
     pub(crate) waited: Receipt,
     pub(crate) first: Seat<N>,
     pub(crate) second: Seat<N>,
@@ -38,7 +38,7 @@ pub(crate) fn wait_meanwhile<N: Sharing + Send + Sync, R: Threads + Wait + Drop 
     shared: &Shared<N, R>,
     mut first: Seat<N>,
     second: Seat<N>,
-    calls: Vec<Call, Heap>,
+    calls: Vec<Call, Room>,
     patience: u32,
 ) -> Result<Meanwhile<N>, OutOfMemory> {
     let word = AtomicU64::new(0);
@@ -92,10 +92,10 @@ fn make_meanwhile<N: Sharing, R: Wait + Drop>(
     rt: &R,
     shared: &Shared<N, R>,
     seat: &mut Seat<N>,
-    calls: Vec<Call, Heap>,
+    calls: Vec<Call, Room>,
     state: &AtomicU64,
-) -> Result<Vec<Receipt, Heap>, OutOfMemory> {
-    let mut receipts = Vec::new(*calls.allocator());
+) -> Result<Vec<Receipt, Room>, OutOfMemory> {
+    let mut receipts = Vec::new(calls.allocator().heap().room());
     if calls.is_empty() {
         stir(rt, shared, seat, state, &mut receipts)?;
     } else {
@@ -108,8 +108,8 @@ fn make_all<N: Sharing, R: Wait + Drop>(
     rt: &R,
     shared: &Shared<N, R>,
     seat: &mut Seat<N>,
-    calls: Vec<Call, Heap>,
-    receipts: &mut Vec<Receipt, Heap>,
+    calls: Vec<Call, Room>,
+    receipts: &mut Vec<Receipt, Room>,
 ) -> Result<(), OutOfMemory> {
     for call in calls {
         make_kept(rt, shared, seat, call, receipts)?;
@@ -123,7 +123,7 @@ fn stir<N: Sharing, R: Wait + Drop>(
     shared: &Shared<N, R>,
     seat: &mut Seat<N>,
     state: &AtomicU64,
-    receipts: &mut Vec<Receipt, Heap>,
+    receipts: &mut Vec<Receipt, Room>,
 ) -> Result<(), OutOfMemory> {
     for _ in rt.forever() {
         if state.load(Ordering::SeqCst) == ANSWERED {
@@ -138,7 +138,7 @@ fn stir_once<N: Sharing, R: Wait + Drop>(
     rt: &R,
     shared: &Shared<N, R>,
     seat: &mut Seat<N>,
-    receipts: &mut Vec<Receipt, Heap>,
+    receipts: &mut Vec<Receipt, Room>,
 ) -> Result<(), OutOfMemory> {
     make_kept(rt, shared, seat, Call::BeginTop, receipts)?;
     match receipts.last().and_then(begun_in) {

@@ -7,7 +7,7 @@ mod row;
 
 use anyhow::{Result, ensure};
 use argus_commands::parse;
-use argus_memory::{Budget, Heap, Limited};
+use argus_memory::{Budget, Heap, Room};
 use argus_shown::{ArmOutcome, shown, what_is_shown_is_told};
 use receipt_reading::receipts_of;
 use row::Row;
@@ -20,7 +20,7 @@ fn main(rt: HostRuntime) -> Result<()> {
     what_is_shown_is_told();
     let heap = Heap::new(rt.alloc())?;
     let budget = Budget::new(rt.alloc())?;
-    let tight = Limited::with_budget(rt.alloc(), budget);
+    let tight = Heap::with_budget(rt.alloc(), budget);
     let text = fs::read_to_string(&rt, "shown.rows")?;
     for block in text.as_str().split("\n\n") {
         if let Some(row) = Row::of_block(block) {
@@ -57,8 +57,8 @@ fn check_row(heap: Heap, tight: Heap, budget: Budget, row: Row<'_>) -> Result<&'
 }
 
 // A line for each arm.
-fn outcomes_told(heap: Heap, found: Option<Vec<ArmOutcome, Heap>>) -> Result<String<Heap>> {
-    let mut out = String::new(heap);
+fn outcomes_told(heap: Heap, found: Option<Vec<ArmOutcome, Room>>) -> Result<String<Room>> {
+    let mut out = String::new(heap.room());
     match found {
         None => out.push_str("nothing\n")?,
         Some(outcomes) => {
@@ -70,7 +70,7 @@ fn outcomes_told(heap: Heap, found: Option<Vec<ArmOutcome, Heap>>) -> Result<Str
     Ok(out)
 }
 
-fn write_outcome(heap: Heap, outcome: ArmOutcome, out: &mut String<Heap>) -> Result<()> {
+fn write_outcome(heap: Heap, outcome: ArmOutcome, out: &mut String<Room>) -> Result<()> {
     let ArmOutcome {
         coenter,
         arm,
@@ -78,10 +78,10 @@ fn write_outcome(heap: Heap, outcome: ArmOutcome, out: &mut String<Heap>) -> Res
         ended,
     } = outcome;
     let begun = match action {
-        Some(action) => format!(in heap; "a{}", action.0)?,
-        None => format!(in heap; "none")?,
+        Some(action) => format!(in heap.room(); "a{}", action.0)?,
+        None => format!(in heap.room(); "none")?,
     };
-    let line = format!(in heap; "{coenter} {arm} {begun} {ended:?}\n")?;
+    let line = format!(in heap.room(); "{coenter} {arm} {begun} {ended:?}\n")?;
     out.push_str(line.as_str())?;
     Ok(())
 }

@@ -1,12 +1,12 @@
 //! Receipts, as a journal's lines spell them.
 
-use argus_memory::Heap;
+use argus_memory::{Heap, Room};
 use argus_receipts::Receipt;
 use test_rows::{RowFault, call_of, first_word, reply_of};
 
 /// The receipts that are spelled, one a line.
-pub(crate) fn receipts_of(heap: Heap, text: &str) -> Result<Vec<Receipt, Heap>, RowFault> {
-    let mut receipts = Vec::new(heap);
+pub(crate) fn receipts_of(heap: Heap, text: &str) -> Result<Vec<Receipt, Room>, RowFault> {
+    let mut receipts = Vec::new(heap.room());
     for line in text.lines() {
         receipts.push(receipt_of(heap, line)?)?;
     }

@@ -1,7 +1,7 @@
 //! Rows that stand for many: `from 1 to 63: begin_sub a^ -> a%`.
 
 use crate::telling::tell_marked;
-use argus_memory::{Heap, OutOfMemory};
+use argus_memory::{Heap, OutOfMemory, Room};
 
 /// Rows that a line stands for.
 ///
@@ -43,7 +43,7 @@ impl Counted<'_> {
 
     /// The row so many steps after the first one: `%` stands for the number that is counted, up or
     /// down, and `^` for the number below it. `OutOfMemory`: there was no memory for its text.
-    pub fn row_at(&self, texts: Heap, step: u32) -> Result<String<Heap>, OutOfMemory> {
+    pub fn row_at(&self, texts: Heap, step: u32) -> Result<String<Room>, OutOfMemory> {
         let number = if self.first <= self.last {
             self.first.saturating_add(step)
         } else {
@@ -53,8 +53,8 @@ impl Counted<'_> {
     }
 }
 
-fn with_number(texts: Heap, row: &str, number: u32) -> Result<String<Heap>, OutOfMemory> {
-    let mut out = String::new(texts);
+fn with_number(texts: Heap, row: &str, number: u32) -> Result<String<Room>, OutOfMemory> {
+    let mut out = String::new(texts.room());
     for letter in row.chars() {
         match letter {
             '%' => tell_marked("", u64::from(number), &mut out)?,

@@ -1,6 +1,6 @@
 //! `Full`: a writer that is full after so many bytes.
 
-use argus_memory::Heap;
+use argus_memory::Room;
 use std::io;
 use std::io::{ErrorKind, Write};
 
@@ -8,11 +8,11 @@ use std::io::{ErrorKind, Write};
 /// that come when it is full.
 ///
 /// ```text
-/// let mut writer = Full { taken: Vec::new(heap), room: 3, fails: true, writes_behind: 0 };
+/// let mut writer = Full { taken: Vec::new(heap.room()), room: 3, fails: true, writes_behind: 0 };
 /// ```
 #[derive(Drop)]
 pub struct Full {
-    pub taken: Vec<u8, Heap>,
+    pub taken: Vec<u8, Room>,
     pub room: usize,
     pub fails: bool,
     pub writes_behind: u64,

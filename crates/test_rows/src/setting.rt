@@ -1,6 +1,6 @@
 //! `Setting`: the heaps in which a row is answered.
 
-use argus_memory::{Budget, Heap, Limited};
+use argus_memory::{Budget, Heap};
 use std::alloc::{AllocError, Global};
 
 /// The heaps in which a row is answered, and how many allocations its calls are allowed.
@@ -27,7 +27,7 @@ impl Setting {
         let budget = Budget::new(alloc)?;
         Ok(Setting {
             texts: Heap::new(alloc)?,
-            heap: Limited::with_budget(alloc, budget),
+            heap: Heap::with_budget(alloc, budget),
             budget,
             allowed: u64::MAX,
         })

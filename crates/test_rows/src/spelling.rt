@@ -2,22 +2,22 @@
 //! `NotSpelled`; after that and after `OutOfMemory` some of the bytes may have been added.
 
 use crate::counting::{Counted, counted_of};
-use argus_memory::Heap;
+use argus_memory::{Heap, Room};
 use row_words::RowFault;
 use std::str::from_utf8;
 
 /// The row that the text stands for.
-pub fn spelled_row(texts: Heap, text: &str) -> Result<String<Heap>, RowFault> {
-    let mut bytes = Vec::new(texts);
+pub fn spelled_row(texts: Heap, text: &str) -> Result<String<Room>, RowFault> {
+    let mut bytes = Vec::new(texts.room());
     spell(text, &mut bytes)?;
     match from_utf8(bytes.as_slice()) {
-        Ok(row) => Ok(String::from_str(texts, row)?),
+        Ok(row) => Ok(String::from_str(texts.room(), row)?),
         Err(_) => Err(RowFault::NotSpelled),
     }
 }
 
 /// Adds the bytes that the text stands for, and a line feed, unless the text ends with `<cut>`.
-pub fn spell_line(text: &str, out: &mut Vec<u8, Heap>) -> Result<(), RowFault> {
+pub fn spell_line(text: &str, out: &mut Vec<u8, Room>) -> Result<(), RowFault> {
     match text.strip_suffix("<cut>") {
         Some(text) => spell(text, out),
         None => {
@@ -29,7 +29,7 @@ pub fn spell_line(text: &str, out: &mut Vec<u8, Heap>) -> Result<(), RowFault> {
 }
 
 /// Adds the bytes that the text stands for.
-pub fn spell(text: &str, out: &mut Vec<u8, Heap>) -> Result<(), RowFault> {
+pub fn spell(text: &str, out: &mut Vec<u8, Room>) -> Result<(), RowFault> {
     match text.split_once('<') {
         None => add(text, out),
         Some((plain, marked)) => {
@@ -40,7 +40,7 @@ pub fn spell(text: &str, out: &mut Vec<u8, Heap>) -> Result<(), RowFault> {
 }
 
 // The text begins behind a `<`.
-fn spell_marked(text: &str, out: &mut Vec<u8, Heap>) -> Result<(), RowFault> {
+fn spell_marked(text: &str, out: &mut Vec<u8, Room>) -> Result<(), RowFault> {
     for piece in text.split('<') {
         match piece.split_once('>') {
             Some((mark, plain)) if is_mark(mark) => {
@@ -61,7 +61,7 @@ fn is_mark(mark: &str) -> bool {
     mark.contains(" times ") || mark.starts_with(|first: char| first.is_ascii_lowercase())
 }
 
-fn spell_mark(mark: &str, out: &mut Vec<u8, Heap>) -> Result<(), RowFault> {
+fn spell_mark(mark: &str, out: &mut Vec<u8, Room>) -> Result<(), RowFault> {
     match mark {
         "tab" => add("\t", out),
         "space" => add(" ", out),
@@ -75,7 +75,7 @@ fn spell_mark(mark: &str, out: &mut Vec<u8, Heap>) -> Result<(), RowFault> {
 }
 
 // A byte by its number, or a text so many times.
-fn spell_number(mark: &str, out: &mut Vec<u8, Heap>) -> Result<(), RowFault> {
+fn spell_number(mark: &str, out: &mut Vec<u8, Room>) -> Result<(), RowFault> {
     if let Some(number) = mark.strip_prefix("byte ") {
         out.push(number.parse::<u8>()?)?;
         return Ok(());
@@ -86,22 +86,22 @@ fn spell_number(mark: &str, out: &mut Vec<u8, Heap>) -> Result<(), RowFault> {
     }
 }
 
-fn add_counted(counted: Counted<'_>, out: &mut Vec<u8, Heap>) -> Result<(), RowFault> {
+fn add_counted(counted: Counted<'_>, out: &mut Vec<u8, Room>) -> Result<(), RowFault> {
     for step in 0..=counted.steps() {
-        let text = counted.row_at(*out.allocator(), step)?;
+        let text = counted.row_at(out.allocator().heap(), step)?;
         add(text.as_str(), out)?;
     }
     Ok(())
 }
 
-fn add_times(times: u32, text: &str, out: &mut Vec<u8, Heap>) -> Result<(), RowFault> {
+fn add_times(times: u32, text: &str, out: &mut Vec<u8, Room>) -> Result<(), RowFault> {
     for _ in 0..times {
         add(text, out)?;
     }
     Ok(())
 }
 
-fn add(text: &str, out: &mut Vec<u8, Heap>) -> Result<(), RowFault> {
+fn add(text: &str, out: &mut Vec<u8, Room>) -> Result<(), RowFault> {
     out.extend_from_slice(text.as_bytes())?;
     Ok(())
 }

@@ -1,7 +1,7 @@
 //! `Subject`: what rows are told to.
 
 use crate::setting::Setting;
-use argus_memory::Heap;
+use argus_memory::Room;
 use row_words::RowFault;
 
 /// What the rows of one test are told to, one after another.
@@ -17,5 +17,5 @@ pub trait Subject: Drop {
     /// What the text before a row's arrow is answered. It's read with all memory; then the
     /// setting's limit holds for what is tested. Where an allocation is refused all has to be as
     /// before, and `OutOfMemory` comes.
-    fn answer(&mut self, setting: Setting, asked: &str) -> Result<String<Heap>, RowFault>;
+    fn answer(&mut self, setting: Setting, asked: &str) -> Result<String<Room>, RowFault>;
 }

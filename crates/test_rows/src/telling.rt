@@ -3,45 +3,45 @@
 
 use argus_actions::ActionId;
 use argus_contents::{Answer, Content, ObjId, Signal};
-use argus_memory::{Heap, OutOfMemory};
+use argus_memory::{OutOfMemory, Room};
 use argus_texts::{write_content, write_value};
 use std::fmt::Write;
 
 /// Adds a word.
-pub fn tell_word(word: &str, out: &mut String<Heap>) -> Result<(), OutOfMemory> {
+pub fn tell_word(word: &str, out: &mut String<Room>) -> Result<(), OutOfMemory> {
     out.push_str(" ")?;
     out.push_str(word)?;
     Ok(())
 }
 
 /// Adds a number behind this mark.
-pub fn tell_marked(mark: &str, number: u64, out: &mut String<Heap>) -> Result<(), OutOfMemory> {
+pub fn tell_marked(mark: &str, number: u64, out: &mut String<Room>) -> Result<(), OutOfMemory> {
     write!(out, "{mark}{number}")?;
     Ok(())
 }
 
 /// Adds a number.
-pub fn tell_number(number: u64, out: &mut String<Heap>) -> Result<(), OutOfMemory> {
+pub fn tell_number(number: u64, out: &mut String<Room>) -> Result<(), OutOfMemory> {
     tell_marked(" ", number, out)
 }
 
 /// Adds an action, as `a0`.
-pub fn tell_action(a: ActionId, out: &mut String<Heap>) -> Result<(), OutOfMemory> {
+pub fn tell_action(a: ActionId, out: &mut String<Room>) -> Result<(), OutOfMemory> {
     tell_marked(" a", u64::from(a.0), out)
 }
 
 /// Adds an object, as `o0`.
-pub fn tell_object(o: ObjId, out: &mut String<Heap>) -> Result<(), OutOfMemory> {
+pub fn tell_object(o: ObjId, out: &mut String<Room>) -> Result<(), OutOfMemory> {
     tell_marked(" o", u64::from(o.0), out)
 }
 
 /// Adds `true` or `false`.
-pub fn tell_flag(is_so: bool, out: &mut String<Heap>) -> Result<(), OutOfMemory> {
+pub fn tell_flag(is_so: bool, out: &mut String<Room>) -> Result<(), OutOfMemory> {
     tell_word(if is_so { "true" } else { "false" }, out)
 }
 
 /// Adds a content, or `absent`.
-pub fn tell_content(content: &Option<Content>, out: &mut String<Heap>) -> Result<(), OutOfMemory> {
+pub fn tell_content(content: &Option<Content>, out: &mut String<Room>) -> Result<(), OutOfMemory> {
     match content {
         Some(content) => {
             out.push_str(" ")?;
@@ -52,7 +52,7 @@ pub fn tell_content(content: &Option<Content>, out: &mut String<Heap>) -> Result
 }
 
 /// Adds what an operation answers, as a journal's lines do.
-pub fn tell_answer(answer: &Answer, out: &mut String<Heap>) -> Result<(), OutOfMemory> {
+pub fn tell_answer(answer: &Answer, out: &mut String<Room>) -> Result<(), OutOfMemory> {
     match answer {
         Answer::Done => tell_word("done", out),
         Answer::Val(value) => {

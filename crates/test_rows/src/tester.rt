@@ -8,7 +8,7 @@ use crate::subject::Subject;
 use crate::telling::tell_marked;
 use crate::tight_answer::TightAnswer;
 use anyhow::Result;
-use argus_memory::{Heap, OutOfMemory};
+use argus_memory::{OutOfMemory, Room};
 use row_words::{RowFault, first_word};
 use std::alloc::{AllocError, Global};
 use std::collections::BTreeSet;
@@ -34,7 +34,7 @@ pub struct Tester<S: Subject> {
     rows: u32,
     refusals: u64,
     // The first words of the rows that were refused an allocation.
-    refused: BTreeSet<String<Heap>, Heap>,
+    refused: BTreeSet<String<Room>, Room>,
     tests: u32,
     wrong: u32,
 }
@@ -49,7 +49,7 @@ impl<S: Subject> Tester<S> {
             tight: S::new(setting),
             rows: 0,
             refusals: 0,
-            refused: BTreeSet::new(setting.texts),
+            refused: BTreeSet::new(setting.texts.room()),
             tests: 0,
             wrong: 0,
         })
@@ -146,7 +146,7 @@ impl<S: Subject> Tester<S> {
         self.compare_tight(rt, row, wanted, answer)
     }
 
-    fn ample_answer(&mut self, asked: &str) -> Result<String<Heap>, RowFault> {
+    fn ample_answer(&mut self, asked: &str) -> Result<String<Room>, RowFault> {
         let asked = spelled_row(self.setting.texts, asked)?;
         let answer = self.ample.answer(self.setting, asked.as_str());
         self.setting.lift();
@@ -175,15 +175,15 @@ impl<S: Subject> Tester<S> {
     }
 
     // How many allocations what is asked takes. The subject with ample memory is told it, too.
-    fn allocations(&mut self, asked: &str, wanted: &str) -> Result<String<Heap>, RowFault> {
+    fn allocations(&mut self, asked: &str, wanted: &str) -> Result<String<Room>, RowFault> {
         let _told = self.ample_answer(asked)?;
         let answer = self.tight_answer(asked)?;
         self.number_text(answer.refused, wanted)
     }
 
     // The number; what is wanted, as `2 or more`, where the number is.
-    fn number_text(&self, number: u64, wanted: &str) -> Result<String<Heap>, RowFault> {
-        let mut out = String::new(self.setting.texts);
+    fn number_text(&self, number: u64, wanted: &str) -> Result<String<Room>, RowFault> {
+        let mut out = String::new(self.setting.texts.room());
         if is_within(wanted, number) {
             out.push_str(wanted)?;
         } else {
@@ -215,7 +215,7 @@ impl<S: Subject> Tester<S> {
         rt: &impl Print,
         row: &str,
         wanted: &str,
-        answer: Result<String<Heap>, RowFault>,
+        answer: Result<String<Room>, RowFault>,
     ) -> Result<()> {
         let wanted = match spelled_row(self.setting.texts, wanted) {
             Ok(wanted) => wanted,
@@ -240,7 +240,7 @@ impl<S: Subject> Tester<S> {
     fn note_refused(&mut self, row: &str) -> Result<(), OutOfMemory> {
         let (word, _) = first_word(row);
         self.refused
-            .insert(String::from_str(self.setting.texts, word)?)?;
+            .insert(String::from_str(self.setting.texts.room(), word)?)?;
         Ok(())
     }
 

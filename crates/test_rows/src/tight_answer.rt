@@ -1,6 +1,6 @@
 //! `TightAnswer`: what was answered after some refusals.
 
-use argus_memory::Heap;
+use argus_memory::Room;
 
 /// What was answered, and how many allocations had been refused before.
 ///
@@ -9,6 +9,6 @@ use argus_memory::Heap;
 /// ```
 #[derive(Drop)]
 pub struct TightAnswer {
-    pub text: String<Heap>,
+    pub text: String<Room>,
     pub refused: u64,
 }

@@ -1,6 +1,6 @@
 //! What is written, behind a text that was there before.
 
-use argus_memory::{Heap, OutOfMemory};
+use argus_memory::{Heap, OutOfMemory, Room};
 use argus_texts::{read_content, read_shape, read_value, write_content, write_shape, write_value};
 use test_rows::{RowFault, Setting};
 
@@ -8,29 +8,29 @@ use test_rows::{RowFault, Setting};
 const BEFORE: &str = "before ";
 
 /// `same` where a value that was read is written as it was.
-pub(crate) fn append_value(setting: Setting, text: &str) -> Result<String<Heap>, RowFault> {
+pub(crate) fn append_value(setting: Setting, text: &str) -> Result<String<Room>, RowFault> {
     let value = read_value(setting.texts, text)?;
-    let mut out = String::from_str(setting.heap, BEFORE)?;
+    let mut out = String::from_str(setting.heap.room(), BEFORE)?;
     setting.limit();
     let answer = write_value(&value, &mut out);
     told(setting.texts, text, answer, out.as_str())
 }
 
 /// The same of a content.
-pub(crate) fn append_content(setting: Setting, text: &str) -> Result<String<Heap>, RowFault> {
+pub(crate) fn append_content(setting: Setting, text: &str) -> Result<String<Room>, RowFault> {
     let content = read_content(setting.texts, text)?;
-    let mut out = String::from_str(setting.heap, BEFORE)?;
+    let mut out = String::from_str(setting.heap.room(), BEFORE)?;
     setting.limit();
     let answer = write_content(&content, &mut out);
     told(setting.texts, text, answer, out.as_str())
 }
 
 /// The same of a shape.
-pub(crate) fn append_shape(setting: Setting, text: &str) -> Result<String<Heap>, RowFault> {
+pub(crate) fn append_shape(setting: Setting, text: &str) -> Result<String<Room>, RowFault> {
     let Some(shape) = read_shape(setting.texts, text)? else {
         return Err(RowFault::NotSpelled);
     };
-    let mut out = String::from_str(setting.heap, BEFORE)?;
+    let mut out = String::from_str(setting.heap.room(), BEFORE)?;
     setting.limit();
     let answer = write_shape(&shape, &mut out);
     told(setting.texts, text, answer, out.as_str())
@@ -42,11 +42,11 @@ fn told(
     text: &str,
     answer: Result<(), OutOfMemory>,
     written: &str,
-) -> Result<String<Heap>, RowFault> {
+) -> Result<String<Room>, RowFault> {
     match answer {
         Ok(()) => match written.strip_prefix(BEFORE) {
-            Some(behind) if behind == text => Ok(String::from_str(texts, "same")?),
-            Some(_) | None => Ok(String::from_str(texts, written)?),
+            Some(behind) if behind == text => Ok(String::from_str(texts.room(), "same")?),
+            Some(_) | None => Ok(String::from_str(texts.room(), written)?),
         },
         Err(OutOfMemory) if written == BEFORE => Err(RowFault::OutOfMemory),
         Err(OutOfMemory) => Err(RowFault::Changed),

@@ -3,7 +3,7 @@
 use crate::appending::{append_content, append_shape, append_value};
 use crate::making::{answer_array, answer_items, answer_made};
 use crate::reading::{answer_content, answer_shape, answer_value};
-use argus_memory::Heap;
+use argus_memory::Room;
 use test_rows::{RowFault, Setting, Subject, first_word};
 
 /// The calls of `argus_texts` that rows make.
@@ -20,7 +20,7 @@ impl Subject for Calls {
         Calls
     }
 
-    fn answer(&mut self, setting: Setting, asked: &str) -> Result<String<Heap>, RowFault> {
+    fn answer(&mut self, setting: Setting, asked: &str) -> Result<String<Room>, RowFault> {
         let (word, rest) = first_word(asked);
         match word {
             "value" => answer_value(setting, rest),

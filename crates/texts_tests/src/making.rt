@@ -1,14 +1,14 @@
 //! What was read, part by part; and the text of a shape that was made and not read.
 
 use argus_contents::{Content, Name, Shape, ShapeView, Ty, Value};
-use argus_memory::{Heap, OutOfMemory};
+use argus_memory::{Heap, OutOfMemory, Room};
 use argus_texts::{read_content, read_shape, write_shape, write_value};
 use std::collections::VecDeque;
 use std::fmt::Write;
 use test_rows::{RowFault, Setting, tell_number};
 
 /// The low bound of an array, how many items it has, and its items.
-pub(crate) fn answer_array(setting: Setting, text: &str) -> Result<String<Heap>, RowFault> {
+pub(crate) fn answer_array(setting: Setting, text: &str) -> Result<String<Room>, RowFault> {
     match &read_content(setting.texts, text)? {
         Content::Arr { low, items } => Ok(told_array(setting.texts, *low, items)?),
         Content::Rec(_) | Content::Var { .. } => Err(RowFault::NotSpelled),
@@ -18,9 +18,9 @@ pub(crate) fn answer_array(setting: Setting, text: &str) -> Result<String<Heap>,
 fn told_array(
     texts: Heap,
     low: i64,
-    items: &VecDeque<Value, Heap>,
-) -> Result<String<Heap>, OutOfMemory> {
-    let mut out = String::new(texts);
+    items: &VecDeque<Value, Room>,
+) -> Result<String<Room>, OutOfMemory> {
+    let mut out = String::new(texts.room());
     write!(out, "low {low} size")?;
     tell_number(items.len() as u64, &mut out)?;
     for item in items.iter() {
@@ -31,7 +31,7 @@ fn told_array(
 }
 
 /// Whether the items of a shape are ints: `ints`.
-pub(crate) fn answer_items(setting: Setting, text: &str) -> Result<String<Heap>, RowFault> {
+pub(crate) fn answer_items(setting: Setting, text: &str) -> Result<String<Room>, RowFault> {
     let Some(shape) = read_shape(setting.texts, text)? else {
         return Err(RowFault::NotSpelled);
     };
@@ -40,17 +40,17 @@ pub(crate) fn answer_items(setting: Setting, text: &str) -> Result<String<Heap>,
     } else {
         "others"
     };
-    Ok(String::from_str(setting.texts, said)?)
+    Ok(String::from_str(setting.texts.room(), said)?)
 }
 
 /// The text of a record with one name, that of an int.
-pub(crate) fn answer_made(setting: Setting, name: &str) -> Result<String<Heap>, RowFault> {
-    let mut fields = Vec::new(setting.texts);
+pub(crate) fn answer_made(setting: Setting, name: &str) -> Result<String<Room>, RowFault> {
+    let mut fields = Vec::new(setting.texts.room());
     fields.push((Name::new(setting.texts, name)?, Ty::Int))?;
     let Ok(shape) = Shape::rec(fields) else {
         return Err(RowFault::NotSpelled);
     };
-    let mut out = String::from_str(setting.texts, "0 declare ")?;
+    let mut out = String::from_str(setting.texts.room(), "0 declare ")?;
     write_shape(&shape, &mut out)?;
     Ok(out)
 }

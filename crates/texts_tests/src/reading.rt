@@ -1,7 +1,7 @@
 //! What is read of a text, and how it's written again.
 
 use argus_contents::Shape;
-use argus_memory::{Heap, OutOfMemory};
+use argus_memory::{Heap, OutOfMemory, Room};
 use argus_texts::{
     ReadError, ReadFault, read_content, read_shape, read_value, write_content, write_shape,
     write_value,
@@ -9,11 +9,11 @@ use argus_texts::{
 use test_rows::{RowFault, Setting, tell_number, tell_word};
 
 /// `same` where a value is read and written again as it was, or the place of the fault.
-pub(crate) fn answer_value(setting: Setting, text: &str) -> Result<String<Heap>, RowFault> {
+pub(crate) fn answer_value(setting: Setting, text: &str) -> Result<String<Room>, RowFault> {
     setting.limit();
     match read_value(setting.heap, text) {
         Ok(value) => {
-            let mut out = String::new(setting.texts);
+            let mut out = String::new(setting.texts.room());
             write_value(&value, &mut out)?;
             sameness(text, out)
         }
@@ -23,11 +23,11 @@ pub(crate) fn answer_value(setting: Setting, text: &str) -> Result<String<Heap>,
 }
 
 /// The same of a content.
-pub(crate) fn answer_content(setting: Setting, text: &str) -> Result<String<Heap>, RowFault> {
+pub(crate) fn answer_content(setting: Setting, text: &str) -> Result<String<Room>, RowFault> {
     setting.limit();
     match read_content(setting.heap, text) {
         Ok(content) => {
-            let mut out = String::new(setting.texts);
+            let mut out = String::new(setting.texts.room());
             write_content(&content, &mut out)?;
             sameness(text, out)
         }
@@ -37,15 +37,15 @@ pub(crate) fn answer_content(setting: Setting, text: &str) -> Result<String<Heap
 }
 
 /// `same` where a shape is read, and it and its copy are written again as it was; or `none`.
-pub(crate) fn answer_shape(setting: Setting, text: &str) -> Result<String<Heap>, RowFault> {
+pub(crate) fn answer_shape(setting: Setting, text: &str) -> Result<String<Room>, RowFault> {
     setting.limit();
     match read_shape(setting.heap, text)? {
         Some(shape) => copied_shape(setting.texts, text, &shape),
-        None => Ok(String::from_str(setting.texts, "none")?),
+        None => Ok(String::from_str(setting.texts.room(), "none")?),
     }
 }
 
-fn copied_shape(texts: Heap, text: &str, shape: &Shape) -> Result<String<Heap>, RowFault> {
+fn copied_shape(texts: Heap, text: &str, shape: &Shape) -> Result<String<Room>, RowFault> {
     let copy = shape_text(texts, &shape.duplicate(texts)?)?;
     if copy.as_str() == text {
         sameness(text, shape_text(texts, shape)?)
@@ -54,14 +54,14 @@ fn copied_shape(texts: Heap, text: &str, shape: &Shape) -> Result<String<Heap>, 
     }
 }
 
-fn shape_text(texts: Heap, shape: &Shape) -> Result<String<Heap>, OutOfMemory> {
-    let mut out = String::new(texts);
+fn shape_text(texts: Heap, shape: &Shape) -> Result<String<Room>, OutOfMemory> {
+    let mut out = String::new(texts.room());
     write_shape(shape, &mut out)?;
     Ok(out)
 }
 
 // `same`, or what was written.
-fn sameness(text: &str, mut written: String<Heap>) -> Result<String<Heap>, RowFault> {
+fn sameness(text: &str, mut written: String<Room>) -> Result<String<Room>, RowFault> {
     if written.as_str() == text {
         written.clear();
         tell_word("same", &mut written)?;
@@ -69,8 +69,8 @@ fn sameness(text: &str, mut written: String<Heap>) -> Result<String<Heap>, RowFa
     Ok(written)
 }
 
-fn told_fault(texts: Heap, fault: ReadFault) -> Result<String<Heap>, OutOfMemory> {
-    let mut out = String::new(texts);
+fn told_fault(texts: Heap, fault: ReadFault) -> Result<String<Room>, OutOfMemory> {
+    let mut out = String::new(texts.room());
     tell_word("fault", &mut out)?;
     tell_number(fault.at as u64, &mut out)?;
     Ok(out)

@@ -1,7 +1,7 @@
 //! A tree goes to another thread, which ends its actions, and comes back.
 
 use argus_actions::{ActionId, ActionTree, Status};
-use argus_memory::Heap;
+use argus_memory::{Heap, Room};
 use std::sync::{Arc, Wait};
 use std::test::Fail;
 use std::thread::{self, Threads};
@@ -22,7 +22,7 @@ fn aborted_elsewhere<R: Threads + Wait>(
 // Whether the action is live, as another thread sees it in a tree that both have.
 fn live_elsewhere<R: Threads + Wait>(
     rt: &R,
-    tree: Arc<ActionTree, Heap>,
+    tree: Arc<ActionTree, Room>,
     a: ActionId,
 ) -> Result<bool, Fail> {
     let child = thread::spawn(rt, move || tree.status(a) == Some(Status::Live))?;
@@ -37,7 +37,7 @@ fn a_tree_crosses_to_another_thread_and_back(rt: HostRuntime) -> Result<(), Fail
     let sub = tree.begin_sub(top)?;
     let tree = aborted_elsewhere(&rt, tree, sub)?;
     assert_eq!(rt; tree.status(sub), Some(Status::Aborted));
-    let shared = Arc::new(heap, tree)?;
+    let shared = Arc::new(heap.room(), tree)?;
     assert!(rt; live_elsewhere(&rt, shared.clone()?, top)?);
     assert!(rt; !live_elsewhere(&rt, shared, sub)?);
     Ok(())

@@ -22,9 +22,9 @@ fn copied_elsewhere<R: Threads + Wait>(
 #[test]
 fn a_content_crosses_to_another_thread_and_back(rt: HostRuntime) -> Result<(), Fail> {
     let heap = Heap::new(rt.alloc())?;
-    let mut items = Vec::new(heap);
+    let mut items = Vec::new(heap.room());
     items.push(Value::Int(1))?;
-    let mut fields = Vec::new(heap);
+    let mut fields = Vec::new(heap.room());
     fields.push(Value::Sequence(items))?;
     let content = Content::Rec(fields);
     let wanted = content.duplicate(heap)?;
@@ -53,7 +53,7 @@ fn fits_elsewhere<R: Threads + Wait>(
 #[test]
 fn a_shape_and_a_change_cross_to_another_thread_and_back(rt: HostRuntime) -> Result<(), Fail> {
     let heap = Heap::new(rt.alloc())?;
-    let mut fields = Vec::new(heap);
+    let mut fields = Vec::new(heap.room());
     fields.push((Name::new(heap, "balance")?, Ty::Int))?;
     let shape = Shape::rec(fields)?;
     let change = Change::SetField(0, Value::Int(5));

@@ -3,7 +3,7 @@
 
 use argus_actions::{ActionId, ActionTree};
 use argus_contents::{Content, ObjId, Value};
-use argus_memory::Heap;
+use argus_memory::{Heap, Room};
 use argus_objects::{Cell, Holdings};
 use std::sync::{Arc, Wait};
 use std::test::Fail;
@@ -26,7 +26,7 @@ fn discarded_elsewhere<R: Threads + Wait>(
 }
 
 // How many read the object, as another thread sees it in a cell that both have.
-fn readers_elsewhere<R: Threads + Wait>(rt: &R, cell: Arc<Cell, Heap>) -> Result<usize, Fail> {
+fn readers_elsewhere<R: Threads + Wait>(rt: &R, cell: Arc<Cell, Room>) -> Result<usize, Fail> {
     let child = thread::spawn(rt, move || cell.readers().len())?;
     Ok(child.join(rt))
 }
@@ -50,7 +50,7 @@ fn a_cell_crosses_to_another_thread_and_back(rt: HostRuntime) -> Result<(), Fail
     let mut tree = ActionTree::new(heap);
     let top = tree.begin_top()?;
     let sub = tree.begin_sub(top)?;
-    let mut fields = Vec::new(heap);
+    let mut fields = Vec::new(heap.room());
     fields.push(Value::Int(1))?;
     let mut cell = Cell::new(heap, Some(Content::Rec(fields)));
     cell.reserve_grant()?;
@@ -58,7 +58,7 @@ fn a_cell_crosses_to_another_thread_and_back(rt: HostRuntime) -> Result<(), Fail
     let refusal = tree.commit_refusal(sub);
     assert_eq!(rt; refusal, None);
     cell.grant_read(&tree, sub);
-    let cell = Arc::new(heap, cell)?;
+    let cell = Arc::new(heap.room(), cell)?;
     assert_eq!(rt; readers_elsewhere(&rt, cell.clone()?)?, 1);
     let mut other = Cell::new(heap, None);
     other.reserve_grant()?;

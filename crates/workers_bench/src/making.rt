@@ -1,6 +1,6 @@
 //! The script that is run.
 
-use argus_memory::{Heap, OutOfMemory};
+use argus_memory::{Heap, OutOfMemory, Room};
 use std::fmt::Write;
 
 // How many records there are: a class of 125 for each of eight workers.
@@ -13,8 +13,8 @@ const ACCESSES: u32 = 4;
 
 /// A script with so many arms, each of which reads 4 records and sets them: those of its class, which
 /// is its number modulo 8.
-pub(crate) fn script_text(heap: Heap, arms: u32) -> Result<String<Heap>, OutOfMemory> {
-    let mut text = String::new(heap);
+pub(crate) fn script_text(heap: Heap, arms: u32) -> Result<String<Room>, OutOfMemory> {
+    let mut text = String::new(heap.room());
     declare_records(&mut text)?;
     create_records(&mut text)?;
     text.push_str("coenter\n")?;
@@ -25,14 +25,14 @@ pub(crate) fn script_text(heap: Heap, arms: u32) -> Result<String<Heap>, OutOfMe
     Ok(text)
 }
 
-fn declare_records(text: &mut String<Heap>) -> Result<(), OutOfMemory> {
+fn declare_records(text: &mut String<Room>) -> Result<(), OutOfMemory> {
     for record in 0..RECORDS {
         writeln!(text, "declare r{record} atomic_record[n:int]")?;
     }
     Ok(())
 }
 
-fn create_records(text: &mut String<Heap>) -> Result<(), OutOfMemory> {
+fn create_records(text: &mut String<Room>) -> Result<(), OutOfMemory> {
     text.push_str("enter topaction\n")?;
     for record in 0..RECORDS {
         writeln!(text, "create r{record} {{0}}")?;
@@ -41,7 +41,7 @@ fn create_records(text: &mut String<Heap>) -> Result<(), OutOfMemory> {
     Ok(())
 }
 
-fn write_arm(arm: u32, text: &mut String<Heap>) -> Result<(), OutOfMemory> {
+fn write_arm(arm: u32, text: &mut String<Room>) -> Result<(), OutOfMemory> {
     text.push_str("topaction\n")?;
     for access in 0..ACCESSES {
         let record = record_of(arm, access);

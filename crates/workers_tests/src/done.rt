@@ -1,6 +1,6 @@
 //! `Done`: a run that isn't settled yet.
 
-use argus_memory::Heap;
+use argus_memory::Room;
 use argus_sharing::{Seat, Sharing};
 use argus_workers::{RunFault, RunReport};
 
@@ -11,7 +11,7 @@ use argus_workers::{RunFault, RunReport};
 /// ```
 #[derive(Drop)]
 pub(crate) struct Done<N: Sharing> {
-    pub(crate) seats: Vec<Seat<N>, Heap>,
+    pub(crate) seats: Vec<Seat<N>, Room>,
     pub(crate) report: Result<RunReport, RunFault>,
     pub(crate) is_spent: bool,
 }

@@ -9,7 +9,7 @@ use crate::watched::Watched;
 use crate::watching::{brief_all, look_again, watch_all};
 use anyhow::Result;
 use argus_board::Looker;
-use argus_memory::Heap;
+use argus_memory::Room;
 use argus_sharing::{Parts, Seat, Shared, Sharing};
 use argus_workers::{Gate, RunFault, run_shared};
 use std::alloc::AllocError;
@@ -60,9 +60,9 @@ fn run_watched<
     plan: Plan<'_>,
     gate: &G,
     shared: &Shared<N, R>,
-    seats: Vec<Seat<N>, Heap>,
-    lookers: Vec<Looker<N>, Heap>,
-) -> (Result<Vec<Watched<N>, Heap>, AllocError>, Done<N>) {
+    seats: Vec<Seat<N>, Room>,
+    lookers: Vec<Looker<N>, Room>,
+) -> (Result<Vec<Watched<N>, Room>, AllocError>, Done<N>) {
     let texts = plan.setting.texts;
     let (watched, done) = join(
         rt,
@@ -76,7 +76,7 @@ fn run_seats<
     N: Sharing + Send + Sync,
     R: Threads + Wait + Copy + Drop + Send + Sync,
     G: Gate + Sync,
->(rt: &R, plan: Plan<'_>, gate: &G, shared: &Shared<N, R>, seats: Vec<Seat<N>, Heap>) -> Done<N> {
+>(rt: &R, plan: Plan<'_>, gate: &G, shared: &Shared<N, R>, seats: Vec<Seat<N>, Room>) -> Done<N> {
     let mut seats = seats;
     let (heap, script, patience) = (plan.setting.heap, plan.script, plan.patience);
     let workers = u32::from(plan.workers);

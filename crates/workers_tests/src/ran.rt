@@ -1,7 +1,7 @@
 //! `Ran`: a run that is settled.
 
 use argus_guardian::Guardian;
-use argus_memory::Heap;
+use argus_memory::Room;
 use argus_workers::{RunFault, RunReport};
 
 /// What came of a run: the guardian once it is settled, what was reported, how many calls each seat
@@ -15,6 +15,6 @@ use argus_workers::{RunFault, RunReport};
 pub(crate) struct Ran {
     pub(crate) guardian: Guardian,
     pub(crate) report: Result<RunReport, RunFault>,
-    pub(crate) made: String<Heap>,
+    pub(crate) made: String<Room>,
     pub(crate) is_spent: bool,
 }

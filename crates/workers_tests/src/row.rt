@@ -2,7 +2,7 @@
 
 use crate::hold::Hold;
 use crate::team::Team;
-use argus_memory::Heap;
+use argus_memory::{Heap, Room};
 use test_rows::{
     Block, Counted, RowFault, block_of, counted_of, first_word, spell_line, spelled_row,
 };
@@ -17,17 +17,17 @@ pub(crate) struct Row<'a> {
     pub(crate) name: &'a str,
     /// It is run with ample memory alone.
     pub(crate) is_large: bool,
-    pub(crate) teams: Vec<Team<'a>, Heap>,
+    pub(crate) teams: Vec<Team<'a>, Room>,
     pub(crate) patience: u32,
     pub(crate) lookers: u8,
-    pub(crate) holds: Vec<Hold, Heap>,
-    pub(crate) script: Vec<u8, Heap>,
+    pub(crate) holds: Vec<Hold, Room>,
+    pub(crate) script: Vec<u8, Room>,
     /// The calls with their replies in script order, a line each.
-    pub(crate) receipts: String<Heap>,
+    pub(crate) receipts: String<Room>,
     /// What became of each arm, a line each.
-    pub(crate) arms: String<Heap>,
+    pub(crate) arms: String<Room>,
     /// Settlements that are refused, a line each.
-    pub(crate) settlements: String<Heap>,
+    pub(crate) settlements: String<Room>,
     /// What is in the objects afterwards.
     pub(crate) bases: &'a str,
     /// The run is to be answered that memory is wanting.
@@ -57,14 +57,14 @@ impl<'a> Row<'a> {
         let mut row = Row {
             name,
             is_large,
-            teams: Vec::new(heap),
+            teams: Vec::new(heap.room()),
             patience: 0,
             lookers: 0,
-            holds: Vec::new(heap),
-            script: Vec::new(heap),
-            receipts: String::new(heap),
-            arms: String::new(heap),
-            settlements: String::new(heap),
+            holds: Vec::new(heap.room()),
+            script: Vec::new(heap.room()),
+            receipts: String::new(heap.room()),
+            arms: String::new(heap.room()),
+            settlements: String::new(heap.room()),
             bases: "",
             is_refused: false,
         };
@@ -117,8 +117,8 @@ impl<'a> Row<'a> {
 }
 
 // Adds what the line stands for, and a line feed.
-fn append_line(line: &str, out: &mut String<Heap>) -> Result<(), RowFault> {
-    let spelled = spelled_row(*out.allocator(), line)?;
+fn append_line(line: &str, out: &mut String<Room>) -> Result<(), RowFault> {
+    let spelled = spelled_row(out.allocator().heap(), line)?;
     out.push_str(spelled.as_str())?;
     out.push_str("\n")?;
     Ok(())

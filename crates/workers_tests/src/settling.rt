@@ -5,12 +5,12 @@ use anyhow::{Result, anyhow, bail, ensure};
 use argus_contents::ObjId;
 use argus_entries::Reply;
 use argus_guardian::Guardian;
-use argus_memory::{Heap, OutOfMemory};
+use argus_memory::{Heap, OutOfMemory, Room};
 use argus_sharing::{Receipt, Seat, Shared, Sharing, Unsettled};
 use std::sync::Wait;
 
 /// A shared guardian with its seats.
-type Held<N, R> = (Shared<N, R>, Vec<Seat<N>, Heap>);
+type Held<N, R> = (Shared<N, R>, Vec<Seat<N>, Room>);
 
 /// Settles with these receipts. Before that each settlement of the plan has to be refused: `twice`
 /// shows the first receipt twice, `forged` shows it with another reply, `short` leaves the last
@@ -18,7 +18,7 @@ type Held<N, R> = (Shared<N, R>, Vec<Seat<N>, Heap>);
 pub(crate) fn settle<N: Sharing, R: Wait + Drop>(
     plan: Plan<'_>,
     shared: Shared<N, R>,
-    seats: Vec<Seat<N>, Heap>,
+    seats: Vec<Seat<N>, Room>,
     receipts: &[Receipt],
 ) -> Result<Guardian> {
     let mut held = (shared, seats);
@@ -52,7 +52,7 @@ fn refused<N: Sharing, R: Wait + Drop>(
                 mut seats,
             },
         ) => {
-            let told = format!(in texts; "{fault}")?;
+            let told = format!(in texts.room(); "{fault}")?;
             ensure!(told.as_str() == wanted, "another fault: {fault}");
             if let Some(seat) = left_out {
                 seats.push(seat)?;
@@ -62,8 +62,8 @@ fn refused<N: Sharing, R: Wait + Drop>(
     }
 }
 
-fn shown_as(texts: Heap, receipts: &[Receipt], kind: &str) -> Result<Vec<Receipt, Heap>> {
-    let mut shown = Vec::new(texts);
+fn shown_as(texts: Heap, receipts: &[Receipt], kind: &str) -> Result<Vec<Receipt, Room>> {
+    let mut shown = Vec::new(texts.room());
     if let Some(first) = receipts.first() {
         match kind {
             "twice" => {

@@ -3,7 +3,7 @@
 use argus_contents::ObjId;
 use argus_entries::{Entry, write_entry};
 use argus_guardian::Guardian;
-use argus_memory::{Heap, OutOfMemory};
+use argus_memory::{Heap, OutOfMemory, Room};
 use argus_sharing::{Receipt, Seat, Sharing};
 use argus_workers::{ArmOutcome, RunReport};
 use std::fmt::Write;
@@ -13,8 +13,8 @@ use test_rows::{first_word, tell_action, tell_content, tell_number, tell_word};
 pub(crate) fn told_made<N: Sharing>(
     heap: Heap,
     seats: &[Seat<N>],
-) -> Result<String<Heap>, OutOfMemory> {
-    let mut out = String::new(heap);
+) -> Result<String<Room>, OutOfMemory> {
+    let mut out = String::new(heap.room());
     for seat in seats {
         tell_number(seat.made(), &mut out)?;
     }
@@ -22,8 +22,8 @@ pub(crate) fn told_made<N: Sharing>(
 }
 
 /// What is in the objects for good.
-pub(crate) fn told_bases(heap: Heap, guardian: &Guardian) -> Result<String<Heap>, OutOfMemory> {
-    let mut out = String::new(heap);
+pub(crate) fn told_bases(heap: Heap, guardian: &Guardian) -> Result<String<Room>, OutOfMemory> {
+    let mut out = String::new(heap.room());
     for number in 0..guardian.objects() {
         match guardian.base(ObjId(number)) {
             Some(base) => tell_content(base, &mut out)?,
@@ -34,15 +34,15 @@ pub(crate) fn told_bases(heap: Heap, guardian: &Guardian) -> Result<String<Heap>
 }
 
 /// What became of each arm, a line each.
-pub(crate) fn told_arms(heap: Heap, report: &RunReport) -> Result<String<Heap>, OutOfMemory> {
-    let mut out = String::new(heap);
+pub(crate) fn told_arms(heap: Heap, report: &RunReport) -> Result<String<Room>, OutOfMemory> {
+    let mut out = String::new(heap.room());
     for outcome in report.outcomes.as_slice() {
         tell_arm(*outcome, &mut out)?;
     }
     Ok(out)
 }
 
-fn tell_arm(outcome: ArmOutcome, out: &mut String<Heap>) -> Result<(), OutOfMemory> {
+fn tell_arm(outcome: ArmOutcome, out: &mut String<Room>) -> Result<(), OutOfMemory> {
     write!(out, "{} {}", outcome.coenter, outcome.arm)?;
     if let Some(action) = outcome.action {
         tell_action(action, out)?;
@@ -52,21 +52,21 @@ fn tell_arm(outcome: ArmOutcome, out: &mut String<Heap>) -> Result<(), OutOfMemo
 }
 
 /// Each call with its reply, in script order, a line each.
-pub(crate) fn told_receipts(heap: Heap, report: &RunReport) -> Result<String<Heap>, OutOfMemory> {
-    let mut out = String::new(heap);
+pub(crate) fn told_receipts(heap: Heap, report: &RunReport) -> Result<String<Room>, OutOfMemory> {
+    let mut out = String::new(heap.room());
     for receipt in report.receipts.as_slice() {
         tell_receipt(receipt, &mut out)?;
     }
     Ok(out)
 }
 
-fn tell_receipt(receipt: &Receipt, out: &mut String<Heap>) -> Result<(), OutOfMemory> {
-    let heap = *out.allocator();
+fn tell_receipt(receipt: &Receipt, out: &mut String<Room>) -> Result<(), OutOfMemory> {
+    let heap = out.allocator().heap();
     let entry = Entry {
         call: receipt.call.duplicate(heap)?,
         reply: receipt.reply.duplicate(heap)?,
     };
-    let mut line = String::new(heap);
+    let mut line = String::new(heap.room());
     write_entry(receipt.at, &entry, &mut line)?;
     let (_, told) = first_word(line.as_str());
     out.push_str(told)?;

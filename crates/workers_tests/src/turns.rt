@@ -2,7 +2,7 @@
 
 use crate::hold::Hold;
 use crate::place::Place;
-use argus_memory::{Heap, OutOfMemory};
+use argus_memory::{Heap, OutOfMemory, Room};
 use argus_workers::Gate;
 use std::sync::atomic::{AtomicU64, Ordering};
 use std::thread::yield_now;
@@ -24,9 +24,9 @@ const ARMS: u32 = 16;
 /// ```
 #[derive(Drop)]
 pub(crate) struct Turns {
-    holds: Vec<Hold, Heap>,
+    holds: Vec<Hold, Room>,
     // For each arm to how many of its steps it has come.
-    come: Vec<AtomicU64, Heap>,
+    come: Vec<AtomicU64, Room>,
     // How many times an arm was given up.
     given_up: AtomicU64,
     setting: Setting,
@@ -35,7 +35,7 @@ pub(crate) struct Turns {
 impl Turns {
     pub(crate) fn new(setting: Setting, holds: &[Hold]) -> Result<Turns, OutOfMemory> {
         let mut turns = Turns {
-            holds: Vec::new(setting.texts),
+            holds: Vec::new(setting.texts.room()),
             come: no_steps(setting.texts)?,
             given_up: AtomicU64::new(0),
             setting,
@@ -106,8 +106,8 @@ impl Gate for Turns {
 }
 
 // No arm has come to a step.
-fn no_steps(heap: Heap) -> Result<Vec<AtomicU64, Heap>, OutOfMemory> {
-    let mut come = Vec::new(heap);
+fn no_steps(heap: Heap) -> Result<Vec<AtomicU64, Room>, OutOfMemory> {
+    let mut come = Vec::new(heap.room());
     for _arm in 0..ARMS {
         come.push(AtomicU64::new(0))?;
     }

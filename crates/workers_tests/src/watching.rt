@@ -6,7 +6,7 @@ use anyhow::{Result, ensure};
 use argus_board::{LookFault, Looker};
 use argus_contents::{Content, ObjId};
 use argus_guardian::Guardian;
-use argus_memory::{Heap, OutOfMemory};
+use argus_memory::{Heap, OutOfMemory, Room};
 use argus_sharing::{Shared, Sharing};
 use std::alloc::AllocError;
 use std::sync::Wait;
@@ -23,8 +23,8 @@ const LOOKED_AT: [ObjId; 2] = [ObjId(0), ObjId(1)];
 pub(crate) fn watch_all<N: Sharing + Send + Sync, R: Threads + Wait + Drop + Send + Sync>(
     rt: &R,
     heap: Heap,
-    lookers: Vec<Looker<N>, Heap>,
-) -> Result<Vec<Watched<N>, Heap>, AllocError> {
+    lookers: Vec<Looker<N>, Room>,
+) -> Result<Vec<Watched<N>, Room>, AllocError> {
     map_vec(rt, lookers, &|looker| look_often(heap, looker))
 }
 
@@ -59,16 +59,16 @@ fn says_the_same(first: &Option<Content>, second: &Option<Content>) -> bool {
 }
 
 /// A looker that was briefed, and what it found then.
-pub(crate) type Briefed<N> = (Looker<N>, String<Heap>);
+pub(crate) type Briefed<N> = (Looker<N>, String<Room>);
 
 /// Each looker, once it is briefed and has looked once more. None may have found two things.
 pub(crate) fn brief_all<N: Sharing, R: Wait + Drop>(
     rt: &R,
     heap: Heap,
     shared: &Shared<N, R>,
-    watched: Vec<Watched<N>, Heap>,
-) -> Result<Vec<Briefed<N>, Heap>> {
-    let mut briefed = Vec::new(heap);
+    watched: Vec<Watched<N>, Room>,
+) -> Result<Vec<Briefed<N>, Room>> {
+    let mut briefed = Vec::new(heap.room());
     for one in watched {
         let Watched { mut looker, agrees } = one;
         ensure!(agrees, "a look finds two things");
@@ -84,7 +84,7 @@ pub(crate) fn brief_all<N: Sharing, R: Wait + Drop>(
 pub(crate) fn look_again<N: Sharing>(
     heap: Heap,
     guardian: &Guardian,
-    briefed: Vec<Briefed<N>, Heap>,
+    briefed: Vec<Briefed<N>, Room>,
 ) -> Result<()> {
     let bases = told_bases(heap, guardian)?;
     for (mut looker, found) in briefed {
@@ -103,8 +103,8 @@ pub(crate) fn look_again<N: Sharing>(
     Ok(())
 }
 
-fn told_look<N: Sharing>(heap: Heap, looker: &mut Looker<N>) -> Result<String<Heap>, OutOfMemory> {
-    let mut out = String::new(heap);
+fn told_look<N: Sharing>(heap: Heap, looker: &mut Looker<N>) -> Result<String<Room>, OutOfMemory> {
+    let mut out = String::new(heap.room());
     match looker.look(heap, &LOOKED_AT) {
         Ok(found) => tell_contents(found.as_slice(), &mut out)?,
         Err(LookFault::Closed) => tell_word("closed", &mut out)?,
@@ -113,7 +113,7 @@ fn told_look<N: Sharing>(heap: Heap, looker: &mut Looker<N>) -> Result<String<He
     Ok(out)
 }
 
-fn tell_contents(found: &[Option<Content>], out: &mut String<Heap>) -> Result<(), OutOfMemory> {
+fn tell_contents(found: &[Option<Content>], out: &mut String<Room>) -> Result<(), OutOfMemory> {
     for content in found {
         tell_content(content, out)?;
     }

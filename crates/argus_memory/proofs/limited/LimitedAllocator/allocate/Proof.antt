@@ -38,8 +38,8 @@ use Rattle.std.proofs.alloc.Calls.{Al, α, seen, Answer, answer_val, Answer-type
 use Rattle.std.proofs.alloc.Calls.{Takes, at_takes, Answered, Takes-goes, Takes-gives, answers}
 use Rattle.std.proofs.alloc.Shapes.{after}
 use Rattle.argus_memory.proofs.Asks.{Asks, at_asks, Asks-goes}
-use Rattle.argus_memory.proofs.budget.is_spent.Symbol as c_sym
-use Rattle.argus_memory.proofs.budget.is_spent.Met as c_met
+use Rattle.argus_memory.proofs.count.is_spent.Symbol as c_sym
+use Rattle.argus_memory.proofs.count.is_spent.Met as c_met
 use Rattle.std.proofs.Common.{Bool, ap}
 use base.Fml.{fsep}
 use types.Kit.{some, pick, feq_l, at_ret}
@@ -113,9 +113,9 @@ module _ (Z : Al) {M : Type 1} {𝓤 : Ura M} (𝓛 : Logic 𝓤) (at_mem : Memo
           enter ! 𝓣.C 𝓣.Λ (here Z) vs _ $ alloc_all ! (λ l. pass_all ! refl
           ((tt, tt), ((tt, record { fits = fn }), ((tt, record { fits = fa }), tt))) $
           sets ! (addr ! (through ! refl (fld ! refl (stop !)))) refl (tt, tt) $
-          use2 𝓛 (raw ((Asks 𝓛 at_mem run).pre (at_asks 𝓛 at_mem run κ₁ q₁ r.now.budget c)))
-          (Asks-goes 𝓛 at_mem run κ₁ q₁ r.now.budget c) $
-          calls_at ! (fm_of 𝓤 H 𝓛.laws 𝓣) (Asks 𝓛 at_mem run) kn (at_asks 𝓛 at_mem run κ₁ q₁ r.now.budget c)
+          use2 𝓛 (raw ((Asks 𝓛 at_mem run).pre (at_asks 𝓛 at_mem run κ₁ q₁ r.now.count c)))
+          (Asks-goes 𝓛 at_mem run κ₁ q₁ r.now.count c) $
+          calls_at ! (fm_of 𝓤 H 𝓛.laws 𝓣) (Asks 𝓛 at_mem run) kn (at_asks 𝓛 at_mem run κ₁ q₁ r.now.count c)
           (and_then ! (get ! refl) (no_more !)) (λ u.
           use1 𝓛 (later (some (λ (spent : Bool). ((‵ (flft κ₁ q₁) ⊛ ‵ ftrue) ⊛ ‵ (bool.own_val spent (u ∷ []))) ⊛ some
           (λ (ws : Unit {0} × Unit {0}). ‵ (fsep ftrue ftrue) ⊛ ‵ ftrue)))) (id⊢ 𝓤 _) $
@@ -177,5 +177,5 @@ allocate_spec 𝓤 𝓛 𝓜 𝓡 wired Y L g d d' met _ =
     (λ κs. ((λ r vs s. s.0), (uint_Tells w64, (uint_Tells w64, tt))))
     (λ κs qs bounds a τ are. walk Z 𝓛 𝓜.mem 𝓡.returns 𝓣 (met.allocate d')
     (cited 𝓤 𝓛.H _ 𝓜 𝓡 𝓡.env c_sym.name (𝓡.env c_sym.name) refl
-    (c_met.met 𝓤 𝓛 𝓜 𝓡 (code.calls-argus_memory::budget::is_spent 𝓡.env wired)))
+    (c_met.met 𝓤 𝓛 𝓜 𝓡 (code.calls-argus_memory::count::is_spent 𝓡.env wired)))
     κs.0 κs.1.0 qs.0 qs.1.0 bounds.0 a.0 a.1.0 a.1.1.0 τ are.1.0.1 are.1.1.0.1)))

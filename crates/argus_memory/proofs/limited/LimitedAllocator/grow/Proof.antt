@@ -41,8 +41,8 @@ use Rattle.std.proofs.alloc.Calls.{Al, α, seen, token, Answer, answer_val, Answ
 use Rattle.std.proofs.alloc.Resizes.{Grows, resize_key, Resizes, at_resizes, left_by, Resizes-goes, Resizes-gives}
 use Rattle.std.proofs.alloc.Resizes.{result_of, result_own, asked, heard_all}
 use Rattle.argus_memory.proofs.Asks.{Asks, at_asks, Asks-goes}
-use Rattle.argus_memory.proofs.budget.is_spent.Symbol as c_sym
-use Rattle.argus_memory.proofs.budget.is_spent.Met as c_met
+use Rattle.argus_memory.proofs.count.is_spent.Symbol as c_sym
+use Rattle.argus_memory.proofs.count.is_spent.Met as c_met
 use Rattle.argus_memory.specs.contracts.limited.Limited as wrapper
 use Rattle.argus_memory.specs.contracts.limited.LimitedAllocator.grow as F
 use Rattle.argus_memory.specs.contracts.limited.LimitedAllocator.grow.Key as key
@@ -137,7 +137,7 @@ module _ (Z : Al) (X : RattleType) {M : Type 1} {𝓤 : Ura M} (𝓛 : Logic �
         split ! $ split3 ! $ move ! (2 ∷ []) $ split ! $ move ! (4 ∷ []) $ fsplit ! $ fsplit ! $ move ! (1 ∷ [])
         $ unhide ! $ fsplit ! $ fsplit ! $ use1 𝓛 (‵ (seen Z κ₁ p h)) (id⊢ 𝓤 _) $
         move ! (1 ∷ []) $ fsplit ! $ keep ! (0 ∷ 8 ∷ 2 ∷ 10 ∷ 6 ∷ 9 ∷ []) $
-        -- [the budget; κ₁'s token; the inner handle; the block; κT's and κ₂'s tokens]
+        -- [the count; κ₁'s token; the inner handle; the block; κT's and κ₂'s tokens]
         enter ! 𝓣.C 𝓣.Λ (here Z X) (vs x) _ $ alloc_all ! (λ l. pass_all ! refl (
           (tt, tt),
           (
@@ -149,9 +149,9 @@ module _ (Z : Al) (X : RattleType) {M : Type 1} {𝓤 : Ura M} (𝓛 : Logic �
           ),
         ) $
         sets ! (addr ! (through ! refl (fld ! refl (stop !)))) refl (tt, tt) $
-        use2 𝓛 (raw ((Asks 𝓛 at_mem run).pre (at_asks 𝓛 at_mem run κ₁ q₁ r.now.budget c)))
-        (Asks-goes 𝓛 at_mem run κ₁ q₁ r.now.budget c) $
-        calls_at ! (fm_of 𝓤 H 𝓛.laws 𝓣) (Asks 𝓛 at_mem run) kn (at_asks 𝓛 at_mem run κ₁ q₁ r.now.budget c)
+        use2 𝓛 (raw ((Asks 𝓛 at_mem run).pre (at_asks 𝓛 at_mem run κ₁ q₁ r.now.count c)))
+        (Asks-goes 𝓛 at_mem run κ₁ q₁ r.now.count c) $
+        calls_at ! (fm_of 𝓤 H 𝓛.laws 𝓣) (Asks 𝓛 at_mem run) kn (at_asks 𝓛 at_mem run κ₁ q₁ r.now.count c)
         (and_then ! (get ! refl) (no_more !)) (λ u.
         use1 𝓛 (later (some (λ (spent : Bool). ((‵ (flft κ₁ q₁) ⊛ ‵ ftrue) ⊛ ‵ (bool.own_val spent (u ∷ []))) ⊛ some
         (λ (ws : Unit {0} × Unit {0}). ‵ (fsep ftrue ftrue) ⊛ ‵ ftrue)))) (id⊢ 𝓤 _) $
@@ -221,6 +221,6 @@ grow_spec 𝓤 𝓛 𝓜 𝓡 wired Y X LY L g d d' met _ =
     (λ κs. ((λ r vs s. s.0), (rawptr_Tells, (uint_Tells w64, (uint_Tells w64, (uint_Tells w64, tt))))))
     (λ κs qs bounds a xs are. walk Z X 𝓛 𝓜.mem 𝓡.returns 𝓣 (met.grow d' X L)
     (cited 𝓤 𝓛.H _ 𝓜 𝓡 𝓡.env c_sym.name (𝓡.env c_sym.name) refl
-    (c_met.met 𝓤 𝓛 𝓜 𝓡 (code.calls-argus_memory::budget::is_spent 𝓡.env wired)))
+    (c_met.met 𝓤 𝓛 𝓜 𝓡 (code.calls-argus_memory::count::is_spent 𝓡.env wired)))
     κs.0 κs.1.0 κs.1.1.0 qs.0 qs.1.0 qs.1.1.0 bounds.0 a.0 a.1.1.0 a.1.1.1.0 a.1.1.1.1.0 xs are.1.1.0.1
     are.1.1.1.0.1 are.1.1.1.1.0.1 a.1.0)))
