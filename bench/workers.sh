@@ -15,7 +15,7 @@ set -euo pipefail
 export LC_ALL=C
 
 top=$(cd "$(dirname "$0")/.." && pwd)
-program=$top/crates/workers_bench/out/workers_bench
+program=$top/crates/argus_bench/out/argus_bench
 peers=${PEERS:-}
 most=4
 reps=${REPS:-5}
@@ -24,7 +24,7 @@ trap 'rm -r "$figures"' EXIT
 
 # ours WORKERS: one run
 ours() {
-    "$program" 10000 "$1" | sed 's/.*ns_each=//' >> "$figures/ours-$1"
+    "$program" 10000 "arms:$1" | sed 's/.*ns_each=//; s/ .*//' >> "$figures/ours-$1"
 }
 
 # theirs THREADS: one run of the peer
@@ -39,7 +39,7 @@ median() {
 }
 
 mkdir -p "$top/build"
-(cd "$top/crates/workers_bench" && rt run > "$top/build/workers_bench.log")
+(cd "$top/crates/argus_bench" && rt run > "$top/build/argus_bench.log")
 for _ in $(seq "$reps"); do
     for workers in 1 2 4 8; do
         ours "$workers"

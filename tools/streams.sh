@@ -5,7 +5,7 @@
 set -u
 top=$(cd "$(dirname "$0")/.." && pwd)
 program=$top/crates/argus/out/argus
-script=$top/crates/argus_examples/data/account.argus
+script=$top/examples/account.argus
 told=$(mktemp)
 trap 'rm -f "$told"' EXIT
 # A write to a pipe that nobody reads is answered, and doesn't end the program.

@@ -8,7 +8,7 @@ top=$(cd "$(dirname "$0")/.." && pwd)
 room=$(mktemp -d)
 trap 'rm -r "$room"' EXIT
 cp "$top/crates/argus/out/argus" "$room/argus"
-cp "$top/crates/argus_examples/data/visitors.argus" "$room/script"
+cp "$top/examples/visitors.argus" "$room/script"
 chmod -R a+rX "$room"
 wrong=0
 

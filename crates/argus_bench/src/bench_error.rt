@@ -1,7 +1,9 @@
 //! `BenchError`: why a run gave no figure.
 
+use argus_commands::ParseError;
 use argus_contents::{NameError, ShapeFault};
 use argus_memory::OutOfMemory;
+use argus_runs::RunFault;
 use std::alloc::{AllocError, AllocFailed};
 use std::io;
 use thiserror::Error;
@@ -65,5 +67,20 @@ impl From<NameError> for BenchError {
 impl From<ShapeFault> for BenchError {
     fn from(_fault: ShapeFault) -> BenchError {
         BenchError::BadShape
+    }
+}
+
+impl From<ParseError> for BenchError {
+    fn from(error: ParseError) -> BenchError {
+        match error {
+            ParseError::Fault(_) => BenchError::OtherReply,
+            ParseError::Memory => BenchError::OutOfMemory,
+        }
+    }
+}
+
+impl From<RunFault> for BenchError {
+    fn from(_fault: RunFault) -> BenchError {
+        BenchError::OutOfMemory
     }
 }

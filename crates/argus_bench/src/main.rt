@@ -1,10 +1,12 @@
 //! Times a guardian's calls: `argus_bench TURNS WORK..`.
 //!
 //! With no words it makes a small run of each work, and prints what the calls have read and left.
-//! `bench/guardian.sh` and `bench/shared.sh` print the figures, beside those of a guardian by hand
-//! where there is one.
+//! `bench/guardian.sh`, `bench/shared.sh` and `bench/workers.sh` print the figures, beside those of a
+//! guardian by hand where there is one.
 #![tactic(auto)]
 
+mod arm_script;
+mod arm_timing;
 mod bench_error;
 mod callee;
 mod circle;
@@ -66,12 +68,17 @@ or one of these, on a shared guardian of 1,000 records:
   busy:N     N lookers look at 2 records again and again, for so many milliseconds, while a
              topaction after the other sets 2 records: 4 calls; the looks, and the commits
   idle:N     the same, while nothing happens
+  arms:N     a script of so many arms, up to 10,000, run by N workers of 1 to 8 on a guardian
+             without records: it creates 1,000 in one topaction, and each arm reads 4 of them
+             and sets them: 10 calls; arms of different workers, of 1, 2, 4 or 8, share none.
+             The calls: threads and the test of the receipts are timed with them
   publishes  no guardian, and the board alone: what a topaction leaves that has set 2 records
              is published
 
 It prints WORK PART n=N ns_each=NANOSECONDS sum=SUM for each part that is timed. The sum is
 that of what was read and of what the objects then hold, each times its place; of own and hot
-that of what the records hold; of busy and idle the looks that didn't show one number twice.";
+that of what the records hold; of busy and idle the looks that didn't show one number twice;
+of arms the calls.";
 
 // The turns of the small runs.
 const SMALL: u32 = 20;
@@ -91,6 +98,10 @@ const WORKS: &[&str] = &[
     "hot:2",
     "busy:2",
     "idle:1",
+    "arms:1",
+    "arms:2",
+    "arms:4",
+    "arms:8",
     "publishes",
 ];
 

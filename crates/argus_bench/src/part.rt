@@ -23,6 +23,8 @@ pub(crate) enum Part {
     Looks,
     /// What is published on a board.
     Publishes,
+    /// The calls of a script that workers run.
+    Calls,
 }
 
 impl fmt::Display for Part {
@@ -37,6 +39,7 @@ impl fmt::Display for Part {
             Part::Commits => "commits",
             Part::Looks => "looks",
             Part::Publishes => "publishes",
+            Part::Calls => "calls",
         })
     }
 }

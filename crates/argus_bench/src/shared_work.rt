@@ -21,6 +21,8 @@ pub(crate) enum SharedWork {
     Busy(u8),
     /// So many lookers, while nothing happens.
     Idle(u8),
+    /// A script of many arms, run by so many workers.
+    Arms(u8),
 }
 
 impl FromStr for SharedWork {
@@ -45,6 +47,7 @@ fn of_count(name: &str, count: u8) -> Result<SharedWork, BenchError> {
         "hot" => Ok(SharedWork::Hot(count)),
         "busy" => Ok(SharedWork::Busy(count)),
         "idle" => Ok(SharedWork::Idle(count)),
+        "arms" => Ok(SharedWork::Arms(count)),
         _ => Err(BenchError::UnknownWork),
     }
 }
@@ -61,7 +64,9 @@ impl SharedWork {
     pub(crate) fn seats(self) -> u8 {
         match self {
             SharedWork::Turns(_) | SharedWork::Busy(_) | SharedWork::Idle(_) => 1,
-            SharedWork::Own(threads) | SharedWork::Hot(threads) => threads.saturating_add(1),
+            SharedWork::Own(threads) | SharedWork::Hot(threads) | SharedWork::Arms(threads) => {
+                threads.saturating_add(1)
+            }
         }
     }
 
@@ -78,7 +83,8 @@ impl SharedWork {
     /// How many lookers it takes.
     pub(crate) fn lookers(self) -> u8 {
         match self {
-            SharedWork::Turns(_) | SharedWork::Own(_) | SharedWork::Hot(_) => 0,
+            SharedWork::Turns(_) | SharedWork::Own(_) | SharedWork::Hot(_) | SharedWork::Arms(_) =>
+                0,
             SharedWork::Busy(lookers) | SharedWork::Idle(lookers) => lookers,
         }
     }

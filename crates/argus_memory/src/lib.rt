@@ -19,8 +19,6 @@ mod count;
 mod heap;
 mod limited;
 mod out_of_memory;
-#[cfg(test)]
-mod tests;
 
 pub use budget::Budget;
 pub use heap::Heap;

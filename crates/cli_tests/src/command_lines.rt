@@ -6,7 +6,7 @@ use argus_memory::OutOfMemory;
 use std::alloc::Global;
 use std::fmt::Write;
 
-// The words of a row, parted by blanks.
+// The words of a command line, parted by blanks.
 pub(crate) fn words_of(alloc: Global, row: &str) -> Result<Vec<String>> {
     let mut words = Vec::new(alloc);
     for word in row.split(' ') {

@@ -1,109 +1,72 @@
-//! Scripts, run and listed: for each test of data/ what a run answers and writes is compared; then
-//! each allocation, each read and each write fails in turn.
+//! The program's parts, from the command line to the picture, by the rows in data/: scripts with what
+//! is listed, command lines, and listings with what comes of their pictures; and the example scripts,
+//! as their comments say. What isn't answered as its row says is told, and the status is then 1.
 #![tactic(auto)]
 
-ghost use Rattle.std.specs.Prelude.{IfOk};
-ghost use Rattle.argus_cli.specs.Ranges.{KeepsRanges};
-
 mod command_lines;
+mod drawing;
+mod examples;
 mod heaps;
+mod pictures;
 mod row;
+mod scripts;
 mod trial;
 
-use anyhow::{Result, bail, ensure};
-use argus_cli::{CliFault, Options, options};
-use argus_memory::OutOfMemory;
-use command_lines::{check_command_lines, words_of};
+use anyhow::{Result, ensure};
+use argus_cli::CliFault;
+use command_lines::check_command_lines;
+use examples::tell_examples;
 use heaps::Heaps;
-use row::Row;
+use pictures::check_pictures;
+use scripts::check_scripts;
 use std::alloc::Global;
 use std::fs;
-use std::sync::Wait;
-use std::thread::Threads;
-use trial::{check_listing, check_memory, check_reader, check_writer};
-
-// The files of scripts in data/.
-const TEXTS: [&str; 4] = [
-    "listings.rows",
-    "faults.rows",
-    "limits.rows",
-    "workers.rows",
-];
+use std::io::Print;
+use std::rt::Files;
 
 fn main(rt: HostRuntime) -> Result<()> {
     let heaps = Heaps::new(rt.alloc())?;
-    check_statuses()?;
-    let mut refused = 0u64;
-    for name in TEXTS {
-        let text = fs::read_to_string(&rt, name)?;
-        refused = refused.saturating_add(check_text(&rt, rt.alloc(), heaps, text.as_str())?);
-    }
-    ensure!(refused > 100, "too few allocations are refused");
-    let text = fs::read_to_string(&rt, "command_lines.rows")?;
-    println!(rt;
-        "{} command lines",
-        check_command_lines(rt.alloc(), text.as_str())?
-    )?;
+    let is_status = tell_end(&rt, check_statuses())?;
+    let is_listed = tell_end(&rt, check_scripts(&rt, rt.alloc(), heaps))?;
+    let is_asked = tell_end(&rt, check_asked(&rt, rt.alloc()))?;
+    let is_example = tell_end(&rt, tell_examples(&rt, rt.alloc(), heaps.texts))?;
+    let is_drawn = tell_end(&rt, check_drawn(&rt, heaps))?;
+    ensure!(
+        is_status && is_listed && is_asked && is_example && is_drawn,
+        "not all rows are answered as they say"
+    );
     Ok(())
 }
 
-// Runs the scripts of a text. Answers how many allocations were refused.
-fn check_text<T: Threads + Wait + Print + Copy + Drop + Send + Sync>(
-    rt: &T,
-    alloc: Global,
-    heaps: Heaps,
-    text: &str,
-) -> Result<u64> {
-    let mut refused = 0u64;
-    for block in text.split("\n\n") {
-        match Row::of_block(heaps.texts, block) {
-            Ok(Some(row)) => {
-                rt.print(format_args!("{}:", row.name))?;
-                let here = check_row(rt, alloc, heaps, &row)?;
-                rt.println(format_args!(" {} lines", row.lines))?;
-                refused = refused.saturating_add(here);
-            }
-            Ok(None) => {}
-            Err(_) => bail!("lines that are no test"),
-        }
-    }
-    Ok(refused)
-}
-
-// Runs the row's script in all ways. Answers how many allocations were refused in turn.
-fn check_row<T: Threads + Wait + Copy + Drop + Send + Sync>(
-    rt: &T,
-    alloc: Global,
-    heaps: Heaps,
-    row: &Row<'_>,
-) -> Result<u64> {
-    let asked = asked_by(alloc, row)?;
-    check_listing(rt, alloc, heaps.texts, row, asked)?;
-    if row.is_large {
-        return Ok(0);
-    }
-    check_reader(rt, heaps.texts, row, asked)?;
-    check_writer(rt, heaps.texts, row, asked)?;
-    if asked.patience > 0 {
-        // An arm that is refused memory keeps its locks, and who waits for them waits for ever.
-        return Ok(0);
-    }
-    check_memory(rt, heaps, row, asked)
-}
-
-fn asked_by(alloc: Global, row: &Row<'_>) -> Result<Options>
-    ensures { IfOk result KeepsRanges }
-{
-    match options(alloc, words_of(alloc, row.words)?) {
-        Ok(asked) => Ok(asked),
-        Err(_) => Err(OutOfMemory)?,
-    }
-}
-
-// The statuses and texts of the faults that tell nothing of a script.
+// The statuses of the faults that tell nothing of a script.
 fn check_statuses() -> Result<()> {
     ensure!(CliFault::Memory.status() == 4, "the status of memory");
     ensure!(CliFault::Read.status() == 5, "the status of a read");
     ensure!(CliFault::Write.status() == 5, "the status of a write");
     Ok(())
+}
+
+fn check_asked<T: Files + Print + Alloc>(rt: &T, alloc: Global) -> Result<()> {
+    let text = fs::read_to_string(rt, "command_lines.rows")?;
+    let rows = check_command_lines(alloc, text.as_str())?;
+    rt.println(format_args!("{rows} command lines"))?;
+    Ok(())
+}
+
+fn check_drawn<T: Files + Print + Alloc>(rt: &T, heaps: Heaps) -> Result<()> {
+    let text = fs::read_to_string(rt, "pictures.rows")?;
+    let rows = check_pictures(heaps, text.as_str())?;
+    rt.println(format_args!("{rows} listings for pictures"))?;
+    Ok(())
+}
+
+// Tells what is wrong where a part ended early. Answers whether the part went through.
+fn tell_end(rt: &impl Print, part: Result<()>) -> Result<bool> {
+    match part {
+        Ok(()) => Ok(true),
+        Err(error) => {
+            rt.println(format_args!("{error}"))?;
+            Ok(false)
+        }
+    }
 }

@@ -1,7 +1,7 @@
 //! What questions are answered, as text.
 
+use crate::object_telling::{tell_base, tell_readers, tell_shape, tell_versions};
 use crate::question::Question;
-use crate::telling::{tell_base, tell_readers, tell_shape, tell_versions};
 use argus_actions::ActionId;
 use argus_contents::{Content, ObjId};
 use argus_entries::write_entry;

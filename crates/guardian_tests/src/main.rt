@@ -1,29 +1,51 @@
-//! Guardians worked out: makes the calls and asks the questions of the rows in data/, and tells
-//! for each test how many rows it has; then makes the calls of most tests once more, by the seat of
-//! a shared guardian. A row that isn't answered as it says is told, and the status is then 1.
+//! Guardians worked out: tells the rows in data/ to a guardian by itself, to one that threads share
+//! and to one that a host of another language holds, and has threads work at once. A row that isn't
+//! answered as it says is told, and the status is then 1, once all parts are through.
 #![tactic(auto)]
 
+mod alone;
 mod answering;
 mod asking;
+mod caller;
+mod crowd;
+mod host;
+mod hundred;
 mod listing;
+mod making;
+mod object_telling;
 mod picture;
+mod playing;
 mod question;
-mod reading;
+mod repeating;
+mod request_reading;
 mod row;
+mod row_reading;
+mod session;
+mod shared_reading;
+mod shared_row;
+mod shared_telling;
+mod shared_testing;
 mod sharing;
-mod telling;
+mod tally;
+mod task;
 mod tested_guardian;
+mod waiting;
+mod watching;
 
 use anyhow::{Result, ensure};
-use sharing::repeat_tests;
+use host::Host;
+use repeating::repeat_tests;
 use std::fs;
-use std::io::Print;
+use std::rt::Files;
 use std::sync::Wait;
+use std::thread::Threads;
+use tally::Tally;
 use test_rows::{Setting, Tester};
 use tested_guardian::TestedGuardian;
 
-// The files in data/, and whether their calls are made once more, by the seat of a shared guardian.
-const TEXTS: [(&str, bool); 9] = [
+// The files in data/ for a guardian by itself, and whether their calls are made once more, by the
+// seat of a shared one.
+const ALONE: [(&str, bool); 9] = [
     ("locks.rows", true),
     ("ends.rows", true),
     ("contents.rows", true),
@@ -35,37 +57,70 @@ const TEXTS: [(&str, bool); 9] = [
     ("memory.rows", false),
 ];
 
+// Those for shared guardians.
+const SHARED: [&str; 3] = ["lookers.rows", "settling.rows", "waiting.rows"];
+
+// Those for a guardian that a host holds.
+const HELD: [&str; 2] = ["host_calls.rows", "host_questions.rows"];
+
 fn main(rt: HostRuntime) -> Result<()> {
     let setting = Setting::new(rt.alloc())?;
-    let mut tester = Tester::<TestedGuardian>::new(rt.alloc())?;
-    let mut repeated = 0u32;
-    for (name, is_repeated) in &TEXTS {
-        let text = fs::read_to_string(&rt, *name)?;
-        let here = run_text(rt, setting, &mut tester, text.as_str(), *is_repeated)?;
-        repeated = repeated.saturating_add(here);
-    }
-    tell_end(&rt, &tester, repeated)
+    let is_alone_right = test_alone(rt, setting)?;
+    let is_shared_right = test_shared(rt, setting)?;
+    let is_held_right = test_held(&rt)?;
+    ensure!(
+        is_alone_right && is_shared_right && is_held_right,
+        "not all rows are answered as they say"
+    );
+    Ok(())
 }
 
-// Answers how many tests were made once more.
-fn run_text<R: Print + Wait + Copy + Drop>(
+// Answers whether all rows are answered as they say, as the next two do.
+fn test_alone<R: Threads + Wait + Files + Print + AllocGlobal + Copy + Drop + Send + Sync>(
     rt: R,
     setting: Setting,
-    tester: &mut Tester<TestedGuardian>,
-    text: &str,
-    is_repeated: bool,
-) -> Result<u32> {
-    tester.run_text(&rt, text)?;
-    if is_repeated {
-        repeat_tests(rt, setting, text)
-    } else {
-        Ok(0)
+) -> Result<bool> {
+    rt.println("a guardian by itself:")?;
+    let mut tester = Tester::<TestedGuardian>::new(rt.alloc())?;
+    let mut repeated = 0u32;
+    for (name, is_repeated) in &ALONE {
+        let text = fs::read_to_string(&rt, *name)?;
+        tester.run_text(&rt, text.as_str())?;
+        if *is_repeated {
+            let here = repeat_tests(rt, setting, text.as_str())?;
+            repeated = repeated.saturating_add(here);
+        }
     }
+    tester.tell_counts(&rt)?;
+    println!(rt; "{repeated} tests once more, by the seat of a shared guardian")?;
+    Ok(tester.is_content())
 }
 
-fn tell_end(rt: &impl Print, tester: &Tester<TestedGuardian>, repeated: u32) -> Result<()> {
+fn test_shared<R: Threads + Wait + Files + Print + AllocGlobal + Copy + Drop + Send + Sync>(
+    rt: R,
+    setting: Setting,
+) -> Result<bool> {
+    rt.println("a guardian that threads share:")?;
+    let mut tally = Tally::new();
+    for name in SHARED {
+        let text = fs::read_to_string(&rt, name)?;
+        shared_testing::run_text(rt, setting, text.as_str(), &mut tally)?;
+    }
+    hundred::commit_within_budgets(rt, setting)?;
+    rt.println("commits_of_a_hundred_objects_are_refused_memory")?;
+    crowd::work(rt, setting)?;
+    rt.println("eight_seats_and_four_lookers")?;
+    tally.tell(&rt)?;
+    Ok(tally.is_content())
+}
+
+fn test_held(rt: &(impl Files + Print + AllocGlobal)) -> Result<bool> {
+    rt.println("a guardian that a host holds:")?;
+    let mut tester = Tester::<Host>::new(rt.alloc())?;
+    for name in HELD {
+        let text = fs::read_to_string(rt, name)?;
+        tester.run_text(rt, text.as_str())?;
+    }
     tester.tell_counts(rt)?;
-    println!(rt; "{repeated} tests once more, by the seat of a shared guardian")?;
-    ensure!(tester.is_content(), "not all rows are answered as they say");
-    Ok(())
+    Ok(tester.is_content())
 }

@@ -1,7 +1,7 @@
 //! All that a guardian tells, as one text.
 
 use crate::answering::tell_entry;
-use crate::telling::{tell_base, tell_readers, tell_shape, tell_versions};
+use crate::object_telling::{tell_base, tell_readers, tell_shape, tell_versions};
 use argus_contents::ObjId;
 use argus_guardian::Guardian;
 use argus_memory::{Heap, OutOfMemory, Room};

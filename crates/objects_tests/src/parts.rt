@@ -1,6 +1,6 @@
 //! `Parts`: a tree, a cell and lists of locks, which rows are told to.
 
-use crate::asking::answer_question;
+use crate::cell_asking::answer_question;
 use crate::granting::answer_grant;
 use crate::listing::answer_list;
 use crate::moving::answer_move;

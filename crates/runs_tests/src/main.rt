@@ -1,117 +1,86 @@
-//! Scripts, run: for each test of data/scripts.rows the lines that its run writes are compared, the
-//! run is made with each allocation refused in turn, and with a writer that is full after each byte.
+//! Scripts, parsed and run, and receipts, held against scripts, by the rows in data/: what a script
+//! says, the lines that a run writes, and what receipts show, are compared, with ample memory and with
+//! each allocation refused in turn. What isn't answered as its row says is told, and the status is
+//! then 1.
 #![tactic(auto)]
 
-ghost use Rattle.std.specs.Prelude.{◌≡◌, false};
-ghost use Rattle.argus_streams.specs.Watched.{has_failed};
-
-mod row;
+mod frame;
+mod line_row;
+mod operation_telling;
+mod outline;
+mod receipt_reading;
+mod run_row;
+mod running;
+mod script_telling;
+mod showing;
+mod shown_row;
+mod subject;
+mod tester;
+mod tight_subject;
+mod trial;
 
 use anyhow::{Result, ensure};
-use argus_commands::parse;
-use argus_guardian::Guardian;
-use argus_memory::Heap;
-use argus_runs::{RunFault, run_serial};
-use argus_streams::Watched;
-use row::Row;
+use argus_shown::what_is_shown_is_told;
+use std::alloc::Global;
 use std::fs;
-use std::io::Write;
-use test_rows::{Full, Setting};
+use std::io::Print;
+use std::rt::Files;
+use test_rows::Setting;
+use tester::Tester;
 
-// More allocations than any run here makes.
-const MANY: u64 = 2_000;
+// The files of scripts that are parsed.
+const PARSED: [&str; 7] = [
+    "scripts.rows",
+    "lines.rows",
+    "places.rows",
+    "accesses.rows",
+    "words.rows",
+    "order.rows",
+    "limits.rows",
+];
 
 fn main(rt: HostRuntime) -> Result<()> {
+    what_is_shown_is_told();
     let setting = Setting::new(rt.alloc())?;
-    let text = fs::read_to_string(&rt, "scripts.rows")?;
-    for block in text.as_str().split("\n\n") {
-        if let Some(row) = Row::of_block(block) {
-            check_lines(setting.texts, row)?;
-            let refused = check_memory(setting, row)?;
-            check_writer(setting.texts, row)?;
-            ensure!(refused > 3, "too few allocations are refused");
-            println!(rt; "{}: {} lines", row.name, row.lines.lines().count())?;
-        }
-    }
-    Ok(())
-}
-
-// Runs the row's script on an empty guardian.
-fn run_row<W: Write + Drop>(
-    heap: Heap,
-    tight: Heap,
-    row: Row<'_>,
-    writer: &mut Watched<W>,
-) -> Result<Option<RunFault>>
-    requires { has_failed writer.old ≡ false }
-{
-    let script = parse(heap, row.script.as_bytes())?;
-    let mut guardian = Guardian::new(tight);
-    Ok(run_serial(tight, &mut guardian, &script, writer).err())
-}
-
-fn check_lines(heap: Heap, row: Row<'_>) -> Result<()> {
-    let mut writer = Watched::new(Vec::new(heap.room()));
-    let fault = run_row(heap, heap, row, &mut writer)?;
-    ensure!(fault.is_none(), "a run failed");
+    let is_parsed = check_parsed(&rt, rt.alloc())?;
+    let is_run = tell_end(&rt, check_run(&rt, setting))?;
+    let is_shown = tell_end(&rt, check_shown(&rt, setting))?;
     ensure!(
-        writer.get_ref().starts_with(row.lines.as_bytes()),
-        "other lines are written"
+        is_parsed && is_run && is_shown,
+        "not all rows are answered as they say"
     );
-    let more = writer.get_ref().len().saturating_sub(row.lines.len());
-    ensure!(more <= 1, "more lines are written");
     Ok(())
 }
 
-// How many allocations were refused in turn.
-fn check_memory(setting: Setting, row: Row<'_>) -> Result<u64> {
-    for n in 0..MANY {
-        let mut writer = Watched::new(Vec::new(setting.texts.room()));
-        setting.allowing(n).limit();
-        let fault = run_row(setting.texts, setting.heap, row, &mut writer)?;
-        setting.lift();
-        ensure!(
-            is_front(writer.get_ref().as_slice(), row.lines),
-            "other lines are written"
-        );
-        match fault {
-            None => return Ok(n),
-            Some(RunFault::Memory) => {}
-            Some(RunFault::Write) => ensure!(false, "no write failed"),
+// Whether each script says, once parsed, what its row says.
+fn check_parsed<T: Files + Print + Alloc>(rt: &T, alloc: Global) -> Result<bool> {
+    let mut tester = Tester::new(alloc)?;
+    for name in PARSED {
+        let text = fs::read_to_string(rt, name)?;
+        tester.run_text(rt, text.as_str())?;
+    }
+    tester.tell_counts(rt)?;
+    Ok(tester.is_content())
+}
+
+fn check_run<T: Files + Print + Alloc>(rt: &T, setting: Setting) -> Result<()> {
+    let text = fs::read_to_string(rt, "runs.rows")?;
+    running::check_text(rt, setting, text.as_str())
+}
+
+fn check_shown<T: Files + Print + Alloc>(rt: &T, setting: Setting) -> Result<()> {
+    let text = fs::read_to_string(rt, "shown.rows")?;
+    showing::check_text(rt, setting, text.as_str())
+}
+
+// Tells what is wrong with the row at which a part ended, behind that row's name. Answers whether the
+// part went through.
+fn tell_end(rt: &impl Print, part: Result<()>) -> Result<bool> {
+    match part {
+        Ok(()) => Ok(true),
+        Err(error) => {
+            rt.println(format_args!("{error}"))?;
+            Ok(false)
         }
     }
-    Ok(MANY)
-}
-
-fn check_writer(heap: Heap, row: Row<'_>) -> Result<()> {
-    for room in 0..row.lines.len() {
-        let mut writer = Watched::new(Full {
-            taken: Vec::new(heap.room()),
-            room,
-            fails: room % 2 == 0,
-            writes_behind: 0,
-        });
-        let fault = run_row(heap, heap, row, &mut writer)?;
-        ensure!(
-            fault == Some(RunFault::Write),
-            "the writer's fault isn't told"
-        );
-        ensure!(writer.has_failed(), "the writer has failed");
-        ensure!(
-            writer.get_ref().writes_behind == 1,
-            "a write was tried again"
-        );
-        ensure!(writer.get_ref().taken.len() == room, "bytes are lacking");
-        ensure!(
-            is_front(writer.get_ref().taken.as_slice(), row.lines),
-            "other bytes"
-        );
-    }
-    Ok(())
-}
-
-// Whether the bytes are the front of the lines. The row lacks the last line feed.
-fn is_front(bytes: &[u8], lines: &str) -> bool {
-    let all = lines.as_bytes();
-    all.starts_with(bytes) || bytes.starts_with(all)
 }

@@ -1,0 +1,147 @@
+//! `Host`: who calls an embedded guardian, as the rows say.
+
+use crate::request_reading::{question_of, request_of};
+use argus_embed::{EmbedError, Embedded, Outcome};
+use argus_memory::{Heap, OutOfMemory, Room};
+use std::fmt::Write;
+use std::str::from_utf8;
+use test_rows::{RowFault, Setting, Subject, first_word, tell_word};
+
+// No text in the rows is so long.
+const ROOM: usize = 1_024;
+
+/// Who calls an embedded guardian, as the rows say. After an error the same text has to be kept.
+///
+/// ```text
+/// let mut host = Host::new(setting);
+/// let told = host.answer(setting, "call 1 0 0 0 0")?;             // `2 0`: action 0 was begun
+/// ```
+#[derive(Drop)]
+pub(crate) struct Host {
+    bank: Embedded,
+}
+
+impl Subject for Host {
+    fn new(setting: Setting) -> Host {
+        Host {
+            bank: Embedded::new(setting.heap),
+        }
+    }
+
+    fn answer(&mut self, setting: Setting, asked: &str) -> Result<String<Room>, RowFault> {
+        let (word, rest) = first_word(asked);
+        let before = self.kept(setting.texts)?;
+        let told = match word {
+            "call" => {
+                let (request, text) = request_of(rest)?;
+                setting.limit();
+                self.bank.call(&request, text)
+            }
+            "tell" => match question_of(rest)? {
+                Some(question) => {
+                    setting.limit();
+                    self.bank.tell(question)
+                }
+                None => Err(EmbedError::BadKind),
+            },
+            "checkpoint" => {
+                setting.limit();
+                self.bank.checkpoint().map(|()| Outcome::Done)
+            }
+            "beside" => {
+                self.bank = self.bank.beside();
+                Ok(Outcome::Done)
+            }
+            "room" => return self.copied(setting, rest),
+            _ => return Err(RowFault::NotSpelled),
+        };
+        setting.lift();
+        self.told(setting.texts, told, before.as_str())
+    }
+}
+
+impl Host {
+    // The two numbers, and the text that is kept where a call was made.
+    fn told(
+        &self,
+        texts: Heap,
+        told: Result<Outcome, EmbedError>,
+        before: &str,
+    ) -> Result<String<Room>, RowFault> {
+        let kept = self.kept(texts)?;
+        match told {
+            Ok(outcome) => {
+                let mut out = codes_text(texts, outcome.codes())?;
+                if has_text(outcome) {
+                    tell_word(kept.as_str(), &mut out)?;
+                }
+                Ok(out)
+            }
+            Err(_) if kept.as_str() != before => Err(RowFault::Changed),
+            Err(EmbedError::OutOfMemory) => Err(RowFault::OutOfMemory),
+            Err(error) => Ok(codes_text(texts, error.codes())?),
+        }
+    }
+
+    // The size that is told for so much room, with the text or `too small`; or `none`.
+    fn copied(&self, setting: Setting, room: &str) -> Result<String<Room>, RowFault> {
+        let size = room.parse::<usize>()?;
+        let mut buffer = Vec::from_elem(setting.texts.room(), b'?', size)?;
+        setting.limit();
+        let copied = self.bank.reply(buffer.as_mut_slice());
+        setting.lift();
+        let mut out = String::new(setting.texts.room());
+        match copied? {
+            None => out.push_str("none")?,
+            Some(needed) if needed <= buffer.len() => {
+                write!(out, "{needed} ")?;
+                push_lines(&buffer[..needed], &mut out)?;
+            }
+            Some(needed) => {
+                write!(out, "{needed} too small")?;
+                push_lines(buffer.as_slice(), &mut out)?;
+            }
+        }
+        Ok(out)
+    }
+
+    // The text that is kept, or `none`; `nothing` where it is empty.
+    fn kept(&self, texts: Heap) -> Result<String<Room>, OutOfMemory> {
+        let mut room = Vec::from_elem(texts.room(), 0u8, ROOM)?;
+        let mut out = String::new(texts.room());
+        match self.bank.reply(room.as_mut_slice())? {
+            Some(0) => out.push_str("nothing")?,
+            Some(size) if size <= ROOM => push_lines(&room[..size], &mut out)?,
+            Some(_) => out.push_str("too long")?,
+            None => out.push_str("none")?,
+        }
+        Ok(out)
+    }
+}
+
+fn has_text(outcome: Outcome) -> bool {
+    matches!(outcome, Outcome::Value | Outcome::Content | Outcome::Text)
+}
+
+fn codes_text(texts: Heap, codes: (u32, i64)) -> Result<String<Room>, OutOfMemory> {
+    let mut out = String::new(texts.room());
+    write!(out, "{} {}", codes.0, codes.1)?;
+    Ok(out)
+}
+
+// The text, with a bar for each line's end.
+fn push_lines(bytes: &[u8], out: &mut String<Room>) -> Result<(), OutOfMemory> {
+    let Ok(text) = from_utf8(bytes) else {
+        return tell_word("no text", out);
+    };
+    for piece in text.split_inclusive('\n') {
+        match piece.strip_suffix('\n') {
+            Some(line) => {
+                out.push_str(line)?;
+                out.push_str("|")?;
+            }
+            None => out.push_str(piece)?,
+        }
+    }
+    Ok(())
+}

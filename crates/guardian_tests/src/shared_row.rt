@@ -1,0 +1,44 @@
+//! `SharedRow`: what a row of a shared guardian asks for.
+
+use argus_contents::ObjId;
+use argus_entries::{Call, Reply};
+use argus_memory::Room;
+
+/// What a row asks for, before its arrow. Seats, lookers and receipts have numbers from 0 on.
+///
+/// ```text
+/// let row = row_of(setting, "wait 3 commit a0")?;     // SharedRow::Call { patience: Some(3), .. }
+/// ```
+#[derive(Drop)]
+pub(crate) enum SharedRow {
+    /// A call by a seat. With a patience it waits while it would be refused `Conflict`.
+    Call {
+        seat: usize,
+        patience: Option<u32>,
+        call: Call,
+    },
+    /// A look at these objects.
+    Look {
+        looker: usize,
+        objects: Vec<ObjId, Room>,
+    },
+    Brief {
+        looker: usize,
+    },
+    Refresh,
+    Checkpoint,
+    /// How many calls the seat has made.
+    Made {
+        seat: usize,
+    },
+    /// Puts a reply in the place of the receipt's own.
+    Forge {
+        receipt: usize,
+        reply: Reply,
+    },
+    /// Calls that seat 0 makes while seat 1 waits in another thread.
+    While {
+        calls: Vec<Call, Room>,
+        patience: u32,
+    },
+}

@@ -1,0 +1,43 @@
+//! `Task`: what is done with a shared guardian, from its sharing to its settling.
+
+use crate::crowd::have_all_work;
+use crate::hundred::{OneCommit, commit_once};
+use crate::playing::{Play, play_rows};
+use crate::repeating::{Repetition, repeat_once};
+use anyhow::Result;
+use argus_guardian::Guardian;
+use argus_memory::Heap;
+use argus_sharing::{Parts, Sharing};
+use std::io::Print;
+use std::sync::Wait;
+use std::thread::Threads;
+
+/// What is done with a shared guardian, from its sharing to its settling.
+///
+/// ```text
+/// let guardian = share(rt, setting, false, guardian, 8, 4, &mut Task::Crowd(heap))?;
+/// ```
+#[derive(Drop)]
+pub(crate) enum Task<'a> {
+    /// Rows are told to it.
+    Play(Play<'a>),
+    /// An action commits, within so many allocations.
+    Commit(OneCommit),
+    /// All seats and lookers work at once, with receipts in this heap.
+    Crowd(Heap),
+    /// One seat makes the calls in a journal once more.
+    Repeat(Repetition<'a>),
+}
+
+/// Does it, and gives the guardian back once it is settled.
+pub(crate) fn perform<
+    N: Sharing + Send + Sync,
+    R: Threads + Wait + Print + Copy + Drop + Send + Sync,
+>(rt: R, parts: Parts<N, R>, task: &mut Task<'_>) -> Result<Guardian> {
+    match task {
+        Task::Play(play) => play_rows(rt, parts, play),
+        Task::Commit(commit) => commit_once(rt, parts, commit),
+        Task::Crowd(heap) => have_all_work(rt, parts, *heap),
+        Task::Repeat(repetition) => repeat_once(rt, parts, repetition),
+    }
+}

@@ -1,0 +1,30 @@
+//! `LineRow`: a line of a script that is parsed, and what comes of it.
+
+/// A row of a test: what stands at `LINE` in its script, and what comes of it.
+///
+/// ```text
+/// let row = row_of("read x -> ask o0 whole");
+/// ```
+#[derive(Clone, Copy)]
+pub(crate) struct LineRow<'a> {
+    pub(crate) line: &'a str,
+    pub(crate) answer: &'a str,
+}
+
+/// The row that this line of a test is; None where it is none, as a comment and as a line of what
+/// all scripts of the test have in common.
+pub(crate) fn row_of<'a>(line: &'a str) -> Option<LineRow<'a>> {
+    if line.starts_with('#') || line.starts_with('|') || line.starts_with('=') {
+        return None;
+    }
+    let (line, answer) = line.split_once(" -> ").unwrap_or((line, "no answer"));
+    Some(LineRow { line, answer })
+}
+
+/// The row of a test that has none: its script is whole without.
+pub(crate) fn no_row() -> LineRow<'static> {
+    LineRow {
+        line: "",
+        answer: "",
+    }
+}

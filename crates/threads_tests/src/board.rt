@@ -1,0 +1,73 @@
+//! One thread publishes, and another looks.
+
+ghost use Rattle.std.specs.Prelude.{[], None, ◌≡◌};
+ghost use Rattle.argus_board.specs.Effects.{Leads};
+ghost use Rattle.argus_board.specs.Keeper.{Opens};
+
+use crate::effects::{effect, number_at};
+use argus_board::{Board, BoardWriter, Keeper, LookFault, Looker};
+use argus_contents::ObjId;
+use argus_memory::{Heap, OutOfMemory};
+use std::marker::Brand;
+use std::process::Abort;
+use std::sync::Wait;
+use std::test::Fail;
+use std::thread::{Threads, join};
+
+const TURNS: i64 = 1000;
+
+#[test]
+fn one_publishes_and_one_looks(rt: HostRuntime) -> Result<(), Fail> {
+    let heap = Heap::new(rt.alloc())?;
+    publish_and_look::<Brand, _>(rt, heap, Keeper::new())
+}
+
+fn publish_and_look<N: Board + Send + Sync, R: Threads + Wait + Abort + Copy + Drop + Send + Sync>(
+    rt: R,
+    heap: Heap,
+    keeper: Keeper,
+) -> Result<(), Fail>
+    requires keeper { Opens N.history N.root keeper }
+    requires first { N.first ≡ [] }
+    requires leads { Leads N.opening N.before N.first }
+{
+    let board = BoardWriter::<N, R>::new(rt, heap, Vec::new(heap.room()), keeper, 1)?;
+    let looker = board.looker()?;
+    let (published, looked) = join(
+        &rt,
+        move || publish_often(heap, board),
+        move || look_often(heap, looker),
+    );
+    let mut board = published?;
+    let (mut looker, same) = looked?;
+    assert!(rt; same);
+    board.brief(&mut looker)?;
+    let found = looker.look(heap, &[ObjId(0), ObjId(3), ObjId(7)])?;
+    assert_eq!(rt; number_at(&found, 0), Some(TURNS));
+    assert_eq!(rt; number_at(&found, 1), Some(TURNS));
+    assert_eq!(rt; number_at(&found, 2), None);
+    board.end();
+    assert_eq!(rt; looker.look(heap, &[]).map(|_| ()), Err(LookFault::Closed));
+    Ok(())
+}
+
+fn publish_often<N: Board, R: Wait + Drop>(
+    heap: Heap,
+    mut board: BoardWriter<N, R>,
+) -> Result<BoardWriter<N, R>, OutOfMemory> {
+    for turn in 1..TURNS + 1 {
+        board.append(effect(heap, &[0, 3], turn)?)?;
+        board.publish()?;
+    }
+    Ok(board)
+}
+
+// Whether each look gave one number twice.
+fn look_often<N: Board>(heap: Heap, mut looker: Looker<N>) -> Result<(Looker<N>, bool), LookFault> {
+    let mut same = true;
+    for _turn in 0..TURNS {
+        let found = looker.look(heap, &[ObjId(0), ObjId(3)])?;
+        same = same && number_at(&found, 0) == number_at(&found, 1);
+    }
+    Ok((looker, same))
+}
