@@ -1,4 +1,5 @@
 -- The number of live children stays within its bounds.
+use Rattle.std.proofs.lemmas.Grind.{common_steps}
 use Rattle.std.proofs.Common.{◌+◌, ◌-◌, length, ap, arith}
 use Rattle.argus_actions.specs.Row.{under_of}
 use Rattle.argus_actions.proofs.NodesLemmas.{some_node}
@@ -24,3 +25,6 @@ overflow_add-above-in-Nested c =
       child_fits c.args.first c.args.nodes.now c.in-Nested.creator (c.in-Nested.creator - c.args.first)
           some_node c.requires.nodes (omega (arith, between.0)) (omega (arith, between.0, between.1)),
     )
+
+pub returns-in-Nested : goal.returns-in-Nested
+returns-in-Nested c = grind (arith, common_steps)

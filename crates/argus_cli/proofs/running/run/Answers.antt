@@ -1,5 +1,5 @@
 -- Where a script was read but not run, nothing was written; the fault is the script's, or memory was wanting.
-use Rattle.std.proofs.Common.{◌+◌}
+use Rattle.std.proofs.Common.{◌+◌, rules}
 use Rattle.argus_commands.specs.declared.limits.TheConstants.{MAX_SCRIPT_BYTES}
 use Rattle.argus_streams.specs.Watched.{has_failed, inner_of}
 use Rattle.argus_cli.proofs.Runs.{failed_before}
@@ -11,3 +11,9 @@ returns-clause-failed g c = failed_before c.in-Err.fault c.args.options (MAX_SCR
     (has_failed c.read_up_to.new.reader) (g.W.Write.contents (inner_of c.args.writer.now))
     (has_failed c.args.writer.now) c.in-Ok.bytes.items c.in-Ok.ensures.read
     (rw c.as_slice.ensures.value at c.in-Err.ensures.fault)
+
+pub returns-in-Ok-run_bytes-clause-ran : goal.returns-in-Ok-run_bytes-clause-ran
+returns-in-Ok-run_bytes-clause-ran g c = search rules
+
+pub returns-in-Err-OutOfMemory-clause-failed : goal.returns-in-Err-OutOfMemory-clause-failed
+returns-in-Err-OutOfMemory-clause-failed g c = search rules

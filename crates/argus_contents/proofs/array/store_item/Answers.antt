@@ -1,5 +1,6 @@
 -- An item that is written.
-use Rattle.std.proofs.Common.{◌≡◌, length, arith, w64}
+use Rattle.std.proofs.lemmas.Grind.{common_steps}
+use Rattle.std.proofs.Common.{◌≡◌, length, arith, w64, rules}
 use Rattle.std.proofs.lemmas.Int.{to_z-of_z}
 use mir.Val.{SFits}
 use Rattle.argus_contents.proofs.Arrays.{stored}
@@ -12,3 +13,9 @@ returns-in-Some c =
     let index_fits : SFits w64 c.args.index = c.ranges.index in
     let size : c.len.result ≡ length vs = omega arith in
     stored vs c.args.low c.args.index c.in-Some.place c.args.value (rw size at (simp to_z-of_z at c.in-Some.ensures))
+
+pub index_mut-requires : goal.index_mut-requires
+index_mut-requires c = search rules
+
+pub returns-in-None : goal.returns-in-None
+returns-in-None c = grind (arith, common_steps)

@@ -1,4 +1,5 @@
 -- What a trim leaves where it is made.
+use Rattle.std.proofs.lemmas.Grind.{common_steps}
 use Rattle.std.proofs.Common.{◌≡◌, length, arith, rules, w64, None, Some, ap, sym}
 use Rattle.std.proofs.lemmas.List.{length-map}
 use Rattle.std.proofs.lemmas.Int.{to_z-of_z}
@@ -26,3 +27,12 @@ returns c =
     rw (length-map c.args.items.now.items plain_value, may, to_z-of_z w64 from from_fits)
     (ap (λ xs. (Some (arr from xs), done)) (kept_items c.args.items.now.items _ _ _ _ _ _ place_is c.drop_first.ensures
     count_is c.truncate.ensures.items))
+
+pub trim_refusal-requires : goal.trim_refusal-requires
+trim_refusal-requires c = search rules
+
+pub returns-in-Some : goal.returns-in-Some
+returns-in-Some c = grind (arith, common_steps)
+
+pub drop_first-requires : goal.drop_first-requires
+drop_first-requires c = search rules

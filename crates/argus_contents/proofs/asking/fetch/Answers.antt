@@ -1,4 +1,5 @@
 -- An item is found at the place of its index.
+use Rattle.std.proofs.lemmas.Grind.{common_steps}
 use Rattle.std.proofs.Common.{◌≡◌, length, arith, w64}
 use Rattle.std.proofs.lemmas.Int.{to_z-of_z}
 use mir.Val.{SFits}
@@ -13,3 +14,6 @@ returns-in-Some c =
     let size : c.len.result ≡ length vs = omega arith in
     let place = rw size at (simp to_z-of_z at c.in-Some.ensures) in
     rw (item-at-place vs c.args.low c.args.index c.in-Some.place place, ← c.item_at.ensures) c.value_or_signal.ensures
+
+pub returns-in-None : goal.returns-in-None
+returns-in-None c = grind (arith, common_steps)

@@ -1,5 +1,6 @@
 -- Lists of other lengths don't say the same, and the names of structs and oneofs decide.
-use Rattle.std.proofs.Common.{sym}
+use Rattle.std.proofs.lemmas.Grind.{common_steps}
+use Rattle.std.proofs.Common.{sym, arith}
 use Rattle.argus_contents.proofs.Levels.{plain_ty-Choice, plain_ty-Fields}
 use Rattle.argus_contents.proofs.Lists.{other_names}
 use Rattle.argus_contents.proofs.ty.+same.Goals as goal
@@ -30,3 +31,6 @@ is_same-returns-in-Choice-Choice t c =
       ← c.deref-in-Choice-Choice.ensures.value,
       ← c.deref-in-Choice-Choice-2.ensures.value,
     ) c.are_same-in-Choice-Choice.ensures
+
+pub are_same-loop-i-preserved : goal.are_same-loop-i-preserved
+are_same-loop-i-preserved t c = grind (arith, common_steps)

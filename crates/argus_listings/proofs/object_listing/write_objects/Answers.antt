@@ -1,5 +1,5 @@
 -- One name after another is taken, its object's lines made, and the text written out if it is long.
-use Rattle.std.proofs.Common.{arith, subst, string_bytes, ◌≡◌, ◌+◌}
+use Rattle.std.proofs.Common.{arith, subst, string_bytes, ◌≡◌, ◌+◌, rules}
 use Rattle.std.specs.Prelude.{slice_get}
 use Rattle.argus_listings.proofs.Added.{on_err}
 use Rattle.argus_listings.proofs.Each.{each_cut, each_next, each_stops, taken}
@@ -58,3 +58,6 @@ overflow_add-o g c =
       c.loop-name-test.true,
       c.declared_names-name-items.ensures.few,
     )
+
+pub loop-name-init : goal.loop-name-init
+loop-name-init g c = search rules

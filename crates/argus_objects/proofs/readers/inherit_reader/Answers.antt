@@ -1,5 +1,5 @@
 -- The reader that went leaves room for the parent.
-use Rattle.std.proofs.Common.{◌<◌, length, not, eqb, sym, ◌∙◌, ap, arith}
+use Rattle.std.proofs.Common.{◌<◌, length, not, eqb, sym, ◌∙◌, ap, arith, rules}
 use Rattle.argus_actions.specs.declared.action_id.ActionId.{ActionId}
 use Rattle.argus_objects.specs.Moves.{is_reader, without_reader}
 use Rattle.argus_objects.proofs.InOrder.{fewer_readers}
@@ -26,3 +26,6 @@ add_reader-requires c =
       ascending = rw c.drop_reader.ensures.readers (ascending_filter (λ (x : ActionId). not (eqb x.0 c.args.s.0))
           xs c.requires);
     }
+
+pub returns-then-has_reader : goal.returns-then-has_reader
+returns-then-has_reader c = search rules

@@ -1,4 +1,6 @@
 -- Where the begin of an arm stops, its state is a beginning of what the begin of all comes to.
+use Rattle.std.proofs.Common.{arith, rules}
+use Rattle.std.proofs.lemmas.Grind.{common_steps}
 use Rattle.argus_commands.specs.Part.{plain_steps}
 use Rattle.argus_runs.specs.Running.{begin_all}
 use Rattle.argus_runs.proofs.Early.{begins_early, on_err}
@@ -39,3 +41,51 @@ returns-in_err-push-clause-early g c =
     c.loop-arm.begun.items c.args.within s (g.C.Caller.state c.loop-arm.caller) t
     c.loop-arm-test.true c.arm-item.is (c.loop-arm.invariant.2 known)
     (rw (c.in_ok-action.ensures.told known) (l.same t)))
+
+pub loop-arm-init : goal.loop-arm-init
+loop-arm-init g c = search rules
+
+pub offset_bounds-arms-arm-index : goal.offset_bounds-arms-arm-index
+offset_bounds-arms-arm-index g c = search rules
+
+pub begin_arm-requires : goal.begin_arm-requires
+begin_arm-requires g c = search rules
+
+pub returns-in_err-action-clause-ready : goal.returns-in_err-action-clause-ready
+returns-in_err-action-clause-ready g c = search rules
+
+pub returns-in_err-action-clause-kept : goal.returns-in_err-action-clause-kept
+returns-in_err-action-clause-kept g c = search rules
+
+pub returns-in_err-action-clause-begun : goal.returns-in_err-action-clause-begun
+returns-in_err-action-clause-begun g c = search rules
+
+pub returns-in_err-action-clause-len : goal.returns-in_err-action-clause-len
+returns-in_err-action-clause-len g c = search rules
+
+pub returns-in_err-push-clause-ready : goal.returns-in_err-push-clause-ready
+returns-in_err-push-clause-ready g c = search rules
+
+pub returns-in_err-push-clause-kept : goal.returns-in_err-push-clause-kept
+returns-in_err-push-clause-kept g c = search rules
+
+pub returns-in_err-push-clause-begun : goal.returns-in_err-push-clause-begun
+returns-in_err-push-clause-begun g c = search rules
+
+pub returns-in_err-push-clause-len : goal.returns-in_err-push-clause-len
+returns-in_err-push-clause-len g c = search rules
+
+pub loop-arm-preserved : goal.loop-arm-preserved
+loop-arm-preserved g c = grind (arith, common_steps)
+
+pub returns-clause-ready : goal.returns-clause-ready
+returns-clause-ready g c = search rules
+
+pub returns-clause-kept : goal.returns-clause-kept
+returns-clause-kept g c = search rules
+
+pub returns-clause-begun : goal.returns-clause-begun
+returns-clause-begun g c = grind (arith, common_steps)
+
+pub returns-clause-len : goal.returns-clause-len
+returns-clause-len g c = search rules

@@ -1,4 +1,6 @@
 -- Where a step stops, its state is a beginning of what the whole script comes to.
+use Rattle.std.proofs.Common.{arith, rules}
+use Rattle.std.proofs.lemmas.Grind.{common_steps}
 use Rattle.argus_commands.specs.Script.{plain_script}
 use Rattle.argus_runs.specs.Running.{run_script}
 use Rattle.argus_runs.proofs.Early.{on_err, tops_early}
@@ -23,3 +25,27 @@ returns-in_err-run_at_top-clause-early g c =
     c.steps-step-items.result.now c.loop-step.step-index c.step-item.result m (g.C.Caller.state c.loop-step.caller) u
     c.loop-step-test.true c.step-item.is (c.loop-step.invariant.1 known)
     (rw c.shapes.ensures at (c.in_err-run_at_top.ensures.early known adds)))
+
+pub loop-step-init : goal.loop-step-init
+loop-step-init g c = search rules
+
+pub offset_bounds-step-items-step-index : goal.offset_bounds-step-items-step-index
+offset_bounds-step-items-step-index g c = search rules
+
+pub run_at_top-requires : goal.run_at_top-requires
+run_at_top-requires g c = search rules
+
+pub returns-in_err-run_at_top-clause-ready : goal.returns-in_err-run_at_top-clause-ready
+returns-in_err-run_at_top-clause-ready g c = search rules
+
+pub returns-in_err-run_at_top-clause-told : goal.returns-in_err-run_at_top-clause-told
+returns-in_err-run_at_top-clause-told g c = search rules
+
+pub returns-clause-ready : goal.returns-clause-ready
+returns-clause-ready g c = search rules
+
+pub returns-clause-kept : goal.returns-clause-kept
+returns-clause-kept g c = search rules
+
+pub returns-clause-told : goal.returns-clause-told
+returns-clause-told g c = grind (arith, common_steps)

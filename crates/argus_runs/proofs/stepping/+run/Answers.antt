@@ -1,5 +1,5 @@
 -- Where a step, an arm, a begin or a test stops, its state is a beginning of what the whole comes to.
-use Rattle.std.proofs.Common.{Some}
+use Rattle.std.proofs.Common.{Some, rules}
 use Rattle.argus_commands.specs.Part.{block, plain_steps}
 use Rattle.argus_commands.specs.declared.opening.Opening.TheVariants as opening
 use Rattle.argus_runs.specs.Replies.{named, test_call}
@@ -133,3 +133,9 @@ run_if-returns-in_err-reply-clause-early g t c =
     (plain_steps c.args.body.now) c.args.action
     (parts_grow g.C.Caller.State g.C.Caller.begins g.C.Caller.reply g.C.Caller.hand l c.args.numbers.now (plain_steps
     c.args.body.now))))
+
+pub run_body-returns-clause-told : goal.run_body-returns-clause-told
+run_body-returns-clause-told g t c = search rules
+
+pub run_begun-loop-i-init : goal.run_begun-loop-i-init
+run_begun-loop-i-init g t c = search rules

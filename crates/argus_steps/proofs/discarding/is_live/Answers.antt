@@ -1,5 +1,5 @@
 -- A status tells whether the action is live.
-use Rattle.std.proofs.Common.{Some, ap, sym, ◌∙◌}
+use Rattle.std.proofs.Common.{Some, ap, sym, ◌∙◌, rules}
 use Rattle.argus_steps.proofs.Sweeps.{has_live_status, live_at_is}
 use Rattle.argus_steps.proofs.discarding.is_live.Goals as goal
 
@@ -8,3 +8,6 @@ returns-in-Some-Folded c =
     sym
     (live_at_is c.args.tree.now c.args.a.0
     ∙ sym (ap has_live_status (ap Some (sym c.in-Some-Folded.field-0-is) ∙ sym c.in-Some-Folded.is ∙ c.status.ensures)))
+
+pub returns-in-Some-Committed : goal.returns-in-Some-Committed
+returns-in-Some-Committed c = search rules

@@ -1,4 +1,5 @@
 -- Each write goes on where the one before it stopped.
+use Rattle.std.proofs.lemmas.Grind.{common_steps}
 use Rattle.std.proofs.Common.{length-drop, arith}
 use Rattle.std.proofs.lemmas.List.{take_rest}
 use Rattle.argus_streams.proofs.Bytes.{appends_more}
@@ -16,3 +17,6 @@ loop-at-preserved g c =
           (g.W.Write.contents (inner_of c.write_once.new.self))
           c.args.bytes.now c.loop-at.at c.in-Some.n c.loop-at.invariant.written some.2;
     }
+
+pub returns-clause-ok : goal.returns-clause-ok
+returns-clause-ok g c = grind (arith, common_steps)

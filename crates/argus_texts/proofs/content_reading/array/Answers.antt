@@ -1,5 +1,6 @@
 -- Where each part of an array stops.
-use Rattle.std.proofs.Common.{sym, subst}
+use Rattle.std.proofs.lemmas.Grind.{common_steps}
+use Rattle.std.proofs.Common.{sym, subst, arith, rules}
 use Rattle.std.proofs.lemmas.Result.{err_from_is_err_and}
 use Rattle.argus_texts.specs.Language.{Stops}
 use Rattle.argus_texts.specs.Languages.{Contents}
@@ -32,3 +33,24 @@ returns-in_err-items-clause-stops c =
     (λ left s. items_stops 16 c.args.text.now c.in_ok-low.low c.in_ok-low.rest.now c.in_ok-rest.rest.now left
     (neither c.args.text.now c.requires.0 c.requires.1) c.in_ok-low.ensures.read c.in_ok-rest.ensures.read s)
     c.in_err-items.ensures.stops)
+
+pub returns-in_err-low-clause-read : goal.returns-in_err-low-clause-read
+returns-in_err-low-clause-read c = search rules
+
+pub expect-requires-text-text : goal.expect-requires-text-text
+expect-requires-text-text c = search rules
+
+pub returns-in_err-rest-clause-read : goal.returns-in_err-rest-clause-read
+returns-in_err-rest-clause-read c = search rules
+
+pub inside-requires-text-text : goal.inside-requires-text-text
+inside-requires-text-text c = search rules
+
+pub returns-in_err-items-clause-read : goal.returns-in_err-items-clause-read
+returns-in_err-items-clause-read c = search rules
+
+pub fact_in-rest : goal.fact_in-rest
+fact_in-rest c = search rules
+
+pub returns-clause-read : goal.returns-clause-read
+returns-clause-read c = grind (arith, common_steps)

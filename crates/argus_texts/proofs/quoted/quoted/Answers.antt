@@ -1,5 +1,6 @@
 -- What was read so far stands between the opening quote and the rest.
-use Rattle.std.proofs.Common.{◌++◌, ◌∷◌, string_bytes, sym, ap, ◌∙◌, subst}
+use Rattle.std.proofs.lemmas.Grind.{common_steps}
+use Rattle.std.proofs.Common.{◌++◌, ◌∷◌, string_bytes, sym, ap, ◌∙◌, subst, arith, rules}
 use Rattle.std.proofs.lemmas.Result.{err_from_is_err_and}
 use Rattle.std.proofs.lemmas.Str.{IsUtf8-string_bytes}
 use Rattle.argus_texts.specs.Language.{Stops}
@@ -69,3 +70,42 @@ loop-read-preserved c =
           c.in_ok-character.behind.now r e c.in_ok-character.ensures.read c.in_ok-push_str-2.ensures.bytes;
       utf8 = c.in_ok-character.ensures.shorter.1;
     }
+
+pub loop-read-init : goal.loop-read-init
+loop-read-init c = search rules
+
+pub split_plain-requires-text-text : goal.split_plain-requires-text-text
+split_plain-requires-text-text c = search rules
+
+pub push_str-requires-text-string : goal.push_str-requires-text-string
+push_str-requires-text-string c = search rules
+
+pub returns-in_err-push_str-clause-read : goal.returns-in_err-push_str-clause-read
+returns-in_err-push_str-clause-read c = search rules
+
+pub returns-in_err-push_str-clause-stops : goal.returns-in_err-push_str-clause-stops
+returns-in_err-push_str-clause-stops c = search rules
+
+pub split_ascii-requires-text-text : goal.split_ascii-requires-text-text
+split_ascii-requires-text-text c = search rules
+
+pub fact_in-behind : goal.fact_in-behind
+fact_in-behind c = search rules
+
+pub after_backslash-requires-text-text : goal.after_backslash-requires-text-text
+after_backslash-requires-text-text c = search rules
+
+pub returns-in_err-character-clause-read : goal.returns-in_err-character-clause-read
+returns-in_err-character-clause-read c = search rules
+
+pub push_str-requires-in-loop-read-text-string : goal.push_str-requires-in-loop-read-text-string
+push_str-requires-in-loop-read-text-string c = search rules
+
+pub returns-in_err-push_str-2-clause-read : goal.returns-in_err-push_str-2-clause-read
+returns-in_err-push_str-2-clause-read c = search rules
+
+pub returns-in_err-push_str-2-clause-stops : goal.returns-in_err-push_str-2-clause-stops
+returns-in_err-push_str-2-clause-stops c = search rules
+
+pub loop-read-smaller : goal.loop-read-smaller
+loop-read-smaller c = grind (arith, common_steps)

@@ -1,5 +1,6 @@
 -- The text leaves the word.
-use Rattle.std.proofs.Common.{◌<◌, length, get_or, subst, sym, ap}
+use Rattle.std.proofs.lemmas.Grind.{common_steps}
+use Rattle.std.proofs.Common.{◌<◌, length, get_or, subst, sym, ap, arith, rules}
 use Rattle.argus_texts.specs.Language.{IsNot}
 use Rattle.argus_texts.proofs.Lists.{ascii_at, no_ascii_not}
 use Rattle.argus_texts.proofs.Stops.{word_stops}
@@ -19,3 +20,18 @@ returns-then-first-byte-clause-stops c =
     word_stops c.args.word.now c.args.text.now c.loop-byte.rest.now c.loop-byte.byte-index h c.loop-byte.invariant.read
     (subst (λ b. IsNot b c.loop-byte.rest.now) (ap (λ v. get_or v c.loop-byte.byte-index 0) w)
     (subst (IsNot _) (sym c.in-Some.ensures.some.0) c.if-first-byte.true))
+
+pub loop-byte-init : goal.loop-byte-init
+loop-byte-init c = search rules
+
+pub split_ascii-requires-text-text : goal.split_ascii-requires-text-text
+split_ascii-requires-text-text c = search rules
+
+pub loop-byte-preserved : goal.loop-byte-preserved
+loop-byte-preserved c = grind (arith, common_steps)
+
+pub fact_in-rest : goal.fact_in-rest
+fact_in-rest c = search rules
+
+pub returns-clause-read : goal.returns-clause-read
+returns-clause-read c = grind (arith, common_steps)

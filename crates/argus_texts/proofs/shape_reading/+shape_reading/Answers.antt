@@ -1,5 +1,5 @@
 -- Where no type, no field and no list comes, and what is read of a list.
-use Rattle.std.proofs.Common.{◌-◌, ◌∷◌, map, inl, refl, ap, ◌∙◌, subst, sym, arith}
+use Rattle.std.proofs.Common.{◌-◌, ◌∷◌, map, inl, refl, ap, ◌∙◌, subst, sym, arith, rules}
 use Rattle.std.proofs.lemmas.List.{map-append}
 use Rattle.std.proofs.lemmas.Result.{err_from_is_err_and}
 use Rattle.argus_contents.specs.Ty.{plain_field, plain_ty}
@@ -74,3 +74,6 @@ names-loop-preserved t c =
           (omega (arith, c.loop-test.true)) (c.loop.invariant.left s);
       utf8 = c.in-Some.ensures.utf8;
     }
+
+pub names-loop-init : goal.names-loop-init
+names-loop-init t c = search rules

@@ -1,5 +1,5 @@
 -- Where no shape comes.
-use Rattle.std.proofs.Common.{◌++◌, codes, ap, ◌∙◌}
+use Rattle.std.proofs.Common.{◌++◌, codes, ap, ◌∙◌, rules}
 use Rattle.std.proofs.lemmas.Result.{err_from_is_err_and}
 use Rattle.argus_contents.specs.Shape.{rec, arr, var}
 use Rattle.argus_contents.specs.Ty.{plain_fields, plain_ty}
@@ -55,3 +55,39 @@ pub returns-clause-refused : goal.returns-clause-refused
 returns-clause-refused c =
     no_word c.args.text.now c.in_default.ensures.none c.in_default-strip_word.ensures.none
     c.in_default-strip_word-2.ensures.none
+
+pub names-requires-text-text : goal.names-requires-text-text
+names-requires-text-text c = search rules
+
+pub returns-in_err-fields-clause-read : goal.returns-in_err-fields-clause-read
+returns-in_err-fields-clause-read c = search rules
+
+pub fact_in-rest : goal.fact_in-rest
+fact_in-rest c = search rules
+
+pub returns-in-Some-clause-read : goal.returns-in-Some-clause-read
+returns-in-Some-clause-read c = search rules
+
+pub closed_ty-requires-text-text : goal.closed_ty-requires-text-text
+closed_ty-requires-text-text c = search rules
+
+pub returns-in_err-item-clause-read : goal.returns-in_err-item-clause-read
+returns-in_err-item-clause-read c = search rules
+
+pub fact_in-rest-in-Some-strip_word : goal.fact_in-rest-in-Some-strip_word
+fact_in-rest-in-Some-strip_word c = search rules
+
+pub returns-in-Some-strip_word-clause-read : goal.returns-in-Some-strip_word-clause-read
+returns-in-Some-strip_word-clause-read c = search rules
+
+pub names-requires-in-Some-strip_word-2-text-text : goal.names-requires-in-Some-strip_word-2-text-text
+names-requires-in-Some-strip_word-2-text-text c = search rules
+
+pub returns-in_err-tags-clause-read : goal.returns-in_err-tags-clause-read
+returns-in_err-tags-clause-read c = search rules
+
+pub fact_in-rest-in-Some-strip_word-2 : goal.fact_in-rest-in-Some-strip_word-2
+fact_in-rest-in-Some-strip_word-2 c = search rules
+
+pub returns-in-Some-strip_word-2-clause-read : goal.returns-in-Some-strip_word-2-clause-read
+returns-in-Some-strip_word-2-clause-read c = search rules

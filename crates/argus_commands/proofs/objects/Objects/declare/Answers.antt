@@ -21,3 +21,51 @@ invariant_of-self-2 c =
     (c.push_reserved.ensures.items ∙ ap (λ ns. ns ++ c.args.name ∷ []) c.reserve.ensures.items
     ∙ ap (λ n. old.names.items ++ n ∷ []) c.requires.named)
     (c.push_reserved-2.ensures.items ∙ ap (λ ss. ss ++ c.args.shape ∷ []) c.reserve-2.ensures.items)
+
+pub invariant_of-self : goal.invariant_of-self
+invariant_of-self c = search rules
+
+pub returns-in_err-reserve-clause-names : goal.returns-in_err-reserve-clause-names
+returns-in_err-reserve-clause-names c = search rules
+
+pub returns-in_err-reserve-clause-shapes : goal.returns-in_err-reserve-clause-shapes
+returns-in_err-reserve-clause-shapes c = search rules
+
+pub invariant_of-self-in_err-reserve-2 : goal.invariant_of-self-in_err-reserve-2
+invariant_of-self-in_err-reserve-2 c = search rules
+
+pub returns-in_err-reserve-2-clause-names : goal.returns-in_err-reserve-2-clause-names
+returns-in_err-reserve-2-clause-names c = search rules
+
+pub returns-in_err-reserve-2-clause-shapes : goal.returns-in_err-reserve-2-clause-shapes
+returns-in_err-reserve-2-clause-shapes c = search rules
+
+pub overflow_cast-len : goal.overflow_cast-len
+overflow_cast-len c = search rules
+
+pub invariant_of-self-in_err-insert : goal.invariant_of-self-in_err-insert
+invariant_of-self-in_err-insert c = search rules
+
+pub returns-in_err-insert-clause-names : goal.returns-in_err-insert-clause-names
+returns-in_err-insert-clause-names c = search rules
+
+pub returns-in_err-insert-clause-shapes : goal.returns-in_err-insert-clause-shapes
+returns-in_err-insert-clause-shapes c = search rules
+
+pub same-name : goal.same-name
+same-name c = search rules
+
+pub push_reserved-requires : goal.push_reserved-requires
+push_reserved-requires c = search rules
+
+pub same-shape : goal.same-shape
+same-shape c = search rules
+
+pub push_reserved-requires-2 : goal.push_reserved-requires-2
+push_reserved-requires-2 c = search rules
+
+pub returns-clause-names : goal.returns-clause-names
+returns-clause-names c = search rules
+
+pub returns-clause-shapes : goal.returns-clause-shapes
+returns-clause-shapes c = search rules

@@ -1,5 +1,5 @@
 -- The fold of a legal journal is an opening as it has to be.
-use Rattle.std.proofs.Common.{ap, subst, sym, true, ◌∙◌, ◌≡◌, ◌≤◌}
+use Rattle.std.proofs.Common.{ap, subst, sym, true, ◌∙◌, ◌≡◌, ◌≤◌, rules}
 use Rattle.std.proofs.lemmas.List.{length-map}
 use Rattle.argus_contents.specs.declared.limits.TheConstants.{MAX_OBJECTS}
 use Rattle.argus_journal.specs.Journal.{entries_of, opening_of}
@@ -26,3 +26,9 @@ invariant_of-self c =
       numbered = limits.entries;
       sound = subst (λ o. is_sound o ≡ true) (sym made) (fold_sound s j old.sound c.requires.legal);
     }
+
+pub returns-clause-entries : goal.returns-clause-entries
+returns-clause-entries c = search rules
+
+pub returns-clause-room : goal.returns-clause-room
+returns-clause-room c = search rules

@@ -1,5 +1,5 @@
 -- A call that is no commit adds no effect, so the board follows the longer journal, and its seat counted it.
-use Rattle.std.proofs.Common.{ap, arith, ◌+◌, ◌++◌, ◌∙◌, ◌≡◌}
+use Rattle.std.proofs.Common.{ap, arith, ◌+◌, ◌++◌, ◌∙◌, ◌≡◌, rules}
 use Rattle.argus_entries.specs.Call.{plain_call}
 use Rattle.argus_sharing.proofs.Follow.{follows_other}
 use Rattle.argus_sharing.proofs.locked.Locked.call_in_one_go.Goals as goal
@@ -19,3 +19,6 @@ invariant_of-self-2 g c =
     let made : next_number c.call.new.self ≡ next_number c.self.inside.shown.guardian + 1 =
     ap next_number c.in_ok-reply.ensures.ok ∙ omega arith in
     (inv.0, omega (arith, made, inv.1, c.counted-at.ensures.total), returns-clause-board g c)
+
+pub counted-at-requires : goal.counted-at-requires
+counted-at-requires g c = search rules

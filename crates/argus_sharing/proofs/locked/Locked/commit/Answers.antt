@@ -1,5 +1,5 @@
 -- The effect that a commit adds is on the board, published or pending, and its seat counted the call.
-use Rattle.std.proofs.Common.{ap, arith, ◌+◌, ◌∙◌, ◌≡◌}
+use Rattle.std.proofs.Common.{ap, arith, ◌+◌, ◌∙◌, ◌≡◌, rules}
 use Rattle.argus_entries.specs.Call.{commit}
 use Rattle.argus_sharing.proofs.Follow.{follows_commit, published_same}
 use Rattle.argus_sharing.proofs.locked.Locked.commit.Goals as goal
@@ -22,3 +22,6 @@ invariant_of-self-2 g c =
     let made : next_number c.commit.new.self.guardian ≡ next_number c.self.inside.shown.guardian + 1 =
     ap next_number c.in_ok-reply.ensures.ok.0 ∙ omega arith in
     (inv.0, omega (arith, made, inv.1, c.counted-at.ensures.total), returns-clause-board g c)
+
+pub returns-clause-call : goal.returns-clause-call
+returns-clause-call g c = search rules

@@ -1,0 +1,6 @@
+-- For the goal that its edit opens: the edit is refused without a search.
+use Rattle.std.proofs.Common.{rules}
+use Rattle.argus_board.proofs.board_writer.BoardWriter.looker.Goals as goal
+
+pub at-requires-clause-none : goal.at-requires-clause-none
+at-requires-clause-none g c = search rules

@@ -1,0 +1,6 @@
+-- For the goal that its edit opens: the edit is refused without a search.
+use Rattle.std.proofs.Common.{rules}
+use Rattle.argus_objects.proofs.holdings.Holdings.pass.Goals as goal
+
+pub returns-in-Some-get_mut : goal.returns-in-Some-get_mut
+returns-in-Some-get_mut c = search rules
