@@ -1,0 +1,166 @@
+//! What changes answer and leave, in each of the ways in which they can be made.
+
+ghost use Rattle.argus_contents.specs.Content.{KeepsLimits, plain_option};
+
+use crate::contents::kept::kept_of;
+use argus_contents::{Answer, Change, Content, alter, alter_copy, alter_in_place, change_answer};
+use argus_memory::{Heap, OutOfMemory, Room};
+use test_rows::{RowFault, Setting, change_of, first_word, tell_answer, tell_content, tell_word};
+
+/// What the change in the row answers and leaves, made in the way of this word.
+pub(crate) fn answer_change(
+    setting: Setting,
+    way: &str,
+    text: &str,
+) -> Result<String<Room>, RowFault> {
+    let (content, change) = first_word(text);
+    let content = kept_of(setting.texts, content)?;
+    let change = change_of(setting.texts, change)?;
+    made(setting, way, &content, change)
+}
+
+fn made(
+    setting: Setting,
+    way: &str,
+    content: &Option<Content>,
+    change: Change,
+) -> Result<String<Room>, RowFault>
+    requires { KeepsLimits (plain_option content.now) }
+{
+    // a copy has room for its items alone
+    let full = Content::duplicate_option(setting.heap, content)?;
+    setting.limit();
+    match way {
+        "change" => in_each_way(setting, content, full, change),
+        "change_answer" => foreseen(setting, content, &change),
+        "alter" => altered(setting, content, &change),
+        "alter_copy" => altered_copy(setting, content, change),
+        "alter_in_place" => altered_in_place(setting, full, change),
+        _ => Err(RowFault::NotSpelled),
+    }
+}
+
+// All ways have to agree.
+fn in_each_way(
+    setting: Setting,
+    content: &Option<Content>,
+    full: Option<Content>,
+    change: Change,
+) -> Result<String<Room>, RowFault>
+    requires content { KeepsLimits (plain_option content.now) }
+    requires full { KeepsLimits (plain_option full) }
+{
+    let mut out = as_foreseen(setting, content, &change)?;
+    let other = copied_and_in_place(setting, content, full, change)?;
+    if out != other {
+        tell_other(&mut out)?;
+    }
+    Ok(out)
+}
+
+// On a content that stays, and its answer alone.
+fn as_foreseen(
+    setting: Setting,
+    content: &Option<Content>,
+    change: &Change,
+) -> Result<String<Room>, RowFault>
+    requires { KeepsLimits (plain_option content.now) }
+{
+    let answer = foreseen(setting, content, change)?;
+    let mut out = altered(setting, content, change)?;
+    if !out.as_str().starts_with(answer.as_str()) {
+        tell_other(&mut out)?;
+    }
+    Ok(out)
+}
+
+fn copied_and_in_place(
+    setting: Setting,
+    content: &Option<Content>,
+    full: Option<Content>,
+    change: Change,
+) -> Result<String<Room>, RowFault>
+    requires content { KeepsLimits (plain_option content.now) }
+    requires full { KeepsLimits (plain_option full) }
+{
+    let moved = change.duplicate(setting.texts)?;
+    let mut out = altered_copy(setting, content, change)?;
+    let in_place = altered_in_place(setting, full, moved)?;
+    if out != in_place {
+        tell_other(&mut out)?;
+    }
+    Ok(out)
+}
+
+fn tell_other(out: &mut String<Room>) -> Result<(), OutOfMemory> {
+    tell_word("and something else where it is made otherwise", out)
+}
+
+// The answer alone.
+fn foreseen(
+    setting: Setting,
+    content: &Option<Content>,
+    change: &Change,
+) -> Result<String<Room>, RowFault>
+    requires { KeepsLimits (plain_option content.now) }
+{
+    let answer = change_answer(setting.heap, content, change)?;
+    let mut out = String::new(setting.texts.room());
+    tell_answer(&answer, &mut out)?;
+    Ok(out)
+}
+
+fn altered(
+    setting: Setting,
+    content: &Option<Content>,
+    change: &Change,
+) -> Result<String<Room>, RowFault>
+    requires { KeepsLimits (plain_option content.now) }
+{
+    let (left, answer) = alter(setting.heap, content, change)?;
+    Ok(told(setting.texts, &answer, &left)?)
+}
+
+fn altered_copy(
+    setting: Setting,
+    content: &Option<Content>,
+    change: Change,
+) -> Result<String<Room>, RowFault>
+    requires { KeepsLimits (plain_option content.now) }
+{
+    let (left, answer) = alter_copy(setting.heap, content, change)?;
+    Ok(told(setting.texts, &answer, &left)?)
+}
+
+// Where memory is refused all has to be as before.
+fn altered_in_place(
+    setting: Setting,
+    mut content: Option<Content>,
+    change: Change,
+) -> Result<String<Room>, RowFault>
+    requires { KeepsLimits (plain_option content) }
+{
+    let before = content_text(setting.texts, &content)?;
+    match alter_in_place(&mut content, change) {
+        Ok(answer) => Ok(told(setting.texts, &answer, &content)?),
+        Err(OutOfMemory) if content_text(setting.texts, &content)? == before => {
+            Err(RowFault::OutOfMemory)
+        }
+        Err(OutOfMemory) => Err(RowFault::Changed),
+    }
+}
+
+fn content_text(texts: Heap, content: &Option<Content>) -> Result<String<Room>, OutOfMemory> {
+    let mut out = String::new(texts.room());
+    tell_content(content, &mut out)?;
+    Ok(out)
+}
+
+// The answer, and what is left.
+fn told(texts: Heap, answer: &Answer, left: &Option<Content>) -> Result<String<Room>, OutOfMemory> {
+    let mut out = String::new(texts.room());
+    tell_answer(answer, &mut out)?;
+    tell_word("leaves", &mut out)?;
+    tell_content(left, &mut out)?;
+    Ok(out)
+}

@@ -1,0 +1,41 @@
+//! What a cell is asked.
+
+use crate::objects::picture::{tell_readers, tell_versions};
+use argus_actions::{ActionId, ActionTree};
+use argus_memory::Room;
+use argus_objects::Cell;
+use test_rows::{RowFault, action, tell_content, tell_flag};
+
+/// Adds what the question that begins with this word is answered.
+pub(crate) fn answer_question(
+    cell: &Cell,
+    tree: &ActionTree,
+    word: &str,
+    rest: &str,
+    out: &mut String<Room>,
+) -> Result<(), RowFault> {
+    match word {
+        "lawful" => tell_flag(cell.lawful(tree), out)?,
+        "may_read" => tell_flag(cell.may_read(tree, action(rest)?), out)?,
+        "may_write" => tell_flag(cell.may_write(tree, action(rest)?), out)?,
+        "base" => tell_content(cell.base(), out)?,
+        "readers" => tell_readers(cell.readers(), out)?,
+        "versions" => tell_versions(cell.versions(), out)?,
+        "visible" => tell_visible(cell, tree, action(rest)?, out)?,
+        _ => return Err(RowFault::NotSpelled),
+    }
+    Ok(())
+}
+
+fn tell_visible(
+    cell: &Cell,
+    tree: &ActionTree,
+    a: ActionId,
+    out: &mut String<Room>,
+) -> Result<(), RowFault> {
+    if !cell.may_read(tree, a) {
+        return Err(RowFault::NotSpelled);
+    }
+    tell_content(cell.visible(tree, a), out)?;
+    Ok(())
+}

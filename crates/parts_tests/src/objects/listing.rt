@@ -1,0 +1,84 @@
+//! Each action's list of objects.
+
+use crate::objects::picture::{lists_picture, tell_objects};
+use argus_actions::ActionId;
+use argus_contents::ObjId;
+use argus_memory::Room;
+use argus_objects::Holdings;
+use test_rows::{RowFault, Setting, action, first_word, pair, tell_number, tell_word};
+
+/// Tells or changes lists as the row says. After a refused allocation they have to be as before.
+pub(crate) fn answer_list(
+    lists: &mut Holdings,
+    setting: Setting,
+    word: &str,
+    rest: &str,
+    out: &mut String<Room>,
+) -> Result<(), RowFault> {
+    let before = lists_picture(lists, setting.texts)?;
+    match change(lists, setting, word, rest, out) {
+        Err(RowFault::OutOfMemory) if lists_picture(lists, setting.texts)? != before => {
+            Err(RowFault::Changed)
+        }
+        answer => answer,
+    }
+}
+
+fn change(
+    lists: &mut Holdings,
+    setting: Setting,
+    word: &str,
+    rest: &str,
+    out: &mut String<Room>,
+) -> Result<(), RowFault> {
+    setting.limit();
+    match word {
+        "list" => tell_objects(lists.of(action(rest)?), out)?,
+        "reserve" => {
+            lists.reserve(action(rest)?)?;
+            tell_word("done", out)?;
+        }
+        "note" => {
+            let (a, o) = pair(rest)?;
+            note(lists, setting, a, o)?;
+            tell_number(lists.of(a).len() as u64, out)?;
+        }
+        "clear" => {
+            lists.clear(action(rest)?);
+            tell_word("done", out)?;
+        }
+        _ => {
+            let (s, parent) = first_word(rest);
+            pass(lists, setting, word, action(s)?, action(parent)?)?;
+            tell_word("done", out)?;
+        }
+    }
+    Ok(())
+}
+
+// The note itself takes no memory.
+fn note(lists: &mut Holdings, setting: Setting, a: ActionId, o: ObjId) -> Result<(), RowFault> {
+    lists.reserve(a)?;
+    setting.allowing(0).limit();
+    lists.note(a, o);
+    Ok(())
+}
+
+// Makes room for a pass, and passes the list on where the word says so, which takes no memory.
+fn pass(
+    lists: &mut Holdings,
+    setting: Setting,
+    word: &str,
+    s: ActionId,
+    parent: ActionId,
+) -> Result<(), RowFault> {
+    if s.0 == parent.0 {
+        return Err(RowFault::NotSpelled);
+    }
+    lists.reserve_pass(s, parent)?;
+    setting.allowing(0).limit();
+    if word == "pass" {
+        lists.pass(s, parent);
+    }
+    Ok(())
+}

@@ -1,0 +1,16 @@
+//! The end of a part of the tests.
+
+use anyhow::Result;
+use std::io::Print;
+
+/// Tells what is wrong with the row at which a part ended, behind that row's name. Answers whether the
+/// part went through.
+pub(crate) fn tell_end(rt: &impl Print, part: Result<()>) -> Result<bool> {
+    match part {
+        Ok(()) => Ok(true),
+        Err(error) => {
+            rt.println(format_args!("{error}"))?;
+            Ok(false)
+        }
+    }
+}

@@ -1,0 +1,133 @@
+//! `Frame`: what the scripts of a test that are parsed have in common.
+
+use crate::runs::line_row::LineRow;
+use argus_memory::{Heap, Room};
+use test_rows::{Counted, RowFault, counted_of, spell, spell_line};
+
+// Said of a script, or of a line, that has no step.
+const NOTHING: &str = "nothing";
+
+/// What the scripts of a test have in common: its lines with `|`, and those with `=`, which are
+/// what has to come of them.
+///
+/// ```text
+/// let frame = Frame::new("| enter topaction\n| LINE\n| end\n= enter topaction\n=   STEP\n");
+/// let row = row_of("abort leave -> abort leave");
+/// ```
+#[derive(Clone, Copy)]
+pub(crate) struct Frame<'a> {
+    lines: &'a str,
+}
+
+impl<'a> Frame<'a> {
+    /// The frame in these lines.
+    pub(crate) fn new(lines: &'a str) -> Frame<'a> {
+        Frame { lines }
+    }
+
+    /// The script, with the row's line at `LINE`.
+    pub(crate) fn script(&self, texts: Heap, row: LineRow<'_>) -> Result<Vec<u8, Room>, RowFault> {
+        self.check_place("LINE", row.line)?;
+        let mut out = Vec::new(texts.room());
+        for line in self.lines.lines() {
+            if let Some(text) = behind_mark("|", line) {
+                let text = if text == "LINE" { row.line } else { text };
+                spell_all(texts, text, &mut out)?;
+            }
+        }
+        Ok(out)
+    }
+
+    /// What has to come of it, with the row's answer at `STEP`. A fault stands alone.
+    pub(crate) fn wanted(&self, texts: Heap, row: LineRow<'_>) -> Result<Vec<u8, Room>, RowFault> {
+        let mut out = Vec::new(texts.room());
+        if row.answer.starts_with("line ") {
+            spell_line(row.answer, &mut out)?;
+            return Ok(out);
+        }
+        self.check_place("STEP", row.answer)?;
+        for line in self.lines.lines() {
+            if let Some(text) = behind_mark("=", line) {
+                spell_wanted(texts, text, row, &mut out)?;
+            }
+        }
+        Ok(out)
+    }
+
+    // What a row says is to have a place.
+    fn check_place(&self, place: &str, text: &str) -> Result<(), RowFault> {
+        if text.is_empty() || self.lines.contains(place) {
+            Ok(())
+        } else {
+            Err(RowFault::NotSpelled)
+        }
+    }
+}
+
+// The text behind a mark and a space; None where the line has another mark.
+fn behind_mark<'a>(mark: &str, line: &'a str) -> Option<&'a str> {
+    let text = line.strip_prefix(mark)?;
+    Some(text.strip_prefix(' ').unwrap_or(text))
+}
+
+fn spell_wanted(
+    texts: Heap,
+    text: &str,
+    row: LineRow<'_>,
+    out: &mut Vec<u8, Room>,
+) -> Result<(), RowFault> {
+    match text.strip_suffix("STEP") {
+        Some(indentation) => spell_step(indentation, row.answer, out),
+        None if text == NOTHING => Ok(()),
+        None => spell_all(texts, text, out),
+    }
+}
+
+fn spell_step(indentation: &str, step: &str, out: &mut Vec<u8, Room>) -> Result<(), RowFault> {
+    if step == NOTHING {
+        return Ok(());
+    }
+    spell(indentation, out)?;
+    spell_line(step, out)
+}
+
+fn spell_all(texts: Heap, text: &str, out: &mut Vec<u8, Room>) -> Result<(), RowFault> {
+    match counted_of(text) {
+        None => spell_line(text, out),
+        Some(counted) => spell_counted(texts, counted, out),
+    }
+}
+
+fn spell_counted(
+    texts: Heap,
+    counted: Counted<'_>,
+    out: &mut Vec<u8, Room>,
+) -> Result<(), RowFault> {
+    match counted.same_row() {
+        Some(line) => spell_times(texts, counted.steps(), line, out),
+        None => spell_steps(texts, counted, out),
+    }
+}
+
+fn spell_steps(texts: Heap, counted: Counted<'_>, out: &mut Vec<u8, Room>) -> Result<(), RowFault> {
+    for step in 0..=counted.steps() {
+        let line = counted.row_at(texts, step)?;
+        spell_line(line.as_str(), out)?;
+    }
+    Ok(())
+}
+
+// The line once, and then once for each of the steps; what it stands for may be long.
+fn spell_times(
+    texts: Heap,
+    steps: u32,
+    line: &str,
+    out: &mut Vec<u8, Room>,
+) -> Result<(), RowFault> {
+    let mut bytes = Vec::new(texts.room());
+    spell_line(line, &mut bytes)?;
+    for _ in 0..=steps {
+        out.extend_from_slice(bytes.as_slice())?;
+    }
+    Ok(())
+}

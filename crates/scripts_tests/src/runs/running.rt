@@ -1,0 +1,113 @@
+//! Scripts, run: the lines that a run writes are compared; then each of its allocations is refused in
+//! turn, and it writes to a writer that is full after each byte.
+
+ghost use Rattle.std.specs.Prelude.{◌≡◌, false};
+ghost use Rattle.argus_streams.specs.Watched.{has_failed};
+
+use crate::runs::run_row::RunRow;
+use anyhow::{Result, ensure};
+use argus_commands::parse;
+use argus_guardian::Guardian;
+use argus_memory::Heap;
+use argus_runs::{RunFault, run_serial};
+use argus_streams::Watched;
+use std::io::{Print, Write};
+use test_rows::{Full, Setting};
+
+// More allocations than any run here makes.
+const MANY: u64 = 2_000;
+
+// Runs the scripts of a text. Each row's name is told ahead, so that what is wrong stands behind it.
+pub(crate) fn check_text<T: Print>(rt: &T, setting: Setting, text: &str) -> Result<()> {
+    for block in text.split("\n\n") {
+        if let Some(row) = RunRow::of_block(block) {
+            rt.print(format_args!("{}: ", row.name))?;
+            check_lines(setting.texts, row)?;
+            let refused = check_memory(setting, row)?;
+            check_writer(setting.texts, row)?;
+            ensure!(refused > 3, "too few allocations are refused");
+            rt.println(format_args!("{} lines", row.lines.lines().count()))?;
+        }
+    }
+    Ok(())
+}
+
+// Runs the row's script on an empty guardian.
+fn run_row<W: Write + Drop>(
+    heap: Heap,
+    tight: Heap,
+    row: RunRow<'_>,
+    writer: &mut Watched<W>,
+) -> Result<Option<RunFault>>
+    requires { has_failed writer.old ≡ false }
+{
+    let script = parse(heap, row.script.as_bytes())?;
+    let mut guardian = Guardian::new(tight);
+    Ok(run_serial(tight, &mut guardian, &script, writer).err())
+}
+
+fn check_lines(heap: Heap, row: RunRow<'_>) -> Result<()> {
+    let mut writer = Watched::new(Vec::new(heap.room()));
+    let fault = run_row(heap, heap, row, &mut writer)?;
+    ensure!(fault.is_none(), "a run failed");
+    ensure!(
+        writer.get_ref().starts_with(row.lines.as_bytes()),
+        "other lines are written"
+    );
+    let more = writer.get_ref().len().saturating_sub(row.lines.len());
+    ensure!(more <= 1, "more lines are written");
+    Ok(())
+}
+
+// How many allocations were refused in turn.
+fn check_memory(setting: Setting, row: RunRow<'_>) -> Result<u64> {
+    for n in 0..MANY {
+        let mut writer = Watched::new(Vec::new(setting.texts.room()));
+        setting.allowing(n).limit();
+        let fault = run_row(setting.texts, setting.heap, row, &mut writer)?;
+        setting.lift();
+        ensure!(
+            is_front(writer.get_ref().as_slice(), row.lines),
+            "other lines are written"
+        );
+        match fault {
+            None => return Ok(n),
+            Some(RunFault::Memory) => {}
+            Some(RunFault::Write) => ensure!(false, "no write failed"),
+        }
+    }
+    Ok(MANY)
+}
+
+fn check_writer(heap: Heap, row: RunRow<'_>) -> Result<()> {
+    for room in 0..row.lines.len() {
+        let mut writer = Watched::new(Full {
+            taken: Vec::new(heap.room()),
+            room,
+            fails: room % 2 == 0,
+            writes_behind: 0,
+        });
+        let fault = run_row(heap, heap, row, &mut writer)?;
+        ensure!(
+            fault == Some(RunFault::Write),
+            "the writer's fault isn't told"
+        );
+        ensure!(writer.has_failed(), "the writer has failed");
+        ensure!(
+            writer.get_ref().writes_behind == 1,
+            "a write was tried again"
+        );
+        ensure!(writer.get_ref().taken.len() == room, "bytes are lacking");
+        ensure!(
+            is_front(writer.get_ref().taken.as_slice(), row.lines),
+            "other bytes"
+        );
+    }
+    Ok(())
+}
+
+// Whether the bytes are the front of the lines. The row lacks the last line feed.
+fn is_front(bytes: &[u8], lines: &str) -> bool {
+    let all = lines.as_bytes();
+    all.starts_with(bytes) || bytes.starts_with(all)
+}

@@ -1,0 +1,105 @@
+//! What is done with a shared guardian, from its sharing to its settling.
+
+use crate::workers::done::Done;
+use crate::workers::plan::Plan;
+use crate::workers::ran::Ran;
+use crate::workers::settling::settle;
+use crate::workers::telling::told_made;
+use crate::workers::watched::Watched;
+use crate::workers::watching::{brief_all, look_again, watch_all};
+use anyhow::Result;
+use argus_board::Looker;
+use argus_memory::Room;
+use argus_sharing::{Parts, Seat, Shared, Sharing};
+use argus_workers::{Gate, RunFault, run_shared};
+use std::alloc::AllocError;
+use std::sync::Wait;
+use std::thread::{Threads, join};
+
+/// Runs the script by all seats, while the lookers look, and settles: with all receipts, or with
+/// none where allocations were refused.
+pub(crate) fn perform<
+    N: Sharing + Send + Sync,
+    R: Threads + Wait + Copy + Drop + Send + Sync,
+    G: Gate + Sync,
+>(rt: R, parts: Parts<N, R>, plan: Plan<'_>, gate: &G) -> Result<Ran> {
+    let Parts {
+        shared,
+        seats,
+        lookers,
+    } = parts;
+    let (watched, done) = run_watched(&rt, plan, gate, &shared, seats, lookers);
+    let Done {
+        seats,
+        report,
+        is_spent,
+    } = done;
+    let texts = plan.setting.texts;
+    let made = told_made(texts, seats.as_slice())?;
+    let lookers = brief_all(&rt, texts, &shared, watched?)?;
+    let guardian = match &report {
+        Ok(report) if !plan.is_tight => { settle(plan, shared, seats, report.receipts.as_slice())? }
+        Ok(_) | Err(_) => settle(plan, shared, seats, &[])?,
+    };
+    look_again(texts, &guardian, lookers)?;
+    Ok(Ran {
+        guardian,
+        report,
+        made,
+        is_spent,
+    })
+}
+
+// Runs the script in this thread and those of the workers, while each looker looks in another one.
+fn run_watched<
+    N: Sharing + Send + Sync,
+    R: Threads + Wait + Copy + Drop + Send + Sync,
+    G: Gate + Sync,
+>(
+    rt: &R,
+    plan: Plan<'_>,
+    gate: &G,
+    shared: &Shared<N, R>,
+    seats: Vec<Seat<N>, Room>,
+    lookers: Vec<Looker<N>, Room>,
+) -> (Result<Vec<Watched<N>, Room>, AllocError>, Done<N>) {
+    let texts = plan.setting.texts;
+    let (watched, done) = join(
+        rt,
+        move || watch_all(rt, texts, lookers),
+        || run_seats(rt, plan, gate, shared, seats),
+    );
+    (watched, done)
+}
+
+fn run_seats<
+    N: Sharing + Send + Sync,
+    R: Threads + Wait + Copy + Drop + Send + Sync,
+    G: Gate + Sync,
+>(rt: &R, plan: Plan<'_>, gate: &G, shared: &Shared<N, R>, seats: Vec<Seat<N>, Room>) -> Done<N> {
+    let mut seats = seats;
+    let (heap, script, patience) = (plan.setting.heap, plan.script, plan.patience);
+    let workers = u32::from(plan.workers);
+    plan.setting.limit();
+    let report = if plan.workers > 0 && seats.len() == usize::from(plan.workers) + 1 {
+        run_shared(
+            rt,
+            heap,
+            shared,
+            seats.as_mut_slice(),
+            script,
+            gate,
+            workers,
+            patience,
+        )
+    } else {
+        Err(RunFault::Memory)
+    };
+    let is_spent = plan.setting.is_spent();
+    plan.setting.lift();
+    Done {
+        seats,
+        report,
+        is_spent,
+    }
+}
