@@ -6,13 +6,14 @@ use crate::figure::Figure;
 use crate::outcome::Outcome;
 use crate::part::Part;
 use crate::stopwatch::Stopwatch;
-use argus_commands::parse;
-use argus_memory::Heap;
-use argus_sharing::{Parts, Sharing};
+use argus_commands::{Script, parse};
+use argus_memory::{Heap, Room};
+use argus_sharing::{Parts, Receipt, Seat, Shared, Sharing};
 use argus_workers::{NoGate, run_shared};
 use std::rt::Clock;
 use std::sync::Wait;
 use std::thread::Threads;
+use std::time::Duration;
 
 // More wake-ups than come.
 const PATIENCE: u32 = 1_000_000;
@@ -31,35 +32,45 @@ pub(crate) fn time_arms<N: Sharing + Send + Sync, R: Threads + Wait + Clock + Dr
         mut seats,
         ..
     } = parts;
+    let text = script_text(heap, arms)?;
+    let script = parse(heap, text.as_bytes())?;
+    let (receipts, taken) = run_arms(rt, heap, &shared, seats.as_mut_slice(), &script, workers)?;
+    let count = u32::try_from(receipts.len()).unwrap_or(u32::MAX);
+    settle(shared, seats, receipts.as_slice())?;
+    let figure = Figure {
+        part: Part::Calls,
+        count,
+        taken,
+    };
+    Ok(Outcome::of(figure, i64::from(count)))
+}
+
+// The receipts of the run, and how long it took.
+fn run_arms<N: Sharing + Send + Sync, R: Threads + Wait + Clock + Drop + Send + Sync>(
+    rt: &R,
+    heap: Heap,
+    shared: &Shared<N, R>,
+    seats: &mut [Seat<N>],
+    script: &Script,
+    workers: u8,
+) -> Result<(Vec<Receipt, Room>, Duration), BenchError> {
     if workers == 0 || seats.len() != usize::from(workers) + 1 {
         return Err(BenchError::BadCount);
     }
-    let text = script_text(heap, arms)?;
-    let script = parse(heap, text.as_bytes())?;
     let watch = Stopwatch::start(rt)?;
-    let report = run_shared(
-        rt,
-        heap,
-        &shared,
-        seats.as_mut_slice(),
-        &script,
-        &NoGate,
-        u32::from(workers),
-        PATIENCE,
-    )?;
+    let workers = u32::from(workers);
+    let report = run_shared(rt, heap, shared, seats, script, &NoGate, workers, PATIENCE)?;
     let taken = watch.taken(rt)?;
-    let Ok(count) = u32::try_from(report.receipts.len()) else {
-        return Err(BenchError::OtherReply);
-    };
-    match shared.settle(seats, report.receipts.as_slice()) {
-        Ok(_) => Ok(Outcome::of(
-            Figure {
-                part: Part::Calls,
-                count,
-                taken,
-            },
-            i64::from(count),
-        )),
-        Err(_) => Err(BenchError::OtherReply),
+    Ok((report.receipts, taken))
+}
+
+fn settle<N: Sharing, R: Wait + Drop>(
+    shared: Shared<N, R>,
+    seats: Vec<Seat<N>, Room>,
+    receipts: &[Receipt],
+) -> Result<(), BenchError> {
+    match shared.settle(seats, receipts) {
+        Ok(_guardian) => Ok(()),
+        Err(_unsettled) => Err(BenchError::OtherReply),
     }
 }

@@ -29,14 +29,27 @@ fn live_elsewhere<R: Threads + Wait>(
     Ok(child.join(rt))
 }
 
-#[test]
-fn a_tree_crosses_to_another_thread_and_back(rt: HostRuntime) -> Result<(), Fail> {
-    let heap = Heap::new(rt.alloc())?;
+// A tree of a topaction and a subaction, and both.
+fn family(heap: Heap) -> Result<(ActionTree, ActionId, ActionId), Fail> {
     let mut tree = ActionTree::new(heap);
     let top = tree.begin_top()?;
     let sub = tree.begin_sub(top)?;
+    Ok((tree, top, sub))
+}
+
+#[test]
+fn a_tree_crosses_to_another_thread_and_back(rt: HostRuntime) -> Result<(), Fail> {
+    let (tree, _top, sub) = family(Heap::new(rt.alloc())?)?;
     let tree = aborted_elsewhere(&rt, tree, sub)?;
     assert_eq!(rt; tree.status(sub), Some(Status::Aborted));
+    Ok(())
+}
+
+#[test]
+fn another_thread_looks_at_a_tree(rt: HostRuntime) -> Result<(), Fail> {
+    let heap = Heap::new(rt.alloc())?;
+    let (mut tree, top, sub) = family(heap)?;
+    tree.abort(sub)?;
     let shared = Arc::new(heap.room(), tree)?;
     assert!(rt; live_elsewhere(&rt, shared.clone()?, top)?);
     assert!(rt; !live_elsewhere(&rt, shared, sub)?);

@@ -38,9 +38,18 @@ fn publish_and_look<N: Board + Send + Sync, R: Threads + Wait + Abort + Copy + D
         move || publish_often(heap, board),
         move || look_often(heap, looker),
     );
-    let mut board = published?;
-    let (mut looker, same) = looked?;
+    let (looker, same) = looked?;
     assert!(rt; same);
+    see_the_last(&rt, heap, published?, looker)
+}
+
+// A looker that is briefed sees what was published last, and nothing once the board has ended.
+fn see_the_last<N: Board, R: Wait + Abort + Drop>(
+    rt: &R,
+    heap: Heap,
+    mut board: BoardWriter<N, R>,
+    mut looker: Looker<N>,
+) -> Result<(), Fail> {
     board.brief(&mut looker)?;
     let found = looker.look(heap, &[ObjId(0), ObjId(3), ObjId(7)])?;
     assert_eq!(rt; number_at(&found, 0), Some(TURNS));

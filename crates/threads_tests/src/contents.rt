@@ -50,12 +50,17 @@ fn fits_elsewhere<R: Threads + Wait>(
     }
 }
 
+// atomic_record[balance:int]
+fn account(heap: Heap) -> Result<Shape, Fail> {
+    let mut fields = Vec::new(heap.room());
+    fields.push((Name::new(heap, "balance")?, Ty::Int))?;
+    Ok(Shape::rec(fields)?)
+}
+
 #[test]
 fn a_shape_and_a_change_cross_to_another_thread_and_back(rt: HostRuntime) -> Result<(), Fail> {
     let heap = Heap::new(rt.alloc())?;
-    let mut fields = Vec::new(heap.room());
-    fields.push((Name::new(heap, "balance")?, Ty::Int))?;
-    let shape = Shape::rec(fields)?;
+    let shape = account(heap)?;
     let change = Change::SetField(0, Value::Int(5));
     let wanted = (shape.duplicate(heap)?, change.duplicate(heap)?);
     let (fits, shape, change) = fits_elsewhere(&rt, shape, change)?;

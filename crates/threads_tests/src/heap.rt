@@ -57,14 +57,20 @@ fn push(list: &Arc<Mutex<Vec<Vec<u8, Room>, Room>>, Room>, heap: Heap) -> Result
 fn a_heap_without_a_limit_gives(rt: HostRuntime) -> Result<(), Fail> {
     let heap = Heap::new(rt.alloc())?;
     assert_eq!(rt; listed(heap)?.as_slice(), [1, 2].as_slice());
-    assert_eq!(rt; named(heap)?.len(), 1);
-    assert_eq!(rt; sorted(heap)?.len(), 1);
     assert_eq!(rt; pushed(&rt, heap)?, 1);
     Ok(())
 }
 
 #[test]
-fn a_budget_counts_and_refuses(rt: HostRuntime) -> Result<(), Fail> {
+fn a_heap_without_a_limit_gives_maps(rt: HostRuntime) -> Result<(), Fail> {
+    let heap = Heap::new(rt.alloc())?;
+    assert_eq!(rt; named(heap)?.len(), 1);
+    assert_eq!(rt; sorted(heap)?.len(), 1);
+    Ok(())
+}
+
+#[test]
+fn a_budget_counts(rt: HostRuntime) -> Result<(), Fail> {
     let budget = Budget::new(rt.alloc())?;
     let heap = Heap::with_budget(rt.alloc(), budget);
     assert_eq!(rt; budget.left(), None);
@@ -72,6 +78,13 @@ fn a_budget_counts_and_refuses(rt: HostRuntime) -> Result<(), Fail> {
     assert_eq!(rt; listed(heap)?.len(), 2);
     // made and grown; shrinking took nothing
     assert_eq!(rt; budget.left(), Some(1));
+    Ok(())
+}
+
+#[test]
+fn a_budget_refuses_until_it_is_lifted(rt: HostRuntime) -> Result<(), Fail> {
+    let budget = Budget::new(rt.alloc())?;
+    let heap = Heap::with_budget(rt.alloc(), budget);
     budget.allow(1);
     assert!(rt; listed(heap).is_err());
     assert_eq!(rt; budget.left(), Some(0));

@@ -5,6 +5,7 @@ use argus_actions::{ActionId, ActionTree};
 use argus_contents::{Content, ObjId, Value};
 use argus_memory::{Heap, Room};
 use argus_objects::{Cell, Holdings};
+use std::process::Abort;
 use std::sync::{Arc, Wait};
 use std::test::Fail;
 use std::thread::{self, Threads};
@@ -44,30 +45,50 @@ fn cleared_elsewhere<R: Threads + Wait>(
     Ok(child.join(rt))
 }
 
-#[test]
-fn a_cell_crosses_to_another_thread_and_back(rt: HostRuntime) -> Result<(), Fail> {
-    let heap = Heap::new(rt.alloc())?;
+// A tree of a topaction and a subaction, and the subaction.
+fn family(heap: Heap) -> Result<(ActionTree, ActionId), Fail> {
     let mut tree = ActionTree::new(heap);
     let top = tree.begin_top()?;
     let sub = tree.begin_sub(top)?;
+    Ok((tree, sub))
+}
+
+// A cell with this base, which the action reads.
+fn read_by(
+    rt: &impl Abort,
+    heap: Heap,
+    tree: &ActionTree,
+    a: ActionId,
+    base: Option<Content>,
+) -> Result<Cell, Fail> {
+    let mut cell = Cell::new(heap, base);
+    cell.reserve_grant()?;
+    assert!(rt; cell.lawful(tree) && cell.may_read(tree, a));
+    let refusal = tree.commit_refusal(a);
+    assert_eq!(rt; refusal, None);
+    cell.grant_read(tree, a);
+    Ok(cell)
+}
+
+#[test]
+fn another_thread_looks_at_a_cell(rt: HostRuntime) -> Result<(), Fail> {
+    let heap = Heap::new(rt.alloc())?;
+    let (tree, sub) = family(heap)?;
     let mut fields = Vec::new(heap.room());
     fields.push(Value::Int(1))?;
-    let mut cell = Cell::new(heap, Some(Content::Rec(fields)));
-    cell.reserve_grant()?;
-    assert!(rt; cell.lawful(&tree) && cell.may_read(&tree, sub));
-    let refusal = tree.commit_refusal(sub);
-    assert_eq!(rt; refusal, None);
-    cell.grant_read(&tree, sub);
+    let cell = read_by(&rt, heap, &tree, sub, Some(Content::Rec(fields)))?;
     let cell = Arc::new(heap.room(), cell)?;
     assert_eq!(rt; readers_elsewhere(&rt, cell.clone()?)?, 1);
-    let mut other = Cell::new(heap, None);
-    other.reserve_grant()?;
-    assert!(rt; other.lawful(&tree) && other.may_read(&tree, sub));
-    let refusal = tree.commit_refusal(sub);
-    assert_eq!(rt; refusal, None);
-    other.grant_read(&tree, sub);
-    let other = discarded_elsewhere(&rt, other, tree, sub)?;
-    assert!(rt; other.readers().is_empty());
+    Ok(())
+}
+
+#[test]
+fn a_cell_crosses_to_another_thread_and_back(rt: HostRuntime) -> Result<(), Fail> {
+    let heap = Heap::new(rt.alloc())?;
+    let (tree, sub) = family(heap)?;
+    let cell = read_by(&rt, heap, &tree, sub, None)?;
+    let cell = discarded_elsewhere(&rt, cell, tree, sub)?;
+    assert!(rt; cell.readers().is_empty());
     Ok(())
 }
 
