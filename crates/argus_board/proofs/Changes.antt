@@ -1,5 +1,6 @@
 -- Changes leave the contents that their effects leave.
-use Rattle.std.proofs.Common.{List, Option, [], ap, arith, fold, length, length-append, refl, sym, ◌++◌, ◌∙◌, ◌∷◌, ◌≡◌, ◌≢◌}
+use Rattle.std.proofs.Common.{List, Option, [], ap, arith, fold, length, length-append, refl, sym, ◌++◌, ◌∙◌, ◌∷◌, ◌≡◌}
+use Rattle.std.proofs.Common.{◌≢◌}
 use Rattle.std.proofs.Common.{append_assoc}
 use Rattle.std.proofs.lemmas.List.{append-nil}
 use Rattle.std.proofs.lemmas.List.Sums.{fold_push}
@@ -14,7 +15,8 @@ use Rattle.argus_board.specs.declared.front.Front.{Front}
 abbrev Contents : Type 0
 Contents = List (Option PlainContent)
 
-contents_left : (xs : Contents) (f : Front) (ops : List Change) → (fold absorbed (xs, f) ops).0 ≡ left_by xs (effects_in ops)
+contents_left : (xs : Contents) (f : Front) (ops : List Change)
+    → (fold absorbed (xs, f) ops).0 ≡ left_by xs (effects_in ops)
 contents_left xs f [] = refl
 contents_left xs f (Leaves e ∷ ops) = contents_left (overwritten xs (plain_effect e.items)) f ops
 contents_left xs f (Marks g ∷ ops) = contents_left xs g ops
@@ -47,7 +49,8 @@ leaf_whole l m n ops c e whole more is =
     ap (λ z. l ++ z) (effects_on ops (c ∷ []) ∙ ap (λ z. effects_in ops ++ z) is)
     ∙ sym (append_assoc l (effects_in ops) (e ∷ [])) ∙ ap (λ z. z ++ e ∷ []) whole ∙ sym more
 
-pub leaf_some : (ops : List Change) (c : Change) (e : Effect) → effects_in (c ∷ []) ≡ e ∷ [] → effects_in (ops ++ c ∷ []) ≢ []
+pub leaf_some : (ops : List Change) (c : Change) (e : Effect) → effects_in (c ∷ []) ≡ e ∷ []
+    → effects_in (ops ++ c ∷ []) ≢ []
 leaf_some ops c e is none =
     let n : length (effects_in ops ++ e ∷ []) ≡ 0 =
     ap length (sym (effects_on ops (c ∷ []) ∙ ap (λ z. effects_in ops ++ z) is) ∙ none) in

@@ -1,9 +1,11 @@
 -- What effects leave in a list of contents is what their table says.
 use Rattle.std.proofs.Common.{List, Option, None, [], ap, arith, false, get_or, length, length-append, map, max, refl}
-use Rattle.std.proofs.Common.{replicate, set, suc, sym, true, zero, ℕ, ◌++◌, ◌+◌, ◌-◌, ◌<◌, ◌==◌, ◌∙◌, ◌∷◌, ◌≡◌, ◌≢◌, ◌≤◌}
+use Rattle.std.proofs.Common.{replicate, set, suc, sym, true, zero, ℕ, ◌++◌, ◌+◌, ◌-◌, ◌<◌, ◌==◌, ◌∙◌, ◌∷◌, ◌≡◌, ◌≢◌}
+use Rattle.std.proofs.Common.{◌≤◌}
 use Rattle.std.proofs.Common.{Bool, if◌then◌else◌, take}
 use Rattle.std.proofs.lemmas.Bool.Decides.{nat_tests}
-use Rattle.std.proofs.lemmas.List.{get_or-set_other, get_or-set_same, length-map, length-replicate, map-append, map-set, take_more}
+use Rattle.std.proofs.lemmas.List.{get_or-set_other, get_or-set_same, length-map, length-replicate, map-append, map-set}
+use Rattle.std.proofs.lemmas.List.{take_more}
 use Rattle.std.specs.Ordering.{nat_cmp, ord_max}
 use lib.ListN.{length-set}
 use Rattle.argus_contents.specs.Content.{PlainContent, plain_option}
@@ -30,7 +32,12 @@ at_padding (x ∷ xs) n (suc o) = at_padding xs n o
 
 pub long_enough : (xs : Contents) (n : ℕ) → n ≤ length (padded xs n)
 long_enough xs n =
-    omega (arith, length-append xs (replicate (n - length xs) None), length-replicate {A = Option PlainContent} (n - length xs) None)
+    omega (
+      arith,
+      length-append xs (replicate (n - length xs) None),
+      length-replicate {A = Option PlainContent}
+          (n - length xs) None,
+    )
 
 pub as_long : (xs : Contents) (e : Effect) → length (written xs e) ≡ length xs
 as_long xs [] = refl
@@ -53,12 +60,14 @@ at_written xs (p ∷ e) o low =
     at_set (p.0 == o) (written xs e) p.0 o p.1 refl (omega (arith, low, as_long xs e))
     ∙ ap (λ c. if p.0 == o then p.1 else c) (at_written xs e o (omega (arith, low)))
 
-at_overwritten : (xs : Contents) (e : Effect) (o : ℕ) → content_at (overwritten xs e) o ≡ content_by e o (content_at xs o)
+at_overwritten : (xs : Contents) (e : Effect) (o : ℕ)
+    → content_at (overwritten xs e) o ≡ content_by e o (content_at xs o)
 at_overwritten xs e o =
     at_written (padded xs (needed e)) e o (long_enough xs (needed e))
     ∙ ap (content_by e o) (at_padding xs (needed e - length xs) o)
 
-at_left : (opening : ℕ → Option PlainContent) (xs : Contents) (l : List Effect) → ((o : ℕ) → content_at xs o ≡ opening o)
+at_left : (opening : ℕ → Option PlainContent) (xs : Contents) (l : List Effect)
+    → ((o : ℕ) → content_at xs o ≡ opening o)
     → (o : ℕ) → content_at (left_by xs l) o ≡ table opening l o
 at_left opening xs [] is o = is o
 at_left opening xs (e ∷ l) is o =
@@ -66,7 +75,8 @@ at_left opening xs (e ∷ l) is o =
     (λ x. at_overwritten xs e x ∙ ap (content_by e x) (is x)) o
 
 -- what later effects leave
-pub leads_on : (opening : ℕ → Option PlainContent) (before later : List Effect) (first : Contents) → Leads opening before first
+pub leads_on : (opening : ℕ → Option PlainContent) (before later : List Effect) (first : Contents)
+    → Leads opening before first
     → Leads opening (before ++ later) (left_by first later)
 leads_on opening before later first is o =
     at_left (table opening before) first later is o ∙ sym (table-append opening before later o)
@@ -117,7 +127,8 @@ pad_is xs ys n k is many =
     absent (suc k) = ap (λ z. None ∷ z) (absent k)
 
 -- the last pair of an effect is written, and is left out from here on
-pub write_last : (xs ys : List (Option Content)) (old new : List (ObjId × Option Content)) (o : ObjId) (c : Option Content)
+pub write_last : (xs ys : List (Option Content)) (old new : List (ObjId × Option Content)) (o : ObjId)
+    (c : Option Content)
     → old ≡ new ++ (o, c) ∷ [] → ys ≡ set xs o.0 c
     → written (plain_contents ys) (plain_effect new) ≡ written (plain_contents xs) (plain_effect old)
 write_last xs ys old new o c is put =
@@ -129,7 +140,8 @@ write_last xs ys old new o c is put =
     said : ObjId × Option Content → ℕ × Option PlainContent
     said p = (p.0.0, plain_option p.1)
 
-pub last_is_needed : (old new : List (ObjId × Option Content)) (o : ObjId) (c : Option Content) → old ≡ new ++ (o, c) ∷ []
+pub last_is_needed : (old new : List (ObjId × Option Content)) (o : ObjId) (c : Option Content)
+    → old ≡ new ++ (o, c) ∷ []
     → needed (plain_effect old) ≡ max (needed (plain_effect new)) (o.0 + 1)
 last_is_needed old new o c is =
     ap (λ z. needed (plain_effect z)) is ∙ ap needed (map-append said new ((o, c) ∷ []))

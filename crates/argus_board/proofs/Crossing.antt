@@ -11,7 +11,8 @@ use Rattle.argus_memory.proofs.Crossing as memory
 use Rattle.argus_contents.proofs.Crossing as contents
 use Rattle.argus_contents.specs.contracts.content.Content.{the_row as content_row}
 use Rattle.argus_contents.specs.contracts.obj_id.ObjId.{the_row as object_row}
-use Rattle.argus_board.proofs.front.Front.TheSendSync.{the_field_send as front_field_sends, the_field_sync as front_field_syncs}
+use Rattle.argus_board.proofs.front.Front.TheSendSync.{the_field_send as front_field_sends}
+use Rattle.argus_board.proofs.front.Front.TheSendSync.{the_field_sync as front_field_syncs}
 use Rattle.argus_board.proofs.keeper.Keeper.TheSendSync.{the_field_send as keeper_field_sends}
 use Rattle.left_right.proofs.reader.Reader.TheSendSync.{the_field_send as place_send}
 use Rattle.left_right.proofs.writer.Writer.TheSendSync.{the_field_send as publisher_send}
@@ -81,8 +82,10 @@ change_syncs = search (sendable, change_field_syncs)
 inside_sends : (N R : RattleType) (g : Ghosts N.Denot) → IsSend R → IsSend (declared_row (inside N R g))
 inside_sends N R g s = let t = inside N R g in
     recorded_send _ t.D t.to t.to_one (struct_send (shape t) (
-      publisher_send table_row change_row view_row (published_row N) memory.room (Tuple (contents_row ∷ front_row ∷ [])) absorbs
-          (keeps N g no_dict) memory.rests table_sends change_sends memory.room_sends table_syncs memory.room_syncs memory.room_frees,
+      publisher_send table_row change_row view_row (published_row N) memory.room (Tuple
+          (contents_row ∷ front_row ∷ [])) absorbs
+          (keeps N g no_dict) memory.rests table_sends change_sends memory.room_sends table_syncs memory.room_syncs
+          memory.room_frees,
       (keeper_field_sends, (front_field_sends, (s, tt))),
     ))
 

@@ -1,5 +1,6 @@
 -- The steps of the history keep its rule.
-use Rattle.std.proofs.Common.{◌≡◌, ◌≢◌, ℕ, zero, suc, ◌<◌, ◌==◌, Bool, true, false, List, [], ◌∷◌, ◌++◌, length, fold, refl, ap, sym, ◌∙◌, subst, arith, inl, length-append, append_assoc, None}
+use Rattle.std.proofs.Common.{◌≡◌, ◌≢◌, ℕ, zero, suc, ◌<◌, ◌==◌, Bool, true, false, List, [], ◌∷◌, ◌++◌, length, fold}
+use Rattle.std.proofs.Common.{refl, ap, sym, ◌∙◌, subst, arith, inl, length-append, append_assoc, None}
 use Rattle.std.proofs.lemmas.List.{append-nil, get_or-set_same}
 use Rattle.std.proofs.lemmas.Bool.Decides.{nat_tests}
 use mathlib.Core.List.{IsPrefix}
@@ -9,7 +10,8 @@ use prog.Atomic.{either}
 use Rattle.logbook.specs.Pages.{Cell, cell, Nib, keeps, gives, adds, no_nib, may_write, step, Moves}
 use Rattle.argus_board.specs.Effects.{Effect}
 use Rattle.argus_board.specs.declared.page.Page.{Page}
-use Rattle.argus_board.specs.History.{AreUsed, IsKept, IsUnused, turned, turned_if, line_of, line, tip, Grows, Adds, Holds}
+use Rattle.argus_board.specs.History.{AreUsed, IsKept, IsUnused, turned, turned_if, line_of, line, tip, Grows, Adds}
+use Rattle.argus_board.specs.History.{Holds}
 
 home_set : (cs : List Cell) (i n k : ℕ) → (cell cs k).1 ≡ true → (cell (set cs i (n, true)) k).1 ≡ true
 home_set [] i n k h = h
@@ -24,17 +26,23 @@ home_push [] (suc k) h = h
 home_push (c ∷ cs) zero h = h
 home_push (c ∷ cs) (suc k) h = home_push cs k h
 
-used_on : (cs ds : List Cell) → ((k : ℕ) → (cell cs k).1 ≡ true → (cell ds k).1 ≡ true) → (log : List Page) → AreUsed cs log → AreUsed ds log
+used_on : (cs ds : List Cell) → ((k : ℕ) → (cell cs k).1 ≡ true → (cell ds k).1 ≡ true) → (log : List Page)
+    → AreUsed cs log → AreUsed ds log
 used_on cs ds f [] h = tt
 used_on cs ds f (p ∷ ps) h = (f p.uses h.0, used_on cs ds f ps h.1)
 
-used_push : (cs : List Cell) (log : List Page) (p : Page) → AreUsed cs log → (cell cs p.uses).1 ≡ true → AreUsed cs (log ++ p ∷ [])
+used_push : (cs : List Cell) (log : List Page) (p : Page) → AreUsed cs log → (cell cs p.uses).1 ≡ true
+    → AreUsed cs (log ++ p ∷ [])
 used_push cs [] p h u = (u, tt)
 used_push cs (q ∷ qs) p h u = (h.0, used_push cs qs p h.1 u)
 
 unused : (cs : List Cell) (k : ℕ) → (cell cs k).1 ≡ false → (log : List Page) → AreUsed cs log → IsUnused k log
 unused cs k away [] h = tt
-unused cs k away (p ∷ ps) h = ((λ (e : p.uses ≡ k). absurd (let f : true ≡ false = sym h.0 ∙ ap (λ z. (cell cs z).1) e ∙ away in cc f)), unused cs k away ps h.1)
+unused cs k away (p ∷ ps) h = (
+  (λ (e : p.uses ≡ k). absurd (let f : true ≡ false = sym h.0
+      ∙ ap (λ z. (cell cs z).1) e ∙ away in cc f)),
+  unused cs k away ps h.1,
+)
 
 abbrev pub shown : List Page → List Page
 shown log = []
@@ -43,11 +51,14 @@ abbrev pub moved : List Page → List Page → ℕ → Type 0
 moved xs ys n = Unit {0}
 
 -- a right may be made at any time
-pub grow_moves : (v : List Page) (ask : Page) → Moves IsKept shown moved 0 (v, (no_nib, None)) (λ n. either (n == 0) 0 n) (Grows (step 0 0 0 ask) (v, (no_nib, None)))
+pub grow_moves : (v : List Page) (ask : Page)
+    → Moves IsKept shown moved 0 (v, (no_nib, None)) (λ n. either (n == 0) 0 n)
+    (Grows (step 0 0 0 ask) (v, (no_nib, None)))
 grow_moves v ask cs log kept pre away =
     let f = either ((cell cs 0).0 == 0) 0 (cell cs 0).0 in
     let ds = set cs 0 (f, true) in
-    let on : (k : ℕ) → (cell cs k).1 ≡ true → (cell (ds ++ (0, false) ∷ []) k).1 ≡ true = λ k h. home_push ds k (home_set cs 0 f k h) in
+    let on : (k : ℕ) → (cell cs k).1 ≡ true → (cell (ds ++ (0, false) ∷ []) k).1 ≡ true = λ k h. home_push ds k
+    (home_set cs 0 f k h) in
     let wide : 0 < length (ds ++ (0, false) ∷ []) = omega (arith, length-append ds ((0, false) ∷ [])) in
     let whole : log ++ [] ≡ log = append-nil log in (
       kept.head.0,
@@ -57,23 +68,30 @@ grow_moves v ask cs log kept pre away =
         [],
         None,
         tt,
-        record { head = (wide, on 0 kept.head.1); used = subst (AreUsed (ds ++ (0, false) ∷ [])) (sym whole) (used_on cs (ds ++ (0, false) ∷ []) on log kept.used) },
+        record {
+          head = (wide, on 0 kept.head.1);
+          used = subst (AreUsed (ds ++ (0, false) ∷ [])) (sym whole)
+              (used_on cs (ds ++ (0, false) ∷ []) on log kept.used);
+        },
         inl (refl, refl),
         refl,
       ),
     )
 
 -- whoever holds a right may use it up
-pub add_moves : (v : List Page) (p : Nib) (ask : Page) → p.right ≡ may_write → Moves IsKept shown moved 0 (v, (p, None)) (λ n. either (n == 0) 0 n) (Adds (step 0 0 0 ask) (v, (p, None)))
+pub add_moves : (v : List Page) (p : Nib) (ask : Page) → p.right ≡ may_write
+    → Moves IsKept shown moved 0 (v, (p, None)) (λ n. either (n == 0) 0 n) (Adds (step 0 0 0 ask) (v, (p, None)))
 add_moves v p ask right cs log kept pre away =
     let f = either ((cell cs 0).0 == 0) 0 (cell cs 0).0 in
     let ds = set cs 0 (f, true) in
     let es = set ds p.key (p.value, true) in
     let page : Page = record { uses = p.key; gives = ask.gives; effect = ask.effect } in
-    let on : (k : ℕ) → (cell cs k).1 ≡ true → (cell es k).1 ≡ true = λ k h. home_set ds p.key p.value k (home_set cs 0 f k h) in
+    let on : (k : ℕ) → (cell cs k).1 ≡ true → (cell es k).1 ≡ true = λ k h. home_set ds p.key p.value k
+    (home_set cs 0 f k h) in
     let wide : length es ≡ length cs = length-set ds p.key (p.value, true) ∙ length-set cs 0 (f, true) in
     let inside : p.key < length ds = omega (arith, length-set cs 0 (f, true), (away right).0) in
-    let here : (cell es p.key).1 ≡ true = ap (λ (c : Cell). c.1) (get_or-set_same ds p.key (p.value, true) (0, false) inside) in (
+    let here : (cell es p.key).1 ≡ true = ap (λ (c : Cell). c.1) (get_or-set_same ds p.key (p.value, true)
+    (0, false) inside) in (
       kept.head.0,
       kept.head.1,
       (
@@ -81,14 +99,19 @@ add_moves v p ask right cs log kept pre away =
         page ∷ [],
         None,
         right,
-        record { head = (omega (arith, wide, kept.head.0), on 0 kept.head.1); used = used_push es log page (used_on cs es on log kept.used) here },
+        record {
+          head = (omega (arith, wide, kept.head.0), on 0 kept.head.1);
+          used = used_push es log page
+              (used_on cs es on log kept.used) here;
+        },
         inl (refl, refl),
         (log, refl, pre, unused cs p.key (away right).1 log kept.used),
       ),
     )
 
 -- whoever holds a right sees that no page used it up
-pub hold_moves : (v : List Page) (p : Nib) (ask : Page) → p.right ≡ may_write → Moves IsKept shown moved 0 (v, (p, None)) (λ n. either (n == 0) 0 n) (Holds (step 0 0 0 ask) (v, (p, None)))
+pub hold_moves : (v : List Page) (p : Nib) (ask : Page) → p.right ≡ may_write
+    → Moves IsKept shown moved 0 (v, (p, None)) (λ n. either (n == 0) 0 n) (Holds (step 0 0 0 ask) (v, (p, None)))
 hold_moves v p ask right cs log kept pre away =
     let f = either ((cell cs 0).0 == 0) 0 (cell cs 0).0 in
     let ds = set cs 0 (f, true) in
@@ -101,7 +124,11 @@ hold_moves v p ask right cs log kept pre away =
         [],
         None,
         tt,
-        record { head = (omega (arith, length-set cs 0 (f, true), kept.head.0), on 0 kept.head.1); used = subst (AreUsed ds) (sym whole) (used_on cs ds on log kept.used) },
+        record {
+          head = (omega (arith, length-set cs 0 (f, true), kept.head.0), on 0 kept.head.1);
+          used = subst
+              (AreUsed ds) (sym whole) (used_on cs ds on log kept.used);
+        },
         inl (refl, refl),
         (refl, subst (IsUnused p.key) (sym whole) (unused cs p.key (away right).1 log kept.used)),
       ),
@@ -119,7 +146,8 @@ longer_if false s p = begins_itself s.1
 longer : (s : ℕ × List Effect) (log : List Page) → IsPrefix s.1 (fold turned s log).1
 longer s [] = begins_itself s.1
 longer s (p ∷ ps) =
-    begins_later s.1 (turned s p).1 (fold turned (turned s p) ps).1 (longer_if (s.0 == p.uses) s p) (longer (turned s p) ps)
+    begins_later s.1 (turned s p).1 (fold turned (turned s p) ps).1 (longer_if (s.0 == p.uses) s p) (longer
+    (turned s p) ps)
 
 pub line_begins : (r : ℕ) (xs ys : List Page) → IsPrefix xs ys → IsPrefix (line r xs) (line r ys)
 line_begins r xs ys p =
@@ -144,7 +172,8 @@ unused_rest : (k : ℕ) (xs ys : List Page) → IsUnused k (xs ++ ys) → IsUnus
 unused_rest k [] ys u = u
 unused_rest k (x ∷ xs) ys u = unused_rest k xs ys u.1
 
-pub line_stands : (r k : ℕ) (xs ys : List Page) → k ≡ tip r xs → IsPrefix xs ys → IsUnused k ys → line_of r ys ≡ line_of r xs
+pub line_stands : (r k : ℕ) (xs ys : List Page) → k ≡ tip r xs → IsPrefix xs ys → IsUnused k ys
+    → line_of r ys ≡ line_of r xs
 line_stands r k xs ys is p u =
     let s = line_of r xs in
     let rest : IsUnused k p.0 = unused_rest k xs p.0 (subst (IsUnused k) (sym p.1) u) in
@@ -158,8 +187,10 @@ equal : (a b : ℕ) → b ≡ a → (a == b) ≡ true
 equal a b e = grind (arith, nat_tests)
 
 -- the page that used up the next right
-pub line_adds : (r : ℕ) (xs log w : List Page) (p : Page) → p.uses ≡ tip r xs → w ≡ log ++ p ∷ [] → IsPrefix xs log → IsUnused p.uses log → line_of r w ≡ (p.gives, line r xs ++ p.effect ∷ [])
+pub line_adds : (r : ℕ) (xs log w : List Page) (p : Page) → p.uses ≡ tip r xs → w ≡ log ++ p ∷ [] → IsPrefix xs log
+    → IsUnused p.uses log → line_of r w ≡ (p.gives, line r xs ++ p.effect ∷ [])
 line_adds r xs log w p is whole pre u =
     let s = line_of r xs in
     let was : line_of r log ≡ s = line_stands r p.uses xs log is pre u in
-    ap (line_of r) whole ∙ fold_on (r, []) log (p ∷ []) ∙ ap (λ z. turned z p) was ∙ here_if (s.0 == p.uses) s p (equal s.0 p.uses is)
+    ap (line_of r) whole ∙ fold_on (r, []) log (p ∷ []) ∙ ap (λ z. turned z p) was
+    ∙ here_if (s.0 == p.uses) s p (equal s.0 p.uses is)

@@ -41,7 +41,8 @@ module _ (first : List (Option PlainContent)) (own : Book) (root : ℕ) where
   FitsTable t = Fits first own (plain_contents t.contents.items) t.front.seen.book (upto t)
 
   -- the first contents, which the writer alone has seen
-  pub starts : (x : Table) → plain_contents x.contents.items ≡ first → x.front.seen.book ≡ own → upto x ≡ [] → Holds x ([] ∷ [])
+  pub starts : (x : Table) → plain_contents x.contents.items ≡ first → x.front.seen.book ≡ own → upto x ≡ []
+      → Holds x ([] ∷ [])
   starts x is book none = ((is ∙ sym (ap (left_by first) none), book), one)
     where
       one : AllBegin (upto x) ([] ∷ [])
@@ -74,5 +75,6 @@ module _ (first : List (Option PlainContent)) (own : Book) (root : ℕ) where
       ⊎_elim (λ (t : (other ≡ by) × (u ≡ w)). absurd (apart t.0))
       (λ (t : (other ≢ by) × (get_elem? views other ≡ some w)). h.1 other w t.1) (at_set views by other u w there) in (
         h.0,
-        all_set l (set views by u) other [] (all_set l views by u h.1 (told_begins v w l (h.1 by v at) theirs)) (nothing_begins l),
+        all_set l (set views by u) other [] (all_set l views by u h.1 (told_begins v w l (h.1 by v at) theirs))
+            (nothing_begins l),
       )

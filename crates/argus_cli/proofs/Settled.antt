@@ -1,6 +1,7 @@
 -- What a settlement says of a guardian that began with no entry.
 use Rattle.std.specs.Borrow.{Bor}
-use Rattle.std.proofs.Common.{All, Bool, List, None, Option, Some, [], ap, arith, false, is_some, length, not, refl, slice_get}
+use Rattle.std.proofs.Common.{All, Bool, List, None, Option, Some, [], ap, arith, false, is_some, length, not, refl}
+use Rattle.std.proofs.Common.{slice_get}
 use Rattle.std.proofs.Common.{suc, sum_by, take, true, zero, ℕ, ◌+◌, ◌++◌, ◌∙◌, ◌∷◌, ◌≡◌}
 use Rattle.std.proofs.lemmas.List.Elements.{All-head, All-tail}
 use Rattle.std.proofs.lemmas.List.Sums.{sum_by-cons}

@@ -1,5 +1,6 @@
 -- What a commit adds to the effects.
-use Rattle.std.proofs.Common.{Bool, List, None, Option, Some, [], ap, arith, cond, false, refl, sym, true, ℕ, ◌+◌, ◌==◌, ◌∙◌, ◌∷◌, ◌≡◌}
+use Rattle.std.proofs.Common.{Bool, List, None, Option, Some, [], ap, arith, cond, false, refl, sym, true, ℕ, ◌+◌, ◌==◌}
+use Rattle.std.proofs.Common.{◌∙◌, ◌∷◌, ◌≡◌}
 use Rattle.std.proofs.lemmas.Bool.Decides.{nat_tests}
 use Rattle.std.specs.Option.{option_to_list}
 use Rattle.std.specs.Prelude.{Err, IfOk, Ok, Result, if◌then◌else◌}
@@ -50,7 +51,8 @@ module _ (t : Tree) (objects : List AtomicObject) (holdings : Holdings) (s : Ope
   said = record { opening = s; entries = j }
 
   live : is_live (history s j) (a.0 + 1) ≡ true
-  live = (free_none (history s j) a.0 None (sym (commit_refused t objects holdings s j k a) ∙ ap refusals_said free)).live
+  live = (free_none (history s j) a.0 None (sym (commit_refused t objects holdings s j k a)
+      ∙ ap refusals_said free)).live
 
   -- by its parent
   by_parent : added_by_call said (commit a.0)

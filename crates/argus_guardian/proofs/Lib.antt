@@ -3,3 +3,4 @@ pub mod Effects
 pub mod Written
 pub mod Told
 pub mod Checkpoints
+pub mod Crossing

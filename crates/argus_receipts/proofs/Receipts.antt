@@ -1,7 +1,8 @@
 -- Receipts without a fault stand in the journal, each at a number of its own.
 use Rattle.std.specs.List.{AllByRecursion, IsDistinct, list_any}
 use Rattle.std.specs.Option.{option_or}
-use Rattle.std.proofs.Common.{All, Bool, List, None, Option, Some, [], ap, false, drop, drop-cons, get_or, if◌then◌else◌, length, map, nat_lt, not}
+use Rattle.std.proofs.Common.{All, Bool, List, None, Option, Some, [], ap, false, drop, drop-cons, get_or}
+use Rattle.std.proofs.Common.{if◌then◌else◌, length, map, nat_lt, not}
 use Rattle.std.proofs.Common.{refl, suc, sym, true, ℕ, ◌++◌, ◌<◌, ◌==◌, ◌∙◌, ◌∷◌, ◌≡◌, ◌||◌}
 use Rattle.std.proofs.lemmas.List.Elements.{All-cons, All-nil}
 use Rattle.std.proofs.lemmas.List.Folds.{list_any-append}
@@ -84,7 +85,8 @@ pub fine_apart : (s : Opening) (j : List PlainEntry) (rs : List PlainReceipt)
 fine_apart s j rs e = (fine_new s j [] rs e).1
 
 -- a fault of one receipt is the first of the list that it heads
-pub fault_first : (found rest : Option SettleFault) (f : SettleFault) → IsFault found f → IsFault (option_or found rest) f
+pub fault_first : (found rest : Option SettleFault) (f : SettleFault) → IsFault found f
+    → IsFault (option_or found rest) f
 fault_first found rest fault.OutOfMemory h = tt
 fault_first found rest (fault.NotThere at) h = ap (λ x. option_or x rest) h
 fault_first found rest (fault.Twice at) h = ap (λ x. option_or x rest) h

@@ -5,4 +5,5 @@ use Rattle.argus_board.proofs.looking.copies_of.Given as goal
 
 abbrev pub invariant-loop-object : goal.invariant-loop-object
 invariant-loop-object l =
-    plain_contents l.copies.items ≡ map (λ o. content_at (plain_contents l.contents) o.0) (take l.object-index l.objects)
+    plain_contents l.copies.items ≡ map (λ o. content_at (plain_contents l.contents) o.0)
+    (take l.object-index l.objects)

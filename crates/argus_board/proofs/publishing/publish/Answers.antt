@@ -17,7 +17,8 @@ show-requires-clause-leaves g c =
     let front = c.args.front.now in
     let ops = drop c.args.writer.now.behind c.args.writer.now.log.items in
     rw (c.hand.ensures.desk, c.in_ok-hand.ensures.ok, c.again.ensures)
-    (mark_leaves g.N.Board.first (plain_contents x.contents.items) (line root x.front.seen.log) (line root front.seen.log) x.front
+    (mark_leaves g.N.Board.first (plain_contents x.contents.items) (line root x.front.seen.log)
+    (line root front.seen.log) x.front
     front ops c.requires.contents c.requires.whole)
 
 pub returns-clause-whole : goal.returns-clause-whole
@@ -32,7 +33,8 @@ returns-clause-whole g c =
     (λ _ v. ap (λ (f : Front). line root f.seen.log ++ effects_in pend) v.2
     ∙ ap (λ (z : List Change). line root c.args.front.now.seen.log ++ effects_in z) v.3
     ∙ append-nil (line root c.args.front.now.seen.log))
-    (λ _ v. ap (λ (t : Table). line root t.front.seen.log ++ effects_in pend) (v.1 ∙ ap (λ d. d.shown.value) c.hand.ensures.desk)
+    (λ _ v. ap (λ (t : Table). line root t.front.seen.log ++ effects_in pend) (v.1
+    ∙ ap (λ d. d.shown.value) c.hand.ensures.desk)
     ∙ ap (λ (z : List Change). old ++ effects_in z) (v.2 ∙ c.in_ok-hand.ensures.ok)
     ∙ ap (λ z. old ++ z) (mark_adds_none ops c.again.result) ∙ c.requires.whole)
 
@@ -42,7 +44,8 @@ returns-clause-marks g c none =
     let ops = drop was.behind was.log.items in
     one_of c.show.result c.show.ensures (λ _ v. v.3)
     (λ _ v. absurd (c.is_behind.ensures.some c.if-not-is_behind.false
-    (c.requires.marks (sym (ap effects_in (v.2 ∙ c.in_ok-hand.ensures.ok) ∙ mark_adds_none ops c.again.result) ∙ none))))
+    (c.requires.marks (sym (ap effects_in (v.2 ∙ c.in_ok-hand.ensures.ok) ∙ mark_adds_none ops c.again.result)
+    ∙ none))))
 
 pub returns-clause-err : goal.returns-clause-err
 returns-clause-err g c =

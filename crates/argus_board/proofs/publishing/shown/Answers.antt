@@ -16,7 +16,8 @@ publish_as-writer-requires g c next is =
     let root = g.N.Board.root in
     let both = is ∙ c.requires.leaves in
     let front : next.front ≡ c.args.front.now = ap (λ (s : List (Option PlainContent) × Front). s.1) both in
-    let log : line root next.front.seen.log ≡ line root c.args.front.now.seen.log = ap (λ (f : Front). line root f.seen.log) front in
+    let log : line root next.front.seen.log ≡ line root c.args.front.now.seen.log = ap (λ
+    (f : Front). line root f.seen.log) front in
     let contents : plain_contents next.contents.items ≡ left_by first (line root c.args.front.now.seen.log) =
     ap (λ (s : List (Option PlainContent) × Front). s.0) both in
     rises first g.N.Board.history root _ _ x next

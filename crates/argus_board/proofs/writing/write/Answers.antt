@@ -26,5 +26,12 @@ loop-object-preserved c =
     let last : old ≡ new ++ (o, c.in-Some.content) ∷ [] =
     c.pop.ensures.items ∙ ap (λ (r : Option (ObjId × Option Content)). new ++ option_to_list r) c.in-Some.is in (
       write_last xs ys old new o c.in-Some.content last c.put.ensures ∙ c.loop-object.invariant.0,
-      omega (arith, c.loop-object.invariant.1, last_is_needed old new o c.in-Some.content last, ap length c.put.ensures, length-set xs o.0 c.in-Some.content),
+      omega (
+        arith,
+        c.loop-object.invariant.1,
+        last_is_needed old new o c.in-Some.content last,
+        ap length
+            c.put.ensures,
+        length-set xs o.0 c.in-Some.content,
+      ),
     )

@@ -19,7 +19,8 @@ pub returns-then-workers-gt1-clause-alone : goal.returns-then-workers-gt1-clause
 returns-then-workers-gt1-clause-alone g c =
     let script = plain_script c.args.script.now in
     IfOk-weaker c.run_by_workers.result (λ j. IsLeftByWorkers script j)
-    (λ j. c.args.workers ≡ 1 → IsPlay new_journal script j) (λ j left one. absurd (omega arith)) c.run_by_workers.ensures
+    (λ j. c.args.workers ≡ 1 → IsPlay new_journal script j) (λ j left one. absurd
+    (omega arith)) c.run_by_workers.ensures
 
 pub returns-then-workers-gt1-clause-together : goal.returns-then-workers-gt1-clause-together
 returns-then-workers-gt1-clause-together g c =

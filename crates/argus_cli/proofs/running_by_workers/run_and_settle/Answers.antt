@@ -16,7 +16,8 @@ returns-then-is_from_start g c =
     let unused : All (λ s. s.made ≡ 0) c.as_mut_slice-all.result.now =
     rw c.as_mut_slice-all.ensures.value c.requires.unused in
     let none = none_in_all c.as_mut_slice-all.result.now (λ s. s.made) unused in
-    let seats : length c.run_shared.new.seats ≡ c.args.parts.seats.len = omega (arith, c.as_mut_slice-all.ensures.len) in
+    let seats : length c.run_shared.new.seats ≡ c.args.parts.seats.len = omega
+    (arith, c.as_mut_slice-all.ensures.len) in
     let calls = ap (λ xs. sum_by (λ s. s.made) xs) (front_of c.run_shared.new.seats _ c.args.parts.seats.len seats) in
     record {
       fresh = fresh;

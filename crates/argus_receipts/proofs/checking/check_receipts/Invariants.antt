@@ -4,4 +4,5 @@ use Rattle.argus_receipts.proofs.Receipts.{FaultFrom}
 use Rattle.argus_receipts.proofs.checking.check_receipts.Given as goal
 
 abbrev pub invariant-loop-receipt : goal.invariant-loop-receipt
-invariant-loop-receipt l = FaultFrom (opening_of l.journal) (entries_of l.journal) l.receipts l.earlier.keys l.receipt-index
+invariant-loop-receipt l = FaultFrom (opening_of l.journal)
+    (entries_of l.journal) l.receipts l.earlier.keys l.receipt-index

@@ -26,8 +26,10 @@ invariant_of-self-2 g c =
       rw c.hand.ensures.desk inv.5,
       rw c.hand.ensures.desk inv.6,
       rw (c.hand.ensures.desk, c.in_ok-hand.ensures.ok)
-          (leaf_whole (line root was.desk.shown.value.front.seen.log) f _ ops (Leaves e) (plain_effect e.items) inv.7 more refl),
-      (λ none. absurd (leaf_some ops (Leaves e) (plain_effect e.items) refl (sym (ap effects_in c.in_ok-hand.ensures.ok) ∙ none))),
+          (leaf_whole (line root was.desk.shown.value.front.seen.log) f _ ops (Leaves e)
+          (plain_effect e.items) inv.7 more refl),
+      (λ none. absurd (leaf_some ops (Leaves e) (plain_effect e.items) refl (sym
+          (ap effects_in c.in_ok-hand.ensures.ok) ∙ none))),
     )
 
 pub returns-clause-ok : goal.returns-clause-ok

@@ -17,5 +17,6 @@ returns-clause-former g c =
     begins_behind g.N.Board.before (line root c.looker.inside.front.seen.log) known shown pending
     (c.covers.ensures.begins root c.self.invariant.4) c.self.invariant.7 in (
       seen.0,
-      ap (λ k. k ++ seen.0) (sym c.looker.view_is) ∙ seen.1 ∙ ap (λ (s : Shown). s.published ++ s.pending) c.self.view_is,
+      ap (λ k. k ++ seen.0) (sym c.looker.view_is) ∙ seen.1
+          ∙ ap (λ (s : Shown). s.published ++ s.pending) c.self.view_is,
     )

@@ -14,9 +14,11 @@ returns-clause-ok g c =
     let before = g.N.Board.before in
     let now = line root new.desk.shown.value.front.seen.log in
     let left = effects_in (drop new.behind new.log.items) in
-    ok_more c.publish.result (left ≡ []) ((before ++ now ≡ c.args.self.now.published ++ c.args.self.now.pending) × (left ≡ []))
+    ok_more c.publish.result (left ≡ []) ((before ++ now ≡ c.args.self.now.published ++ c.args.self.now.pending) ×
+    (left ≡ []))
     (λ none. (
-      all_shown before now (line root was.desk.shown.value.front.seen.log) left (effects_in (drop was.behind was.log.items))
+      all_shown before now (line root was.desk.shown.value.front.seen.log) left (effects_in
+          (drop was.behind was.log.items))
           (line root c.self.inside.keeper.front.seen.log) c.publish.ensures.whole c.self.invariant.7 none
           ∙ ap (λ (s : Shown). s.published ++ s.pending) c.self.view_is,
       none,

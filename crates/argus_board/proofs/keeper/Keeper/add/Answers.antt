@@ -14,7 +14,8 @@ compare_exchange-requires c =
       sym (ap (λ w. w.book) h.0),
       h.1 ∙ sym (ap (λ w. w.book) h.0),
       offer.0,
-      rw (ap (λ w. w.key) h.0, offer.3) (add_moves c.args.self.now.front.seen.log c.args.self.now.pen.nib c.plain-offer.result.ask c.args.self.now.right),
+      rw (ap (λ w. w.key) h.0, offer.3) (add_moves c.args.self.now.front.seen.log c.args.self.now.pen.nib
+          c.plain-offer.result.ask c.args.self.now.right),
     )
 
 pub returns-clause-line : goal.returns-clause-line

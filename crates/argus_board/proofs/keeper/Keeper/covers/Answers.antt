@@ -17,7 +17,8 @@ compare_exchange-requires c =
       both ∙ sym (ap (λ w. w.book) h.0),
       h.1 ∙ sym (ap (λ w. w.book) h.0),
       offer.0,
-      rw (ap (λ w. w.key) h.0, offer.3) (hold_moves c.learn.new.self.log c.args.self.now.pen.nib c.plain-offer.result.ask c.args.self.now.right),
+      rw (ap (λ w. w.key) h.0, offer.3) (hold_moves c.learn.new.self.log c.args.self.now.pen.nib
+          c.plain-offer.result.ask c.args.self.now.right),
     )
 
 pub returns-clause-begins : goal.returns-clause-begins
@@ -28,7 +29,8 @@ returns-clause-begins c r is =
     let whole = c.compare_exchange.new.seen.log in
     let this : IsPrefix mine whole =
     begins_later mine _ whole
-    (subst (λ (l : List Page). IsPrefix l c.learn.new.self.log) (ap (λ s. s.log) c.again-both.ensures) c.learn.ensures.2) e.6 in
+    (subst (λ (l : List Page). IsPrefix l c.learn.new.self.log) (ap
+    (λ s. s.log) c.again-both.ensures) c.learn.ensures.2) e.6 in
     let that : IsPrefix theirs whole = begins_later theirs _ whole c.learn.ensures.3 e.6 in
     let same = ap (λ (s : ℕ × List Effect). s.1) (line_stands r c.args.self.now.pen.nib.key mine whole is this e.7.1) in
     subst (IsPrefix (line r theirs)) same (line_begins r theirs whole that)

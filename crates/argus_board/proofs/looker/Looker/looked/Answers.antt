@@ -20,10 +20,12 @@ returns-in-Ok-found-clause-answer g c =
     let root = g.N.Board.root in
     let later = line root c.again-front.result.seen.log in
     let sees = c.in-Ok.ensures.1 in
-    let front : c.again-front.result ≡ t.front = c.again-front.ensures ∙ ap (λ (x : Table). x.front) c.get-table.ensures in
+    let front : c.again-front.result ≡ t.front = c.again-front.ensures
+    ∙ ap (λ (x : Table). x.front) c.get-table.ensures in
     let contents : plain_contents c.as_slice.result.now ≡ left_by first later =
     ap plain_contents (c.as_slice.ensures.value ∙ ap (λ (x : Table). x.contents.items) c.get-table.ensures)
     ∙ sees.2.0 ∙ ap (left_by first) (sees.1 ∙ sym (ap (λ (f : Front). line root f.seen.log) front)) in
     c.in-Ok-found.ensures
-    ∙ looked_up g.N.Board.opening g.N.Board.before later first (plain_contents c.as_slice.result.now) c.self.invariant.0 contents
+    ∙ looked_up g.N.Board.opening g.N.Board.before later first
+    (plain_contents c.as_slice.result.now) c.self.invariant.0 contents
     c.args.objects.now

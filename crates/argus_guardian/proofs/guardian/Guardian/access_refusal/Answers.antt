@@ -25,7 +25,8 @@ returns-in-Alter c =
     let p = c.self.inside.parts in
     let call = alter c.in-Alter.a.0 c.in-Alter.o.0 (plain_change c.in-Alter.change) in
     (rw (c.as_slice-objects.ensures.value) at c.alter_refusal.ensures)
-    ∙ alter_is p.tree p.objects.items p.holdings (opening_in p.journal) (entries_in p.journal) c.self.invariant c.in-Alter.a
+    ∙ alter_is p.tree p.objects.items p.holdings (opening_in p.journal)
+    (entries_in p.journal) c.self.invariant c.in-Alter.a
     c.in-Alter.o (plain_change c.in-Alter.change)
     ∙ ap (λ (s : Said). refusal_of_access s call) c.self.view_is
     ∙ ap (λ (x : Call). refusal_of_access c.args.self.now (plain_call x)) (sym c.in-Alter.is)
