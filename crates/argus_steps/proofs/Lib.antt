@@ -18,4 +18,4 @@ pub mod Alters
 pub mod Tests
 pub mod WriteTests
 pub mod FreeLocks
-pub mod Prepares
+pub mod OfParts

@@ -5,6 +5,7 @@
 #![tactic(auto)]
 
 mod ending;
+mod heading;
 mod program;
 mod runs;
 mod workers;

@@ -1,7 +1,8 @@
 //! `Row`: a script with a command line, and what comes of it.
 
+use crate::heading::{Heading, heading_of};
 use argus_memory::{Heap, Room};
-use test_rows::{Block, RowFault, block_of, spell_line};
+use test_rows::{RowFault, spell_line};
 
 // A script, the words with which the program is called, and what comes of it: its listing, with the
 // number of its lines, or the fault's text. Where the order of workers matters there is another
@@ -21,26 +22,16 @@ pub(crate) struct Row<'a> {
 impl<'a> Row<'a> {
     // The row that a block of text has; None where the block is none.
     pub(crate) fn of_block(heap: Heap, block: &'a str) -> Result<Option<Row<'a>>, RowFault> {
-        match block_of(block) {
-            Block::Test {
-                name,
-                is_large,
-                lines,
-            } => Ok(Some(Row::of_lines(heap, name, is_large, lines)?)),
-            Block::Comment => Ok(None),
-            Block::Unheaded => Err(RowFault::NotSpelled),
+        match heading_of(block)? {
+            Some(heading) => Ok(Some(Row::of_heading(heap, heading)?)),
+            None => Ok(None),
         }
     }
 
-    fn of_lines(
-        heap: Heap,
-        name: &'a str,
-        is_large: bool,
-        lines: &'a str,
-    ) -> Result<Row<'a>, RowFault> {
+    fn of_heading(heap: Heap, heading: Heading<'a>) -> Result<Row<'a>, RowFault> {
         let mut row = Row {
-            name,
-            is_large,
+            name: heading.name,
+            is_large: heading.is_large,
             words: "",
             fault: "",
             script: Vec::new(heap.room()),
@@ -48,7 +39,7 @@ impl<'a> Row<'a> {
             lines: 0,
             other: Vec::new(heap.room()),
         };
-        for line in lines.lines() {
+        for line in heading.lines.lines() {
             row.add(line)?;
         }
         Ok(row)

@@ -1,11 +1,10 @@
 //! `Row`: a script that workers run, and what comes of it.
 
+use crate::heading::{Heading, heading_of};
 use crate::workers::hold::Hold;
 use crate::workers::team::Team;
 use argus_memory::{Heap, Room};
-use test_rows::{
-    Block, Counted, RowFault, block_of, counted_of, first_word, spell_line, spelled_row,
-};
+use test_rows::{Counted, RowFault, counted_of, first_word, spell_line, spelled_row};
 
 /// A script, how it is run, and what comes of it.
 ///
@@ -37,26 +36,16 @@ pub(crate) struct Row<'a> {
 impl<'a> Row<'a> {
     /// The row that a block of text has; None where the block is none.
     pub(crate) fn of_block(heap: Heap, block: &'a str) -> Result<Option<Row<'a>>, RowFault> {
-        match block_of(block) {
-            Block::Test {
-                name,
-                is_large,
-                lines,
-            } => Ok(Some(Row::of_lines(heap, name, is_large, lines)?)),
-            Block::Comment => Ok(None),
-            Block::Unheaded => Err(RowFault::NotSpelled),
+        match heading_of(block)? {
+            Some(heading) => Ok(Some(Row::of_heading(heap, heading)?)),
+            None => Ok(None),
         }
     }
 
-    fn of_lines(
-        heap: Heap,
-        name: &'a str,
-        is_large: bool,
-        lines: &'a str,
-    ) -> Result<Row<'a>, RowFault> {
+    fn of_heading(heap: Heap, heading: Heading<'a>) -> Result<Row<'a>, RowFault> {
         let mut row = Row {
-            name,
-            is_large,
+            name: heading.name,
+            is_large: heading.is_large,
             teams: Vec::new(heap.room()),
             patience: 0,
             lookers: 0,
@@ -68,7 +57,7 @@ impl<'a> Row<'a> {
             bases: "",
             is_refused: false,
         };
-        for line in lines.lines() {
+        for line in heading.lines.lines() {
             match counted_of(line) {
                 None => row.add(line)?,
                 Some(counted) => row.add_counted(heap, counted)?,

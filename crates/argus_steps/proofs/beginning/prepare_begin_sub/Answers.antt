@@ -1,6 +1,6 @@
 -- The tree refuses a subaction as the journal does, or has room for it at the number that the journal answers.
 use Rattle.std.proofs.Common.{refl, sym, ◌∙◌}
-use Rattle.argus_steps.proofs.Prepares.{begin_ready, begin_refused, begin_right, begins_sub, keeps_with}
+use Rattle.argus_steps.proofs.OfParts.{begin_ready, begin_refused, begin_right, begins_sub, keeps_with}
 use Rattle.argus_steps.proofs.beginning.prepare_begin_sub.Goals as goal
 
 pub prepare_refused-requires-clause-right : goal.prepare_refused-requires-clause-right

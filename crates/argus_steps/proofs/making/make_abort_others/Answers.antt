@@ -4,18 +4,13 @@ use Rattle.std.proofs.lemmas.List.{with_items_is}
 use Rattle.argus_entries.specs.Entry.{PlainEntry}
 use Rattle.argus_steps.specs.Keeping.{IsKept}
 use Rattle.argus_steps.proofs.Ends.{kept_others}
-use Rattle.argus_steps.proofs.PartsEnds.{parts_cover}
+use Rattle.argus_steps.proofs.OfParts.{covers}
 use Rattle.argus_steps.proofs.making.make_abort_others.Goals as goal
-use Rattle.argus_journal.specs.Events.{history}
 use Rattle.argus_journal.specs.LegalJournal.{entries_in, opening_in}
 
 pub discard_others-requires-clause-covered : goal.discard_others-requires-clause-covered
 discard_others-requires-clause-covered c =
-    let p = c.args.parts.now in
-    let s = opening_in p.journal in
-    let j = entries_in p.journal in
-    rw (c.as_mut_slice.ensures.value)
-    (parts_cover s (history s j) p.tree p.objects.items p.holdings c.requires.kept.parts)
+    rw (c.as_mut_slice.ensures.value) (covers c.args.parts.now c.requires.kept)
 
 pub returns-clause-kept : goal.returns-clause-kept
 returns-clause-kept c =

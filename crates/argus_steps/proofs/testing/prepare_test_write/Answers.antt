@@ -5,7 +5,7 @@ use Rattle.argus_entries.specs.Call.{test_write}
 use Rattle.argus_entries.specs.Reply.{answered}
 use Rattle.argus_steps.specs.Parts.{said_of}
 use Rattle.argus_steps.specs.Step.{Said, reply_to}
-use Rattle.argus_steps.proofs.Prepares.{test_low, test_refused, test_right}
+use Rattle.argus_steps.proofs.OfParts.{test_low, test_refused, test_right}
 use Rattle.argus_steps.proofs.testing.prepare_test_write.Goals as goal
 
 pub prepare_refused-requires-clause-right : goal.prepare_refused-requires-clause-right

@@ -1,6 +1,6 @@
 -- The journal refuses the test likewise, or says no with nothing changed, or yes with the lock taken.
 use Rattle.std.proofs.Common.{false, refl, sym, true, ◌∙◌}
-use Rattle.argus_steps.proofs.Prepares.{test_accepted, test_low, test_refused, test_right}
+use Rattle.argus_steps.proofs.OfParts.{test_accepted, test_low, test_refused, test_right}
 use Rattle.argus_steps.proofs.writing.test_write_at_once.Goals as goal
 
 pub prepare_refused-requires-clause-right : goal.prepare_refused-requires-clause-right

@@ -1,4 +1,4 @@
--- Begins and tests of write locks as they are prepared, said of the parts of a guardian.
+-- What preparing and making count on, said of the parts of a guardian.
 use Rattle.std.proofs.Common.{Bool, None, Option, Some, length, ℕ, ◌<◌, ◌≡◌}
 use Rattle.std.specs.Prelude.{slice_index_or, true}
 use Rattle.argus_actions.specs.Refusals.{begin_nested_refusal, begin_sub_refusal, begin_top_refusal, commit_refusal}
@@ -17,12 +17,15 @@ use Rattle.argus_steps.specs.Keeping.{IsKept}
 use Rattle.argus_steps.specs.Parts.{Keeps, said_of}
 use Rattle.argus_steps.specs.Prepared.{CanBegin}
 use Rattle.argus_steps.specs.Step.{entry_with, reply_to}
+use Rattle.argus_steps.specs.Sweeping.{AreCovered}
 use Rattle.argus_steps.specs.declared.atomic_object.AtomicObject.{AtomicObject}
 use Rattle.argus_steps.specs.declared.parts.Parts.{Parts}
 use Rattle.argus_steps.proofs.Begins.{nested_begin, sub_begin, top_begin}
 use Rattle.argus_steps.proofs.Begun.{IsBegin, begun_right, refused_reply}
 use Rattle.argus_steps.proofs.Made.{can_begin, kept_room}
+use Rattle.argus_steps.proofs.PartsEnds.{parts_cover}
 use Rattle.argus_steps.proofs.WriteTests as tests
+use Rattle.argus_journal.specs.Events.{history}
 use Rattle.argus_journal.specs.LegalJournal.{entries_in, opening_in}
 use Rattle.argus_laws.specs.TreeWords.{refusal_said}
 use Rattle.argus_objects.specs.Rules.{may_write}
@@ -57,6 +60,12 @@ module _ (p : Parts) (k : Keeps p) where
   -- the room of the tree is no matter
   pub keeps_with : (t : Tree) → SameActions p.tree t → KeepsWith p t
   keeps_with t same = kept_room p.tree t p.objects.items p.holdings (opening_in p.journal) (entries_in p.journal) k same
+
+  -- what an action holds is in its list
+  pub covers : AreCovered p.objects.items p.holdings
+  covers =
+      let s = opening_in p.journal in
+      parts_cover s (history s (entries_in p.journal)) p.tree p.objects.items p.holdings k.parts
 
   module _ {call : PlainCall} {from : act_origin.Origin} {q : Tree → Option ActionRefusal}
       (b : Begins p call from q) where
