@@ -21,7 +21,8 @@ millis=${MILLIS:-300}
 figures=$(mktemp -d)
 trap 'rm -r "$figures"' EXIT
 
-# works: each work with its turns, and the words by which the peer does the same
+# works: each work with its turns, and the words by which the peer does the same. W1 to W7 are the
+# peer program's own arguments: the names that it gives its workloads.
 works() {
     cat << END
 shared:flat 90000 W1 plain-shared 90000

@@ -9,7 +9,7 @@
 #   [PEERS=PROGRAM] [REPS=5] bench/workers.sh
 #
 # The peer is called as `PROGRAM W6 plain-shared 10000 THREADS disjoint`, and prints ns_per_op of a
-# topaction of 14 calls. It runs no script: its threads make their calls right away, keep no receipts
+# topaction of 14 calls (W6 is the peer program's own name for this work). It runs no script: its threads make their calls right away, keep no receipts
 # and test none.
 set -euo pipefail
 export LC_ALL=C
