@@ -1,5 +1,5 @@
 -- Journals worked out: calls, each with the answer of the entries before it.
-use Rattle.std.specs.Prelude.{List, Option, Some, [], codes, pos, suc, zero, ℕ, ◌+◌, ◌∷◌}
+use Rattle.std.specs.Prelude.{List, Option, Some, [], codes, map, pos, suc, zero, ℕ, ◌+◌, ◌∷◌}
 use Rattle.argus_contents.specs.Change.{PlainChange, addh, change_tag, create, remh, set_field}
 use Rattle.argus_contents.specs.Content.{PlainContent, arr, rec, var}
 use Rattle.argus_contents.specs.Shape as shape
@@ -15,6 +15,7 @@ use Rattle.argus_entries.specs.Entry.{PlainEntry}
 use Rattle.argus_entries.specs.Reply.{PlainReply}
 use Rattle.argus_journal.specs.Answers.{answer}
 use Rattle.argus_journal.specs.Opening.{Opening, empty}
+use Rattle.argus_journal.specs.Words.{serial_run}
 use Rattle.argus_journal.specs.declared.owner.Owner.{Owner}
 use Rattle.argus_journal.specs.declared.owner.Owner.TheVariants.{Held}
 
@@ -33,6 +34,10 @@ abbrev pub replies : Opening → List PlainEntry → List PlainCall → List Pla
 replies s j [] = []
 replies s j (call ∷ calls) =
     answer s j call ∷ replies s (record { call = call; reply = answer s j call } ∷ j) calls
+
+-- the calls of the serial run, the newest first
+abbrev pub calls_run : List PlainEntry → List PlainCall
+calls_run j = map (λ access. access.what.call) (serial_run empty j)
 
 -- the action that answers for some work
 abbrev pub held : ℕ → Option Owner
@@ -116,6 +121,13 @@ tests_no = begin_top ∷ begin_top ∷ ask 1 0 (Field 0) ∷ test_write 2 0 ∷ 
 abbrev pub turns : List PlainCall
 turns = begin_top ∷ begin_top ∷ alter 1 0 (set_to 1) ∷ alter 2 1 (set_to 2) ∷ commit 2 ∷ ask 1 1
     (Field 0) ∷ commit 1 ∷ []
+
+-- subactions 2 and 3 of topaction 1 set objects 0 and 1; 3 began last and commits first, and 2 then
+-- reads what it left
+abbrev pub sub_turns : List PlainCall
+sub_turns =
+    begin_top ∷ begin_sub 1 ∷ begin_sub 1 ∷ alter 2 0 (set_to 1) ∷ alter 3 1 (set_to 2) ∷ commit 3
+    ∷ ask 2 1 (Field 0) ∷ commit 2 ∷ commit 1 ∷ []
 
 -- subaction 2 of topaction 1 sets object 0: its parent, its sibling 3 and its nested topaction 4
 -- all have to wait

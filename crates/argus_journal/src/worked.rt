@@ -2,6 +2,7 @@
 //! created with 0 in them.
 ghost use Rattle.std.specs.Prelude.{◌≡◌, true, false, Some, [], ◌∷◌, ◌++◌, codes, map, pos};
 ghost use Rattle.argus_contents.specs.Answer.{body, done, flag, num, signal, val};
+ghost use Rattle.argus_contents.specs.Change.{create};
 ghost use Rattle.argus_contents.specs.Content.{arr, var};
 ghost use Rattle.argus_contents.specs.Value.{int, text};
 ghost use Rattle.argus_contents.specs.declared.query.Query.TheVariants.{Field};
@@ -19,10 +20,11 @@ ghost use Rattle.argus_journal.specs.Words.{base_of, committed_in, effects_of, o
 ghost use Rattle.argus_journal.specs.Words.{readers_of};
 ghost use Rattle.argus_journal.specs.Words.{versions_of, writers_of};
 ghost use Rattle.argus_journal.specs.Worked.{chain, full, held, holding, journal, prepared};
-ghost use Rattle.argus_journal.specs.Worked.{replies, set_to};
+ghost use Rattle.argus_journal.specs.Worked.{calls_run, replies, set_to};
 ghost use Rattle.argus_journal.specs.Worked.{all_wait, nested_outlives, reference_waits};
 ghost use Rattle.argus_journal.specs.Worked.{refused_in_turn};
-ghost use Rattle.argus_journal.specs.Worked.{signal_ends, signal_holds, sub_writes, tag_changed};
+ghost use Rattle.argus_journal.specs.Worked.{signal_ends, signal_holds, sub_turns, sub_writes};
+ghost use Rattle.argus_journal.specs.Worked.{tag_changed};
 ghost use Rattle.argus_journal.specs.Worked.{tag_changes, tag_refused, tests_no, turns, two_read};
 
 /// A subaction's write is undone by its abort, and what its parent had written stays.
@@ -138,7 +140,8 @@ pub fn tests_take_locks()
         versions_of empty (journal (prepared ++ tests_no ++ ends)) 0 ≡ (2, Some (holding 0)) ∷ [] }
 {}
 
-/// Topactions count in the order of their commits: 1 began first, and commits last.
+/// Topactions count in the order of their commits: 1 began first, and commits last. So does the work
+/// of subactions in that of their parent.
 pub fn turns_are_taken()
     ensures replies { replies empty (journal prepared) turns
         ≡ begun 1 ∷ begun 2 ∷ answered done ∷ answered done ∷ answered done
@@ -149,6 +152,15 @@ pub fn turns_are_taken()
     ensures effects { effects_of empty (journal (prepared ++ turns))
         ≡ ((0, Some (holding 0)) ∷ (1, Some (holding 0)) ∷ []) ∷ ((1, Some (holding 2)) ∷ [])
         ∷ ((0, Some (holding 1)) ∷ []) ∷ [] }
+    ensures run { calls_run (journal (prepared ++ turns))
+        ≡ ask 1 1 (Field 0) ∷ alter 1 0 (set_to 1) ∷ alter 2 1 (set_to 2)
+        ∷ alter 0 1 (create (holding 0)) ∷ alter 0 0 (create (holding 0)) ∷ [] }
+    ensures sub_replies { replies empty (journal prepared) sub_turns
+        ≡ begun 1 ∷ begun 2 ∷ begun 3 ∷ answered done ∷ answered done ∷ answered done
+        ∷ answered (val (int (pos 2))) ∷ answered done ∷ answered done ∷ [] }
+    ensures sub_run { calls_run (journal (prepared ++ sub_turns))
+        ≡ ask 2 1 (Field 0) ∷ alter 2 0 (set_to 1) ∷ alter 3 1 (set_to 2)
+        ∷ alter 0 1 (create (holding 0)) ∷ alter 0 0 (create (holding 0)) ∷ [] }
 {}
 
 /// A write by a subaction keeps its parent, its sibling and its nested topaction out.

@@ -6,7 +6,7 @@ use Rattle.argus_actions.specs.declared.action_id.ActionId.{ActionId}
 use Rattle.argus_contents.specs.Answer.{PlainAnswer, flag}
 use Rattle.argus_contents.specs.Content.{KeepsLimits}
 use Rattle.argus_contents.specs.declared.obj_id.ObjId.{ObjId}
-use Rattle.argus_entries.specs.Call.{test_read, test_write}
+use Rattle.argus_entries.specs.Call.{test_read}
 use Rattle.argus_entries.specs.Reply.{PlainReply, answered}
 use Rattle.argus_entries.specs.declared.refusal.Refusal.{Refusal}
 use Rattle.argus_steps.specs.Accessing.{access_refusal, seen_at}
@@ -15,9 +15,8 @@ use Rattle.argus_steps.specs.Prepared.{IsFree}
 use Rattle.argus_steps.specs.Step.{reply_to}
 use Rattle.argus_steps.specs.declared.atomic_object.AtomicObject.{AtomicObject}
 use Rattle.argus_steps.specs.declared.parts.Parts.{Parts}
-use Rattle.argus_steps.proofs.Accesses.{acts, reads_agree, seen_limits, writes_agree}
+use Rattle.argus_steps.proofs.Accesses.{acts, reads_agree, seen_limits}
 use Rattle.argus_steps.proofs.Tests.{test_accepted, test_is, test_low}
-use Rattle.argus_steps.proofs.WriteTests.{write_accepted, write_low, write_test_is}
 use Rattle.argus_journal.specs.Answers.{granted, or_refused, refusal}
 use Rattle.argus_journal.specs.Entries.{entries}
 use Rattle.argus_journal.specs.Events.{history}
@@ -60,27 +59,6 @@ module _ (p : Parts) (k : Keeps p) (a : ActionId) (o : ObjId) where
         opens = λ d.
             reads_agree p.tree xs p.holdings s j k a o.0 (acts p.tree xs p.holdings s j k a o.0 accepted) d low
             ∙ same_flag (model.may_read entries h (a.0 + 1) o.0) true w.reply;
-      }
-
-  pub test_write_free : reply_to (said_of p) (test_write a.0 o.0) ≡ answered (flag true)
-      → IsFree p.tree p.objects.items a o (λ cell. may_write p.tree cell a)
-  test_write_free says =
-      let s = opening_in p.journal in
-      let j = entries_in p.journal in
-      let h = history s j in
-      let xs = p.objects.items in
-      let call = test_write a.0 o.0 in
-      let w = not_refused (refusal h (shapes s j) call) (granted s h (shapes s j) call) (flag true) says in
-      let e : access_refusal p.tree xs a.0 o.0 (λ shape. true) (λ c. true) ≡ None =
-      write_test_is p.tree xs p.holdings s j k a o ∙ w.free in
-      let accepted = write_accepted p.tree xs p.holdings s j k a o e in
-      let low = write_low p.tree xs p.holdings s j k a o e in
-      record {
-        accepted = accepted;
-        low = low;
-        opens = λ d.
-            writes_agree p.tree xs p.holdings s j k a o.0 (acts p.tree xs p.holdings s j k a o.0 accepted) d low
-            ∙ same_flag (model.may_write entries h (a.0 + 1) o.0) true w.reply;
       }
 
   -- who may write may read, what keeps the limits

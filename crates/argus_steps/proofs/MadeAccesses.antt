@@ -1,23 +1,22 @@
 -- What making a prepared access leaves.
-use Rattle.std.proofs.Common.{List, Option, [], ap, false, sym, true, ◌+◌, ◌∙◌, ◌∷◌, ◌≡◌}
+use Rattle.std.proofs.Common.{List, Option, [], ap, sym, true, ◌+◌, ◌∙◌, ◌∷◌, ◌≡◌}
 use Rattle.std.specs.Prelude.{slice_index_or}
 use Rattle.std.proofs.lemmas.Bool.{and_parts}
 use Rattle.argus_actions.specs.declared.action_id.ActionId.{ActionId}
 use Rattle.argus_contents.specs.Change.{PlainChange, outcome}
-use Rattle.argus_contents.specs.Content.{PlainContent, plain_option}
-use Rattle.argus_contents.specs.declared.content.Content.{Content}
+use Rattle.argus_contents.specs.Content.{PlainContent}
 use Rattle.argus_contents.specs.declared.obj_id.ObjId.{ObjId}
 use Rattle.argus_entries.specs.Entry.{PlainEntry}
 use Rattle.argus_steps.specs.Accessing.{IsAccessed, IsAltered}
 use Rattle.argus_steps.specs.Keeping.{IsKept}
-use Rattle.argus_steps.specs.Moving.{IsRead, IsWritten}
+use Rattle.argus_steps.specs.Moving.{IsRead}
 use Rattle.argus_steps.specs.Parts.{Keeps, said_of}
-use Rattle.argus_steps.specs.Prepared.{CanAccess, HasPlace, IsFree, IsLeft, TellsAccess}
+use Rattle.argus_steps.specs.Prepared.{CanRead, HasPlace, IsFree, TellsAccess}
 use Rattle.argus_steps.specs.Step.{reply_to}
 use Rattle.argus_steps.specs.declared.atomic_object.AtomicObject.{AtomicObject}
 use Rattle.argus_steps.specs.declared.parts.Parts.{Parts}
 use Rattle.argus_steps.proofs.Accessed.{parts_accessed}
-use Rattle.argus_steps.proofs.Accesses.{acts, reads_agree, seen_is}
+use Rattle.argus_steps.proofs.Accesses.{acts, reads_agree}
 use Rattle.argus_steps.proofs.Begun.{kept_event}
 use Rattle.argus_steps.proofs.Ends.{shapes_kept, some_object}
 use Rattle.argus_journal.specs.Entries.{entries, left_by}
@@ -37,7 +36,7 @@ use Rattle.argus_objects.specs.declared.holdings.Holdings.{Holdings}
 
 module _ (p : Parts) (e : PlainEntry) (a : ActionId) (o : ObjId) (k : Keeps p) (place : HasPlace p e)
     (objects' : List AtomicObject) (holdings' : Holdings) where
-  pub made_read : CanAccess p e a o false (λ cell. may_read p.tree cell a)
+  pub made_read : CanRead p e a o
       → IsAccessed (IsRead p.tree a) a o p.objects.items objects' p.holdings holdings'
       → IsKept p.tree objects' holdings' (opening_in p.journal) (e ∷ entries_in p.journal)
   made_read can moved =
@@ -51,32 +50,6 @@ module _ (p : Parts) (e : PlainEntry) (a : ActionId) (o : ObjId) (k : Keeps p) (
       can.free.low
       (λ c c' i r. read_cell s h p.tree k.parts.actions a o.0 e l can.told.write c c' i r.base r.readers r.versions
       r.lawful)
-      moved)
-
-  pub made_write : (content : Option Content)
-      → CanAccess p e a o true (λ cell. may_write p.tree cell a) → IsLeft p e a o content
-      → IsAccessed (IsWritten p.tree a (plain_option content)) a o p.objects.items objects' p.holdings holdings'
-      → IsKept p.tree objects' holdings' (opening_in p.journal) (e ∷ entries_in p.journal)
-  made_write content can left moved =
-      let s = opening_in p.journal in
-      let j = entries_in p.journal in
-      let h = history s j in
-      let xs = p.objects.items in
-      let d : AtomicObject = some_object xs o.0 can.free.low in
-      let cell = (slice_index_or xs o.0 d).cell in
-      let reads : may_read p.tree cell a ≡ true =
-      (and_parts (all_above p.tree a (holders cell.versions)) (all_above p.tree a cell.readers) (can.free.opens d)).0 in
-      let la = acts p.tree xs p.holdings s j k a o.0 can.free.accepted in
-      let is : plain_option content ≡ left_by e.call (sees entries (opened s) h (a.0 + 1) o.0) =
-      left d ∙ ap (λ x. left_by e.call x) (seen_is p.tree xs p.holdings s j k a o.0 la d can.free.low reads) in
-      kept_event s e j p.tree p.tree xs objects' p.holdings holdings' k place.right
-      can.told.object (shapes_kept (IsWritten p.tree a (plain_option content)) (o ∷ []) xs objects' moved.objects)
-      moved.objects.count (Accessed (a.0 + 1) o.0 e) can.told.event
-      (λ l. parts_accessed (IsWritten p.tree a (plain_option content)) s h p.tree xs objects' p.holdings holdings'
-      k.parts a o e l
-      can.free.low
-      (λ c c' i r. written_cell s h p.tree k.parts.actions a o.0 e l can.told.write c c' (plain_option content) i is
-      r.base r.readers r.versions r.lawful)
       moved)
 
 -- a change in one go: what it leaves of what a sees is what the entry tells

@@ -2,7 +2,6 @@
 use Rattle.std.proofs.Common.{Bool, List, None, Some, ap, length, refl, sym, true}
 use Rattle.std.proofs.Common.{◌<◌, ◌∙◌, ◌≡◌}
 use Rattle.std.specs.Prelude.{slice_index_or}
-use Rattle.std.proofs.lemmas.Bool.{and_parts}
 use Rattle.argus_actions.specs.Refusals.{commit_refusal}
 use Rattle.argus_actions.specs.Tree.{Tree}
 use Rattle.argus_actions.specs.declared.action_id.ActionId.{ActionId}
@@ -23,8 +22,7 @@ use Rattle.argus_journal.specs.Answers.{answer, granted, if_free, or_refused, re
 use Rattle.argus_journal.specs.Events.{history}
 use Rattle.argus_journal.specs.Objects.{shapes}
 use Rattle.argus_journal.specs.Opening.{Opening}
-use Rattle.argus_objects.specs.Object.{holders}
-use Rattle.argus_objects.specs.Rules.{all_above, may_read, may_write}
+use Rattle.argus_objects.specs.Rules.{may_write}
 use Rattle.argus_objects.specs.declared.holdings.Holdings.{Holdings}
 
 module _ (t : Tree) (objects : List AtomicObject) (holdings : Holdings) (s : Opening) (j : List PlainEntry)
@@ -49,12 +47,6 @@ module _ (t : Tree) (objects : List AtomicObject) (holdings : Holdings) (s : Ope
 
     pub write_low : o.0 < length objects
     write_low = parts.low
-
-    -- who may write may read
-    pub write_reads : ((d : AtomicObject) → may_write t (slice_index_or objects o.0 d).cell a ≡ true)
-        → (d : AtomicObject) → may_read t (slice_index_or objects o.0 d).cell a ≡ true
-    write_reads free d = let c = (slice_index_or objects o.0 d).cell in
-        (and_parts (all_above t a (holders c.versions)) (all_above t a c.readers) (free d)).0
 
     -- what the cell says of the lock is the answer
     pub test_write_right : (b : Bool) → ((d : AtomicObject) → b ≡ may_write t (slice_index_or objects o.0 d).cell a)

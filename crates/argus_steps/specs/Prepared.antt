@@ -8,9 +8,7 @@ use Rattle.argus_actions.specs.Tree.{Tree, next, parent_of}
 use Rattle.argus_actions.specs.declared.action_id.ActionId.{ActionId}
 use Rattle.argus_actions.specs.declared.action_refusal.ActionRefusal.{ActionRefusal}
 use Rattle.argus_contents.specs.Answer.{done}
-use Rattle.argus_contents.specs.Content.{plain_option}
 use Rattle.argus_contents.specs.Shape.{PlainShape}
-use Rattle.argus_contents.specs.declared.content.Content.{Content}
 use Rattle.argus_contents.specs.declared.limits.TheConstants.{MAX_OBJECTS}
 use Rattle.argus_contents.specs.declared.obj_id.ObjId.{ObjId}
 use Rattle.argus_contents.specs.declared.answer.Answer.TheVariants.{Done, Flag}
@@ -20,7 +18,6 @@ use Rattle.argus_entries.specs.Entry.{PlainEntry, plain_entry}
 use Rattle.argus_entries.specs.Reply.{answered, begun, object, plain_reply}
 use Rattle.argus_entries.specs.declared.call.Call.{Call}
 use Rattle.argus_entries.specs.declared.reply.Reply.TheVariants.{Answered}
-use Rattle.argus_steps.specs.Accessing.{seen_at}
 use Rattle.argus_steps.specs.Parts.{said_of}
 use Rattle.argus_steps.specs.Step.{entry_with, reply_to}
 use Rattle.argus_steps.specs.declared.atomic_object.AtomicObject.{AtomicObject}
@@ -28,14 +25,14 @@ use Rattle.argus_steps.specs.declared.parts.Parts.{Parts}
 use Rattle.argus_steps.specs.declared.prepared.Prepared.{Prepared}
 use Rattle.argus_steps.specs.declared.step.Step.{Step}
 use Rattle.argus_steps.specs.declared.step.Step.TheVariants as step
-use Rattle.argus_journal.specs.Entries.{is_write, left_by}
+use Rattle.argus_journal.specs.Entries.{is_write}
 use Rattle.argus_journal.specs.Events.{happens}
 use Rattle.argus_journal.specs.LegalJournal.{entries_in, opening_in, room_in}
 use Rattle.argus_journal.specs.Objects.{declared_by}
 use Rattle.argus_model.specs.Event.{Accessed}
 use Rattle.argus_objects.specs.Holdings.{listed, room_of}
 use Rattle.argus_objects.specs.Object.{Object}
-use Rattle.argus_objects.specs.Rules.{may_read, may_write}
+use Rattle.argus_objects.specs.Rules.{may_read}
 use Rattle.argus_objects.specs.declared.holdings.Holdings.{Holdings}
 
 -- the journal has room for the entry, whose reply is the answer
@@ -93,18 +90,11 @@ pub record TellsAccess (parts : Parts) (e : PlainEntry) (a : ActionId) (o : ObjI
   pub object : declared_by e.call e.reply ≡ []
   pub write : is_write e.call ≡ writes
 
--- a is granted the lock of o that passes the test
-pub record CanAccess (parts : Parts) (e : PlainEntry) (a : ActionId) (o : ObjId) (writes : Bool)
-    (opens : Object → Bool) : Type 0 where
-  pub free : IsFree parts.tree parts.objects.items a o opens
+-- a is granted the read lock of o
+pub record CanRead (parts : Parts) (e : PlainEntry) (a : ActionId) (o : ObjId) : Type 0 where
+  pub free : IsFree parts.tree parts.objects.items a o (λ cell. may_read parts.tree cell a)
   pub room : HasRoom parts.objects.items parts.holdings a o
-  pub told : TellsAccess parts e a o writes
-
--- the call leaves this of what a sees in the object
-abbrev pub IsLeft : Parts → PlainEntry → ActionId → ObjId → Option Content → Type 0
-IsLeft parts e a o content =
-    (d : AtomicObject) → plain_option content
-    ≡ left_by e.call (seen_at parts.tree a parts.objects.items o.0 d)
+  pub told : TellsAccess parts e a o false
 
 -- what the step needs is there, and the entry tells of it
 abbrev pub CanStep : Parts → PlainEntry → Step → Type 0
@@ -124,10 +114,7 @@ CanStep parts e (step.Settle a) =
 CanStep parts e (step.Abort a) = CanEnd e (abort a.0) (abort_refusal parts.tree a.0)
 CanStep parts e (step.AbortOthers a) =
     CanEnd e (abort_others a.0) (abort_others_refusal parts.tree a.0)
-CanStep parts e (step.Read a o) =
-    CanAccess parts e a o false (λ cell. may_read parts.tree cell a)
-CanStep parts e (step.Write a o content) =
-    CanAccess parts e a o true (λ cell. may_write parts.tree cell a) × IsLeft parts e a o content
+CanStep parts e (step.Read a o) = CanRead parts e a o
 
 -- all is at hand: a place for the entry, the same reply to give back, and what the step needs
 pub record IsReady (parts : Parts) (prepared : Prepared) : Type 0 where

@@ -1,22 +1,21 @@
-//! How actions read and change objects.
+//! How actions read objects.
 
 ghost use Rattle.std.specs.Prelude.{◌≡◌, ◌<◌, None, IfOk};
-ghost use Rattle.argus_contents.specs.Change.{plain_change};
-ghost use Rattle.argus_entries.specs.Call.{alter, ask, plain_call};
+ghost use Rattle.argus_entries.specs.Call.{ask, plain_call};
 ghost use Rattle.argus_steps.specs.Parts.{Keeps, said_of};
 ghost use Rattle.argus_steps.specs.Prepared.{HasRoom, IsReady};
 ghost use Rattle.argus_steps.specs.Step.{refusal_to};
 ghost use Rattle.argus_journal.specs.LegalJournal.{room_in};
 
-use crate::answering::{change_outcome, query_answer, reply_twice};
+use crate::answering::{query_answer, reply_twice};
 use crate::granting::reserve_access;
 use crate::parts::Parts;
 use crate::prepared::Prepared;
 use crate::preparing::prepare_refused;
-use crate::refusing::{alter_refusal, ask_refusal};
+use crate::refusing::ask_refusal;
 use crate::step::Step;
 use argus_actions::ActionId;
-use argus_contents::{Change, ObjId, Query};
+use argus_contents::{ObjId, Query};
 use argus_entries::{Call, Entry};
 use argus_memory::OutOfMemory;
 
@@ -64,59 +63,6 @@ fn answered_query(
         step: Step::Read(a, o),
         entry: Entry {
             call: Call::Ask(a, o, query),
-            reply: again,
-        },
-        reply,
-    })
-}
-
-/// Prepares a change, or its refusal. The journal stays, whatever is answered.
-///
-/// `OutOfMemory`: there was no memory for its entry, its lock, its answer or what it leaves. The
-/// change is spent.
-pub fn prepare_alter(
-    parts: &mut Parts,
-    a: ActionId,
-    o: ObjId,
-    change: Change,
-) -> Result<Prepared, OutOfMemory>
-    requires { Keeps parts.old }
-    ensures kept { Keeps parts.new }
-    ensures said { said_of parts.new ≡ said_of parts.old }
-    ensures ready { IfOk result (λ prepared. IsReady parts.new prepared) }
-    ensures call { IfOk result (λ prepared. plain_call prepared.entry.call
-        ≡ alter a.0 o.0 (plain_change change)) }
-{
-    match alter_refusal(parts.objects.as_slice(), &parts.tree, a, o, &change) {
-        Some(why) => return prepare_refused(parts, Call::Alter(a, o, change), why),
-        None => {}
-    }
-    reserve_access(parts, a, o)?;
-    answered_change(parts, a, o, change)
-}
-
-// The step of a change for which there is room, with its answer and what it leaves.
-fn answered_change(
-    parts: &Parts,
-    a: ActionId,
-    o: ObjId,
-    change: Change,
-) -> Result<Prepared, OutOfMemory>
-    requires kept { Keeps parts.now }
-    requires free { refusal_to (said_of parts.now) (alter a.0 o.0 (plain_change change)) ≡ None }
-    requires place { 0 < room_in parts.now.journal }
-    requires room { HasRoom parts.now.objects.items parts.now.holdings a o }
-    ensures ready { IfOk result (λ prepared. IsReady parts.now prepared) }
-    ensures call { IfOk result (λ prepared. plain_call prepared.entry.call
-        ≡ alter a.0 o.0 (plain_change change)) }
-{
-    let objects = parts.objects.as_slice();
-    let (content, answer) = change_outcome(parts.heap, objects, &parts.tree, a, o, &change)?;
-    let (reply, again) = reply_twice(parts.heap, answer)?;
-    Ok(Prepared {
-        step: Step::Write(a, o, content),
-        entry: Entry {
-            call: Call::Alter(a, o, change),
             reply: again,
         },
         reply,

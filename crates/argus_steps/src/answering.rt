@@ -3,7 +3,7 @@
 ghost use Rattle.std.specs.Prelude.{◌≡◌, ◌<◌, length, slice_index_or, true, IfOk};
 ghost use Rattle.argus_contents.specs.Answer.{plain_answer};
 ghost use Rattle.argus_contents.specs.Change.{outcome, plain_change};
-ghost use Rattle.argus_contents.specs.Content.{KeepsLimits, plain_option};
+ghost use Rattle.argus_contents.specs.Content.{KeepsLimits};
 ghost use Rattle.argus_contents.specs.Query.{reply};
 ghost use Rattle.argus_entries.specs.Reply.{answered, plain_reply};
 ghost use Rattle.argus_steps.specs.Accessing.{seen_at};
@@ -12,9 +12,7 @@ ghost use Rattle.argus_objects.specs.Rules.{may_read, may_write};
 
 use crate::atomic_object::AtomicObject;
 use argus_actions::{ActionId, ActionTree};
-use argus_contents::{
-    Answer, Change, Content, ObjId, Query, alter, ask, change_answer as answer_of_change,
-};
+use argus_contents::{Answer, Change, ObjId, Query, ask, change_answer as answer_of_change};
 use argus_entries::Reply;
 use argus_memory::{Heap, OutOfMemory};
 
@@ -56,26 +54,6 @@ pub(crate) fn change_answer(
 {
     let object = &objects[o.0 as usize];
     answer_of_change(heap, object.cell.visible(tree, a), change)
-}
-
-/// What a change leaves of what the action sees in the object, and what it is answered.
-pub(crate) fn change_outcome(
-    heap: Heap,
-    objects: &[AtomicObject],
-    tree: &ActionTree,
-    a: ActionId,
-    o: ObjId,
-    change: &Change,
-) -> Result<(Option<Content>, Answer), OutOfMemory>
-    requires low { o.0 < length objects.now }
-    requires granted { (d : AtomicObject)
-        → may_read tree.now (slice_index_or objects.now o.0 d).cell a ≡ true }
-    requires limits { (d : AtomicObject) → KeepsLimits (seen_at tree.now a objects.now o.0 d) }
-    ensures { (d : AtomicObject) → IfOk result (λ left. (plain_option left.0, plain_answer left.1)
-        ≡ outcome (plain_change change.now) (seen_at tree.now a objects.now o.0 d)) }
-{
-    let object = &objects[o.0 as usize];
-    alter(heap, object.cell.visible(tree, a), change)
 }
 
 /// A reply with this answer, and its duplicate: one for the caller, one for the journal.

@@ -2,9 +2,9 @@
 
 ghost use Rattle.std.specs.Prelude.{◌≡◌, ◌<◌, length, OnErr, OnOk};
 ghost use Rattle.argus_contents.specs.Change.{plain_change};
-ghost use Rattle.argus_contents.specs.Content.{KeepsLimits, plain_option};
+ghost use Rattle.argus_contents.specs.Content.{KeepsLimits};
 ghost use Rattle.argus_steps.specs.Accessing.{IsAccessed, IsAltered, IsAsBefore, seen_at};
-ghost use Rattle.argus_steps.specs.Moving.{AreLawful, IsRead, IsWritten};
+ghost use Rattle.argus_steps.specs.Moving.{AreLawful, IsRead};
 ghost use Rattle.argus_steps.specs.Parts.{Keeps, said_of};
 ghost use Rattle.argus_steps.specs.Prepared.{HasRoom, IsFree};
 ghost use Rattle.argus_steps.specs.declared.atomic_object.AtomicObject.{AtomicObject};
@@ -14,7 +14,7 @@ ghost use Rattle.argus_objects.specs.Rules.{may_read, may_write};
 use crate::atomic_object::AtomicObject;
 use crate::parts::Parts;
 use argus_actions::{ActionId, ActionTree};
-use argus_contents::{Change, Content, ObjId};
+use argus_contents::{Change, ObjId};
 use argus_memory::OutOfMemory;
 use argus_objects::Holdings;
 
@@ -63,26 +63,6 @@ pub(crate) fn grant_read(
 {
     let object = &mut objects[o.0 as usize];
     object.cell.grant_read(tree, a);
-    holdings.note(a, o);
-}
-
-/// Makes this the content of an action's version of the object, which is noted on its list.
-pub(crate) fn grant_write(
-    objects: &mut [AtomicObject],
-    holdings: &mut Holdings,
-    tree: &ActionTree,
-    a: ActionId,
-    o: ObjId,
-    content: Option<Content>,
-)
-    requires lawful { AreLawful tree.now objects.old }
-    requires free { IsFree tree.now objects.old a o (λ cell. may_write tree.now cell a) }
-    requires room { HasRoom objects.old holdings.old a o }
-    ensures { IsAccessed (IsWritten tree.now a (plain_option content)) a o
-        objects.old objects.new holdings.old holdings.new }
-{
-    let object = &mut objects[o.0 as usize];
-    object.cell.grant_write(tree, a, content);
     holdings.note(a, o);
 }
 

@@ -22,7 +22,7 @@ mod step;
 mod testing;
 mod writing;
 
-pub use accessing::{prepare_alter, prepare_ask};
+pub use accessing::prepare_ask;
 pub use answering::{is_readable, is_writable};
 pub use atomic_object::AtomicObject;
 pub use beginning::{prepare_begin_nested, prepare_begin_sub, prepare_begin_top};
@@ -34,5 +34,5 @@ pub use parts::Parts;
 pub use prepared::Prepared;
 pub use refusing::{alter_refusal, ask_refusal, test_refusal};
 pub use step::Step;
-pub use testing::{prepare_test_read, prepare_test_write};
+pub use testing::prepare_test_read;
 pub use writing::{alter_at_once, test_write_at_once};

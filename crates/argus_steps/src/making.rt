@@ -1,6 +1,6 @@
 //! How a prepared call is made: nothing of it can fail.
 
-ghost use Rattle.std.specs.Prelude.{◌≡◌, false, None, true};
+ghost use Rattle.std.specs.Prelude.{◌≡◌, None};
 ghost use Rattle.argus_actions.specs.Refusals.{abort_others_refusal, abort_refusal, commit_refusal};
 ghost use Rattle.argus_actions.specs.Refusals.{begin_nested_refusal, begin_sub_refusal};
 ghost use Rattle.argus_actions.specs.Refusals.{begin_top_refusal};
@@ -10,21 +10,20 @@ ghost use Rattle.argus_entries.specs.Call.{begin_top, commit, plain_call};
 ghost use Rattle.argus_entries.specs.Entry.{plain_entry};
 ghost use Rattle.argus_entries.specs.Reply.{plain_reply};
 ghost use Rattle.argus_steps.specs.Parts.{Keeps, said_of, with_entry};
-ghost use Rattle.argus_steps.specs.Prepared.{CanAccess, CanBegin, CanDeclare, CanEnd, CanPass};
+ghost use Rattle.argus_steps.specs.Prepared.{CanBegin, CanDeclare, CanEnd, CanPass, CanRead};
 ghost use Rattle.argus_steps.specs.Prepared.{CanStep};
-ghost use Rattle.argus_steps.specs.Prepared.{HasPlace, IsLeft, IsReady, TellsNothing};
+ghost use Rattle.argus_steps.specs.Prepared.{HasPlace, IsReady, TellsNothing};
 ghost use Rattle.argus_steps.specs.Step.{after, reply_to};
-ghost use Rattle.argus_objects.specs.Rules.{may_read, may_write};
 
 use crate::atomic_object::AtomicObject;
 use crate::discarding::{discard_others, discard_under};
-use crate::granting::{grant_read, grant_write};
+use crate::granting::grant_read;
 use crate::moving::{inherit_all, settle_all};
 use crate::parts::Parts;
 use crate::prepared::Prepared;
 use crate::step::Step;
 use argus_actions::ActionId;
-use argus_contents::{Content, ObjId, Shape};
+use argus_contents::{ObjId, Shape};
 use argus_entries::{Entry, Reply};
 use argus_objects::Cell;
 
@@ -62,7 +61,6 @@ fn take_step(parts: &mut Parts, step: Step, entry: Entry)
         Step::Abort(a) => make_abort(parts, a, entry),
         Step::AbortOthers(a) => make_abort_others(parts, a, entry),
         Step::Read(a, o) => make_read(parts, a, o, entry),
-        Step::Write(a, o, content) => make_write(parts, a, o, content, entry),
     }
 }
 
@@ -215,8 +213,7 @@ fn make_abort_others(parts: &mut Parts, a: ActionId, entry: Entry)
 fn make_read(parts: &mut Parts, a: ActionId, o: ObjId, entry: Entry)
     requires kept { Keeps parts.old }
     requires place { HasPlace parts.old (plain_entry entry) }
-    requires step { CanAccess parts.old (plain_entry entry) a o false
-        (λ cell. may_read parts.old.tree cell a) }
+    requires step { CanRead parts.old (plain_entry entry) a o }
     ensures kept { Keeps parts.new }
     ensures said { said_of parts.new ≡ with_entry (said_of parts.old) (plain_entry entry) }
 {
@@ -226,27 +223,6 @@ fn make_read(parts: &mut Parts, a: ActionId, o: ObjId, entry: Entry)
         &parts.tree,
         a,
         o,
-    );
-    parts.journal.push(entry);
-}
-
-// Makes this the content of an action's version, and records it.
-fn make_write(parts: &mut Parts, a: ActionId, o: ObjId, content: Option<Content>, entry: Entry)
-    requires kept { Keeps parts.old }
-    requires place { HasPlace parts.old (plain_entry entry) }
-    requires step { CanAccess parts.old (plain_entry entry) a o true
-        (λ cell. may_write parts.old.tree cell a) }
-    requires left { IsLeft parts.old (plain_entry entry) a o content }
-    ensures kept { Keeps parts.new }
-    ensures said { said_of parts.new ≡ with_entry (said_of parts.old) (plain_entry entry) }
-{
-    grant_write(
-        parts.objects.as_mut_slice(),
-        &mut parts.holdings,
-        &parts.tree,
-        a,
-        o,
-        content,
     );
     parts.journal.push(entry);
 }

@@ -1,7 +1,7 @@
 //! `Step`: what a prepared call is going to change.
 
 use argus_actions::ActionId;
-use argus_contents::{Content, ObjId, Shape};
+use argus_contents::{ObjId, Shape};
 
 /// What a prepared call is going to change, beside the journal.
 ///
@@ -31,6 +31,4 @@ pub enum Step {
     AbortOthers(ActionId),
     /// The action is a reader of the object.
     Read(ActionId, ObjId),
-    /// The action's version of the object has this content.
-    Write(ActionId, ObjId, Option<Content>),
 }
