@@ -4,6 +4,7 @@
 //! through.
 #![tactic(auto)]
 
+mod counted_lines;
 mod ending;
 mod heading;
 mod program;

@@ -1,5 +1,6 @@
 //! `Row`: a script with a command line, and what comes of it.
 
+use crate::counted_lines::spell_lines;
 use crate::heading::{Heading, heading_of};
 use argus_memory::{Heap, Room};
 use test_rows::{RowFault, spell_line};
@@ -40,21 +41,21 @@ impl<'a> Row<'a> {
             other: Vec::new(heap.room()),
         };
         for line in heading.lines.lines() {
-            row.add(line)?;
+            row.add(heap, line)?;
         }
         Ok(row)
     }
 
-    fn add(&mut self, line: &'a str) -> Result<(), RowFault> {
+    fn add(&mut self, heap: Heap, line: &'a str) -> Result<(), RowFault> {
         if let Some(words) = line.strip_prefix("argus ") {
             self.words = words;
         } else if let Some(fault) = line.strip_prefix("! ") {
             self.fault = fault;
         } else if let Some(text) = line.strip_prefix("| ") {
-            spell_line(text, &mut self.script)?;
+            spell_lines(heap, text, &mut self.script)?;
         } else if let Some(text) = line.strip_prefix("= ") {
-            spell_line(text, &mut self.listing)?;
-            self.lines = self.lines.saturating_add(1);
+            let lines = spell_lines(heap, text, &mut self.listing)?;
+            self.lines = self.lines.saturating_add(lines);
         } else if let Some(text) = line.strip_prefix("or ") {
             spell_line(text, &mut self.other)?;
         } else {

@@ -1,8 +1,9 @@
 //! `Frame`: what the scripts of a test that are parsed have in common.
 
+use crate::counted_lines::spell_lines;
 use crate::runs::line_row::LineRow;
 use argus_memory::{Heap, Room};
-use test_rows::{Counted, RowFault, counted_of, spell, spell_line};
+use test_rows::{RowFault, spell, spell_line};
 
 // Said of a script, or of a line, that has no step.
 const NOTHING: &str = "nothing";
@@ -32,7 +33,7 @@ impl<'a> Frame<'a> {
         for line in self.lines.lines() {
             if let Some(text) = behind_mark("|", line) {
                 let text = if text == "LINE" { row.line } else { text };
-                spell_all(texts, text, &mut out)?;
+                spell_lines(texts, text, &mut out)?;
             }
         }
         Ok(out)
@@ -79,7 +80,10 @@ fn spell_wanted(
     match text.strip_suffix("STEP") {
         Some(indentation) => spell_step(indentation, row.answer, out),
         None if text == NOTHING => Ok(()),
-        None => spell_all(texts, text, out),
+        None => {
+            spell_lines(texts, text, out)?;
+            Ok(())
+        }
     }
 }
 
@@ -89,45 +93,4 @@ fn spell_step(indentation: &str, step: &str, out: &mut Vec<u8, Room>) -> Result<
     }
     spell(indentation, out)?;
     spell_line(step, out)
-}
-
-fn spell_all(texts: Heap, text: &str, out: &mut Vec<u8, Room>) -> Result<(), RowFault> {
-    match counted_of(text) {
-        None => spell_line(text, out),
-        Some(counted) => spell_counted(texts, counted, out),
-    }
-}
-
-fn spell_counted(
-    texts: Heap,
-    counted: Counted<'_>,
-    out: &mut Vec<u8, Room>,
-) -> Result<(), RowFault> {
-    match counted.same_row() {
-        Some(line) => spell_times(texts, counted.steps(), line, out),
-        None => spell_steps(texts, counted, out),
-    }
-}
-
-fn spell_steps(texts: Heap, counted: Counted<'_>, out: &mut Vec<u8, Room>) -> Result<(), RowFault> {
-    for step in 0..=counted.steps() {
-        let line = counted.row_at(texts, step)?;
-        spell_line(line.as_str(), out)?;
-    }
-    Ok(())
-}
-
-// The line once, and then once for each of the steps; what it stands for may be long.
-fn spell_times(
-    texts: Heap,
-    steps: u32,
-    line: &str,
-    out: &mut Vec<u8, Room>,
-) -> Result<(), RowFault> {
-    let mut bytes = Vec::new(texts.room());
-    spell_line(line, &mut bytes)?;
-    for _ in 0..=steps {
-        out.extend_from_slice(bytes.as_slice())?;
-    }
-    Ok(())
 }
