@@ -1,11 +1,8 @@
 -- `at` keeps what a `&'static` to a word holds. Assumes `Logic`.
-use Rattle.std.proofs.Common.{◌≡◌, ℕ, List, [], ◌∷◌, refl}
+use Rattle.std.proofs.Common.{ℕ, [], ◌∷◌, refl}
 use Rattle.std.proofs.raw_atomic.Walks.{proved}
-use mir.Val.{Val, vptr}
 use mir.Syntax.{static}
-use contract.Running.{tables}
-use types.Logic.{sem}
-use types.Kit.{‵, raw, ◌⊛◌, prop, ◌$◌, ◌∵◌, !, qed, move, keep, drop, use1, split, fsplit, fjoin, group, suffices, done}
+use types.Kit.{‵, raw, ◌⊛◌, ◌$◌, ◌∵◌, !, qed, move, keep, drop, use1, split, fsplit, fjoin, group, suffices, done}
 use types.Run.{enter, addr, stop, and_then, no_more, returns}
 use types.Part.{agg}
 use types.ByLocal.{alloc_all, pass_all, free_all, look_at, get, through, sets}
@@ -46,6 +43,8 @@ at_spec 𝓤 𝓛 𝓜 𝓡 wired =
     sets ! (addr ! (through ! refl (stop !))) refl (tt, tt) $
     sets ! (agg ! (and_then ! (get ! refl) (no_more !))) refl (tt, (tt, tt)) $
     returns ! (look_at ! 0 refl) $ free_all ! refl $
-    use1 𝓛 (‵ (C.the_row.own_val (record { at = block_ptr b o }) (count_val (block_ptr b o) ∷ []))) (count_made 𝓛 (block_ptr b o)) $
-    suffices ! _ (ends_at 𝓛 f.ended stayed c y (count_val (block_ptr b o)) (record { at = block_ptr b o }) (tt, tt) (tt, tt)) $
+    use1 𝓛 (‵ (C.the_row.own_val (record { at = block_ptr b o }) (count_val (block_ptr b o) ∷ [])))
+    (count_made 𝓛 (block_ptr b o)) $
+    suffices ! _ (ends_at 𝓛 f.ended stayed c y (count_val (block_ptr b o)) (record { at = block_ptr b o })
+    (tt, tt) (tt, tt)) $
     keep ! (0 ∷ []) $ nothing ! $ move ! (1 ∷ []) $ nothing ! $ nothing ! $ fjoin ! $ nothing ! $ group ! 3 $ done !))

@@ -1,14 +1,13 @@
 -- `word` follows the pointer, which lasts. Assumes `Logic`.
-use Rattle.std.proofs.Common.{◌≡◌, ℕ, ◌+◌, List, [], ◌∷◌, refl, sym}
+use Rattle.std.proofs.Common.{ℕ, ◌+◌, List, [], ◌∷◌, refl, sym}
 use Rattle.std.proofs.raw_atomic.Walks.{proved}
 use mir.Val.{Val, vptr}
 use mir.Syntax.{named, ty_ptr}
-use seplogic.Ra.Ura.{Ura}
 use base.Logic.{SProp, id⊢}
 use base.Fml.{ftrue, fat, flft}
 use contract.Running.{tables}
-use types.Logic.{sem}
-use types.Kit.{‵, raw, ◌⊛◌, prop, at_ret, ◌$◌, ◌∵◌, !, qed, move, keep, drop, use1, split, join, fsplit, fjoin, feq_i, group, rewrite, suffices, done}
+use types.Kit.{‵, raw, ◌⊛◌, at_ret, ◌$◌, ◌∵◌, !, qed, move, keep, drop, split, join, fsplit}
+use types.Kit.{fjoin, feq_i, group, rewrite, suffices, done}
 use types.Run.{enter, addr, stop, fld, hop, look, of_opd, first, blocks, exec, returns}
 use types.ByLocal.{alloc_all, pass_all, free_all, look_at, get, through, sets, sets_last, env}
 use denote.Builtin.{RefOf}
@@ -19,9 +18,7 @@ use denote.Ref.{shr_vals, shr_Tells}
 use denote.Signature.{plain, types_at}
 use denote.Opens.{hide, unhide}
 use denote.Steps.{nothing}
-use denote.Triple.Entry.{alive}
 use denote.Triple.Walked.{Stays, walk_of, stay_dropped, Goes-dropped, ends_at}
-use Rattle.std.specs.contracts.sync.atomic.AtomicU64.{the_row as atomic}
 use Rattle.argus_memory.specs.Count.{lasts}
 use Rattle.argus_memory.specs.contracts.count.Count as C
 use Rattle.argus_memory.specs.contracts.count.Count.word as f
@@ -63,6 +60,7 @@ word_spec 𝓤 𝓛 𝓜 𝓡 wired =
     feq_i ! (List Val) (vptr kb kc ∷ []) (vptr kb kc ∷ []) refl $ fjoin ! $
     move ! (1 ∷ 2 ∷ []) $ pointer_out ! tt at b (o + 0) $
     returns ! (look_at ! 0 refl) $ free_all ! refl $ keep ! (0 ∷ 1 ∷ []) $
-    suffices ! _ (ends_at 𝓛 f.ended stayed c y (vptr kb kc) (record { ref_ptr = (kb, kc); now = record {} }) (tt, tt) (tt, tt)) $
+    suffices ! _ (ends_at 𝓛 f.ended stayed c y (vptr kb kc) (record { ref_ptr = (kb, kc); now = record {} })
+    (tt, tt) (tt, tt)) $
     nothing ! $ move ! (2 ∷ []) $ nothing ! $ nothing ! $ fjoin ! $
     nothing ! $ move ! (4 ∷ 0 ∷ []) $ join ! $ group ! 3 $ done !))))

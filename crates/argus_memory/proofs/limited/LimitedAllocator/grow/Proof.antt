@@ -1,226 +1,48 @@
 -- It refuses where the budget is spent, and else answers what the inner allocator answers. Assumes `Logic`.
-use Rattle.std.proofs.Common.{◌≡◌, ℕ, ◌+◌, ◌<◌, ◌^◌, Bool, false, List, [], ◌∷◌, Err, refl, ap, w64, Bor}
-use seplogic.Ra.Ura.{Ura}
-use mir.Syntax.{Args, Fn, a_type, dnil, dcons}
-use mir.Val.{Val, vint, vptr}
+use Rattle.std.proofs.Common.{[], ◌∷◌, false, refl}
+use mir.Syntax.{Fn}
 use mir.MapTy.{inst_fn}
-use base.Logic.{SProp, ent, never_e, id⊢}
-use base.Fml.{Lft, Share, Fml, ftrue, fsep, flft}
-use prog.Memory.{Memory, size, align, up}
-use prog.Routine.{Routine}
-use prog.Wp.{WpFn, Tables}
-use types.Logic.{Logic}
-use contract.BorrowLft.{◌⊑◌, ⊑_trans}
-use contract.Monad.{Fun}
-use contract.Running.{tables, tables_of}
-use sound.WpLaws.{fm_of, WpFn-mono}
-use types.Kit.{Item, ‵, raw, ◌⊛◌, some, later, given, at_ret, ◌$◌, ◌∵◌, !, qed, by, move, keep, drop, use0, use1, use2}
-use types.Kit.{split, split3, join, pick, learn, fsplit, fjoin, feq_l, suffices, await, done}
+use types.Kit.{at_ret, ◌$◌, !, drop, move}
 use types.Run.{stop, fld, addr, lit, no_more, and_then, first, branches, skips, exec, returns, returns_within, enter}
 use types.Part.{agg}
 use types.ByLocal.{alloc_all, pass_all, free_all, look_at, get, through, sets, lands_as, env}
-use denote.Exit.{yes}
-use denote.RattleType.{RattleType, owns}
-use denote.Ref.{shr_vals}
-use denote.Opens.{unhide}
-use denote.Param.{bounded, param}
-use denote.Plain.{uint_vals, uint_Tells}
-use denote.Signature.{Slot, plain, types_at}
-use denote.Steps.{nothing, only}
-use denote.RawPtr.{Ptr, block_ptr, null_ptr, ptr_val, rawptr_vals, rawptr_Tells}
-use denote.Builtin.{bool, usize, RawPtr, RefOf}
-use denote.Triple.Call.{calls_at}
-use denote.Triple.Clauses.{Ended, Clauses}
-use denote.Triple.Spec.{triple_of}
-use denote.Triple.Statement.{Triple, Contract}
-use denote.Triple.Table.{entered, cited}
-use denote.Triple.Walked.{Stays, stay_dropped, walk_of, ends_at, walked, Goes-dropped, walk_Meets}
-use Rattle.std.specs.Allocator.{block_with_items}
+use contract.Running.{tables}
+use denote.RawPtr.{block_ptr}
+use denote.RattleType.{RattleType}
+use Rattle.std.proofs.alloc.Calls.{Al, Answer-typed}
 use Rattle.std.proofs.alloc.Shapes.{after}
-use Rattle.std.proofs.alloc.Calls.{Al, α, seen, token, Answer, answer_val, Answer-typed, Answer-err}
-use Rattle.std.proofs.alloc.Resizes.{Grows, resize_key, Resizes, at_resizes, left_by, Resizes-goes, Resizes-gives}
-use Rattle.std.proofs.alloc.Resizes.{result_of, result_own, asked, heard_all}
-use Rattle.argus_memory.proofs.Asks.{Asks, at_asks, Asks-goes}
-use Rattle.argus_memory.proofs.count.is_spent.Symbol as c_sym
-use Rattle.argus_memory.proofs.count.is_spent.Met as c_met
-use Rattle.argus_memory.specs.contracts.limited.Limited as wrapper
-use Rattle.argus_memory.specs.contracts.limited.LimitedAllocator.grow as F
+use Rattle.std.proofs.alloc.Resizes.{Grows}
+use Rattle.argus_memory.proofs.limited.Calling.{spends}
+use Rattle.argus_memory.proofs.limited.Resizing.{arguments, Returned, resizes, ends, resized}
 use Rattle.argus_memory.specs.contracts.limited.LimitedAllocator.grow.Key as key
 use Rattle.argus_memory.proofs.limited.LimitedAllocator.grow.Statement as stated
 use Rattle.argus_memory.proofs.limited.LimitedAllocator.grow.Code as code
 
-module _ (Z : Al) (X : RattleType) where
-  abbrev args : Args
-  args = bounded (a_type ∷ a_type ∷ []) (Z.row, (X, tt)) (dcons Z.d (dcons Z.drops dnil))
-
-  abbrev here : Fn
-  here = inst_fn args code.function
-
-  abbrev self : Slot 3
-  self = RefOf (0 ∷ []) tt (plain (λ _. wrapper.the_row (param 0 Z.row))) (λ _. tt)
-
-  abbrev ended : Ended
-  ended = F.ended Z.row X Z.g Z.d Z.drops
-
-  abbrev stayed : Stays ended.signature.params ended.kept
-  stayed = (
-    stay_dropped self yes,
-    (
-      stay_dropped (plain (λ _. RawPtr)) yes,
-      (
-        stay_dropped (plain (λ _. usize)) yes,
-        (
-          stay_dropped (plain (λ _. usize)) yes,
-          (stay_dropped (plain (λ _. usize)) yes, tt),
-        ),
-      ),
-    ),
-  )
-
-module _ (Z : Al) (X : RattleType) {M : Type 1} {𝓤 : Ura M} (𝓛 : Logic 𝓤) (at_mem : Memory → SProp 𝓤)
-    (run : Routine → Fun 𝓤) (𝓣 : Tables 𝓤 𝓛.H)
-    (re : Triple 𝓤 (𝓣.C (resize_key Z X 2)) (Resizes Z X (Grows X) 𝓛 at_mem run))
-    (kn : Triple 𝓤 (𝓣.C c_sym.name) (Asks 𝓛 at_mem run)) where
-  open 𝓛 use {H}
-
-  abbrev clauses : Clauses 𝓤 (ended Z X)
-  clauses = F.clauses Z.row X Z.g Z.d Z.drops 𝓛 at_mem run
-
-  abbrev Called : Contract 𝓤
-  Called = Resizes Z X (Grows X) 𝓛 at_mem run
-
-  module _ (κ₁ κ₂ κT : Lft) (q₁ q₂ qT : Share) (inn : κ₁ ⊑ κ₂) (r : Bor (wrapper.the_row Z.row).Denot) (len old new : ℕ)
-      (xs : List X.Denot) where
-    abbrev bound : Ptr → (walk_of 𝓛 (ended Z X) (stayed Z X) clauses).Ghost
-    bound x = (
-      (
-        (κ₁, (κ₂, (κT, tt))),
-        (q₁, (q₂, (qT, tt))),
-        (inn, tt),
-        (r, (x, (len, (old, (new, tt))))),
-        (shr_vals r, (rawptr_vals x, (vint w64 len ∷ [], (vint w64 old ∷ [], (vint w64 new ∷ [], tt))))),
-      ),
-      xs,
-    )
-
-    abbrev vs : Ptr → List Val
-    vs x = vptr r.ref_ptr.0 r.ref_ptr.1 ∷ ptr_val x ∷ vint w64 len ∷ vint w64 old ∷ vint w64 new ∷ []
-
-    abbrev Post : Ptr → Val → SProp 𝓤
-    Post x = (walk_of 𝓛 (ended Z X) (stayed Z X) clauses).post (bound x)
-
-    abbrev entry : Ptr → Item 𝓤
-    entry x = (‵ (flft κ₁ q₁) ⊛ ‵ (flft κ₂ q₂) ⊛ ‵ (flft κT qT) ⊛ ‵ ftrue) ⊛ ‵
-        (owns (types_at (ended Z X).signature.params (bound x).0.0) (bound x).0.3 (bound x).0.4)
-
-    abbrev block : Ptr → Fml
-    block x = block_with_items (token Z r.now.inner) (param 1 X) x len old xs
-
-    walk : len < 2 ^ 64 → old < 2 ^ 64 → new < 2 ^ 64 → (x : Ptr)
-        → ent 𝓤 ((walk_of 𝓛 (ended Z X) (stayed Z X) clauses).pre (bound x))
-        (WpFn 𝓤 H 𝓣.C 𝓣.Λ (here Z X) (vs x) (Post x))
-    walk fl fo fn null_ptr =
-        qed 𝓛 (entry null_ptr ∷ raw (asked 𝓛 (κ₂ ⊑ Z.row.lives) (κT ⊑ X.lives) (Grows X len old new) (block null_ptr))
-        ∷ []) ∵ move ! (1 ∷ []) $
-        heard_all ! (κ₂ ⊑ Z.row.lives) (κT ⊑ X.lives) (Grows X len old new) (block null_ptr)
-        (λ _ _ _. fsplit ! $ keep ! (0 ∷ []) $ by ! (never_e 𝓤 _))
-    walk fl fo fn (block_ptr b o) =
-        let h : Z.row.Denot = r.now.inner in
-        let p : ℕ × ℕ = (r.ref_ptr.0, r.ref_ptr.1 + up (align (α Z)) 0) in
-        let c : ℕ × ℕ = (r.ref_ptr.0, r.ref_ptr.1 + up 8 (up (align (α Z)) 0 + size (α Z))) in
-        let x : Ptr = block_ptr b o in
-        let y : Called.Ghost = at_resizes Z X (Grows X) 𝓛 at_mem run κ₁ κT q₁ qT p h b o len old new xs in
-        let left : Answer.Denot → Fml = left_by Z X (Grows X) 𝓛 at_mem run κ₁ κT q₁ qT p h b o len old new xs in
-        qed 𝓛 (entry x ∷ raw (asked 𝓛 (κ₂ ⊑ Z.row.lives) (κT ⊑ X.lives) (Grows X len old new) (block x)) ∷ []) ∵
-        move ! (1 ∷ []) $ heard_all ! (κ₂ ⊑ Z.row.lives) (κT ⊑ X.lives) (Grows X len old new) (block x)
-        (λ le leT said. move ! (1 ∷ []) $
-        split ! $ split3 ! $ move ! (2 ∷ []) $ split ! $ move ! (4 ∷ []) $ fsplit ! $ fsplit ! $ move ! (1 ∷ [])
-        $ unhide ! $ fsplit ! $ fsplit ! $ use1 𝓛 (‵ (seen Z κ₁ p h)) (id⊢ 𝓤 _) $
-        move ! (1 ∷ []) $ fsplit ! $ keep ! (0 ∷ 8 ∷ 2 ∷ 10 ∷ 6 ∷ 9 ∷ []) $
-        -- [the count; κ₁'s token; the inner handle; the block; κT's and κ₂'s tokens]
-        enter ! 𝓣.C 𝓣.Λ (here Z X) (vs x) _ $ alloc_all ! (λ l. pass_all ! refl (
-          (tt, tt),
-          (
-            (tt, tt),
-            (
-              (tt, record { fits = fl }),
-              ((tt, record { fits = fo }), ((tt, record { fits = fn }), tt)),
-            ),
-          ),
-        ) $
-        sets ! (addr ! (through ! refl (fld ! refl (stop !)))) refl (tt, tt) $
-        use2 𝓛 (raw ((Asks 𝓛 at_mem run).pre (at_asks 𝓛 at_mem run κ₁ q₁ r.now.count c)))
-        (Asks-goes 𝓛 at_mem run κ₁ q₁ r.now.count c) $
-        calls_at ! (fm_of 𝓤 H 𝓛.laws 𝓣) (Asks 𝓛 at_mem run) kn (at_asks 𝓛 at_mem run κ₁ q₁ r.now.count c)
-        (and_then ! (get ! refl) (no_more !)) (λ u.
-        use1 𝓛 (later (some (λ (spent : Bool). ((‵ (flft κ₁ q₁) ⊛ ‵ ftrue) ⊛ ‵ (bool.own_val spent (u ∷ []))) ⊛ some
-        (λ (ws : Unit {0} × Unit {0}). ‵ (fsep ftrue ftrue) ⊛ ‵ ftrue)))) (id⊢ 𝓤 _) $
-        await ! tt $ pick ! (λ spent. split ! $ split ! $ move ! (1 ∷ []) $ feq_l !
-        (λ eu. split ! $ lands_as ! (ap only eu) refl (tt, tt) $
-        move ! (1 ∷ []) $ drop ! $ move ! (1 ∷ []) $ drop ! $
-        first ! $ branches ! (get ! refl)
-        (λ yes_spent. sets ! (agg ! (no_more !)) refl (tt, tt) $ sets !
-        (agg ! (and_then ! (lit ! tt) (and_then ! (get ! refl) (no_more !)))) refl (Answer-typed false 0 0) $
-        returns_within ! (Post x) refl (look_at ! 0 refl) $ free_all ! refl $ move ! (1 ∷ []) $ drop ! $ move ! (1 ∷ [])
-        $
-        suffices ! _ (ends_at 𝓛 (ended Z X) (stayed Z X) clauses (bound x) (answer_val false 0 0) (Err (record {}))
-        (tt, (tt, (tt, (tt, (tt, tt))))) (tt, (tt, (tt, (tt, (tt, tt)))))) $
-        use0 𝓛 (‵ (Answer.own_val (Err (record {})) (answer_val false 0 0 ∷ []))) (Answer-err 𝓛) $
-        nothing ! $ nothing ! $ fjoin ! $ nothing ! $ fjoin ! $ nothing ! $ fjoin ! $ nothing ! $ fjoin ! $ nothing ! $
-        fjoin ! $ join ! $
-        -- [the result; the block; κ₁'s, κT's and κ₂'s]
-        nothing ! $ move ! (4 ∷ 0 ∷ []) $ join ! $ move ! (4 ∷ 0 ∷ []) $ join ! $ move ! (3 ∷ 0 ∷ [])
-        $ join ! $ join ! $ done !)
-        (λ has_left. skips ! $ exec ! 𝓣.C 𝓣.Λ (env (here Z X).locals l) (after 3 (here Z X).body)
-        (at_ret (env (here Z X).locals l) (Post x)) $
-        sets ! (addr ! (through ! refl (fld ! refl (stop !)))) refl (tt, tt) $
-        move ! (0 ∷ 3 ∷ []) $ join ! $ move ! (1 ∷ 0 ∷ []) $ join ! $ move ! (1 ∷ 0 ∷ []) $ join ! $
-        use1 𝓛 (raw (Called.pre y)) (Resizes-goes Z X (Grows X) 𝓛 at_mem run κ₁ κT q₁ qT p h b o len old new xs
-        (⊑_trans κ₁ κ₂ Z.row.lives inn le) leT said fl fo fn) $
-        calls_at ! (fm_of 𝓤 H 𝓛.laws 𝓣) Called re y (and_then ! (get ! refl)
-        (and_then ! (get ! refl) (and_then ! (get ! refl)
-        (and_then ! (get ! refl) (and_then ! (get ! refl) (no_more !)))))) (λ v.
-        use1 𝓛 (later (some (λ (f : Bool × (ℕ × ℕ)). given (v ≡ answer_val f.0 f.1.0 f.1.1)
-        (‵ (left (result_of f.0 f.1.0 f.1.1)))) ⊛ ‵ (flft κ₁ q₁) ⊛ ‵ (flft κT qT)))
-        (Resizes-gives Z X (Grows X) 𝓛 at_mem run κ₁ κT q₁ qT p h b o len old new xs v) $ await ! tt $ split3 ! $ pick !
-        (λ f. learn ! (λ e.
-        lands_as ! e refl (Answer-typed f.0 f.1.0 f.1.1) $ returns ! (look_at ! 0 refl) $ free_all ! refl $
-        suffices ! _ (ends_at 𝓛 (ended Z X) (stayed Z X) clauses (bound x) (answer_val f.0 f.1.0 f.1.1)
-        (result_of f.0 f.1.0 f.1.1) (tt, (tt, (tt, (tt, (tt, tt))))) (tt, (tt, (tt, (tt, (tt, tt)))))) $
-        use0 𝓛 (‵ (Answer.own_val (result_of f.0 f.1.0 f.1.1) (answer_val f.0 f.1.0 f.1.1 ∷ [])))
-        (result_own 𝓛 f.0 f.1.0 f.1.1) $
-        nothing ! $ nothing ! $ fjoin ! $ nothing ! $ fjoin ! $ nothing ! $ fjoin ! $ nothing ! $ fjoin ! $ nothing ! $
-        fjoin ! $ join ! $
-        -- [the result; the block; κ₁'s, κT's and κ₂'s]
-        nothing ! $ move ! (4 ∷ 0 ∷ []) $ join ! $ move ! (4 ∷ 0 ∷ []) $ join ! $ move ! (3 ∷ 0 ∷ [])
-        $ join ! $ join ! $ done !)))))))))
+abbrev here : Al → RattleType → Fn
+here Z X = inst_fn (arguments Z X) code.function
 
 pub grow_spec : {M : Type 1} → stated.statement M
-unfolding tables_of
 grow_spec 𝓤 𝓛 𝓜 𝓡 wired Y X LY L g d d' met _ =
     let Z : Al = record { row = Y; laws = LY; g = g; d = d; drops = d' } in
-    let A = 𝓛.A in
-    let 𝓣 : Tables 𝓤 𝓛.H = tables_of 𝓤 𝓛.H 𝓜 (tables 𝓤 𝓛.H 𝓜 𝓡 𝓡.env) in
-    let c = F.clauses Y X g d d' 𝓛 𝓜.mem 𝓡.returns in
-    let gone = λ (V : RattleType). Goes-dropped 𝓛 3 (plain (λ _. V)) yes in
-    entered 𝓤 𝓛.H (triple_of 𝓛 (F.signature Y X) (F.spec Y X g d d' 𝓛 𝓜.mem 𝓡.returns)) 𝓣.C 𝓣.Λ (key.name (args Z X))
-    (here Z X) (code.unfolded 𝓤 𝓛.H 𝓜 𝓡 wired (Y, (X, tt)) d d')
-    (walk_Meets 𝓛 (ended Z X) (stayed Z X) (
-      Goes-dropped 𝓛 3 (self Z X) yes (λ κs x f. refl),
-      (
-        gone RawPtr (λ κs x f. refl),
-        (
-          gone usize (λ κs x f. refl),
-          (gone usize (λ κs x f. refl), (gone usize (λ κs x f. refl), tt)),
-        ),
-      ),
-    ) c (WpFn 𝓤 𝓛.H 𝓣.C 𝓣.Λ (here Z X))
-    (WpFn-mono 𝓤 𝓛.H 𝓛.laws 𝓣 (here Z X))
-    (walked 𝓛 (ended Z X) (stayed Z X) c (WpFn 𝓤 𝓛.H 𝓣.C 𝓣.Λ (here Z X))
-    (λ κs. (shr_vals, (rawptr_vals, (uint_vals w64, (uint_vals w64, (uint_vals w64, tt))))))
-    (λ κs. ((λ r vs s. s.0), (rawptr_Tells, (uint_Tells w64, (uint_Tells w64, (uint_Tells w64, tt))))))
-    (λ κs qs bounds a xs are. walk Z X 𝓛 𝓜.mem 𝓡.returns 𝓣 (met.grow d' X L)
-    (cited 𝓤 𝓛.H _ 𝓜 𝓡 𝓡.env c_sym.name (𝓡.env c_sym.name) refl
-    (c_met.met 𝓤 𝓛 𝓜 𝓡 (code.calls-argus_memory::count::is_spent 𝓡.env wired)))
-    κs.0 κs.1.0 κs.1.1.0 qs.0 qs.1.0 qs.1.1.0 bounds.0 a.0 a.1.1.0 a.1.1.1.0 a.1.1.1.1.0 xs are.1.1.0.1
-    are.1.1.1.0.1 are.1.1.1.1.0.1 a.1.0)))
+    let 𝓣 = tables 𝓤 𝓛.H 𝓜 𝓡 𝓡.env in
+    resized Z X (Grows X) 𝓛 𝓜 𝓡 (key.name (arguments Z X)) (here Z X)
+    (code.unfolded 𝓤 𝓛.H 𝓜 𝓡 wired (Y, (X, tt)) d d')
+    (λ c b o known.
+    enter ! _ _ _ _ _ $ alloc_all ! (λ l.
+    pass_all ! refl ((tt, tt), ((tt, tt), ((tt, c.len_fits), ((tt, c.old_cap_fits), ((tt, c.new_cap_fits), tt))))) $
+    sets ! (addr ! (through ! refl (fld ! refl (stop !)))) refl (tt, tt) $
+    spends 𝓛 𝓜 𝓡 (code.calls-argus_memory::count::is_spent 𝓡.env wired) Z c.self c.lifetime c.share !
+    (and_then ! (get ! refl) (no_more !)) (λ spent u eu. lands_as ! eu refl (tt, tt) $ first ! $ branches ! (get ! refl)
+    (λ yes_spent. sets ! (agg ! (no_more !)) refl (tt, tt) $
+    sets ! (agg ! (and_then ! (lit ! tt) (and_then ! (get ! refl) (no_more !)))) refl (Answer-typed false 0 0) $
+    returns_within ! (Returned Z X (Grows X) 𝓛 𝓜 𝓡 c (block_ptr b o)) refl (look_at ! 0 refl) $
+    free_all ! refl $ move ! (1 ∷ []) $ drop ! $ move ! (1 ∷ []) $
+    ends Z X (Grows X) 𝓛 𝓜 𝓡 c b o ! (false, (0, 0)))
+    (λ has_left. skips ! $ exec ! 𝓣.C 𝓣.Λ (env (here Z X).locals l) (after 3 (here Z X).body)
+    (at_ret (env (here Z X).locals l) (Returned Z X (Grows X) 𝓛 𝓜 𝓡 c (block_ptr b o))) $
+    sets ! (addr ! (through ! refl (fld ! refl (stop !)))) refl (tt, tt) $
+    resizes Z X (Grows X) 𝓛 𝓜 𝓡 c b o ! 2 (met.grow d' X L) known
+    (and_then ! (get ! refl) (and_then ! (get ! refl) (and_then ! (get ! refl)
+    (and_then ! (get ! refl) (and_then ! (get ! refl) (no_more !)))))) (λ f v e.
+    lands_as ! e refl (Answer-typed f.0 f.1.0 f.1.1) $ returns ! (look_at ! 0 refl) $ free_all ! refl $
+    ends Z X (Grows X) 𝓛 𝓜 𝓡 c b o ! f)))))
