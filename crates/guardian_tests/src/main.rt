@@ -7,6 +7,7 @@ mod alone;
 mod answering;
 mod asking;
 mod caller;
+mod closing;
 mod crowd;
 mod host;
 mod hundred;
@@ -110,6 +111,8 @@ fn test_shared<R: Threads + Wait + Files + Print + AllocGlobal + Copy + Drop + S
     rt.println("commits_of_a_hundred_objects_are_refused_memory")?;
     crowd::work(rt, setting)?;
     rt.println("eight_seats_and_four_lookers")?;
+    closing::drop_beside_lookers(rt, setting)?;
+    rt.println("a_sharing_is_dropped_beside_four_lookers")?;
     tally.tell(&rt)?;
     Ok(tally.is_content())
 }

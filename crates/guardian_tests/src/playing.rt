@@ -1,10 +1,13 @@
-//! `Play`: the rows between a sharing and its settlement.
+//! `Play`: the rows between a sharing and its settlement, or its drop.
 
 use crate::session::Session;
 use crate::shared_reading::row_of;
+use crate::shared_row::SharedRow;
+use crate::shared_telling::tell_look;
 use crate::sharing::budgets;
 use crate::tally::Tally;
 use anyhow::{Result, bail};
+use argus_board::Looker;
 use argus_guardian::Guardian;
 use argus_memory::Room;
 use argus_sharing::{Parts, Sharing};
@@ -13,8 +16,8 @@ use std::sync::Wait;
 use std::thread::Threads;
 use test_rows::{RowFault, Setting};
 
-/// The rows between a sharing and its settlement, which the last one has to be. Each allocation of
-/// each row is refused in turn, where that is asked for.
+/// The rows between a sharing and its settlement, which the last one has to be; or up to its drop, and
+/// the looks behind that. Each allocation of each row is refused in turn, where that is asked for.
 ///
 /// ```text
 /// let play = Play { setting, is_tight: false, rows: "settle -> done", tally };
@@ -28,17 +31,41 @@ pub(crate) struct Play<'a> {
     pub(crate) tally: Tally,
 }
 
-/// Tells the rows to the shared guardian, the last of which has to be a settlement.
+/// Tells the rows to the shared guardian, the last of which has to be a settlement. Where it is dropped
+/// in place of that, a new guardian is given back.
 pub(crate) fn play_rows<
     N: Sharing + Send + Sync,
     R: Threads + Wait + Print + Copy + Drop + Send + Sync,
 >(rt: R, parts: Parts<N, R>, play: &mut Play<'_>) -> Result<Guardian> {
-    let mut session = Session::new(play.setting.texts, parts);
-    for row in play.rows.lines() {
+    let session = Session::new(play.setting.texts, parts);
+    match play.rows.split_once("drop\n") {
+        None => match tell_rows(rt, session, play, play.rows)? {
+            Ok(guardian) => Ok(guardian),
+            Err(_) => bail!("a guardian isn't settled"),
+        },
+        Some((rows, after)) => match tell_rows(rt, session, play, rows)? {
+            Ok(_) => bail!("a guardian is settled before it is dropped"),
+            Err(session) => {
+                look_on(rt, play, session.dropped(), after)?;
+                Ok(Guardian::new(play.setting.heap))
+            }
+        },
+    }
+}
+
+// The guardian once a row settles, or the session behind all rows.
+fn tell_rows<N: Sharing + Send + Sync, R: Threads + Wait + Print + Copy + Drop + Send + Sync>(
+    rt: R,
+    session: Session<N, R>,
+    play: &mut Play<'_>,
+    rows: &str,
+) -> Result<Result<Guardian, Session<N, R>>> {
+    let mut session = session;
+    for row in rows.lines() {
         let (asked, _) = row.split_once(" -> ").unwrap_or((row, ""));
         if asked.starts_with("settle") {
             session = match settle(rt, session, play, row, asked)? {
-                Ok(guardian) => return Ok(guardian),
+                Ok(guardian) => return Ok(Ok(guardian)),
                 Err(session) => session,
             };
         } else if !row.starts_with('#') {
@@ -46,7 +73,46 @@ pub(crate) fn play_rows<
             play.tally.compare(&rt, row, answer)?;
         }
     }
-    bail!("a guardian isn't settled")
+    Ok(Err(session))
+}
+
+// The looks of lookers whose sharing was dropped.
+fn look_on<N: Sharing>(
+    rt: impl Print + Drop,
+    play: &mut Play<'_>,
+    lookers: Vec<Looker<N>, Room>,
+    rows: &str,
+) -> Result<()> {
+    let mut lookers = lookers;
+    for row in rows.lines() {
+        if !row.starts_with('#') {
+            let (asked, _) = row.split_once(" -> ").unwrap_or((row, ""));
+            let answer = look(play.setting, play.is_tight, lookers.as_mut_slice(), asked);
+            play.tally.compare(&rt, row, answer)?;
+        }
+    }
+    Ok(())
+}
+
+// Nothing is copied out of a board that has ended, so no allocation is allowed where they are refused.
+fn look<N: Sharing>(
+    setting: Setting,
+    is_tight: bool,
+    lookers: &mut [Looker<N>],
+    asked: &str,
+) -> Result<String<Room>, RowFault> {
+    let SharedRow::Look { looker, objects } = row_of(setting, asked)? else {
+        return Err(RowFault::NotSpelled);
+    };
+    let Some(looker) = lookers.get_mut(looker) else {
+        return Err(RowFault::NotSpelled);
+    };
+    let mut out = String::new(setting.texts.room());
+    setting.allowing(if is_tight { 0 } else { u64::MAX }).limit();
+    let told = tell_look(looker, setting.heap, objects.as_slice(), &mut out);
+    setting.lift();
+    told?;
+    Ok(out)
 }
 
 // The guardian, or the session where the row is answered otherwise.

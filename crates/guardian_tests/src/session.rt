@@ -164,6 +164,18 @@ impl<N: Sharing + Send + Sync, R: Threads + Wait + Copy + Drop + Send + Sync> Se
         tell_last(receipts.as_slice(), out)
     }
 
+    /// Drops the guardian with its seats, and gives the lookers.
+    pub(crate) fn dropped(self) -> Vec<Looker<N>, Room> {
+        let Session {
+            shared,
+            seats: _,
+            lookers,
+            receipts: _,
+        } = self;
+        drop(shared);
+        lookers
+    }
+
     /// What all lookers see of the first three objects.
     pub(crate) fn seen(&mut self, texts: Heap) -> Result<String<Room>, RowFault> {
         let mut out = String::new(texts.room());

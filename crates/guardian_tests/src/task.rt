@@ -1,5 +1,6 @@
-//! `Task`: what is done with a shared guardian, from its sharing to its settling.
+//! `Task`: what is done with a shared guardian, from its sharing to its settling, or its drop.
 
+use crate::closing::close;
 use crate::crowd::have_all_work;
 use crate::hundred::{OneCommit, commit_once};
 use crate::playing::{Play, play_rows};
@@ -12,7 +13,7 @@ use std::io::Print;
 use std::sync::Wait;
 use std::thread::Threads;
 
-/// What is done with a shared guardian, from its sharing to its settling.
+/// What is done with a shared guardian, from its sharing to its settling, or its drop.
 ///
 /// ```text
 /// let guardian = share(rt, setting, false, guardian, 8, 4, &mut Task::Crowd(heap))?;
@@ -25,11 +26,13 @@ pub(crate) enum Task<'a> {
     Commit(OneCommit),
     /// All seats and lookers work at once, with receipts in this heap.
     Crowd(Heap),
+    /// It is dropped while lookers look.
+    Close(Heap),
     /// One seat makes the calls in a journal once more.
     Repeat(Repetition<'a>),
 }
 
-/// Does it, and gives the guardian back once it is settled.
+/// Does it, and gives the guardian back once it is settled; a new one where it is dropped.
 pub(crate) fn perform<
     N: Sharing + Send + Sync,
     R: Threads + Wait + Print + Copy + Drop + Send + Sync,
@@ -38,6 +41,7 @@ pub(crate) fn perform<
         Task::Play(play) => play_rows(rt, parts, play),
         Task::Commit(commit) => commit_once(rt, parts, commit),
         Task::Crowd(heap) => have_all_work(rt, parts, *heap),
+        Task::Close(heap) => close(rt, parts, *heap),
         Task::Repeat(repetition) => repeat_once(rt, parts, repetition),
     }
 }

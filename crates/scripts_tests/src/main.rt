@@ -9,6 +9,7 @@ mod ending;
 mod heading;
 mod program;
 mod runs;
+mod standing;
 mod workers;
 
 use anyhow::{Result, ensure};

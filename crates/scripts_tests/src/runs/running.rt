@@ -5,10 +5,9 @@ ghost use Rattle.std.specs.Prelude.{◌≡◌, false};
 ghost use Rattle.argus_streams.specs.Watched.{has_failed};
 
 use crate::runs::run_row::RunRow;
+use crate::standing::guardian_after;
 use anyhow::{Result, ensure};
 use argus_commands::parse;
-use argus_guardian::Guardian;
-use argus_memory::Heap;
 use argus_runs::{RunFault, run_serial};
 use argus_streams::Watched;
 use std::io::{Print, Write};
@@ -22,33 +21,37 @@ pub(crate) fn check_text<T: Print>(rt: &T, setting: Setting, text: &str) -> Resu
     for block in text.split("\n\n") {
         if let Some(row) = RunRow::of_block(block) {
             rt.print(format_args!("{}: ", row.name))?;
-            check_lines(setting.texts, row)?;
-            let refused = check_memory(setting, row)?;
-            check_writer(setting.texts, row)?;
-            ensure!(refused > 3, "too few allocations are refused");
+            check_lines(setting, row)?;
+            if !row.is_large {
+                let refused = check_memory(setting, row)?;
+                check_writer(setting, row)?;
+                ensure!(refused > 3, "too few allocations are refused");
+            }
             rt.println(format_args!("{} lines", row.lines.lines().count()))?;
         }
     }
     Ok(())
 }
 
-// Runs the row's script on an empty guardian.
+// Runs the row's script on the row's guardian, within so many allocations.
 fn run_row<W: Write + Drop>(
-    heap: Heap,
-    tight: Heap,
+    setting: Setting,
     row: RunRow<'_>,
     writer: &mut Watched<W>,
 ) -> Result<Option<RunFault>>
     requires { has_failed writer.old ≡ false }
 {
-    let script = parse(heap, row.script.as_bytes())?;
-    let mut guardian = Guardian::new(tight);
-    Ok(run_serial(tight, &mut guardian, &script, writer).err())
+    let script = parse(setting.texts, row.script.as_bytes())?;
+    let mut guardian = guardian_after(setting.heap, setting.texts, row.before)?;
+    setting.limit();
+    let fault = run_serial(setting.heap, &mut guardian, &script, writer).err();
+    setting.lift();
+    Ok(fault)
 }
 
-fn check_lines(heap: Heap, row: RunRow<'_>) -> Result<()> {
-    let mut writer = Watched::new(Vec::new(heap.room()));
-    let fault = run_row(heap, heap, row, &mut writer)?;
+fn check_lines(setting: Setting, row: RunRow<'_>) -> Result<()> {
+    let mut writer = Watched::new(Vec::new(setting.texts.room()));
+    let fault = run_row(setting, row, &mut writer)?;
     ensure!(fault.is_none(), "a run failed");
     ensure!(
         writer.get_ref().starts_with(row.lines.as_bytes()),
@@ -63,9 +66,7 @@ fn check_lines(heap: Heap, row: RunRow<'_>) -> Result<()> {
 fn check_memory(setting: Setting, row: RunRow<'_>) -> Result<u64> {
     for n in 0..MANY {
         let mut writer = Watched::new(Vec::new(setting.texts.room()));
-        setting.allowing(n).limit();
-        let fault = run_row(setting.texts, setting.heap, row, &mut writer)?;
-        setting.lift();
+        let fault = run_row(setting.allowing(n), row, &mut writer)?;
         ensure!(
             is_front(writer.get_ref().as_slice(), row.lines),
             "other lines are written"
@@ -79,15 +80,15 @@ fn check_memory(setting: Setting, row: RunRow<'_>) -> Result<u64> {
     Ok(MANY)
 }
 
-fn check_writer(heap: Heap, row: RunRow<'_>) -> Result<()> {
+fn check_writer(setting: Setting, row: RunRow<'_>) -> Result<()> {
     for room in 0..row.lines.len() {
         let mut writer = Watched::new(Full {
-            taken: Vec::new(heap.room()),
+            taken: Vec::new(setting.texts.room()),
             room,
             fails: room % 2 == 0,
             writes_behind: 0,
         });
-        let fault = run_row(heap, heap, row, &mut writer)?;
+        let fault = run_row(setting, row, &mut writer)?;
         ensure!(
             fault == Some(RunFault::Write),
             "the writer's fault isn't told"

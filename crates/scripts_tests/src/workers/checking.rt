@@ -31,6 +31,7 @@ pub(crate) fn check_row<R: Threads + Wait + Print + Copy + Drop + Send + Sync>(
         let plan = Plan {
             setting,
             is_tight: false,
+            before: row.before.as_str(),
             script: &script,
             workers: team.workers,
             lookers: row.lookers,
@@ -91,7 +92,7 @@ fn check_memory<R: Threads + Wait + Print + Copy + Drop + Send + Sync>(
 fn check_ran(rt: &impl Print, texts: Heap, row: &Row<'_>, made: &str, ran: &Ran) -> Result<()> {
     compare(rt, "calls of the seats", ran.made.as_str(), made)?;
     let bases = told_bases(texts, &ran.guardian)?;
-    compare(rt, "bases", bases.as_str(), row.bases)?;
+    compare(rt, "bases", bases.as_str(), row.bases.as_str())?;
     match &ran.report {
         Ok(report) => {
             ensure!(!row.is_refused, "a run isn't refused memory");

@@ -14,6 +14,8 @@ pub(crate) struct Plan<'a> {
     pub(crate) setting: Setting,
     /// Allocations may be refused, so that receipts may be lacking.
     pub(crate) is_tight: bool,
+    /// The calls that were made before, with their replies, a line each.
+    pub(crate) before: &'a str,
     pub(crate) script: &'a Script,
     pub(crate) workers: u8,
     pub(crate) lookers: u8,

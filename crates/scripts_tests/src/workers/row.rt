@@ -20,6 +20,8 @@ pub(crate) struct Row<'a> {
     pub(crate) patience: u32,
     pub(crate) lookers: u8,
     pub(crate) holds: Vec<Hold, Room>,
+    /// The calls that were made before, with their replies, a line each.
+    pub(crate) before: String<Room>,
     pub(crate) script: Vec<u8, Room>,
     /// The calls with their replies in script order, a line each.
     pub(crate) receipts: String<Room>,
@@ -28,7 +30,7 @@ pub(crate) struct Row<'a> {
     /// Settlements that are refused, a line each.
     pub(crate) settlements: String<Room>,
     /// What is in the objects afterwards.
-    pub(crate) bases: &'a str,
+    pub(crate) bases: String<Room>,
     /// The run is to be answered that memory is wanting.
     pub(crate) is_refused: bool,
 }
@@ -50,16 +52,17 @@ impl<'a> Row<'a> {
             patience: 0,
             lookers: 0,
             holds: Vec::new(heap.room()),
+            before: String::new(heap.room()),
             script: Vec::new(heap.room()),
             receipts: String::new(heap.room()),
             arms: String::new(heap.room()),
             settlements: String::new(heap.room()),
-            bases: "",
+            bases: String::new(heap.room()),
             is_refused: false,
         };
         for line in heading.lines.lines() {
             match counted_of(line) {
-                None => row.add(line)?,
+                None => row.add(heap, line)?,
                 Some(counted) => row.add_counted(heap, counted)?,
             }
         }
@@ -74,14 +77,14 @@ impl<'a> Row<'a> {
         Ok(())
     }
 
-    fn add(&mut self, line: &'a str) -> Result<(), RowFault> {
+    fn add(&mut self, heap: Heap, line: &'a str) -> Result<(), RowFault> {
         let (word, rest) = first_word(line);
         match word {
             "#" => {}
             "workers" => self.teams.push(Team::of_words(rest)?)?,
             "patience" => self.patience = rest.parse::<u32>()?,
             "lookers" => self.lookers = rest.parse::<u8>()?,
-            "bases" => self.bases = rest,
+            "bases" => self.bases = spelled_row(heap, rest)?,
             "memory" => self.is_refused = true,
             _ => self.add_text(line)?,
         }
@@ -92,6 +95,7 @@ impl<'a> Row<'a> {
     fn add_text(&mut self, line: &str) -> Result<(), RowFault> {
         let (word, rest) = first_word(line);
         match word {
+            "before" => append_line(rest, &mut self.before)?,
             "|" => spell_line(rest, &mut self.script)?,
             ">" => append_line(rest, &mut self.receipts)?,
             "arm" => append_line(rest, &mut self.arms)?,

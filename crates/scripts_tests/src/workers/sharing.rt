@@ -1,4 +1,4 @@
-//! Sharing a new guardian for a run.
+//! Sharing a guardian for a run.
 
 ghost use Rattle.std.specs.Prelude.{◌+◌, ◌≡◌};
 ghost use Rattle.argus_board.specs.Keeper.{Opens};
@@ -6,6 +6,7 @@ ghost use Rattle.argus_journal.specs.Opening.{content_in};
 ghost use Rattle.argus_sharing.specs.Following.{bases_told, effects_told};
 ghost use Rattle.argus_sharing.specs.Locked.{next_number};
 
+use crate::standing::guardian_after;
 use crate::workers::performing::perform;
 use crate::workers::plan::Plan;
 use crate::workers::ran::Ran;
@@ -19,13 +20,13 @@ use std::sync::Wait;
 use std::sync::ledger::Blank;
 use std::thread::Threads;
 
-/// Runs the script on a new guardian that is shared, with one seat more than workers, and settles.
+/// Runs the script on a guardian that is shared, with one seat more than workers, and settles.
 pub(crate) fn run<R: Threads + Wait + Copy + Drop + Send + Sync, G: Gate + Sync>(
     rt: R,
     plan: Plan<'_>,
     gate: &G,
 ) -> Result<Ran> {
-    let guardian = Guardian::new(plan.setting.heap);
+    let guardian = guardian_after(plan.setting.heap, plan.setting.texts, plan.before)?;
     let blank = Blank::new(u64::from(plan.workers) + 1);
     share_as::<Brand, R, G>(rt, plan, gate, guardian, blank, Keeper::new())
 }
