@@ -30,7 +30,15 @@ pub(crate) fn drop_beside_lookers<R: Threads + Wait + Print + Copy + Drop + Send
 ) -> Result<()> {
     let heap = setting.texts;
     let guardian = with_objects(heap)?;
-    let _new = share(rt, setting, false, guardian, 1, LOOKERS, &mut Task::Close(heap))?;
+    let _new = share(
+        rt,
+        setting,
+        false,
+        guardian,
+        1,
+        LOOKERS,
+        &mut Task::Close(heap),
+    )?;
     Ok(())
 }
 

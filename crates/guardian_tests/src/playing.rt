@@ -108,7 +108,9 @@ fn look<N: Sharing>(
         return Err(RowFault::NotSpelled);
     };
     let mut out = String::new(setting.texts.room());
-    setting.allowing(if is_tight { 0 } else { u64::MAX }).limit();
+    setting
+        .allowing(if is_tight { 0 } else { u64::MAX })
+        .limit();
     let told = tell_look(looker, setting.heap, objects.as_slice(), &mut out);
     setting.lift();
     told?;
