@@ -1,4 +1,5 @@
 pub mod ByWorkers
+pub mod CommandLine
 pub mod Ran
 pub mod Ranges
 pub mod Status

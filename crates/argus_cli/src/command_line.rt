@@ -1,15 +1,22 @@
 //! `options`: what a command line asks for.
 
-ghost use Rattle.std.specs.Prelude.{◌≤◌, IfErr, IfOk};
+ghost use Rattle.std.specs.Borrow.{Bor};
+ghost use Rattle.std.specs.Prelude.{◌≡◌, ◌⊎◌, ◌∷◌, IfErr, IfOk, List, codes, false, map, pos};
+ghost use Rattle.std.specs.Prelude.{string_bytes};
+ghost use Rattle.argus_cli.specs.CommandLine.{AskNothing, Asks, IsProgram, IsRefused, IsUsage};
+ghost use Rattle.argus_cli.specs.CommandLine.{NamesListings, flag_of, listing_by, option_of};
 ghost use Rattle.argus_cli.specs.Ranges.{KeepsRanges};
 ghost use Rattle.argus_cli.specs.Status.{EndsWith0Or2};
+ghost use Rattle.argus_cli.specs.declared.limits.TheConstants.{MAX_PATIENCE, MAX_WORKERS};
+ghost use Rattle.clap.specs.Words.{IsPlainArg, Text, kind_of, rule_of};
+ghost use Rattle.clap.specs.declared.builder.value_parser.ValueParser.TheVariants as vp;
 
 use crate::limits::{MAX_PATIENCE, MAX_WORKERS};
 use crate::no_options::NoOptions;
 use crate::run_options::Options;
 use argus_listings::Listing;
 use clap::error::ErrorKind;
-use clap::{Arg, ArgAction, ArgMatches, Command, Error, value_parser};
+use clap::{Arg, ArgAction, Command, Error, value_parser};
 use std::alloc::{AllocError, Global};
 
 /// What the words behind the program's name ask for. Without any, one worker runs the script, the
@@ -22,10 +29,12 @@ use std::alloc::{AllocError, Global};
 /// | `--list bases`, `stacks`, `journal` or `audit` | this listing |
 /// | `--checkpoint` | a checkpoint behind the run |
 ///
-/// On Ok workers and patience are within their ranges.
+/// On Ok there is no mistake in the words, and each option has the value that they give it, by the
+/// matches of `clap`, or its default; workers and patience are within their ranges.
 ///
-/// `Usage` has the text with which the program ends and its status: 2 where the words are no
-/// command line of this program, 0 for `--help`. `OutOfMemory` may come in place of any answer.
+/// `Usage` comes where there is a mistake in the words, or they ask for help. It has the text with
+/// which the program ends and its status: 2 for a mistake, 0 for `--help`. `OutOfMemory` may come
+/// in place of any answer.
 ///
 /// ```text
 /// let options = options(rt.alloc(), words)?;       // of `argus --list bases`
@@ -33,6 +42,8 @@ use std::alloc::{AllocError, Global};
 pub fn options(alloc: Global, words: Vec<String>) -> Result<Options, NoOptions>
     ensures ranges { IfOk result KeepsRanges }
     ensures status { IfErr result EndsWith0Or2 }
+    ensures asked { IfOk result (Asks (map string_bytes words.items)) }
+    ensures refused { IfErr result (AskNothing (map string_bytes words.items)) }
 {
     match asked(alloc, words.as_slice()) {
         Ok(options) => Ok(options),
@@ -41,35 +52,38 @@ pub fn options(alloc: Global, words: Vec<String>) -> Result<Options, NoOptions>
 }
 
 fn asked(alloc: Global, words: &[String]) -> Result<Options, Error>
-    ensures { IfOk result KeepsRanges }
+    ensures ranges { IfOk result KeepsRanges }
+    ensures asked { IfOk result (Asks (map string_bytes words.now)) }
+    ensures refused { IfErr result (λ e. (kind_of e ≡ ErrorKind.OutOfMemory)
+        ⊎ IsRefused (map string_bytes words.now) (kind_of e)) }
+{
+    let all = with_name(alloc, words)?;
+    let matches = command(alloc)?.try_get_matches_from(all.as_slice())?;
+    Ok(Options {
+        workers: matches.get_one::<u32>("workers").unwrap_or(1),
+        patience: matches.get_one::<u32>("patience").unwrap_or(0),
+        listing: listing_named(matches.get_str("list").unwrap_or("bases")),
+        checkpoint: matches.get_one::<bool>("checkpoint").unwrap_or(false),
+    })
+}
+
+// The program's name, and the words behind it.
+fn with_name(alloc: Global, words: &[String]) -> Result<Vec<&str>, AllocError>
+    ensures { IfOk result (λ all. map (λ word. word.now) all.items
+        ≡ codes "argus" ∷ map string_bytes words.now) }
 {
     let mut all = Vec::new(alloc);
     all.push("argus")?;
     for word in words {
         all.push(word.as_str())?;
     }
-    let matches = command(alloc)?.try_get_matches_from(all.as_slice())?;
-    Ok(Options {
-        workers: number_of(&matches, "workers", 1, MAX_WORKERS),
-        patience: number_of(&matches, "patience", 0, MAX_PATIENCE),
-        listing: listing_named(matches.get_str("list").unwrap_or("bases")),
-        checkpoint: matches.get_flag("checkpoint"),
-    })
-}
-
-// The number that an option has; the least where it is left out. The command takes no other than one
-// from the least to the most.
-fn number_of(matches: &ArgMatches<'_>, name: &str, least: u32, most: u32) -> u32
-    requires { least ≤ most }
-    ensures least { least ≤ result }
-    ensures most { result ≤ most }
-{
-    let number = matches.get_one::<u32>(name).unwrap_or(least);
-    number.clamp(least, most)
+    Ok(all)
 }
 
 // The listing of a name that the command takes.
-fn listing_named(name: &str) -> Listing {
+fn listing_named(name: &str) -> Listing
+    ensures { result ≡ listing_by name.now }
+{
     match name {
         "stacks" => Listing::Stacks,
         "journal" => Listing::Journal,
@@ -79,7 +93,9 @@ fn listing_named(name: &str) -> Listing {
     }
 }
 
-fn command<'a>(alloc: Global) -> Result<Command<'a>, AllocError> {
+fn command<'a>(alloc: Global) -> Result<Command<'a>, AllocError>
+    ensures { IfOk result IsProgram }
+{
     Command::new(alloc, "argus")
         .about("Runs a script over atomic objects on a guardian, and lists what it then holds.")
         .arg(workers_option(alloc))?
@@ -88,7 +104,11 @@ fn command<'a>(alloc: Global) -> Result<Command<'a>, AllocError> {
         .arg(checkpoint_option(alloc))
 }
 
-fn workers_option<'a>(alloc: Global) -> Arg<'a> {
+fn workers_option<'a>(alloc: Global) -> Arg<'a>
+    ensures rule { rule_of result
+        ≡ option_of (codes "workers") (codes "1") (vp.Signed (pos 1) (pos MAX_WORKERS)) }
+    ensures plain { IsPlainArg result × (result.global ≡ false) }
+{
     Arg::new(alloc, "workers")
         .long("workers")
         .action(ArgAction::Set)
@@ -98,7 +118,11 @@ fn workers_option<'a>(alloc: Global) -> Arg<'a> {
         .help("How many workers run the arms of coenters, 8 at most")
 }
 
-fn patience_option<'a>(alloc: Global) -> Arg<'a> {
+fn patience_option<'a>(alloc: Global) -> Arg<'a>
+    ensures rule { rule_of result
+        ≡ option_of (codes "patience") (codes "0") (vp.Signed (pos 0) (pos MAX_PATIENCE)) }
+    ensures plain { IsPlainArg result × (result.global ≡ false) }
+{
     Arg::new(alloc, "patience")
         .long("patience")
         .action(ArgAction::Set)
@@ -108,7 +132,11 @@ fn patience_option<'a>(alloc: Global) -> Arg<'a> {
         .help("How many wake-ups an access waits for its lock, 1000 at most")
 }
 
-fn list_option<'a>(alloc: Global) -> Arg<'a> {
+fn list_option<'a>(alloc: Global) -> Arg<'a>
+    ensures rule { (listings : Bor (List (Bor Text))) × NamesListings listings
+        × (rule_of result ≡ option_of (codes "list") (codes "bases") (vp.Names listings)) }
+    ensures plain { IsPlainArg result × (result.global ≡ false) }
+{
     Arg::new(alloc, "list")
         .long("list")
         .action(ArgAction::Set)
@@ -118,7 +146,10 @@ fn list_option<'a>(alloc: Global) -> Arg<'a> {
         .help("What is listed after the run")
 }
 
-fn checkpoint_option<'a>(alloc: Global) -> Arg<'a> {
+fn checkpoint_option<'a>(alloc: Global) -> Arg<'a>
+    ensures rule { rule_of result ≡ flag_of (codes "checkpoint") }
+    ensures plain { IsPlainArg result × (result.global ≡ false) }
+{
     Arg::new(alloc, "checkpoint")
         .long("checkpoint")
         .action(ArgAction::SetTrue)
@@ -126,7 +157,8 @@ fn checkpoint_option<'a>(alloc: Global) -> Arg<'a> {
 }
 
 fn usage(alloc: Global, error: &Error) -> NoOptions
-    ensures { EndsWith0Or2 result }
+    ensures status { EndsWith0Or2 result }
+    ensures usage { IsUsage (kind_of error.now) result }
 {
     if let ErrorKind::OutOfMemory = error.kind() {
         return NoOptions::OutOfMemory;
