@@ -1,5 +1,5 @@
 -- What an export says of the guardian in a slot, before and after.
-use Rattle.std.specs.Prelude.{List, None, Option, Some, length, take, ℕ, ℤ, ◌<◌, ◌≡◌}
+use Rattle.std.specs.Prelude.{List, None, Option, Some, length, take, ℕ, ℤ, ◌<◌, ◌≡◌, ◌⊎◌}
 use Rattle.argus_embed.specs.Codes.{outcome_codes}
 use Rattle.argus_embed.specs.Questions.{Asks, IsTold}
 use Rattle.argus_embed.specs.Requests.{IsCalled}
@@ -45,3 +45,17 @@ IsPast (Some text) size room = (size ≡ length text) × (length room < size)
 abbrev pub IsTooLong : Option State → ℕ → List ℕ → Type 0
 IsTooLong None size room = ⊥
 IsTooLong (Some state) size room = IsPast state.text size room
+
+-- a checkpoint is answered so: it is made, there is no memory for it, an action is live, or the next
+-- entry's number is past the greatest that a first entry may have; or the slot is closed
+abbrev pub IsStatusOfFold : Option State → ℕ → Type 0
+IsStatusOfFold None status = status ≡ 11
+IsStatusOfFold (Some state) status =
+    (status ≡ 0) ⊎ (status ≡ 10) ⊎ (status ≡ 19) ⊎ (status ≡ 20)
+
+-- the host that asks for the text is answered so: it has it, there is no memory for it, it is longer
+-- than the room, or none is kept; or the slot is closed
+abbrev pub IsStatusOfReply : Option State → ℕ → Type 0
+IsStatusOfReply None status = status ≡ 11
+IsStatusOfReply (Some state) status =
+    (status ≡ 0) ⊎ (status ≡ 10) ⊎ (status ≡ 17) ⊎ ((status ≡ 18) × (state.text ≡ None))

@@ -6,7 +6,8 @@
 #![tactic(auto)]
 
 ghost use Rattle.std.specs.Prelude.{◌≡◌, ◌≢◌, ◌<◌, ◌≤◌, IsSome, None, Some, length};
-ghost use Rattle.argus_c.specs.Slots.{Becomes, IsAnswered, IsGiven, IsMade, IsTooLong};
+ghost use Rattle.argus_c.specs.Slots.{Becomes, IsAnswered, IsGiven, IsMade};
+ghost use Rattle.argus_c.specs.Slots.{IsStatusOfFold, IsStatusOfReply, IsTooLong};
 ghost use Rattle.argus_embed.specs.State.{after_fold, at_first};
 
 mod held;
@@ -148,6 +149,7 @@ pub extern "C" fn argus_c_checkpoint(alloc: Global, slot: &mut Slot) -> u32
     ensures done { result ≡ 0 → Becomes slot.old.held.store slot.new.held.store
         (λ old new. new ≡ after_fold old) }
     ensures unmade { result ≢ 0 → slot.new.held.store ≡ slot.old.held.store }
+    ensures status { IsStatusOfFold slot.old.held.store result }
 {
     let Some(mut guardian) = slot.take(alloc) else {
         return NOT_OPEN;
@@ -171,6 +173,7 @@ pub extern "C" fn argus_c_reply(
     ensures done { result ≡ 0 → IsGiven slot.new.held.store size.new room.new }
     ensures small { result ≡ 17 → IsTooLong slot.new.held.store size.new room.old
         × (room.new ≡ room.old) }
+    ensures status { IsStatusOfReply slot.old.held.store result }
     ensures same { slot.new.held.store ≡ slot.old.held.store }
     ensures room { length room.new ≡ length room.old }
 {

@@ -1,9 +1,10 @@
 //! How a host folds the journal's past.
 
-ghost use Rattle.std.specs.Prelude.{◌≡◌, ◌↔◌, ◌<◌, OnErr, OnOk, Some, false, true};
+ghost use Rattle.std.specs.Prelude.{◌≡◌, ◌↔◌, ◌<◌, ◌⊎◌, IfErr, OnErr, OnOk};
+ghost use Rattle.std.specs.Prelude.{Some, false, true};
 ghost use Rattle.std.specs.Result.{result_err};
 ghost use Rattle.argus_embed.specs.State.{after_fold};
-ghost use Rattle.argus_embed.specs.declared.embed_error.EmbedError.TheVariants.{Busy, Full};
+ghost use Rattle.argus_embed.specs.declared.embed_error.EmbedError.TheVariants.{Busy, Full, OutOfMemory};
 ghost use Rattle.argus_guardian.specs.Checkpoint.{is_quiet};
 ghost use Rattle.argus_journal.specs.Folding.{next_entry_number};
 ghost use Rattle.argus_journal.specs.declared.limits.TheConstants.{MAX_FIRST_ENTRY};
@@ -25,6 +26,8 @@ impl Embedded {
         ensures full { (result_err result ≡ Some Full)
             ↔ ((is_quiet self.old.journal ≡ true) × (MAX_FIRST_ENTRY
             < next_entry_number self.old.journal.opening self.old.journal.entries)) }
+        ensures error { IfErr result (λ error. (error ≡ Busy) ⊎ (error ≡ Full)
+            ⊎ (error ≡ OutOfMemory)) }
         ensures err { OnErr result (self.new ≡ self.old) }
     {
         match self.guardian.checkpoint() {
