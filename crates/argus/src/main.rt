@@ -12,8 +12,8 @@
 ghost use Rattle.argus_cli.specs.Ranges.{KeepsRanges};
 
 use argus_cli::{CliFault, NoOptions, Options, options, run};
-use argus_memory::Heap;
-use argus_streams::Watched;
+use argus_commands::FailStop;
+use argus_values::Heap;
 use std::alloc::Global;
 use std::io::{Read, Write};
 use std::process::ExitCode;
@@ -29,7 +29,7 @@ fn main(rt: HostRuntime) -> ExitCode {
     match options(rt.alloc(), words) {
         Ok(options) => run_script(&rt, rt.alloc(), rt.stdin(), rt.stdout(), options),
         Err(NoOptions::Usage { status, text }) => show_usage(&rt, status, &text),
-        Err(NoOptions::OutOfMemory) => end_with_fault(&rt, CliFault::Memory),
+        Err(NoOptions::Memory) => end_with_fault(&rt, CliFault::Memory),
     }
 }
 
@@ -56,8 +56,8 @@ fn run_script<
     match run(
         rt,
         heap,
-        &mut Watched::new(reader),
-        &mut Watched::new(writer),
+        &mut FailStop::new(reader),
+        &mut FailStop::new(writer),
         options,
     ) {
         Ok(()) => ExitCode::SUCCESS,

@@ -8,7 +8,7 @@ use Rattle.argus_actions.specs.declared.origin.Origin.{Origin}
 use Rattle.argus_actions.specs.declared.origin.Origin.TheVariants.{Top, Sub, Nested}
 use Rattle.argus_actions.specs.Row.{Row, at_parent}
 use Rattle.argus_actions.specs.Rows.{numbered, is_above}
-use Rattle.argus_actions.specs.Tree.{parent_in}
+use Rattle.argus_actions.specs.Tree.{parent_by_origin}
 use Rattle.argus_actions.proofs.RowsLemmas.{is_above_newest, is_above_older, numbered_newest, numbered_older}
 use Rattle.argus_actions.proofs.Parents.{origin_of}
 
@@ -61,7 +61,7 @@ lift n r older x y up =
     is_above_older n r older x y (λ e. omega arith) ∙ up
 
 -- an action with no parent has no ancestor but itself
-pub above_top : (n : ℕ) (rows : List Row) (x y : ℕ) → option_and_then (λ (row : Row). parent_in row.origin)
+pub above_top : (n : ℕ) (rows : List Row) (x y : ℕ) → option_and_then (λ (row : Row). parent_by_origin row.origin)
     (numbered n rows y) ≡ None → is_above n rows x y ≡ true → x ≡ y
 above_top n [] x y top up = absurd (false≢true up)
 above_top n (r ∷ older) x y top up =
@@ -69,14 +69,15 @@ above_top n (r ∷ older) x y top up =
       | inl e ↦ elim (ways n r older x y e up) [
         | inl same ↦ same
         | inr via ↦ absurd (sub_none via.0 r.origin via.1.0
-            (sym (ap (option_and_then (λ (row : Row). parent_in row.origin)) (numbered_newest n r older y e)) ∙ top))
+            (sym (ap (option_and_then (λ (row : Row). parent_by_origin row.origin)) (numbered_newest n r older y e))
+            ∙ top))
       ]
-      | inr ne ↦ above_top n older x y (sym (ap (option_and_then (λ (row : Row). parent_in row.origin))
+      | inr ne ↦ above_top n older x y (sym (ap (option_and_then (λ (row : Row). parent_by_origin row.origin))
           (numbered_older n r older y ne)) ∙ top) (sym (is_above_older n r older x y ne) ∙ up)
     ]
   where
-    sub_none : (p : ℕ) (o : Origin) → o ≡ Sub p → parent_in o ≡ None → ⊥
-    sub_none p o is none = some_none (ap parent_in (sym is) ∙ none)
+    sub_none : (p : ℕ) (o : Origin) → o ≡ Sub p → parent_by_origin o ≡ None → ⊥
+    sub_none p o is none = some_none (ap parent_by_origin (sym is) ∙ none)
       where
         some_none : {x : ActionId} → Some x ≡ None → ⊥
         some_none e = cc
@@ -140,14 +141,15 @@ above_linear n (r ∷ older) x y z up up' le =
 
 -- another ancestor of a subaction is an ancestor of its parent
 pub above_up : (n : ℕ) (rows : List Row) (x s : ℕ) (parent : ActionId)
-    → option_and_then (λ (row : Row). parent_in row.origin) (numbered n rows s) ≡ Some parent
+    → option_and_then (λ (row : Row). parent_by_origin row.origin) (numbered n rows s) ≡ Some parent
     → is_above n rows x s ≡ true → x ≢ s → is_above n rows x parent.0 ≡ true
 above_up n [] x s parent is up ne = absurd (false≢true up)
 above_up n (r ∷ older) x s parent is up other =
     elim (cases_eq s (n + length older)) [
       | inl e ↦
           let o : r.origin ≡ Sub parent.0 = origin_of r.origin parent
-          (sym (ap (option_and_then (λ (row : Row). parent_in row.origin)) (numbered_newest n r older s e)) ∙ is) in
+          (sym (ap (option_and_then (λ (row : Row). parent_by_origin row.origin)) (numbered_newest n r older s e))
+          ∙ is) in
           elim (ways n r older x s e up) [
             | inl same ↦ absurd (other same)
             | inr via ↦ lift n r older x parent.0 (subst (λ (w : ℕ). is_above n older x w ≡ true)
@@ -155,6 +157,6 @@ above_up n (r ∷ older) x s parent is up other =
           ]
       | inr ne ↦
           lift n r older x parent.0 (above_up n older x s parent
-          (sym (ap (option_and_then (λ (row : Row). parent_in row.origin)) (numbered_older n r older s ne)) ∙ is)
+          (sym (ap (option_and_then (λ (row : Row). parent_by_origin row.origin)) (numbered_older n r older s ne)) ∙ is)
           (sym (is_above_older n r older x s ne) ∙ up) other)
     ]

@@ -9,9 +9,10 @@ use Rattle.argus_actions.specs.declared.node.Node.{Node}
 use Rattle.argus_actions.specs.declared.origin.Origin.{Origin}
 use Rattle.argus_actions.specs.declared.origin.Origin.TheVariants.{Top, Sub, Nested}
 use Rattle.argus_actions.specs.declared.status.Status.TheVariants.{Live}
-use Rattle.argus_actions.specs.Row.{Row, at_parent, under_of, is_sub_of, comes_from, is_live}
+use Rattle.argus_actions.specs.Row.{Row, at_parent, under_of, is_sub_of, is_begun_under, is_live}
 use Rattle.argus_actions.specs.Rows.{depth_at, is_live_under, newest_where, newest_below, newest_child_below}
-use Rattle.argus_actions.specs.Nodes.{shown, rows_of, ComesBetween, AreLinked, AreNodes, IsNode, link_to, live_count}
+use Rattle.argus_actions.specs.Nodes.{row_of_node, rows_of, IsBegunBetween, AreLinked, AreNodes, IsNode, link_to}
+use Rattle.argus_actions.specs.Nodes.{live_count}
 use Rattle.argus_actions.specs.Nodes.{adopted, fresh, older_sub_link, older_child_link}
 use Rattle.argus_actions.proofs.RowsLemmas.{depth_at_older}
 use Rattle.argus_actions.proofs.Marks.{at_parent_same, each_under}
@@ -32,14 +33,14 @@ pub newest_where_own : (test : Origin → Bool) (n : ℕ) (row : Row) (older : L
 newest_where_own test n row older b low = rw (le-ltb (n + length older) b low)
 
 -- an action that was not begun, or is folded, has nothing under it
-pub not_own : (n high a : ℕ) (o : Origin) → ComesBetween n high o → (high ≤ a) ⊎ (a < n) → comes_from a o ≡ false
+pub not_own : (n high a : ℕ) (o : Origin) → IsBegunBetween n high o → (high ≤ a) ⊎ (a < n) → is_begun_under a o ≡ false
 not_own n high a Top between outside = refl
 not_own n high a (Sub p) between outside =
     ne_eqb p a (λ e. elim outside [ inl past ↦ omega (arith, between.1) | inr low ↦ omega (arith, between.0) ])
 not_own n high a (Nested c) between outside =
     ne_eqb c a (λ e. elim outside [ inl past ↦ omega (arith, between.1) | inr low ↦ omega (arith, between.0) ])
 
-pub not_own_sub : (n high a : ℕ) (o : Origin) → ComesBetween n high o → (high ≤ a) ⊎ (a < n) → is_sub_of a o ≡ false
+pub not_own_sub : (n high a : ℕ) (o : Origin) → IsBegunBetween n high o → (high ≤ a) ⊎ (a < n) → is_sub_of a o ≡ false
 not_own_sub n high a Top between outside = refl
 not_own_sub n high a (Sub p) between outside = not_own n high a (Sub p) between outside
 not_own_sub n high a (Nested c) between outside = refl
@@ -52,7 +53,7 @@ before n older row a (inr low) = inr low
 -- where no origin passes the test, no action does
 pub newest_where_none : (test : Origin → Bool) (n : ℕ) (rows : List Row) (a b : ℕ) → AreLinked n rows
     → (n + length rows ≤ a) ⊎ (a < n)
-    → ((high : ℕ) (o : Origin) → ComesBetween n high o → (high ≤ a) ⊎ (a < n) → test o ≡ false)
+    → ((high : ℕ) (o : Origin) → IsBegunBetween n high o → (high ≤ a) ⊎ (a < n) → test o ≡ false)
     → newest_where test n rows b ≡ None
 newest_where_none test n [] a b linked outside fails = refl
 newest_where_none test n (row ∷ older) a b linked outside fails =
@@ -70,7 +71,7 @@ newest_below_none n rows a b linked outside =
 pub newest_child_none : (n : ℕ) (rows : List Row) (a b : ℕ) → AreLinked n rows → (n + length rows ≤ a) ⊎ (a < n)
     → newest_child_below n rows a b ≡ None
 newest_child_none n rows a b linked outside =
-    newest_where_none (comes_from a) n rows a b linked outside (λ high o. not_own n high a o)
+    newest_where_none (is_begun_under a) n rows a b linked outside (λ high o. not_own n high a o)
 
 pub live_count_none : (n : ℕ) (rows : List Row) (a : ℕ) → AreLinked n rows → (n + length rows ≤ a) ⊎ (a < n)
     → live_count rows a ≡ 0
@@ -83,14 +84,14 @@ pub live_count-le-length : (rows : List Row) (a : ℕ) → live_count rows a ≤
 live_count-le-length [] a = omega arith
 live_count-le-length (row ∷ older) a =
     let others : live_count older a ≤ length older = live_count-le-length older a in
-    elim (cases_Bool (comes_from a row.origin && is_live row.status))
+    elim (cases_Bool (is_begun_under a row.origin && is_live row.status))
     [ inl e ↦ rw e (omega arith) | inr e ↦ rw e (omega arith) ]
 
 -- some live action was begun under this one where any are counted
 pub is_live_under_is : (rows : List Row) (a : ℕ) → is_live_under rows a ≡ ltb 0 (live_count rows a)
 is_live_under_is [] a = refl
 is_live_under_is (row ∷ older) a =
-    elim (cases_Bool (comes_from a row.origin && is_live row.status)) [
+    elim (cases_Bool (is_begun_under a row.origin && is_live row.status)) [
       | inl e ↦ rw e (sym (lt-ltb 0 (1 + live_count older a) (omega arith)))
       | inr e ↦ rw e (is_live_under_is older a ∙ ap (ltb 0)
           (let same : live_count older a ≡ 0 + live_count older a = omega arith in same))
@@ -103,7 +104,7 @@ child_fits n nodes a k d kept at below =
     let count : (get_or nodes k d).live_children ≡ live_count (rows_of nodes) a = (kept.each a k d at below).children in
     omega (arith, live_count-le-length (rows_of nodes) a, length-rows_of nodes, kept.few)
 
-pub under_between : (n high under : ℕ) (o : Origin) → ComesBetween n high o → under_of o ≡ Some under
+pub under_between : (n high under : ℕ) (o : Origin) → IsBegunBetween n high o → under_of o ≡ Some under
     → (n ≤ under) × (under < high)
 under_between n high under o between is =
     let P : Option ℕ → Type 0 = λ u. IfSome u (λ a. (n ≤ a) × (a < high)) in
@@ -111,7 +112,7 @@ under_between n high under o between is =
 
 module _ (n : ℕ) (nodes new : List Node) (origin : Origin) (number older child depth : ℕ)
     (kept : AreNodes n nodes) (next : number ≡ n + length nodes) (few : number < MAX_ACTIONS)
-    (between : ComesBetween n number origin)
+    (between : IsBegunBetween n number origin)
     (long : length new ≡ length nodes)
     (each : (a k : ℕ) (d : Node) → a ≡ n + k → k < length nodes
     → get_or new k d ≡ adopted origin number a (get_or nodes k d))
@@ -125,7 +126,7 @@ module _ (n : ℕ) (nodes new : List Node) (origin : Origin) (number older child
       ≡ (let r : Row = record { origin = origin; status = Live } in r ∷ rows_of nodes)
   begun_rows = rows_of-push new (fresh origin older child depth)
       ∙ ap (λ (rows : List Row). begun ∷ rows) (rows_of-same n nodes new long
-      (λ k d below. ap shown (each (n + k) k d refl (omega arith))))
+      (λ k d below. ap row_of_node (each (n + k) k d refl (omega arith))))
 
   -- the number is the next after the rows
   last : number ≡ n + length (rows_of nodes)
@@ -154,10 +155,10 @@ module _ (n : ℕ) (nodes new : List Node) (origin : Origin) (number older child
         newest = newest_now (is_sub_of a) (get_or nodes k d).newest_sub was.newest;
         older = was.older ∙ ap link_to (at_parent_same None (get_or nodes k d).origin _ _
             (λ p. sym (newest_where_own (is_sub_of p) n begun (rows_of nodes) a low)));
-        newest_child = newest_now (comes_from a) (get_or nodes k d).newest_child was.newest_child;
+        newest_child = newest_now (is_begun_under a) (get_or nodes k d).newest_child was.newest_child;
         older_child = was.older_child ∙ ap link_to (each_under (under_of (get_or nodes k d).origin) _ _
-            (λ u. sym (newest_where_own (comes_from u) n begun (rows_of nodes) a low)));
-        children = rw (and-true (comes_from a origin)) (let count : (get_or nodes k d).live_children
+            (λ u. sym (newest_where_own (is_begun_under u) n begun (rows_of nodes) a low)));
+        children = rw (and-true (is_begun_under a origin)) (let count : (get_or nodes k d).live_children
             ≡ live_count (rows_of nodes) a = was.children in omega arith);
         depth = was.depth ∙ sym (depth_at_older n begun (rows_of nodes) a (λ e. omega (arith, last)));
         shallow = was.shallow;
@@ -183,7 +184,7 @@ module _ (n : ℕ) (nodes new : List Node) (origin : Origin) (number older child
           and-false (ltb (n + length (rows_of nodes)) (n + suc (length (rows_of nodes)))),
           newest_child_none n (rows_of nodes) number (n + suc (length (rows_of nodes))) kept.linked (inl past),
         );
-        older_child = child_is ∙ ap link_to (each_under (under_of origin) _ _ (λ u. all (comes_from u)));
+        older_child = child_is ∙ ap link_to (each_under (under_of origin) _ _ (λ u. all (is_begun_under u)));
         children = rw (
           not_own n number number origin between (inl (omega arith)),
           live_count_none n (rows_of nodes) number kept.linked (inl past),
@@ -197,7 +198,7 @@ module _ (n : ℕ) (nodes new : List Node) (origin : Origin) (number older child
       record {
         few = rw (length-append new (fresh origin older child depth ∷ [])) (omega arith);
         linked = rw begun_rows (
-          (let P : ℕ → Type 0 = λ high. ComesBetween n high origin in subst P last between),
+          (let P : ℕ → Type 0 = λ high. IsBegunBetween n high origin in subst P last between),
           kept.linked,
         );
         each = λ a k d at below.

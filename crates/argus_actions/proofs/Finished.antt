@@ -5,9 +5,9 @@ use Rattle.std.proofs.lemmas.Bool.{eq-eqb, ne_eqb, cases_eq, and_right}
 use Rattle.std.proofs.lemmas.List.{get_or-set_same, get_or-set_other, get_or_default, length-set}
 use Rattle.argus_actions.specs.declared.node.Node.{Node}
 use Rattle.argus_actions.specs.declared.status.Status.{Status}
-use Rattle.argus_actions.specs.Row.{Row, under_of, is_sub_of, comes_from, is_live, with_status}
+use Rattle.argus_actions.specs.Row.{Row, under_of, is_sub_of, is_begun_under, is_live, with_status}
 use Rattle.argus_actions.specs.Rows.{numbered, mark}
-use Rattle.argus_actions.specs.Nodes.{shown, rows_of, AreNodes, IsNode, link_to, live_count}
+use Rattle.argus_actions.specs.Nodes.{row_of_node, rows_of, AreNodes, IsNode, link_to, live_count}
 use Rattle.argus_actions.proofs.RowsLemmas.{eqb_comm}
 use Rattle.argus_actions.proofs.Marks.{at_parent_same, length-mark, AreLinked-mark, depth_at-mark, newest_where-mark}
 use Rattle.argus_actions.proofs.Marks.{each_under, live_count-mark, one}
@@ -21,14 +21,14 @@ finished s ended last a node = record {
   older_sub = node.older_sub;
   newest_child = node.newest_child;
   older_child = node.older_child;
-  live_children = node.live_children - one (comes_from a last.origin && is_live last.status);
+  live_children = node.live_children - one (is_begun_under a last.origin && is_live last.status);
   status = cond (eqb a ended) s node.status;
   depth = node.depth;
 }
 
 shown_finished : (b : Bool) (s : Status) (node : Node)
     → (let r : Row = record { origin = node.origin; status = cond b s node.status } in r)
-    ≡ cond b (with_status s (shown node)) (shown node)
+    ≡ cond b (with_status s (row_of_node node)) (row_of_node node)
 shown_finished true s node = refl
 shown_finished false s node = refl
 
@@ -38,7 +38,7 @@ module _ (n : ℕ) (nodes new : List Node) (ended i : ℕ) (s : Status) (e : end
     → get_or new k d ≡ finished s ended (get_or nodes i some_node) a (get_or nodes k d)) where
   pub finished_rows : rows_of new ≡ mark n (λ a. eqb a ended) s (rows_of nodes)
   finished_rows = rows_of-marked n nodes new ended s long
-      (λ a k d at below. ap shown (each a k d at below) ∙ shown_finished (eqb a ended) s (get_or nodes k d))
+      (λ a k d at below. ap row_of_node (each a k d at below) ∙ shown_finished (eqb a ended) s (get_or nodes k d))
 
   pub finished_nodes : AreNodes n nodes → AreNodes n new
   finished_nodes kept = record {
@@ -47,24 +47,24 @@ module _ (n : ℕ) (nodes new : List Node) (ended i : ℕ) (s : Status) (e : end
     each = λ a k d at below.
         let in_old : k < length nodes = omega arith in
         let was : IsNode n (rows_of nodes) a (get_or nodes k d) = kept.each a k d at in_old in
-        let last : numbered n (rows_of nodes) ended ≡ Some (shown (get_or nodes i some_node)) =
+        let last : numbered n (rows_of nodes) ended ≡ Some (row_of_node (get_or nodes i some_node)) =
         row_at n nodes ended i some_node e begun in
         let same_long : length (mark n (λ a. eqb a ended) s (rows_of nodes)) ≡ length (rows_of nodes) =
         length-mark n (λ a. eqb a ended) s (rows_of nodes) in
         let less : live_count (mark n (λ a. eqb a ended) s (rows_of nodes)) a + one
-        (comes_from a (get_or nodes i some_node).origin && is_live (get_or nodes i some_node).status)
+        (is_begun_under a (get_or nodes i some_node).origin && is_live (get_or nodes i some_node).status)
         ≡ live_count (rows_of nodes) a
-        = live_count-mark n s (rows_of nodes) a ended (shown (get_or nodes i some_node)) over last in
+        = live_count-mark n s (rows_of nodes) a ended (row_of_node (get_or nodes i some_node)) over last in
         rw (each a k d at in_old, finished_rows) (record {
           newest = was.newest ∙ rw same_long (ap link_to (sym
               (newest_where-mark (is_sub_of a) n (λ a. eqb a ended) s (rows_of nodes) (n + length (rows_of nodes)))));
           older = was.older ∙ ap link_to (at_parent_same None (get_or nodes k d).origin _ _
               (λ p. sym (newest_where-mark (is_sub_of p) n (λ a. eqb a ended) s (rows_of nodes) a)));
           newest_child = was.newest_child ∙ rw same_long (ap link_to
-              (sym (newest_where-mark (comes_from a) n (λ a. eqb a ended) s (rows_of nodes)
+              (sym (newest_where-mark (is_begun_under a) n (λ a. eqb a ended) s (rows_of nodes)
               (n + length (rows_of nodes)))));
           older_child = was.older_child ∙ ap link_to (each_under (under_of (get_or nodes k d).origin) _ _
-              (λ u. sym (newest_where-mark (comes_from u) n (λ a. eqb a ended) s (rows_of nodes) a)));
+              (λ u. sym (newest_where-mark (is_begun_under u) n (λ a. eqb a ended) s (rows_of nodes) a)));
           children = (let count : (get_or nodes k d).live_children ≡ live_count (rows_of nodes) a = was.children in
               omega arith);
           depth = was.depth ∙ sym (depth_at-mark n (λ a. eqb a ended) s (rows_of nodes) a);
@@ -151,5 +151,5 @@ module _ (n : ℕ) (nodes : List Node) (ended i : ℕ) (s : Status) (f : Node) (
       ∙ end_cases (eqb a ended) false s (get_or nodes k d)
       ∙ (elim last [
         | inl top ↦ rw top
-        | inr over ↦ rw (over, and_right (comes_from a (get_or nodes i some_node).origin) false refl)
+        | inr over ↦ rw (over, and_right (is_begun_under a (get_or nodes i some_node).origin) false refl)
       ])

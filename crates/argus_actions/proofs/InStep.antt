@@ -7,9 +7,9 @@ use Rattle.argus_actions.specs.declared.origin.Origin.{Origin}
 use Rattle.argus_actions.specs.declared.origin.Origin.TheVariants.{Sub}
 use Rattle.argus_actions.specs.declared.status.Status.{Status}
 use Rattle.argus_actions.specs.declared.status.Status.TheVariants.{Live, Committed, Aborted, Folded}
-use Rattle.argus_actions.specs.Row.{Row, at_parent, comes_from, is_live, may_follow, with_status}
+use Rattle.argus_actions.specs.Row.{Row, at_parent, is_begun_under, is_live, may_follow, with_status}
 use Rattle.argus_actions.specs.Rows.{numbered, is_above, mark, is_live_at, is_live_under, has_ancestor, AreInStep}
-use Rattle.argus_actions.specs.Nodes.{ComesBetween, AreLinked}
+use Rattle.argus_actions.specs.Nodes.{IsBegunBetween, AreLinked}
 use Rattle.argus_actions.proofs.RowsLemmas.{row_there, is_above_older, some_row, none_some, numbered_newest}
 use Rattle.argus_actions.proofs.RowsLemmas.{numbered_older, row_begun, linked_at, is_above_step}
 use Rattle.argus_actions.proofs.Marks.{numbered-mark, numbered-mark_none, origin_marked}
@@ -86,12 +86,12 @@ no_live : (n : ℕ) (rows : List Row) (c a : ℕ) (row : Row) → is_live_under 
     → row.origin ≡ Sub c → is_live row.status ≡ false
 no_live n [] c a row alone at is = absurd (none_some row at)
 no_live n (r ∷ older) c a row alone at is =
-    let parts = or_parts (comes_from c r.origin && is_live r.status) (is_live_under older c) alone in
+    let parts = or_parts (is_begun_under c r.origin && is_live r.status) (is_live_under older c) alone in
     elim (cases_eq a (n + length older)) [
       | inl e ↦
           let same : r ≡ row = some_row r row (sym (numbered_newest n r older a e) ∙ at) in
-          let came : comes_from c r.origin ≡ true =
-          ap (λ (w : Row). comes_from c w.origin) same ∙ ap (comes_from c) is ∙ eq-eqb c c refl in
+          let came : is_begun_under c r.origin ≡ true =
+          ap (λ (w : Row). is_begun_under c w.origin) same ∙ ap (is_begun_under c) is ∙ eq-eqb c c refl in
           ap (λ (w : Row). is_live w.status) (sym same) ∙ ap (λ b. b && is_live r.status) (sym came) ∙ parts.0
       | inr ne ↦ no_live n older c a row parts.1 (sym (numbered_older n r older a ne) ∙ at) is
     ]
@@ -162,7 +162,7 @@ module _ (n : ℕ) (origin : Origin) (rows : List Row) (linked : AreLinked n row
             ∙ ap (λ s. may_follow s row.status) (is_live_is top.0.status top.1.1)
         | inr ne ↦
             let at' : numbered n rows a ≡ Some row = sym (numbered_older n _ rows a ne) ∙ at in
-            let P : Origin → Type 0 = ComesBetween n a in
+            let P : Origin → Type 0 = IsBegunBetween n a in
             let between : (n ≤ p) × (p < a) = subst P is (linked_at n rows a row linked at') in
             let low = row_begun n rows a row at' in
             before a p row above at' is (sym (numbered_older n _ rows p (λ e. omega (arith, between.1, low.1))) ∙ at_p)
@@ -185,7 +185,7 @@ live_above n (r ∷ older) x a linked before up live =
         | inl same ↦ ap (is_live_at n (r ∷ older)) same ∙ live
         | inr via ↦
             let low = above_le n older x via.0 via.1.1 in
-            let P : Origin → Type 0 = ComesBetween n (n + length older) in
+            let P : Origin → Type 0 = IsBegunBetween n (n + length older) in
             let between : (n ≤ via.0) × (via.0 < n + length older) = subst P via.1.0 linked.0 in
             let top = row_there n older via.0 between.0 between.1 in
             let own : is_live r.status ≡ true = sym (ap (λ o. option_map_or (λ (row : Row). is_live row.status) o false)

@@ -7,7 +7,7 @@ use Rattle.argus_actions.specs.declared.node.TheConstants.{NONE}
 use Rattle.argus_actions.specs.declared.node.Node.{Node}
 use Rattle.argus_actions.specs.declared.origin.Origin.{Origin}
 use Rattle.argus_actions.specs.declared.origin.Origin.TheVariants.{Top, Sub, Nested}
-use Rattle.argus_actions.specs.Row.{at_parent, under_of, is_sub_of, comes_from}
+use Rattle.argus_actions.specs.Row.{at_parent, under_of, is_sub_of, is_begun_under}
 use Rattle.argus_actions.specs.Rows.{newest_where, newest_below, newest_child_below}
 use Rattle.argus_actions.specs.Tree.{named}
 use Rattle.argus_actions.specs.Nodes.{rows_of, AreNodes, IsNode, link_to, link_end}
@@ -39,7 +39,7 @@ module _ (n : ℕ) (nodes : List Node) (kept : AreNodes n nodes) where
       → link_end (link_to (option_and_then (λ u. newest_child_below n (rows_of nodes) u bound) o))
       ≡ named (option_and_then (λ u. newest_child_below n (rows_of nodes) u bound) o)
   under_end None bound = refl
-  under_end (Some u) bound = where_end (comes_from u) bound
+  under_end (Some u) bound = where_end (is_begun_under u) bound
 
   module _ (a k : ℕ) (node : Node) (at : a ≡ n + k) (begun : k < length nodes) (is : node ≡ get_or nodes k node) where
     known : IsNode n (rows_of nodes) a node
@@ -54,7 +54,7 @@ module _ (n : ℕ) (nodes : List Node) (kept : AreNodes n nodes) where
 
     pub newest_child_end : link_end node.newest_child ≡ named
         (newest_child_below n (rows_of nodes) a (n + length (rows_of nodes)))
-    newest_child_end = ap link_end known.newest_child ∙ where_end (comes_from a) (n + length (rows_of nodes))
+    newest_child_end = ap link_end known.newest_child ∙ where_end (is_begun_under a) (n + length (rows_of nodes))
 
     pub older_child_end : link_end node.older_child ≡ named
         (option_and_then (λ u. newest_child_below n (rows_of nodes) u a) (under_of node.origin))

@@ -7,7 +7,7 @@ use Rattle.std.proofs.lemmas.Bool.{eq-eqb, ne_eqb, cases_eq, cases_Bool}
 use Rattle.argus_actions.specs.declared.origin.Origin.{Origin}
 use Rattle.argus_actions.specs.declared.origin.Origin.TheVariants.{Top, Sub, Nested}
 use Rattle.argus_actions.specs.declared.status.Status.{Status}
-use Rattle.argus_actions.specs.Row.{Row, at_parent, comes_from, is_live, with_status}
+use Rattle.argus_actions.specs.Row.{Row, at_parent, is_begun_under, is_live, with_status}
 use Rattle.argus_actions.specs.Rows.{numbered, is_above, depth_at, mark, newest_where}
 use Rattle.argus_actions.specs.Nodes.{AreLinked, live_count}
 use Rattle.argus_actions.proofs.RowsLemmas.{some_row, none_some, numbered_newest, numbered_older}
@@ -138,7 +138,7 @@ one b = cond b 1 0
 -- one live action less was begun under the action that the ended one was begun under
 pub live_count-mark : (n : ℕ) (s : Status) (rows : List Row) (a ended : ℕ) (row : Row) → is_live s ≡ false
     → numbered n rows ended ≡ Some row
-    → live_count (mark n (λ k. eqb k ended) s rows) a + one (comes_from a row.origin && is_live row.status)
+    → live_count (mark n (λ k. eqb k ended) s rows) a + one (is_begun_under a row.origin && is_live row.status)
     ≡ live_count rows a
 live_count-mark n s [] a ended row over at = elim (none_some row at) [ ]
 live_count-mark n s (r ∷ older) a ended row over at =
@@ -148,11 +148,11 @@ live_count-mark n s (r ∷ older) a ended row over at =
           let others : mark n (λ k. eqb k ended) s older ≡ older =
           mark_none n (λ k. eqb k ended) s older (λ k low below. ne_eqb k ended (λ is. omega arith)) in
           let here : eqb (n + length older) ended ≡ true = eq-eqb (n + length older) ended (sym e) in
-          rw (others, here, over, and-false (comes_from a r.origin), ← same) (omega arith)
+          rw (others, here, over, and-false (is_begun_under a r.origin), ← same) (omega arith)
       | inr ne ↦
           let here : eqb (n + length older) ended ≡ false = ne_eqb (n + length older) ended (λ e. ne (sym e)) in
           let others : live_count (mark n (λ k. eqb k ended) s older) a + one
-          (comes_from a row.origin && is_live row.status) ≡ live_count older a
+          (is_begun_under a row.origin && is_live row.status) ≡ live_count older a
           = live_count-mark n s older a ended row over (sym (numbered_older n r older ended ne) ∙ at) in
           rw here (omega arith)
     ]

@@ -5,7 +5,7 @@ use Rattle.std.specs.Option.{option_map_or}
 use Rattle.std.proofs.lemmas.Bool.{ltb-true, lt-ltb, cases_eq, cases_lt, cases_Bool, and_parts, and_from, both_ways}
 use Rattle.argus_actions.specs.declared.origin.Origin.{Origin}
 use Rattle.argus_actions.specs.Row.{Row}
-use Rattle.argus_actions.specs.Rows.{numbered, newest_where, came_so}
+use Rattle.argus_actions.specs.Rows.{numbered, newest_where, has_origin}
 use Rattle.argus_actions.specs.Tree.{named, IsGreatestBelow}
 use Rattle.argus_actions.proofs.RowsLemmas.{some_row, none_some, numbered_newest, numbered_older, row_begun}
 
@@ -102,7 +102,7 @@ newest_where_no test n (r ∷ older) bound k row e at passes =
     ]
 
 -- the row of one that passes
-pub came_row : (test : Origin → Bool) (n : ℕ) (rows : List Row) (x : ℕ) → came_so test n rows x ≡ true
+pub came_row : (test : Origin → Bool) (n : ℕ) (rows : List Row) (x : ℕ) → has_origin test n rows x ≡ true
     → (row : Row) × ((numbered n rows x ≡ Some row) × (test row.origin ≡ true))
 came_row test n rows x e = at_row (numbered n rows x) refl e
   where
@@ -116,11 +116,11 @@ came_row test n rows x e = at_row (numbered n rows x) refl e
 
 -- so it is the greatest number below the bound that passes
 pub newest_where_greatest : (test : Origin → Bool) (n : ℕ) (rows : List Row) (bound : ℕ)
-    → IsGreatestBelow bound (came_so test n rows) (named (newest_where test n rows bound))
+    → IsGreatestBelow bound (has_origin test n rows) (named (newest_where test n rows bound))
 newest_where_greatest test n rows bound = by_result (newest_where test n rows bound) refl
   where
     by_result : (o : Option ℕ) → newest_where test n rows bound ≡ o
-        → IsGreatestBelow bound (came_so test n rows) (named o)
+        → IsGreatestBelow bound (has_origin test n rows) (named o)
     by_result None e = λ x came. newest_where_no test n rows bound x (came_row test n rows x came).0 e
         (came_row test n rows x came).1.0 (came_row test n rows x came).1.1
     by_result (Some c) e =

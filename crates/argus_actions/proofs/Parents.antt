@@ -8,8 +8,8 @@ use Rattle.argus_actions.specs.declared.origin.Origin.{Origin}
 use Rattle.argus_actions.specs.declared.origin.Origin.TheVariants.{Top, Sub, Nested}
 use Rattle.argus_actions.specs.Row.{Row, at_parent}
 use Rattle.argus_actions.specs.Rows.{numbered, is_above}
-use Rattle.argus_actions.specs.Tree.{parent_in}
-use Rattle.argus_actions.specs.Nodes.{ComesBetween, AreLinked}
+use Rattle.argus_actions.specs.Tree.{parent_by_origin}
+use Rattle.argus_actions.specs.Nodes.{IsBegunBetween, AreLinked}
 use Rattle.argus_actions.proofs.RowsLemmas.{linked_at, begun_before, is_above_newest, is_above_older, is_above_step}
 
 -- an action that was begun is its own ancestor
@@ -27,7 +27,7 @@ or_true true = refl
 or_true false = refl
 
 -- an action with a parent is a subaction of it
-pub origin_of : (o : Origin) (parent : ActionId) → parent_in o ≡ Some parent → o ≡ Sub parent.0
+pub origin_of : (o : Origin) (parent : ActionId) → parent_by_origin o ≡ Some parent → o ≡ Sub parent.0
 origin_of Top parent e = cc
 origin_of (Sub p) parent e = cc
 origin_of (Nested c) parent e = cc
@@ -35,7 +35,7 @@ origin_of (Nested c) parent e = cc
 sub_above : (n : ℕ) (rows : List Row) (a p : ℕ) (row : Row) → AreLinked n rows → numbered n rows a ≡ Some row
     → row.origin ≡ Sub p → is_above n rows p a ≡ true
 sub_above n rows a p row linked at is =
-    let P : Origin → Type 0 = ComesBetween n a in
+    let P : Origin → Type 0 = IsBegunBetween n a in
     let between : (n ≤ p) × (p < a) = subst P is (linked_at n rows a row linked at) in
     let begun : a < n + length rows = elim (cases_lt a (n + length rows))
     [ inl less ↦ less | inr past ↦ absurd (begun_before n rows a row at past) ] in
@@ -45,11 +45,11 @@ sub_above n rows a p row linked at is =
     ∙ or_true (eqb p a)
 
 pub parent_above : (n : ℕ) (rows : List Row) (a : ℕ) (parent : ActionId) → AreLinked n rows
-    → option_and_then (λ row. parent_in row.origin) (numbered n rows a) ≡ Some parent
+    → option_and_then (λ row. parent_by_origin row.origin) (numbered n rows a) ≡ Some parent
     → is_above n rows parent.0 a ≡ true
 parent_above n rows a parent linked e = at_row (numbered n rows a) refl e
   where
     at_row : (found : Option Row) → numbered n rows a ≡ found
-        → option_and_then (λ row. parent_in row.origin) found ≡ Some parent → is_above n rows parent.0 a ≡ true
+        → option_and_then (λ row. parent_by_origin row.origin) found ≡ Some parent → is_above n rows parent.0 a ≡ true
     at_row None at e = cc
     at_row (Some row) at e = sub_above n rows a parent.0 row linked at (origin_of row.origin parent e)

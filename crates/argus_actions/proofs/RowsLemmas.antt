@@ -6,7 +6,7 @@ use Rattle.argus_actions.specs.declared.origin.Origin.{Origin}
 use Rattle.argus_actions.specs.declared.origin.Origin.TheVariants.{Top, Sub, Nested}
 use Rattle.argus_actions.specs.Row.{Row, at_parent}
 use Rattle.argus_actions.specs.Rows.{numbered, is_above, depth_at}
-use Rattle.argus_actions.specs.Nodes.{ComesBetween, AreLinked}
+use Rattle.argus_actions.specs.Nodes.{IsBegunBetween, AreLinked}
 
 pub eqb_comm : (a b : ℕ) → eqb a b ≡ eqb b a
 eqb_comm a b = elim (cases_eq a b) [
@@ -78,7 +78,7 @@ same_numbered n (x ∷ xs) (y ∷ ys) e same =
     ∙ (same a low (omega arith) ∙ numbered_older n y ys a (λ e. omega arith))) in
     cc
 
-pub at_parent_between : {X : Type 0} (none : X) (low high : ℕ) (o : Origin) (f g : ℕ → X) → ComesBetween low high o
+pub at_parent_between : {X : Type 0} (none : X) (low high : ℕ) (o : Origin) (f g : ℕ → X) → IsBegunBetween low high o
     → ((p : ℕ) → low ≤ p → p < high → f p ≡ g p) → at_parent none o f ≡ at_parent none o g
 at_parent_between none low high Top f g between same = refl
 at_parent_between none low high (Sub p) f g between same = same p between.0 between.1
@@ -86,13 +86,13 @@ at_parent_between none low high (Nested c) f g between same = refl
 
 -- each action was begun under an older one
 pub linked_at : (n : ℕ) (rows : List Row) (a : ℕ) (row : Row) → AreLinked n rows → numbered n rows a ≡ Some row
-    → ComesBetween n a row.origin
+    → IsBegunBetween n a row.origin
 linked_at n [] a row linked at = elim (none_some row at) [ ]
 linked_at n (r ∷ older) a row linked at =
     elim (cases_eq a (n + length older)) [
       | inl e ↦
           let same : r ≡ row = some_row r row (sym (numbered_newest n r older a e) ∙ at) in
-          let P : Row → Type 0 = λ x. ComesBetween n a x.origin in
+          let P : Row → Type 0 = λ x. IsBegunBetween n a x.origin in
           subst P same (rw e linked.0)
       | inr ne ↦ linked_at n older a row linked.1 (sym (numbered_older n r older a ne) ∙ at)
     ]

@@ -10,10 +10,10 @@ use Rattle.argus_actions.specs.declared.node.Node.{Node}
 use Rattle.argus_actions.specs.declared.origin.Origin.{Origin}
 use Rattle.argus_actions.specs.declared.origin.Origin.TheVariants.{Top, Sub, Nested}
 use Rattle.argus_actions.specs.declared.status.Status.TheVariants.{Aborted}
-use Rattle.argus_actions.specs.Row.{Row, under_of, comes_from, is_live, with_status}
+use Rattle.argus_actions.specs.Row.{Row, under_of, is_begun_under, is_live, with_status}
 use Rattle.argus_actions.specs.Rows.{numbered, is_above, mark, newest_child_below, under_at, is_live_at, is_child_of}
 use Rattle.argus_actions.specs.Rows.{is_live_sibling_of, has_ancestor}
-use Rattle.argus_actions.specs.Nodes.{shown, rows_of, AreNodes, link_to}
+use Rattle.argus_actions.specs.Nodes.{row_of_node, rows_of, AreNodes, link_to}
 use Rattle.argus_actions.proofs.RowsLemmas.{some_row, row_begun, linked_at}
 use Rattle.argus_actions.proofs.Marks.{newest_where-mark, is_above-mark, mark-mark, mark-same, mark_none, numbered-mark}
 use Rattle.argus_actions.proofs.NodesLemmas.{some_node, length-rows_of, row_at}
@@ -22,7 +22,7 @@ use Rattle.argus_actions.proofs.Ancestry.{has_ancestor_same, has_ancestor_or, ha
 use Rattle.argus_actions.proofs.Walks.{link_some, link_none, steps_left, fewer_steps}
 
 -- who was begun under an action
-pub comes_under : (o : Origin) (u : ℕ) → comes_from u o ≡ true → under_of o ≡ Some u
+pub comes_under : (o : Origin) (u : ℕ) → is_begun_under u o ≡ true → under_of o ≡ Some u
 comes_under Top u e = absurd (false_true e)
   where
     false_true : false ≡ true → ⊥
@@ -50,13 +50,13 @@ is_swept n rows a bound x = leb bound x && is_live_sibling_of n rows a x
 module _ (n : ℕ) (rows : List Row) (a under : ℕ) (came : under_at n rows a ≡ Some under) where
   -- a live sibling is a child of the same action
   pub sibling_row : (k : ℕ) → is_live_sibling_of n rows a k ≡ true
-      → (row : Row) × ((numbered n rows k ≡ Some row) × (comes_from under row.origin ≡ true))
+      → (row : Row) × ((numbered n rows k ≡ Some row) × (is_begun_under under row.origin ≡ true))
   sibling_row k e =
       let both = and_parts (is_live_at n rows k) (not (eqb k a)
       && option_map_or (λ u. is_child_of n rows u k) (under_at n rows a) false) e in
       let child =
       and_parts (not (eqb k a)) (option_map_or (λ u. is_child_of n rows u k) (under_at n rows a) false) both.1 in
-      came_row (comes_from under) n rows k (ap (λ o. option_map_or (λ u. is_child_of n rows u k) o false) (sym came)
+      came_row (is_begun_under under) n rows k (ap (λ o. option_map_or (λ u. is_child_of n rows u k) o false) (sym came)
       ∙ child.1)
 
   -- from past the newest action on there is none
@@ -71,7 +71,7 @@ module _ (n : ℕ) (rows : List Row) (a under : ℕ) (came : under_at n rows a �
         | inl is ↦
             let row = sibling_row k is in
             ap (λ b. b && is_live_sibling_of n rows a k) (le-leb bound k
-            (newest_where_no (comes_from under) n rows bound k row.0 none row.1.0 row.1.1))
+            (newest_where_no (is_begun_under under) n rows bound k row.0 none row.1.0 row.1.1))
         | inr isnt ↦ ap (λ b. leb bound k && b) isnt ∙ and-false (leb bound k) ∙ sym isnt
       ]
 
@@ -79,7 +79,7 @@ module _ (n : ℕ) (rows : List Row) (a under : ℕ) (came : under_at n rows a �
   pub swept_more : (bound link k : ℕ) → newest_child_below n rows under bound ≡ Some link
       → is_swept n rows a link k ≡ (is_swept n rows a bound k || (eqb k link && is_live_sibling_of n rows a link))
   swept_more bound link k found =
-      let is = newest_where_at (comes_from under) n rows bound link found in
+      let is = newest_where_at (is_begun_under under) n rows bound link found in
       elim (cases_eq k link) [
         | inl e ↦ rw (e, le-leb link link (omega arith), lt-leb bound link is.1.1.0, eq-eqb link link refl) refl
         | inr ne ↦ rw (ne_eqb k link ne) (elim (cases_lt k bound) [
@@ -87,7 +87,7 @@ module _ (n : ℕ) (rows : List Row) (a under : ℕ) (came : under_at n rows a �
             | inl sib ↦
                 let row = sibling_row k sib in
                 let most : k ≤ link =
-                newest_where_most (comes_from under) n rows bound link k row.0 found row.1.0 row.1.1 below in
+                newest_where_most (is_begun_under under) n rows bound link k row.0 found row.1.0 row.1.1 below in
                 ap (λ b. b && is_live_sibling_of n rows a k) (lt-leb link k (omega arith))
             | inr isnt ↦ ap (λ b. leb link k && b) isnt ∙ and-false (leb link k)
           ])
@@ -133,7 +133,7 @@ module _ (n : ℕ) (old : List Node) (a under : ℕ) (kept : AreNodes n old)
         link_none (newest_child_below n (rows_of old) under swept.bound) link swept.next none
         (λ c e. omega (
           arith,
-          (newest_where_at (comes_from under) n (rows_of old) swept.bound c e).1.0,
+          (newest_where_at (is_begun_under under) n (rows_of old) swept.bound c e).1.0,
           length-rows_of old,
           kept.few,
         )) in
@@ -148,14 +148,14 @@ module _ (n : ℕ) (old : List Node) (a under : ℕ) (kept : AreNodes n old)
 
       pub sweep_begun : (n ≤ link) × (link < n + length old)
       sweep_begun =
-          let is = newest_where_at (comes_from under) n (rows_of old) swept.bound link found in
+          let is = newest_where_at (is_begun_under under) n (rows_of old) swept.bound link found in
           (is.0, omega (arith, is.1.0, length-rows_of old))
 
       -- whether this one is a live sibling is seen in its node
       pub sibling_seen : (i : ℕ) (d : Node) → link ≡ n + i → length nodes ≡ length old
           → is_live_sibling_of n (rows_of old) a link ≡ (is_live (get_or nodes i d).status && not (eqb link a))
       sibling_seen i d at long =
-          let is = newest_where_at (comes_from under) n (rows_of old) swept.bound link found in
+          let is = newest_where_at (is_begun_under under) n (rows_of old) swept.bound link found in
           let row : Row = is.1.1.1.0 in
           let in_rows : numbered n (rows_of old) link ≡ Some is.1.1.1.0 = is.1.1.1.1.0 in
           let spared : has_ancestor (is_swept n (rows_of old) a swept.bound) n (rows_of old) link ≡ false
@@ -166,8 +166,8 @@ module _ (n : ℕ) (old : List Node) (a under : ℕ) (kept : AreNodes n old)
           ∙ numbered-mark n (has_ancestor (is_swept n (rows_of old) a swept.bound) n (rows_of old)) Aborted
           (rows_of old) link is.1.1.1.0 in_rows
           ∙ ap (λ b. Some (cond b (with_status Aborted is.1.1.1.0) is.1.1.1.0)) spared in
-          let same : shown (get_or nodes i d) ≡ is.1.1.1.0 =
-          some_row (shown (get_or nodes i d)) is.1.1.1.0 (sym
+          let same : row_of_node (get_or nodes i d) ≡ is.1.1.1.0 =
+          some_row (row_of_node (get_or nodes i d)) is.1.1.1.0 (sym
           (row_at n nodes link i d at (omega (arith, sweep_begun.1))) ∙ now) in
           ap (λ o. option_map_or (λ (row : Row). is_live row.status) o false
           && (not (eqb link a) && option_map_or (λ u. is_child_of n (rows_of old) u link)
@@ -175,7 +175,7 @@ module _ (n : ℕ) (old : List Node) (a under : ℕ) (kept : AreNodes n old)
           ∙ ap (λ o. is_live is.1.1.1.0.status && (not (eqb link a)
           && option_map_or (λ u. is_child_of n (rows_of old) u link) o false)) came
           ∙ ap (λ o. is_live is.1.1.1.0.status && (not (eqb link a)
-          && option_map_or (λ (row : Row). comes_from under row.origin) o false)) in_rows
+          && option_map_or (λ (row : Row). is_begun_under under row.origin) o false)) in_rows
           ∙ ap (λ b. is_live is.1.1.1.0.status && (not (eqb link a) && b)) is.1.1.1.1.1
           ∙ ap (λ b. is_live is.1.1.1.0.status && b) (and_true (not (eqb link a)))
           ∙ ap (λ (w : Row). is_live w.status && not (eqb link a)) (sym same)
@@ -238,18 +238,18 @@ module _ (n : ℕ) (old : List Node) (a under : ℕ) (kept : AreNodes n old)
             let in_new : i < length new = omega (arith, sweep_begun.1) in
             let same : newest_child_below n (rows_of new) under swept.bound ≡ Some link =
             ap (λ (rows : List Row). newest_child_below n rows under swept.bound) rows_is
-            ∙ newest_where-mark (comes_from under) n (has_ancestor (is_swept n (rows_of old) a link) n
+            ∙ newest_where-mark (is_begun_under under) n (has_ancestor (is_swept n (rows_of old) a link) n
             (rows_of old)) Aborted (rows_of old) swept.bound ∙ found in
-            let is = newest_where_at (comes_from under) n (rows_of new) swept.bound link same in
-            let here : shown (get_or new i some_node) ≡ is.1.1.1.0 =
-            some_row (shown (get_or new i some_node)) is.1.1.1.0
+            let is = newest_where_at (is_begun_under under) n (rows_of new) swept.bound link same in
+            let here : row_of_node (get_or new i some_node) ≡ is.1.1.1.0 =
+            some_row (row_of_node (get_or new i some_node)) is.1.1.1.0
             (sym (row_at n new link i some_node at in_new) ∙ is.1.1.1.1.0) in
             let own : under_of (get_or new i some_node).origin ≡ Some under =
             ap (λ (w : Row). under_of w.origin) here ∙ comes_under is.1.1.1.0.origin under is.1.1.1.1.1 in
             (kept'.each link i some_node at in_new).older_child
             ∙ ap (λ o. link_to (option_and_then (λ u. newest_child_below n (rows_of new) u link) o)) own
             ∙ ap (λ (rows : List Row). link_to (newest_child_below n rows under link)) rows_is
-            ∙ ap link_to (newest_where-mark (comes_from under) n
+            ∙ ap link_to (newest_where-mark (is_begun_under under) n
             (has_ancestor (is_swept n (rows_of old) a link) n (rows_of old)) Aborted (rows_of old) link)
 
         pub sweep_step : IsSwept n old new a under (get_or new i some_node).older_child
@@ -259,4 +259,4 @@ module _ (n : ℕ) (old : List Node) (a under : ℕ) (kept : AreNodes n old)
         sweep_smaller =
             let small : link < NONE = omega (arith, sweep_begun.1, kept.few) in
             rw next_link (fewer_steps (newest_child_below n (rows_of old) under link) link small
-            (λ c e. (newest_where_at (comes_from under) n (rows_of old) link c e).1.1.0))
+            (λ c e. (newest_where_at (is_begun_under under) n (rows_of old) link c e).1.1.0))

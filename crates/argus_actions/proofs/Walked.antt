@@ -8,7 +8,7 @@ use Rattle.argus_actions.specs.declared.origin.Origin.{Origin}
 use Rattle.argus_actions.specs.declared.status.Status.TheVariants.{Aborted}
 use Rattle.argus_actions.specs.Row.{Row, at_parent, is_sub_of}
 use Rattle.argus_actions.specs.Rows.{is_above, mark, newest_below}
-use Rattle.argus_actions.specs.Nodes.{shown, rows_of, AreNodes, link_to}
+use Rattle.argus_actions.specs.Nodes.{row_of_node, rows_of, AreNodes, link_to}
 use Rattle.argus_actions.proofs.Marks.{newest_where-mark, is_above-mark, mark-mark, mark-same}
 use Rattle.argus_actions.proofs.NodesLemmas.{some_node, length-rows_of, row_at}
 use Rattle.argus_actions.proofs.Walks.{is_via, is_handled, IsNewestSub, newest_sub_is, via_past, via_more, via_all}
@@ -94,7 +94,7 @@ module _ (n : ℕ) (old : List Node) (a : ℕ) (kept : AreNodes n old) where
           ∙ found in
           let sub : IsNewestSub n (rows_of new) a walked.bound link =
           newest_sub_is n (rows_of new) a walked.bound link kept'.linked same in
-          let under = sub.under (shown (get_or new i some_node)) (row_at n new link i some_node at in_new) in
+          let under = sub.under (row_of_node (get_or new i some_node)) (row_at n new link i some_node at in_new) in
           (kept'.each link i some_node at in_new).older
           ∙ ap (λ (o : Origin). link_to (at_parent None o (λ p. newest_below n (rows_of new) p link))) under
           ∙ ap (λ (rows : List Row). link_to (newest_below n rows a link)) all_rows

@@ -9,7 +9,7 @@ use Rattle.argus_actions.specs.declared.origin.Origin.{Origin}
 use Rattle.argus_actions.specs.declared.origin.Origin.TheVariants.{Top, Sub, Nested}
 use Rattle.argus_actions.specs.Row.{Row, at_parent}
 use Rattle.argus_actions.specs.Rows.{numbered, is_above, newest_below}
-use Rattle.argus_actions.specs.Nodes.{ComesBetween, AreLinked, link_to}
+use Rattle.argus_actions.specs.Nodes.{IsBegunBetween, AreLinked, link_to}
 use Rattle.argus_actions.proofs.RowsLemmas.{eqb_comm, at_parent_between, some_row, numbered_newest, numbered_older}
 use Rattle.argus_actions.proofs.RowsLemmas.{is_above_newest, is_above_older, is_above_newer}
 
@@ -119,7 +119,7 @@ newest_sub_is n (row ∷ older) a bound c linked e =
           let parts = and_parts (ltb (n + length older) bound) (at_parent false row.origin (λ p. eqb p a)) here in
           let own : n + length older ≡ c = same_some (n + length older) c (sym (rw here) ∙ e) in
           let sub : row.origin ≡ Sub a = sub_of row.origin a parts.1 in
-          let Between : Origin → Type 0 = ComesBetween n (n + length older) in
+          let Between : Origin → Type 0 = IsBegunBetween n (n + length older) in
           let between : (n ≤ a) × (a < n + length older) = subst Between sub linked.0 in
           record {
             low = omega arith;
@@ -141,7 +141,7 @@ newest_sub_is n (row ∷ older) a bound c linked e =
           }
     ]
 
-more_by_origin : (n : ℕ) (older : List Row) (a bound c x : ℕ) (o : Origin) → ComesBetween n (n + length older) o
+more_by_origin : (n : ℕ) (older : List Row) (a bound c x : ℕ) (o : Origin) → IsBegunBetween n (n + length older) o
     → (ltb x bound && at_parent false o (λ p. eqb p a)) ≡ false → c ≤ x
     → ((p : ℕ) → n ≤ p → p < n + length older → (is_via n older a bound p || is_above n older c p)
     ≡ is_via n older a c p)
@@ -237,7 +237,7 @@ via_all n (row ∷ older) a bound x linked e low high =
     some_is_none : (c : ℕ) → Some c ≡ None → ⊥
     some_is_none c e = cc
 
-    by_origin : (n : ℕ) (older : List Row) (a bound x : ℕ) (o : Origin) → ComesBetween n (n + length older) o
+    by_origin : (n : ℕ) (older : List Row) (a bound x : ℕ) (o : Origin) → IsBegunBetween n (n + length older) o
         → (ltb x bound && at_parent false o (λ p. eqb p a)) ≡ false
         → ((p : ℕ) → n ≤ p → p < n + length older → is_via n older a bound p ≡ is_via n older a 0 p)
         → at_parent false o (λ p. cond (eqb p a) (leb bound x) (is_via n older a bound p))

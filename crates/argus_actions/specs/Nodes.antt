@@ -8,28 +8,28 @@ use Rattle.argus_actions.specs.declared.action_id.ActionId.{ActionId}
 use Rattle.argus_actions.specs.declared.node.Node.{Node}
 use Rattle.argus_actions.specs.declared.origin.Origin.{Origin}
 use Rattle.argus_actions.specs.declared.status.Status.TheVariants.{Live}
-use Rattle.argus_actions.specs.Row.{Row, at_parent, under_of, is_sub_of, comes_from, is_live}
+use Rattle.argus_actions.specs.Row.{Row, at_parent, under_of, is_sub_of, is_begun_under, is_live}
 use Rattle.argus_actions.specs.Rows.{AreInStep, depth_at, newest_below, newest_child_below}
 use Rattle.argus_actions.specs.Tree.{Tree, row_of}
 
 -- the row that a node keeps
-abbrev pub shown : Node → Row
-shown node = record { origin = node.origin; status = node.status }
+abbrev pub row_of_node : Node → Row
+row_of_node node = record { origin = node.origin; status = node.status }
 
 -- the rows that the nodes show, newest first
 abbrev pub rows_of : List Node → List Row
-rows_of nodes = map shown (reverse nodes)
+rows_of nodes = map row_of_node (reverse nodes)
 
 -- the action under which it was begun is one of those from the first to before it
-abbrev pub ComesBetween : ℕ → ℕ → Origin → Type 0
-ComesBetween first number origin =
+abbrev pub IsBegunBetween : ℕ → ℕ → Origin → Type 0
+IsBegunBetween first number origin =
     IfSome (under_of origin) (λ under. (first ≤ under) × (under < number))
 
 -- each action was begun under an older one, if under any
 abbrev pub AreLinked : ℕ → List Row → Type 0
 AreLinked folded [] = Unit {0}
 AreLinked folded (row ∷ older) =
-    ComesBetween folded (folded + length older) row.origin × AreLinked folded older
+    IsBegunBetween folded (folded + length older) row.origin × AreLinked folded older
 
 -- a link to an action, or to none
 abbrev pub link_to : Option ℕ → ℕ
@@ -44,7 +44,7 @@ link_end link = if link == NONE then None else Some (record { 0 = link })
 abbrev pub live_count : List Row → ℕ → ℕ
 live_count [] a = 0
 live_count (row ∷ older) a =
-    (if comes_from a row.origin && is_live row.status then 1 else 0) + live_count older a
+    (if is_begun_under a row.origin && is_live row.status then 1 else 0) + live_count older a
 
 -- what the node of this number says beside its row
 pub record IsNode (folded : ℕ) (rows : List Row) (a : ℕ) (node : Node) : Type 0 where
@@ -75,14 +75,14 @@ pub record AreKept (folded : ℕ) (kept : List Node) : Type 0 where
 abbrev pub IsNodeOf : Tree → ℕ → Option Node → Type 0
 IsNodeOf tree a None = (row_of tree a ≡ None) × (live_count tree.rows a ≡ 0)
 IsNodeOf tree a (Some node) =
-    (row_of tree a ≡ Some (shown node)) × IsNode tree.folded tree.rows a node
+    (row_of tree a ≡ Some (row_of_node node)) × IsNode tree.folded tree.rows a node
 
 -- the node of this number, once an action was begun
 abbrev pub adopted : Origin → ℕ → ℕ → Node → Node
 adopted origin number a node = record node {
   newest_sub = if is_sub_of a origin then number else node.newest_sub;
-  newest_child = if comes_from a origin then number else node.newest_child;
-  live_children = node.live_children + (if comes_from a origin then 1 else 0);
+  newest_child = if is_begun_under a origin then number else node.newest_child;
+  live_children = node.live_children + (if is_begun_under a origin then 1 else 0);
 }
 
 -- the node of an action that was just begun

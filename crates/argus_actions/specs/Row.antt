@@ -29,8 +29,8 @@ abbrev pub is_sub_of : ℕ → Origin → Bool
 is_sub_of a origin = at_parent false origin (λ parent. parent == a)
 
 -- it was begun under this action, as its subaction or as its nested topaction
-abbrev pub comes_from : ℕ → Origin → Bool
-comes_from a origin = option_map_or (λ under. under == a) (under_of origin) false
+abbrev pub is_begun_under : ℕ → Origin → Bool
+is_begun_under a origin = option_map_or (λ under. under == a) (under_of origin) false
 
 -- the action goes on
 abbrev pub is_live : Status → Bool

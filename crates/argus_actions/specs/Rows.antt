@@ -7,7 +7,7 @@ use Rattle.std.specs.Option.{option_and_then, option_map_or}
 use Rattle.argus_actions.specs.declared.origin.Origin.{Origin}
 use Rattle.argus_actions.specs.declared.origin.Origin.TheVariants.{Sub}
 use Rattle.argus_actions.specs.declared.status.Status.{Status}
-use Rattle.argus_actions.specs.Row.{Row, may_follow, at_parent, under_of, is_sub_of, comes_from}
+use Rattle.argus_actions.specs.Row.{Row, may_follow, at_parent, under_of, is_sub_of, is_begun_under}
 use Rattle.argus_actions.specs.Row.{is_live, with_status}
 
 -- the row of a number
@@ -33,7 +33,7 @@ depth_at folded (row ∷ older) a =
 
 -- a live action was begun under this one, as its subaction or as its nested topaction
 abbrev pub is_live_under : List Row → ℕ → Bool
-is_live_under rows a = list_any (λ row. comes_from a row.origin && is_live row.status) rows
+is_live_under rows a = list_any (λ row. is_begun_under a row.origin && is_live row.status) rows
 
 -- the rows with the status of some of them changed
 abbrev pub mark : ℕ → (ℕ → Bool) → Status → List Row → List Row
@@ -55,7 +55,7 @@ newest_below folded rows parent bound = newest_where (is_sub_of parent) folded r
 
 -- the newest action below the bound that was begun under this one
 abbrev pub newest_child_below : ℕ → List Row → ℕ → ℕ → Option ℕ
-newest_child_below folded rows a bound = newest_where (comes_from a) folded rows bound
+newest_child_below folded rows a bound = newest_where (is_begun_under a) folded rows bound
 
 -- the parent or creator of the action of a number
 abbrev pub under_at : ℕ → List Row → ℕ → Option ℕ
@@ -66,16 +66,17 @@ abbrev pub is_live_at : ℕ → List Row → ℕ → Bool
 is_live_at folded rows a = option_map_or (λ row. is_live row.status) (numbered folded rows a) false
 
 -- the action of a number has an origin that passes the test
-abbrev pub came_so : (Origin → Bool) → ℕ → List Row → ℕ → Bool
-came_so test folded rows x = option_map_or (λ row. test row.origin) (numbered folded rows x) false
+abbrev pub has_origin : (Origin → Bool) → ℕ → List Row → ℕ → Bool
+has_origin test folded rows x = option_map_or (λ row. test row.origin)
+    (numbered folded rows x) false
 
 -- x was begun under this action, as its subaction
 abbrev pub is_sub_at : ℕ → List Row → ℕ → ℕ → Bool
-is_sub_at folded rows parent x = came_so (is_sub_of parent) folded rows x
+is_sub_at folded rows parent x = has_origin (is_sub_of parent) folded rows x
 
 -- x was begun under this action, as its subaction or as its nested topaction
 abbrev pub is_child_of : ℕ → List Row → ℕ → ℕ → Bool
-is_child_of folded rows under x = came_so (comes_from under) folded rows x
+is_child_of folded rows under x = has_origin (is_begun_under under) folded rows x
 
 -- x is another action with the same parent or creator as a: a subaction and a nested topaction of
 -- one action are siblings

@@ -33,24 +33,24 @@ status_of tree a =
     if nat_lt a tree.folded then Some Folded else option_map (λ row. row.status) (row_of tree a)
 
 -- a topaction, nested or not, has no parent
-abbrev pub parent_in : Origin → Option ActionId
-parent_in Top = None
-parent_in (Sub parent) = Some (record { 0 = parent })
-parent_in (Nested creator) = None
+abbrev pub parent_by_origin : Origin → Option ActionId
+parent_by_origin Top = None
+parent_by_origin (Sub parent) = Some (record { 0 = parent })
+parent_by_origin (Nested creator) = None
 
 -- the parent of the action with this number, if any
 abbrev pub parent_of : Tree → ℕ → Option ActionId
-parent_of tree a = option_and_then (λ row. parent_in row.origin) (row_of tree a)
+parent_of tree a = option_and_then (λ row. parent_by_origin row.origin) (row_of tree a)
 
 -- a nested topaction has a creator in place of a parent
-abbrev pub creator_in : Origin → Option ActionId
-creator_in Top = None
-creator_in (Sub parent) = None
-creator_in (Nested creator) = Some (record { 0 = creator })
+abbrev pub creator_by_origin : Origin → Option ActionId
+creator_by_origin Top = None
+creator_by_origin (Sub parent) = None
+creator_by_origin (Nested creator) = Some (record { 0 = creator })
 
 -- the creator of the action with this number, if any
 abbrev pub creator_of : Tree → ℕ → Option ActionId
-creator_of tree a = option_and_then (λ row. creator_in row.origin) (row_of tree a)
+creator_of tree a = option_and_then (λ row. creator_by_origin row.origin) (row_of tree a)
 
 -- an action that was begun is its own ancestor, and those of its parent are its ancestors too
 abbrev pub is_ancestor : Tree → ℕ → ℕ → Bool

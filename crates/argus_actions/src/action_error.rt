@@ -10,7 +10,8 @@ use thiserror::Error;
 /// the call.
 ///
 /// ```text
-/// assert_eq!(rt; tree.begin_sub(ActionId(70)), Err(ActionError::Refused(ActionRefusal::NoAction)));
+/// assert_eq!(rt; tree.begin_sub(ActionId(70)),
+/// Err(ActionError::Refused(ActionRefusal::NoAction)));
 /// ```
 #[derive(Clone, Copy, Debug, PartialEq, Eq, Error)]
 pub enum ActionError {

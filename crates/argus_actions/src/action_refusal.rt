@@ -9,9 +9,11 @@ use thiserror::Error;
 /// |---|---|---|
 /// | `NoAction` | the action was not begun | all that name one |
 /// | `Over` | it has committed or aborted, or is folded | all that name one |
-/// | `ChildrenLive` | it has a live subaction or a live nested topaction | `commit`, `abort_others` |
+/// | `ChildrenLive` | it has a live subaction or a live nested topaction | `commit`, `abort_others`
+/// |
 /// | `TooDeep` | the parent has 64 ancestors, itself among them | `begin_sub` |
-/// | `TooMany` | 1,000,000 actions were begun, folded ones among them | `begin_top`, `begin_sub`, `begin_nested` |
+/// | `TooMany` | 1,000,000 actions were begun, folded ones among them | `begin_top`, `begin_sub`,
+/// `begin_nested` |
 /// | `NoSiblings` | it has neither parent nor creator | `abort_others` |
 ///
 /// ```text

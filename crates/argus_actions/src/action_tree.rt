@@ -14,7 +14,7 @@ ghost use Rattle.argus_actions.specs.Tree.{newest_sub_of, older_sub_of, newest_c
 ghost use Rattle.argus_actions.specs.Tree.{older_sibling_of, is_ancestor, has_live_child, depth_of};
 ghost use Rattle.argus_actions.specs.Tree.{IsGreatestBelow, SameActions, after_begin, after_commit};
 ghost use Rattle.argus_actions.specs.Tree.{after_abort, after_abort_others};
-ghost use Rattle.argus_actions.specs.Nodes.{IsNodeOf, AreLinked, ComesBetween, link_end};
+ghost use Rattle.argus_actions.specs.Nodes.{IsNodeOf, AreLinked, IsBegunBetween, link_end};
 ghost use Rattle.argus_actions.specs.Refusals.{begin_top_refusal, begin_sub_refusal};
 ghost use Rattle.argus_actions.specs.Refusals.{begin_nested_refusal, commit_refusal, abort_refusal};
 ghost use Rattle.argus_actions.specs.Refusals.{abort_others_refusal, IsRefusedBy};
@@ -479,7 +479,7 @@ impl ActionTree {
     fn begin(&mut self, origin: Origin) -> ActionId
         requires room { 0 < self.old.room }
         requires few { next self.old < MAX_ACTIONS }
-        requires between { ComesBetween self.old.folded (next self.old) origin }
+        requires between { IsBegunBetween self.old.folded (next self.old) origin }
         requires live { at_parent true origin (is_live_at self.old.folded self.old.rows) ≡ true }
         requires shallow { at_parent 0 origin (depth_at self.old.folded self.old.rows) <
             MAX_ACTION_DEPTH }

@@ -9,7 +9,7 @@ ghost use Rattle.argus_actions.specs.declared.status.Status.TheVariants.{Live, A
 ghost use Rattle.argus_actions.specs.Row.{at_parent, is_live};
 ghost use Rattle.argus_actions.specs.Rows.{is_above, depth_at, mark, has_ancestor};
 ghost use Rattle.argus_actions.specs.Rows.{is_live_sibling_of, under_at};
-ghost use Rattle.argus_actions.specs.Nodes.{rows_of, AreLinked, AreNodes, ComesBetween, adopted};
+ghost use Rattle.argus_actions.specs.Nodes.{rows_of, AreLinked, AreNodes, IsBegunBetween, adopted};
 ghost use Rattle.argus_actions.specs.Nodes.{fresh, older_sub_link, older_child_link};
 
 use crate::node::{NONE, Node};
@@ -38,7 +38,7 @@ pub(crate) fn climbs(nodes: &[Node], first: u32, x: u32, y: u32) -> bool
 /// The node of an action of this origin that is begun next.
 pub(crate) fn begun_node(nodes: &[Node], first: u32, origin: Origin) -> Node
     requires nodes { AreNodes first nodes.now }
-    requires between { ComesBetween first (first + length nodes.now) origin }
+    requires between { IsBegunBetween first (first + length nodes.now) origin }
     requires shallow { at_parent 0 origin (depth_at first (rows_of nodes.now)) < MAX_ACTION_DEPTH }
     ensures { let rows = rows_of nodes.now in result
         ≡ fresh origin (older_sub_link first rows origin) (older_child_link first rows origin)
@@ -67,7 +67,7 @@ pub(crate) fn begun_node(nodes: &[Node], first: u32, origin: Origin) -> Node
 /// Notes the action that is begun next with the one that it is begun under.
 pub(crate) fn adopt(nodes: &mut [Node], first: u32, origin: Origin, number: u32)
     requires nodes { AreNodes first nodes.old }
-    requires between { ComesBetween first (first + length nodes.old) origin }
+    requires between { IsBegunBetween first (first + length nodes.old) origin }
     ensures { (a k : ℕ) (d : Node) → a ≡ first + k → k < length nodes.old
         → slice_index_or nodes.new k d ≡ adopted origin number a (slice_index_or nodes.old k d) }
 {
@@ -92,7 +92,7 @@ pub(crate) fn push_begun(nodes: &mut Vec<Node, Room>, first: u32, origin: Origin
     requires nodes { AreNodes first nodes.old.items }
     requires few { first + vec_len nodes.old < MAX_ACTIONS }
     requires room { vec_len nodes.old < vec_capacity nodes.old }
-    requires between { ComesBetween first (first + vec_len nodes.old) origin }
+    requires between { IsBegunBetween first (first + vec_len nodes.old) origin }
     requires shallow { at_parent 0 origin (depth_at first (rows_of nodes.old.items)) <
         MAX_ACTION_DEPTH }
     ensures number { result ≡ first + vec_len nodes.old }

@@ -1,6 +1,6 @@
 //! The script of many arms, which workers run.
 
-use argus_memory::{Heap, OutOfMemory, Room};
+use argus_values::{Heap, OutOfMemory, Room};
 use std::fmt::Write;
 
 // How many records there are: a class of 125 for each of eight workers.
@@ -11,7 +11,8 @@ const CLASSES: u32 = 8;
 // How many records an arm reads and sets.
 const ACCESSES: u32 = 4;
 
-/// A script with so many arms, each of which reads 4 records and sets them: those of its class, which
+/// A script with so many arms, each of which reads 4 records and sets them: those of its class,
+/// which
 /// is its number modulo 8.
 pub(crate) fn script_text(heap: Heap, arms: u32) -> Result<String<Room>, OutOfMemory> {
     let mut text = String::new(heap.room());

@@ -1,9 +1,7 @@
 //! `BenchError`: why a run gave no figure.
 
-use argus_commands::ParseError;
-use argus_contents::{NameError, ShapeFault};
-use argus_memory::OutOfMemory;
-use argus_runs::RunFault;
+use argus_commands::{ParseError, RunFault};
+use argus_values::{NameError, OutOfMemory, ShapeFault};
 use std::alloc::{AllocError, AllocFailed};
 use std::io;
 use thiserror::Error;

@@ -1,29 +1,29 @@
 //! `Callee`: who answers calls.
 
 use crate::bench_error::BenchError;
-use crate::told::Told;
-use argus_entries::Call;
+use crate::reply_summary::ReplySummary;
 use argus_guardian::Guardian;
+use argus_journal::Call;
 
 /// Who answers calls: a guardian, or a seat of one that is shared.
 ///
 /// ```text
-/// let told = guardian.answer(Call::BeginTop)?;            // Told::Begun(ActionId(0))
+/// let told = guardian.answer(Call::BeginTop)?;            // ReplySummary::Begun(ActionId(0))
 /// ```
 pub(crate) trait Callee: Drop {
     /// Makes the call.
-    fn answer(&mut self, call: Call) -> Result<Told, BenchError>;
+    fn answer(&mut self, call: Call) -> Result<ReplySummary, BenchError>;
 
     /// Makes the call, once no action of another thread is in its way.
-    fn answer_waiting(&mut self, call: Call) -> Result<Told, BenchError>;
+    fn answer_waiting(&mut self, call: Call) -> Result<ReplySummary, BenchError>;
 }
 
 impl Callee for Guardian {
-    fn answer(&mut self, call: Call) -> Result<Told, BenchError> {
-        Ok(Told::by(self.call(call)?))
+    fn answer(&mut self, call: Call) -> Result<ReplySummary, BenchError> {
+        Ok(ReplySummary::by(self.call(call)?))
     }
 
-    fn answer_waiting(&mut self, call: Call) -> Result<Told, BenchError> {
+    fn answer_waiting(&mut self, call: Call) -> Result<ReplySummary, BenchError> {
         self.answer(call)
     }
 }

@@ -1,7 +1,7 @@
 //! `Circle`: which records a thread's topactions count in.
 
 use crate::draws::Draws;
-use argus_contents::ObjId;
+use argus_values::ObjId;
 
 /// So many records from the first on, in a circle, and how far behind one of them three others lie:
 /// together they are the four that a topaction counts in.

@@ -2,11 +2,10 @@
 
 use crate::bench_error::BenchError;
 use crate::callee::Callee;
-use crate::told::Told;
+use crate::reply_summary::ReplySummary;
 use argus_actions::ActionId;
-use argus_contents::{Change, Content, Name, ObjId, Query, Shape, Ty, Value};
-use argus_entries::Call;
-use argus_memory::{Heap, OutOfMemory};
+use argus_journal::Call;
+use argus_values::{Change, Content, Heap, Name, ObjId, OutOfMemory, Query, Shape, Ty, Value};
 use std::collections::VecDeque;
 
 /// A guardian, or a seat of a shared one, with the one who calls it by values of `Call`. A reply of
@@ -40,10 +39,11 @@ impl<K: Callee> Client<K> {
 
     fn begin(&mut self, call: Call) -> Result<ActionId, BenchError> {
         match self.callee.answer(call)? {
-            Told::Begun(a) => Ok(a),
-            Told::Object(_) | Told::Number(_) | Told::Done | Told::Other => {
-                Err(BenchError::OtherReply)
-            }
+            ReplySummary::Begun(a) => Ok(a),
+            ReplySummary::Object(_)
+            | ReplySummary::Number(_)
+            | ReplySummary::Done
+            | ReplySummary::Other => { Err(BenchError::OtherReply) }
         }
     }
 
@@ -93,10 +93,11 @@ impl<K: Callee> Client<K> {
 
     fn ask(&mut self, a: ActionId, o: ObjId, query: Query) -> Result<i64, BenchError> {
         match self.callee.answer(Call::Ask(a, o, query))? {
-            Told::Number(number) => Ok(number),
-            Told::Object(_) | Told::Begun(_) | Told::Done | Told::Other => {
-                Err(BenchError::OtherReply)
-            }
+            ReplySummary::Number(number) => Ok(number),
+            ReplySummary::Object(_)
+            | ReplySummary::Begun(_)
+            | ReplySummary::Done
+            | ReplySummary::Other => { Err(BenchError::OtherReply) }
         }
     }
 
@@ -122,10 +123,11 @@ impl<K: Callee> Client<K> {
 
     fn declare(&mut self, shape: Shape) -> Result<ObjId, BenchError> {
         match self.callee.answer(Call::Declare(shape))? {
-            Told::Object(o) => Ok(o),
-            Told::Begun(_) | Told::Number(_) | Told::Done | Told::Other => {
-                Err(BenchError::OtherReply)
-            }
+            ReplySummary::Object(o) => Ok(o),
+            ReplySummary::Begun(_)
+            | ReplySummary::Number(_)
+            | ReplySummary::Done
+            | ReplySummary::Other => { Err(BenchError::OtherReply) }
         }
     }
 
@@ -158,11 +160,12 @@ fn array(heap: Heap, count: u16) -> Result<Content, OutOfMemory> {
     })
 }
 
-fn expect_done(told: Told) -> Result<(), BenchError> {
+fn expect_done(told: ReplySummary) -> Result<(), BenchError> {
     match told {
-        Told::Done => Ok(()),
-        Told::Object(_) | Told::Begun(_) | Told::Number(_) | Told::Other => {
-            Err(BenchError::OtherReply)
-        }
+        ReplySummary::Done => Ok(()),
+        ReplySummary::Object(_)
+        | ReplySummary::Begun(_)
+        | ReplySummary::Number(_)
+        | ReplySummary::Other => { Err(BenchError::OtherReply) }
     }
 }

@@ -11,14 +11,15 @@ use crate::seated::Seated;
 use crate::stopwatch::Stopwatch;
 use crate::turning::{RECORDS, turn_counts};
 use crate::working::add_records;
-use argus_memory::{Heap, OutOfMemory, Room};
-use argus_sharing::{Seat, Shared, Sharing};
+use argus_guardian::{Seat, Shared, Sharing};
+use argus_values::{Heap, OutOfMemory, Room};
 use std::alloc::AllocError;
 use std::rt::Clock;
 use std::sync::Wait;
 use std::thread::{Threads, map_vec};
 
-// A thread's number, how many turns it makes, and whether it chooses from the records that all others
+// A thread's number, how many turns it makes, and whether it chooses from the records that all
+// others
 // choose from.
 #[derive(Clone, Copy)]
 struct Job {

@@ -1,7 +1,8 @@
 //! Times a guardian's calls: `argus_bench TURNS WORK..`.
 //!
 //! With no words it makes a small run of each work, and prints what the calls have read and left.
-//! `bench/guardian.sh`, `bench/shared.sh` and `bench/workers.sh` print the figures, beside those of a
+//! `bench/guardian.sh`, `bench/shared.sh` and `bench/workers.sh` print the figures, beside those of
+//! a
 //! guardian by hand where there is one.
 #![tactic(auto)]
 
@@ -19,18 +20,18 @@ mod looks;
 mod outcome;
 mod part;
 mod publishing;
+mod reply_summary;
 mod seated;
 mod shared_work;
 mod sharing;
 mod stopwatch;
 mod timing;
-mod told;
 mod turning;
 mod work;
 mod working;
 
 use anyhow::Result;
-use argus_memory::Heap;
+use argus_values::Heap;
 use bench_error::BenchError;
 use outcome::Outcome;
 use shared_work::SharedWork;

@@ -1,8 +1,8 @@
 //! What is published on a readers' board, alone.
 
 ghost use Rattle.std.specs.Prelude.{[], ◌≡◌};
-ghost use Rattle.argus_board.specs.Effects.{Leads};
-ghost use Rattle.argus_board.specs.Keeper.{Opens};
+ghost use Rattle.argus_guardian.specs.Effects.{IsTableOf};
+ghost use Rattle.argus_guardian.specs.Keeper.{StartsHistory};
 
 use crate::bench_error::BenchError;
 use crate::client::record;
@@ -12,9 +12,8 @@ use crate::outcome::Outcome;
 use crate::part::Part;
 use crate::stopwatch::Stopwatch;
 use crate::turning::pair;
-use argus_board::{Board, BoardWriter, Effect, Keeper};
-use argus_contents::ObjId;
-use argus_memory::{Heap, OutOfMemory};
+use argus_guardian::{Board, BoardWriter, Effect, Keeper};
+use argus_values::{Heap, ObjId, OutOfMemory};
 use std::marker::Brand;
 use std::rt::Clock;
 use std::sync::Wait;
@@ -35,9 +34,9 @@ fn time_publishes<N: Board, R: Wait + Clock + Copy + Drop>(
     turns: u32,
     keeper: Keeper,
 ) -> Result<Outcome, BenchError>
-    requires keeper { Opens N.history N.root keeper }
+    requires keeper { StartsHistory N.history N.root keeper }
     requires first { N.first ≡ [] }
-    requires leads { Leads N.opening N.before N.first }
+    requires leads { IsTableOf N.opening_contents N.before N.first }
 {
     let mut board = BoardWriter::<N, R>::new(rt, heap, Vec::new(heap.room()), keeper, 0)?;
     time_often(&rt, heap, &mut board, turns)

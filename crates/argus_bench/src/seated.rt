@@ -2,9 +2,9 @@
 
 use crate::bench_error::BenchError;
 use crate::callee::Callee;
-use crate::told::Told;
-use argus_entries::Call;
-use argus_sharing::{Receipt, Seat, Shared, Sharing};
+use crate::reply_summary::ReplySummary;
+use argus_guardian::{Receipt, Seat, Shared, Sharing};
+use argus_journal::Call;
 use std::sync::Wait;
 
 // More wake-ups than come.
@@ -30,17 +30,17 @@ impl<'a, N: Sharing, R: Wait + Drop> Seated<'a, N, R> {
 }
 
 impl<N: Sharing, R: Wait + Drop> Callee for Seated<'_, N, R> {
-    fn answer(&mut self, call: Call) -> Result<Told, BenchError> {
+    fn answer(&mut self, call: Call) -> Result<ReplySummary, BenchError> {
         let Seated { rt, shared, seat } = self;
-        Ok(told_by(shared.call(*rt, seat, call)?))
+        Ok(summary_of(shared.call(*rt, seat, call)?))
     }
 
-    fn answer_waiting(&mut self, call: Call) -> Result<Told, BenchError> {
+    fn answer_waiting(&mut self, call: Call) -> Result<ReplySummary, BenchError> {
         let Seated { rt, shared, seat } = self;
-        Ok(told_by(shared.call_waiting(*rt, seat, call, PATIENCE)?))
+        Ok(summary_of(shared.call_waiting(*rt, seat, call, PATIENCE)?))
     }
 }
 
-fn told_by(receipt: Receipt) -> Told {
-    Told::by(receipt.into_reply())
+fn summary_of(receipt: Receipt) -> ReplySummary {
+    ReplySummary::by(receipt.into_reply())
 }

@@ -1,10 +1,10 @@
 //! Work on a shared guardian.
 
 ghost use Rattle.std.specs.Prelude.{◌≡◌};
-ghost use Rattle.argus_board.specs.Keeper.{Opens};
+ghost use Rattle.argus_guardian.specs.Keeper.{StartsHistory};
 ghost use Rattle.argus_journal.specs.Opening.{content_in};
-ghost use Rattle.argus_sharing.specs.Following.{bases_told, effects_told};
-ghost use Rattle.argus_sharing.specs.Locked.{next_number};
+ghost use Rattle.argus_guardian.specs.Following.{journal_bases, journal_effects};
+ghost use Rattle.argus_journal.specs.JournalView.{next_entry};
 
 use crate::arm_timing::time_arms;
 use crate::bench_error::BenchError;
@@ -18,10 +18,8 @@ use crate::timing::time_turns;
 use crate::turning::RECORDS;
 use crate::work::Work;
 use crate::working::with_records;
-use argus_board::Keeper;
-use argus_guardian::Guardian;
-use argus_memory::Heap;
-use argus_sharing::{Parts, Seat, Shared, Sharing};
+use argus_guardian::{Guardian, Keeper, Parts, Seat, Shared, Sharing};
+use argus_values::Heap;
 use std::marker::Brand;
 use std::rt::Clock;
 use std::sync::Wait;
@@ -73,11 +71,11 @@ fn time_shared<N: Sharing + Send + Sync, R: Threads + Wait + Clock + Copy + Drop
 ) -> Result<Outcome, BenchError>
     requires name { blank.name ≡ N.name }
     requires parts { (blank.parts ≡ N.parts) × (blank.parts ≡ seats) }
-    requires keeper { Opens N.history N.root keeper }
-    requires start { N.start ≡ next_number guardian }
-    requires before { N.before ≡ effects_told guardian }
-    requires opening { N.opening ≡ content_in guardian.opening.objects }
-    requires first { N.first ≡ bases_told guardian }
+    requires keeper { StartsHistory N.history N.root keeper }
+    requires start { N.start ≡ next_entry guardian }
+    requires before { N.before ≡ journal_effects guardian }
+    requires opening { N.opening_contents ≡ content_in guardian.opening.objects }
+    requires first { N.first ≡ journal_bases guardian }
 {
     let (seats, lookers) = (u32::from(seats), u32::from(lookers));
     match Shared::<N, R>::new(rt, heap, guardian, seats, lookers, blank, keeper) {

@@ -15,9 +15,8 @@ use crate::working::{
     weigh_records, with_records,
 };
 use argus_actions::ActionId;
-use argus_contents::ObjId;
 use argus_guardian::Guardian;
-use argus_memory::Heap;
+use argus_values::{Heap, ObjId};
 use std::rt::Clock;
 use std::time::Duration;
 

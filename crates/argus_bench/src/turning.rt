@@ -5,7 +5,7 @@ use crate::callee::Callee;
 use crate::client::Client;
 use crate::draws::Draws;
 use argus_actions::ActionId;
-use argus_contents::ObjId;
+use argus_values::ObjId;
 
 /// How many records flat and nested topactions choose from.
 pub(crate) const RECORDS: u16 = 1000;

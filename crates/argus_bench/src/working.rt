@@ -9,10 +9,9 @@ use crate::turning::{
 };
 use crate::work::Work;
 use argus_actions::ActionId;
-use argus_contents::{Content, ObjId, Value};
 use argus_guardian::Guardian;
 use argus_journal::replay_base;
-use argus_memory::Heap;
+use argus_values::{Content, Heap, ObjId, Value};
 
 /// How many integers the array has into which is stored.
 pub(crate) const ITEMS: u16 = 65_000;

@@ -11,14 +11,14 @@ use Rattle.argus_memory.proofs.Crossing as memory
 use Rattle.argus_contents.proofs.Crossing as contents
 use Rattle.argus_contents.specs.contracts.content.Content.{the_row as content_row}
 use Rattle.argus_contents.specs.contracts.obj_id.ObjId.{the_row as object_row}
-use Rattle.argus_board.proofs.front.Front.TheSendSync.{the_field_send as front_field_sends}
-use Rattle.argus_board.proofs.front.Front.TheSendSync.{the_field_sync as front_field_syncs}
+use Rattle.argus_board.proofs.history_prefix.HistoryPrefix.TheSendSync.{the_field_send as front_field_sends}
+use Rattle.argus_board.proofs.history_prefix.HistoryPrefix.TheSendSync.{the_field_sync as front_field_syncs}
 use Rattle.argus_board.proofs.keeper.Keeper.TheSendSync.{the_field_send as keeper_field_sends}
 use Rattle.left_right.proofs.reader.Reader.TheSendSync.{the_field_send as place_send}
 use Rattle.left_right.proofs.writer.Writer.TheSendSync.{the_field_send as publisher_send}
-use Rattle.argus_board.specs.contracts.front.Front.{the_row as front_row}
+use Rattle.argus_board.specs.contracts.history_prefix.HistoryPrefix.{the_row as front_row}
 use Rattle.argus_board.specs.contracts.table.Contents.{the_row as contents_row}
-use Rattle.argus_board.specs.contracts.table.TableAbsorbChange.TheImpl.{ghosts as absorbs}
+use Rattle.argus_board.specs.contracts.table.TableAbsorbBoardChange.TheImpl.{ghosts as absorbs}
 use Rattle.argus_board.specs.contracts.published.PublishedProtocolTableView.TheImpl.{ghosts as keeps, no_dict}
 use Rattle.argus_board.specs.declared.board.Board.{Ghosts}
 use Rattle.argus_board.specs.contracts.board_writer.BoardWriter.{the_row as writer_row}
@@ -28,7 +28,7 @@ use Rattle.left_right.specs.contracts.writer.Writer.{the_field as publisher_fiel
 use Rattle.argus_board.specs.contracts.board_writer.BoardWriter.TheInside.{the_type as inside}
 use Rattle.argus_board.specs.contracts.looker.Looker.{the_row as looker_row}
 use Rattle.argus_board.specs.contracts.looker.Looker.TheInside.{the_type as looker_inside}
-use Rattle.argus_board.specs.contracts.change.Change.{the_field as change_field, the_row as change_row}
+use Rattle.argus_board.specs.contracts.board_change.BoardChange.{the_field as change_field, the_row as change_row}
 use Rattle.argus_board.specs.contracts.table.Table.{the_row as table_row}
 
 option_sends : IsSend (option_row content_row)

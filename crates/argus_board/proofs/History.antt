@@ -1,17 +1,18 @@
 -- The steps of the history keep its rule.
-use Rattle.std.proofs.Common.{◌≡◌, ◌≢◌, ℕ, zero, suc, ◌<◌, ◌==◌, Bool, true, false, List, [], ◌∷◌, ◌++◌, length, fold}
-use Rattle.std.proofs.Common.{refl, ap, sym, ◌∙◌, subst, arith, inl, length-append, append_assoc, None}
+use Rattle.std.proofs.Common.{Bool, List, None, [], ap, append_assoc, arith, false, fold, inl}
+use Rattle.std.proofs.Common.{length, length-append, refl, subst, suc, sym, true, zero, ℕ, ◌++◌}
+use Rattle.std.proofs.Common.{◌<◌, ◌==◌, ◌∙◌, ◌∷◌, ◌≡◌, ◌≢◌}
 use Rattle.std.proofs.lemmas.List.{append-nil, get_or-set_same}
 use Rattle.std.proofs.lemmas.Bool.Decides.{nat_tests}
 use mathlib.Core.List.{IsPrefix}
 use Rattle.argus_board.proofs.Prefixes.{begins_itself, begins_later}
 use lib.ListN.{length-set, set}
 use prog.Atomic.{either}
-use Rattle.logbook.specs.Pages.{Cell, cell, Nib, keeps, gives, adds, no_nib, may_write, step, Moves}
-use Rattle.argus_board.specs.Effects.{Effect}
+use Rattle.logbook.specs.Pages.{Cell, Moves, Nib, adds, cell, gives, keeps, may_write, no_nib, step}
+use Rattle.argus_contents.specs.Effect.{Effect}
 use Rattle.argus_board.specs.declared.page.Page.{Page}
-use Rattle.argus_board.specs.History.{AreUsed, IsKept, IsUnused, turned, turned_if, line_of, line, tip, Grows, Adds}
-use Rattle.argus_board.specs.History.{Holds}
+use Rattle.argus_board.specs.History.{Adds, AreUsed, Grows, IsKept, IsUnused, SeesUnused}
+use Rattle.argus_board.specs.History.{after_page, after_page_if, line, line_state, next_right}
 
 home_set : (cs : List Cell) (i n k : ℕ) → (cell cs k).1 ≡ true → (cell (set cs i (n, true)) k).1 ≡ true
 home_set [] i n k h = h
@@ -111,7 +112,7 @@ add_moves v p ask right cs log kept pre away =
 
 -- whoever holds a right sees that no page used it up
 pub hold_moves : (v : List Page) (p : Nib) (ask : Page) → p.right ≡ may_write
-    → Moves IsKept shown moved 0 (v, (p, None)) (λ n. either (n == 0) 0 n) (Holds (step 0 0 0 ask) (v, (p, None)))
+    → Moves IsKept shown moved 0 (v, (p, None)) (λ n. either (n == 0) 0 n) (SeesUnused (step 0 0 0 ask) (v, (p, None)))
 hold_moves v p ask right cs log kept pre away =
     let f = either ((cell cs 0).0 == 0) 0 (cell cs 0).0 in
     let ds = set cs 0 (f, true) in
@@ -134,52 +135,53 @@ hold_moves v p ask right cs log kept pre away =
       ),
     )
 
-fold_on : (s : ℕ × List Effect) (xs ys : List Page) → fold turned s (xs ++ ys) ≡ fold turned (fold turned s xs) ys
+fold_on : (s : ℕ × List Effect) (xs ys : List Page) → fold after_page s (xs ++ ys) ≡ fold after_page
+    (fold after_page s xs) ys
 fold_on s [] ys = refl
-fold_on s (x ∷ xs) ys = fold_on (turned s x) xs ys
+fold_on s (x ∷ xs) ys = fold_on (after_page s x) xs ys
 
 -- a line only grows
-longer_if : (b : Bool) (s : ℕ × List Effect) (p : Page) → IsPrefix s.1 (turned_if b s p).1
+longer_if : (b : Bool) (s : ℕ × List Effect) (p : Page) → IsPrefix s.1 (after_page_if b s p).1
 longer_if true s p = (p.effect ∷ [], refl)
 longer_if false s p = begins_itself s.1
 
-longer : (s : ℕ × List Effect) (log : List Page) → IsPrefix s.1 (fold turned s log).1
+longer : (s : ℕ × List Effect) (log : List Page) → IsPrefix s.1 (fold after_page s log).1
 longer s [] = begins_itself s.1
 longer s (p ∷ ps) =
-    begins_later s.1 (turned s p).1 (fold turned (turned s p) ps).1 (longer_if (s.0 == p.uses) s p) (longer
-    (turned s p) ps)
+    begins_later s.1 (after_page s p).1 (fold after_page (after_page s p) ps).1 (longer_if (s.0 == p.uses) s p) (longer
+    (after_page s p) ps)
 
 pub line_begins : (r : ℕ) (xs ys : List Page) → IsPrefix xs ys → IsPrefix (line r xs) (line r ys)
 line_begins r xs ys p =
-    let more = longer (line_of r xs) p.0 in
+    let more = longer (line_state r xs) p.0 in
     (more.0, more.1 ∙ sym (ap (λ (s : ℕ × List Effect). s.1) (fold_on (r, []) xs p.0)) ∙ ap (line r) p.1)
 
 -- and stands while its next right isn't used up
-same_if : (b : Bool) (s : ℕ × List Effect) (p : Page) → b ≡ false → turned_if b s p ≡ s
+same_if : (b : Bool) (s : ℕ × List Effect) (p : Page) → b ≡ false → after_page_if b s p ≡ s
 same_if true s p e = absurd (cc e)
 same_if false s p e = refl
 
 unequal : (a b : ℕ) → b ≢ a → (a == b) ≡ false
 unequal a b ne = grind (arith, nat_tests)
 
-stands : (s : ℕ × List Effect) (log : List Page) → IsUnused s.0 log → fold turned s log ≡ s
+stands : (s : ℕ × List Effect) (log : List Page) → IsUnused s.0 log → fold after_page s log ≡ s
 stands s [] u = refl
 stands s (p ∷ ps) u =
-    let one : turned s p ≡ s = same_if (s.0 == p.uses) s p (unequal s.0 p.uses u.0) in
-    ap (λ z. fold turned z ps) one ∙ stands s ps u.1
+    let one : after_page s p ≡ s = same_if (s.0 == p.uses) s p (unequal s.0 p.uses u.0) in
+    ap (λ z. fold after_page z ps) one ∙ stands s ps u.1
 
 unused_rest : (k : ℕ) (xs ys : List Page) → IsUnused k (xs ++ ys) → IsUnused k ys
 unused_rest k [] ys u = u
 unused_rest k (x ∷ xs) ys u = unused_rest k xs ys u.1
 
-pub line_stands : (r k : ℕ) (xs ys : List Page) → k ≡ tip r xs → IsPrefix xs ys → IsUnused k ys
-    → line_of r ys ≡ line_of r xs
+pub line_stands : (r k : ℕ) (xs ys : List Page) → k ≡ next_right r xs → IsPrefix xs ys → IsUnused k ys
+    → line_state r ys ≡ line_state r xs
 line_stands r k xs ys is p u =
-    let s = line_of r xs in
+    let s = line_state r xs in
     let rest : IsUnused k p.0 = unused_rest k xs p.0 (subst (IsUnused k) (sym p.1) u) in
-    ap (line_of r) (sym p.1) ∙ fold_on (r, []) xs p.0 ∙ stands s p.0 (subst (λ z. IsUnused z p.0) is rest)
+    ap (line_state r) (sym p.1) ∙ fold_on (r, []) xs p.0 ∙ stands s p.0 (subst (λ z. IsUnused z p.0) is rest)
 
-here_if : (b : Bool) (s : ℕ × List Effect) (p : Page) → b ≡ true → turned_if b s p ≡ (p.gives, s.1 ++ p.effect ∷ [])
+here_if : (b : Bool) (s : ℕ × List Effect) (p : Page) → b ≡ true → after_page_if b s p ≡ (p.gives, s.1 ++ p.effect ∷ [])
 here_if true s p e = refl
 here_if false s p e = absurd (cc e)
 
@@ -187,10 +189,11 @@ equal : (a b : ℕ) → b ≡ a → (a == b) ≡ true
 equal a b e = grind (arith, nat_tests)
 
 -- the page that used up the next right
-pub line_adds : (r : ℕ) (xs log w : List Page) (p : Page) → p.uses ≡ tip r xs → w ≡ log ++ p ∷ [] → IsPrefix xs log
-    → IsUnused p.uses log → line_of r w ≡ (p.gives, line r xs ++ p.effect ∷ [])
+pub line_adds : (r : ℕ) (xs log w : List Page) (p : Page) → p.uses ≡ next_right r xs → w ≡ log ++ p ∷ []
+    → IsPrefix xs log
+    → IsUnused p.uses log → line_state r w ≡ (p.gives, line r xs ++ p.effect ∷ [])
 line_adds r xs log w p is whole pre u =
-    let s = line_of r xs in
-    let was : line_of r log ≡ s = line_stands r p.uses xs log is pre u in
-    ap (line_of r) whole ∙ fold_on (r, []) log (p ∷ []) ∙ ap (λ z. turned z p) was
+    let s = line_state r xs in
+    let was : line_state r log ≡ s = line_stands r p.uses xs log is pre u in
+    ap (line_state r) whole ∙ fold_on (r, []) log (p ∷ []) ∙ ap (λ z. after_page z p) was
     ∙ here_if (s.0 == p.uses) s p (equal s.0 p.uses is)

@@ -1,6 +1,6 @@
 -- Each step keeps the rule of the board.
-use Rattle.std.proofs.Common.{List, Option, [], ap, refl, subst, suc, sym, zero, ℕ, ⊎_elim, ◌++◌, ◌∙◌, ◌∷◌, ◌≡◌, ◌≢◌}
-use Rattle.std.proofs.Common.{set}
+use Rattle.std.proofs.Common.{List, Option, [], ap, refl, set, subst, suc, sym, zero, ℕ, ⊎_elim}
+use Rattle.std.proofs.Common.{◌++◌, ◌∙◌, ◌∷◌, ◌≡◌, ◌≢◌}
 use mathlib.Core.List.{IsPrefix}
 use mathlib.Core.Option.{some, some-injective, some-ne-none}
 use lib.ListN.{get_elem?}
@@ -8,9 +8,11 @@ use Rattle.atomic_table.proofs.Lists.{at_set, at_snoc}
 use Rattle.crossbeam_utils.specs.Register.{Admits, Forks, Merges, TurnsAt}
 use Rattle.logbook.specs.Pages.{Book}
 use Rattle.argus_contents.specs.Content.{PlainContent}
-use Rattle.argus_board.specs.Effects.{Effect, left_by, plain_contents}
+use Rattle.argus_board.specs.Effects.{contents_after, plain_contents}
+use Rattle.argus_contents.specs.Effect.{Effect}
 use Rattle.argus_board.specs.History.{line}
-use Rattle.argus_board.specs.Published.{AllBegin, Fits, Keeps, Sees, told}
+use Rattle.argus_board.specs.Published.{AllBegin, HasContentsOf, IsConsistentTable, SeesPublished}
+use Rattle.argus_board.specs.Published.{joined_view}
 use Rattle.argus_board.specs.declared.table.Table.{Table}
 use Rattle.argus_board.proofs.Prefixes.{begins_itself, begins_later, nothing_begins}
 
@@ -26,24 +28,24 @@ all_more l views w all mine j u e =
     ⊎_elim (λ (was : get_elem? views j ≡ some u). all j u was)
     (λ (same : w ≡ u). subst (λ z. IsPrefix z l) same mine) (at_snoc views w u j e)
 
-told_begins : (v w l : List Effect) → IsPrefix v l → IsPrefix w l → IsPrefix (told v w) l
+told_begins : (v w l : List Effect) → IsPrefix v l → IsPrefix w l → IsPrefix (joined_view v w) l
 told_begins [] w l p q = q
 told_begins (e ∷ v) w l p q = p
 
 module _ (first : List (Option PlainContent)) (own : Book) (root : ℕ) where
   abbrev Holds : Table → List (List Effect) → Type 0
-  Holds = Keeps first own root
+  Holds = IsConsistentTable first own root
 
   abbrev upto : Table → List Effect
   upto t = line root t.front.seen.log
 
   abbrev FitsTable : Table → Type 0
-  FitsTable t = Fits first own (plain_contents t.contents.items) t.front.seen.book (upto t)
+  FitsTable t = HasContentsOf first own (plain_contents t.contents.items) t.front.seen.book (upto t)
 
   -- the first contents, which the writer alone has seen
   pub starts : (x : Table) → plain_contents x.contents.items ≡ first → x.front.seen.book ≡ own → upto x ≡ []
       → Holds x ([] ∷ [])
-  starts x is book none = ((is ∙ sym (ap (left_by first) none), book), one)
+  starts x is book none = ((is ∙ sym (ap (contents_after first) none), book), one)
     where
       one : AllBegin (upto x) ([] ∷ [])
       one zero v e = subst (λ z. IsPrefix z (upto x)) (some-injective _ _ e) (nothing_begins (upto x))
@@ -54,23 +56,23 @@ module _ (first : List (Option PlainContent)) (own : Book) (root : ℕ) where
 
   -- the table grows, and this place sees all of it
   pub rises : (by : ℕ) (v : List Effect) (x y : Table) → IsPrefix (upto x) (upto y) → FitsTable y
-      → TurnsAt Holds by v x y (Sees first own root)
+      → TurnsAt Holds by v x y (SeesPublished first own root)
   rises by v x y up fits views h at =
       let l = upto y in
       let later : AllBegin l views = λ j u e. begins_later u (upto x) l (h.1 j u e) up in
       (l, (fits, all_set l views by l later (begins_itself l)), (later by v at, refl, fits))
 
-  pub looks : (by : ℕ) (v : List Effect) (x : Table) → TurnsAt Holds by v x x (Sees first own root)
+  pub looks : (by : ℕ) (v : List Effect) (x : Table) → TurnsAt Holds by v x x (SeesPublished first own root)
   looks by v x views h at = rises by v x x (begins_itself (upto x)) h.0 views h at
 
   pub forks : (by : ℕ) (v : List Effect) → Forks Holds by v v v
   forks by v x views h at =
       (h.0, all_more (upto x) (set views by v) v (all_set (upto x) views by v h.1 (h.1 by v at)) (h.1 by v at))
 
-  pub merges : (by : ℕ) (v : List Effect) (other : ℕ) (w : List Effect) → Merges Holds by v other w (told v w) []
+  pub merges : (by : ℕ) (v : List Effect) (other : ℕ) (w : List Effect) → Merges Holds by v other w (joined_view v w) []
   merges by v other w x views h at apart there =
       let l = upto x in
-      let u = told v w in
+      let u = joined_view v w in
       let theirs : IsPrefix w l =
       ⊎_elim (λ (t : (other ≡ by) × (u ≡ w)). absurd (apart t.0))
       (λ (t : (other ≢ by) × (get_elem? views other ≡ some w)). h.1 other w t.1) (at_set views by other u w there) in (

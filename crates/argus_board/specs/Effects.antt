@@ -4,25 +4,17 @@ use Rattle.std.specs.Prelude.{List, None, Option, [], get_or, length, map, max, 
 use Rattle.std.specs.Prelude.{fold, ◌++◌, ◌+◌, ◌-◌, ◌≡◌, ◌∷◌}
 use Rattle.argus_contents.specs.Content.{PlainContent, plain_option}
 use Rattle.argus_contents.specs.ContentCode.{content_coded}
+use Rattle.argus_contents.specs.Effect.{Effect}
 use Rattle.argus_contents.specs.declared.content.Content.{Content}
-use Rattle.argus_contents.specs.declared.obj_id.ObjId.{ObjId}
 use Rattle.argus_model.specs.Effects.{table}
-
--- an effect: objects, each with what is left in it
-abbrev pub Effect : Type 0
-Effect = List (ℕ × Option PlainContent)
-
--- what objects with their contents say
-abbrev pub plain_effect : List (ObjId × Option Content) → Effect
-plain_effect pairs = map (λ pair. (pair.0.0, plain_option pair.1)) pairs
 
 -- what a list of contents says
 abbrev pub plain_contents : List (Option Content) → List (Option PlainContent)
 plain_contents contents = map plain_option contents
 
 -- the content of an object, none where the list has none
-abbrev pub content_at : List (Option PlainContent) → ℕ → Option PlainContent
-content_at contents o = get_or contents o None
+abbrev pub content_of_object : List (Option PlainContent) → ℕ → Option PlainContent
+content_of_object contents o = get_or contents o None
 
 -- how many objects a list has to have for all that the effect names
 abbrev pub needed : Effect → ℕ
@@ -43,12 +35,13 @@ abbrev pub overwritten : List (Option PlainContent) → Effect → List (Option 
 overwritten contents effect = written (padded contents (needed effect)) effect
 
 -- the contents after these effects
-abbrev pub left_by : List (Option PlainContent) → List Effect → List (Option PlainContent)
-left_by first effects = fold overwritten first effects
+abbrev pub contents_after : List (Option PlainContent) → List Effect → List (Option PlainContent)
+contents_after first effects = fold overwritten first effects
 
 -- the list has the contents that these effects leave
-abbrev pub Leads : (ℕ → Option PlainContent) → List Effect → List (Option PlainContent) → Type 0
-Leads opening effects contents = (o : ℕ) → content_at contents o ≡ table opening effects o
+abbrev pub IsTableOf : (ℕ → Option PlainContent) → List Effect → List (Option PlainContent) → Type 0
+IsTableOf opening effects contents = (o : ℕ) → content_of_object contents o
+    ≡ table opening effects o
 
 -- an effect is stored as a list of pairs
 abbrev pub effect_coded : Coded Effect

@@ -1,10 +1,10 @@
 -- The history of effects: a list of pages, each of which uses up one right and names the next. So
 -- who holds the newest right of a line adds to that line, and nobody else does.
-use Rattle.std.specs.Prelude.{Bool, List, [], false, fold, length, true, ℕ, ◌++◌, ◌<◌, ◌==◌}
-use Rattle.std.specs.Prelude.{◌∷◌, ◌≡◌, ◌≢◌}
+use Rattle.std.specs.Prelude.{Bool, List, [], false, fold, length, true, ℕ, ◌++◌, ◌<◌, ◌==◌, ◌∷◌}
+use Rattle.std.specs.Prelude.{◌≡◌, ◌≢◌}
 use mathlib.Core.List.{IsPrefix}
 use Rattle.logbook.specs.Pages.{Book, Cell, Named, Step, View, cell, may_make}
-use Rattle.argus_board.specs.Effects.{Effect}
+use Rattle.argus_contents.specs.Effect.{Effect}
 use Rattle.argus_board.specs.declared.page.Page.{Page}
 
 -- the rights that these pages used up are used up
@@ -27,25 +27,25 @@ IsUnused right [] = Unit {0}
 IsUnused right (page ∷ pages) = (page.uses ≢ right) × IsUnused right pages
 
 -- after a page that used up the line's right, its next right, and its effects with the page's
-abbrev pub turned_if : Bool → ℕ × List Effect → Page → ℕ × List Effect
-turned_if true line page = (page.gives, line.1 ++ page.effect ∷ [])
-turned_if false line page = line
+abbrev pub after_page_if : Bool → ℕ × List Effect → Page → ℕ × List Effect
+after_page_if true line page = (page.gives, line.1 ++ page.effect ∷ [])
+after_page_if false line page = line
 
 -- a page belongs to the line whose right it used up
-abbrev pub turned : ℕ × List Effect → Page → ℕ × List Effect
-turned line page = turned_if (line.0 == page.uses) line page
+abbrev pub after_page : ℕ × List Effect → Page → ℕ × List Effect
+after_page line page = after_page_if (line.0 == page.uses) line page
 
 -- the line that begins with this right: its next right, and its effects
-abbrev pub line_of : ℕ → List Page → ℕ × List Effect
-line_of root pages = fold turned (root, []) pages
+abbrev pub line_state : ℕ → List Page → ℕ × List Effect
+line_state root pages = fold after_page (root, []) pages
 
 -- the right that comes next in the line
-abbrev pub tip : ℕ → List Page → ℕ
-tip root pages = (line_of root pages).0
+abbrev pub next_right : ℕ → List Page → ℕ
+next_right root pages = (line_state root pages).0
 
 -- the effects of the line
 abbrev pub line : ℕ → List Page → List Effect
-line root pages = (line_of root pages).1
+line root pages = (line_state root pages).1
 
 -- a step that makes a right
 abbrev pub Grows : Step Page → View Page ℕ → ℕ → View Page ℕ → Type 0
@@ -59,5 +59,5 @@ Adds step before found after = (pages : List Page)
     × IsPrefix before.0 pages × IsUnused before.1.0.key pages
 
 -- a step that sees that no page used up the right
-abbrev pub Holds : Step Page → View Page ℕ → ℕ → View Page ℕ → Type 0
-Holds step before found after = (after.1.0 ≡ before.1.0) × IsUnused before.1.0.key after.0
+abbrev pub SeesUnused : Step Page → View Page ℕ → ℕ → View Page ℕ → Type 0
+SeesUnused step before found after = (after.1.0 ≡ before.1.0) × IsUnused before.1.0.key after.0

@@ -8,14 +8,14 @@ abbrev pub history_of : Keeper → Book
 history_of keeper = keeper.front.seen.book
 
 -- the right that comes next in its line
-abbrev pub root_of : Keeper → ℕ
-root_of keeper = keeper.pen.nib.key
+abbrev pub next_right_of : Keeper → ℕ
+next_right_of keeper = keeper.pen.nib.key
 
 -- its history has no effect yet
 abbrev pub IsNew : Keeper → Type 0
 IsNew keeper = keeper.front.seen.log ≡ []
 
 -- it is new, and its history stands in this book and begins with this right
-abbrev pub Opens : Book → ℕ → Keeper → Type 0
-Opens history root keeper =
-    IsNew keeper × (history_of keeper ≡ history) × (root_of keeper ≡ root)
+abbrev pub StartsHistory : Book → ℕ → Keeper → Type 0
+StartsHistory history root keeper =
+    IsNew keeper × (history_of keeper ≡ history) × (next_right_of keeper ≡ root)

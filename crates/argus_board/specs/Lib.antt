@@ -1,5 +1,5 @@
 pub mod Effects
 pub mod History
 pub mod Published
-pub mod Board
+pub mod BoardView
 pub mod Keeper

@@ -11,9 +11,9 @@ use std::marker::Brand;
 ///     heap: Heap,
 ///     keeper: Keeper,
 /// ) -> Result<(), OutOfMemory>
-///     requires keeper { Opens N.history N.root keeper }
+///     requires keeper { StartsHistory N.history N.root keeper }
 ///     requires first { N.first ≡ [] }
-///     requires leads { Leads N.opening N.before N.first }
+///     requires leads { IsTableOf N.opening_contents N.before N.first }
 /// {
 ///     let board = BoardWriter::<N, R>::new(rt, heap, Vec::new(heap.room()), keeper, 1)?;
 ///     ..
@@ -25,7 +25,7 @@ pub trait Board {
     ghost use Rattle.std.specs.Prelude.{List, Option, ℕ};
     ghost use Rattle.logbook.specs.Pages.{Book};
     ghost use Rattle.argus_contents.specs.Content.{PlainContent};
-    ghost use Rattle.argus_board.specs.Effects.{Effect};
+    ghost use Rattle.argus_contents.specs.Effect.{Effect};
 
     /// The book in which its history stands.
     ghost history: { Book };
@@ -34,7 +34,7 @@ pub trait Board {
     ghost root: { ℕ };
 
     /// What the objects held before all effects.
-    ghost opening: { ℕ → Option PlainContent };
+    ghost opening_contents: { ℕ → Option PlainContent };
 
     /// The effects before the board was opened.
     ghost before: { List Effect };
@@ -50,7 +50,7 @@ impl Board for Brand {
 
     ghost root = { 0 };
 
-    ghost opening = { λ o. None };
+    ghost opening_contents = { λ o. None };
 
     ghost before = { [] };
 

@@ -1,19 +1,20 @@
 //! `BoardWriter`: who publishes on a board.
 
-ghost use Rattle.std.specs.Prelude.{◌++◌, ◌≡◌, ◌≢◌, ◌<◌, ◌∷◌, [], IfOk, OnErr, OnOk};
+ghost use Rattle.std.specs.Prelude.{IfOk, OnErr, OnOk, [], ◌++◌, ◌<◌, ◌∷◌, ◌≡◌, ◌≢◌};
 ghost use mathlib.Core.List.{IsPrefix};
-ghost use Rattle.argus_board.specs.Effects.{Leads, plain_contents, plain_effect};
-ghost use Rattle.argus_board.specs.Keeper.{Opens};
+ghost use Rattle.argus_board.specs.Effects.{IsTableOf, plain_contents};
+ghost use Rattle.argus_contents.specs.Effect.{plain_effect};
+ghost use Rattle.argus_board.specs.Keeper.{StartsHistory};
 
 use crate::board::Board;
-use crate::change::Change;
+use crate::board_change::BoardChange;
 use crate::effect::Effect;
-use crate::front::Front;
+use crate::history_prefix::HistoryPrefix;
 use crate::keeper::Keeper;
 use crate::looker::Looker;
 use crate::looking::duplicate_contents;
 use crate::published::Publisher;
-use crate::publishing::{hand, opened, place_of, publish};
+use crate::publishing::{append_change, briefed_reader, opened, publish};
 use argus_contents::Content;
 use argus_memory::{Heap, OutOfMemory, Room};
 use std::marker::Model;
@@ -37,7 +38,7 @@ pub struct BoardWriter<N: Board, R: Wait + Drop> {
     /// All effects since the board was opened.
     pub(crate) keeper: Keeper,
     /// The history as it was then.
-    pub(crate) start: Front,
+    pub(crate) start: HistoryPrefix,
     pub(crate) rt: R,
 }
 
@@ -54,35 +55,35 @@ impl<N: Board, R: Wait + Drop> Drop for BoardWriter<N, R> {
 }
 
 impl<N: Board, R: Wait + Drop> Model for BoardWriter<N, R> {
-    ghost use Rattle.std.specs.Prelude.{◌++◌, ◌≡◌, [], drop};
+    ghost use Rattle.std.specs.Prelude.{[], drop, ◌++◌, ◌≡◌};
     ghost use Rattle.left_right.specs.Sides.{view as seen_at};
-    ghost use Rattle.argus_board.specs.Board.{Shown, shown_coded};
-    ghost use Rattle.argus_board.specs.Effects.{Leads, left_by, plain_contents};
-    ghost use Rattle.argus_board.specs.History.{line, tip};
-    ghost use Rattle.argus_board.specs.Published.{effects_in};
+    ghost use Rattle.argus_board.specs.BoardView.{BoardView, board_view_coded};
+    ghost use Rattle.argus_board.specs.Effects.{IsTableOf, contents_after, plain_contents};
+    ghost use Rattle.argus_board.specs.History.{line, next_right};
+    ghost use Rattle.argus_board.specs.Published.{effects_in, pending_changes};
 
-    ghost Value = { Shown };
+    ghost Value = { BoardView };
 
-    ghost coded = { shown_coded };
+    ghost coded = { board_view_coded };
 
     ghost view = { λ b. record {
       published = N.before ++ line N.root b.writer.desk.shown.value.front.seen.log;
-      pending = effects_in (drop b.writer.behind b.writer.log.items);
+      pending = effects_in (pending_changes b.writer.behind b.writer.log.items);
     } };
 
-    ghost invariant = { λ b. Leads N.opening N.before N.first
+    ghost invariant = { λ b. IsTableOf N.opening_contents N.before N.first
         × (b.keeper.front.seen.book ≡ N.history)
         × (b.start.seen.book ≡ N.history)
         × (line N.root b.start.seen.log ≡ [])
-        × (b.keeper.pen.nib.key ≡ tip N.root b.keeper.front.seen.log)
+        × (b.keeper.pen.nib.key ≡ next_right N.root b.keeper.front.seen.log)
         × (seen_at b.writer.desk.place ≡ line N.root b.writer.desk.shown.value.front.seen.log)
         × (plain_contents b.writer.desk.shown.value.contents.items
-        ≡ left_by N.first (line N.root b.writer.desk.shown.value.front.seen.log))
+        ≡ contents_after N.first (line N.root b.writer.desk.shown.value.front.seen.log))
         × (line N.root b.writer.desk.shown.value.front.seen.log
-        ++ effects_in (drop b.writer.behind b.writer.log.items)
+        ++ effects_in (pending_changes b.writer.behind b.writer.log.items)
         ≡ line N.root b.keeper.front.seen.log)
-        × (effects_in (drop b.writer.behind b.writer.log.items) ≡ []
-        → drop b.writer.behind b.writer.log.items ≡ []) };
+        × (effects_in (pending_changes b.writer.behind b.writer.log.items) ≡ []
+        → pending_changes b.writer.behind b.writer.log.items ≡ []) };
 }
 
 impl<N: Board, R: Wait + Drop> BoardWriter<N, R> {
@@ -96,9 +97,9 @@ impl<N: Board, R: Wait + Drop> BoardWriter<N, R> {
         lookers: u32,
     ) -> Result<BoardWriter<N, R>, OutOfMemory>
         requires lookers { lookers < 4294967295 }
-        requires first { Leads N.opening N.before N.first }
+        requires first { IsTableOf N.opening_contents N.before N.first }
         requires contents { plain_contents contents.items ≡ N.first }
-        requires keeper { Opens N.history N.root keeper }
+        requires keeper { StartsHistory N.history N.root keeper }
         ensures published { IfOk result (λ board. board.published ≡ N.before) }
         ensures pending { IfOk result (λ board. board.pending ≡ []) }
     {
@@ -131,7 +132,7 @@ impl<N: Board, R: Wait + Drop> BoardWriter<N, R> {
     {
         let BoardWriter { writer, keeper, .. } = self;
         let page = Snapshot::of(&effect);
-        hand::<N>(writer, Change::Leaves(effect))?;
+        append_change::<N>(writer, BoardChange::Leaves(effect))?;
         keeper.add(page);
         Ok(())
     }
@@ -171,7 +172,7 @@ impl<N: Board, R: Wait + Drop> BoardWriter<N, R> {
         let Looker { reader, front } = looker;
         keeper.covers(&*front);
         publish::<N, R>(&*rt, writer, &keeper.front)?;
-        *reader = place_of::<N, R>(&*rt, writer);
+        *reader = briefed_reader::<N, R>(&*rt, writer);
         *front = keeper.front.again();
         Ok(())
     }

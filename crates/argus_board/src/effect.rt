@@ -1,7 +1,7 @@
 //! `Effect`: what a committed topaction leaves.
 
-ghost use Rattle.std.specs.Prelude.{◌≡◌, IfOk};
-ghost use Rattle.argus_board.specs.Effects.{plain_effect};
+ghost use Rattle.std.specs.Prelude.{IfOk, ◌≡◌};
+ghost use Rattle.argus_contents.specs.Effect.{plain_effect};
 
 use argus_contents::{Content, ObjId};
 use argus_memory::{Heap, OutOfMemory, Room};

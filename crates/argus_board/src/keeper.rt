@@ -1,15 +1,15 @@
 //! `Keeper`: who alone adds to the history of a board.
 
-ghost use Rattle.std.specs.Prelude.{◌++◌, ◌∷◌, ◌≡◌, [], ℕ};
+ghost use Rattle.std.specs.Prelude.{[], ℕ, ◌++◌, ◌∷◌, ◌≡◌};
 ghost use mathlib.Core.List.{IsPrefix};
 ghost use Rattle.logbook.specs.Pages.{may_write};
-ghost use Rattle.argus_board.specs.Effects.{plain_effect};
-ghost use Rattle.argus_board.specs.History.{head_of, line, tip};
+ghost use Rattle.argus_contents.specs.Effect.{plain_effect};
+ghost use Rattle.argus_board.specs.History.{head_of, line, next_right};
 
 use crate::effect::Effect;
-use crate::front::Front;
+use crate::history_prefix::HistoryPrefix;
 use crate::page::Page;
-use crate::pages::{Add, Grow, Hold, Law, Leaf, Nothing};
+use crate::pages::{Add, Grow, Law, Leaf, Nothing, SeeUnused};
 use logbook::{Offer, Pen, Seen, Start, Word};
 use std::snapshot::Snapshot;
 
@@ -25,7 +25,7 @@ use std::snapshot::Snapshot;
 pub struct Keeper {
     head: Word<Page, u64, Law>,
     pub(crate) pen: Pen,
-    pub(crate) front: Front,
+    pub(crate) front: HistoryPrefix,
     ghost of_book: { (head ≡ head_of front.seen.book) × (pen.book ≡ front.seen.book) },
     ghost right: { pen.nib.right ≡ may_write },
 }
@@ -43,18 +43,19 @@ impl Keeper {
         Keeper {
             head,
             pen,
-            front: Front { seen },
+            front: HistoryPrefix { seen },
         }
     }
 
     /// Adds an effect to the line of its right. It can't fail.
     pub(crate) fn add(&mut self, effect: Snapshot<Effect>)
         ensures book { self.new.front.seen.book ≡ self.old.front.seen.book }
-        ensures line { (root : ℕ) → self.old.pen.nib.key ≡ tip root self.old.front.seen.log
+        ensures line { (root : ℕ) → self.old.pen.nib.key ≡ next_right root self.old.front.seen.log
             → line root self.new.front.seen.log ≡ line root self.old.front.seen.log
             ++ plain_effect effect.value.items ∷ [] }
-        ensures tip { (root : ℕ) → self.old.pen.nib.key ≡ tip root self.old.front.seen.log
-            → self.new.pen.nib.key ≡ tip root self.new.front.seen.log }
+        ensures next_right { (root : ℕ) → self.old.pen.nib.key
+            ≡ next_right root self.old.front.seen.log
+            → self.new.pen.nib.key ≡ next_right root self.new.front.seen.log }
     {
         let Keeper { head, pen, front } = self;
         let leaf = Leaf {
@@ -69,18 +70,18 @@ impl Keeper {
     }
 
     /// Whatever was seen of its line begins it.
-    pub(crate) fn covers(&mut self, other: &Front)
+    pub(crate) fn covers(&mut self, other: &HistoryPrefix)
         requires { other.now.seen.book ≡ self.old.front.seen.book }
         ensures front { self.new.front ≡ self.old.front }
         ensures pen { self.new.pen.nib ≡ self.old.pen.nib }
-        ensures begins { (root : ℕ) → self.old.pen.nib.key ≡ tip root self.old.front.seen.log
+        ensures begins { (root : ℕ) → self.old.pen.nib.key ≡ next_right root self.old.front.seen.log
             → IsPrefix (line root other.now.seen.log) (line root self.old.front.seen.log) }
     {
         let Keeper { head, pen, front } = self;
         let mut both = front.seen.again();
         both.learn(&other.seen);
         let mut offer: Offer<Page, u64, Law, Nothing> = both.plain::<Nothing, u8, Grow>(&0);
-        head.compare_exchange::<Hold, Nothing>(0, 0, &mut both, &mut offer, pen);
+        head.compare_exchange::<SeeUnused, Nothing>(0, 0, &mut both, &mut offer, pen);
     }
 }
 

@@ -2,10 +2,10 @@
 #![tactic(auto)]
 
 mod board;
+mod board_change;
 mod board_writer;
-mod change;
 mod effect;
-mod front;
+mod history_prefix;
 mod keeper;
 mod look_fault;
 mod looker;

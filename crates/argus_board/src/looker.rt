@@ -1,16 +1,16 @@
 //! `Looker`: who looks at a board, with no lock.
 
-ghost use Rattle.std.specs.Prelude.{◌≡◌, ◌++◌, [], map, IfOk};
+ghost use Rattle.std.specs.Prelude.{IfOk, [], map, ◌++◌, ◌≡◌};
 ghost use mathlib.Core.List.{IsPrefix};
 ghost use Rattle.argus_model.specs.Effects.{table};
-ghost use Rattle.argus_board.specs.Effects.{Leads, plain_contents};
+ghost use Rattle.argus_board.specs.Effects.{IsTableOf, plain_contents};
 ghost use Rattle.argus_board.specs.History.{line};
 
 use crate::board::Board;
-use crate::front::Front;
+use crate::history_prefix::HistoryPrefix;
 use crate::look_fault::LookFault;
 use crate::looking::copies_of;
-use crate::published::{BoardReader, Looks, Publisher};
+use crate::published::{BoardReader, Publisher, SeePublished};
 use argus_contents::{Content, ObjId};
 use argus_memory::{Heap, OutOfMemory, Room};
 use core::mem::replace_with;
@@ -27,13 +27,14 @@ use std::marker::Model;
 #[derive(Drop)]
 pub struct Looker<N: Board> {
     pub(crate) reader: BoardReader<N>,
-    pub(crate) front: Front,
+    pub(crate) front: HistoryPrefix,
 }
 
 impl<N: Board> Model for Looker<N> {
     ghost use Rattle.std.specs.Prelude.{List, ◌++◌, ◌≡◌};
     ghost use Rattle.left_right.specs.Sides.{view as seen_at};
-    ghost use Rattle.argus_board.specs.Effects.{Effect, Leads, effects_coded};
+    ghost use Rattle.argus_board.specs.Effects.{IsTableOf, effects_coded};
+    ghost use Rattle.argus_contents.specs.Effect.{Effect};
     ghost use Rattle.argus_board.specs.History.{line};
 
     ghost Value = { List Effect };
@@ -42,15 +43,15 @@ impl<N: Board> Model for Looker<N> {
 
     ghost view = { λ k. N.before ++ line N.root k.front.seen.log };
 
-    ghost invariant = { λ k. Leads N.opening N.before N.first
+    ghost invariant = { λ k. IsTableOf N.opening_contents N.before N.first
         × (seen_at k.reader.place ≡ line N.root k.front.seen.log)
         × (k.front.seen.book ≡ N.history) };
 }
 
 impl<N: Board> Looker<N> {
     /// A free place, which has seen what stood on the board at first.
-    pub(crate) fn at(writer: &Publisher<N>, front: &Front) -> Result<Looker<N>, OutOfMemory>
-        requires first { Leads N.opening N.before N.first }
+    pub(crate) fn at(writer: &Publisher<N>, front: &HistoryPrefix) -> Result<Looker<N>, OutOfMemory>
+        requires first { IsTableOf N.opening_contents N.before N.first }
         requires none { line N.root front.now.seen.log ≡ [] }
         requires book { front.now.seen.book ≡ N.history }
         ensures { IfOk result (λ looker. looker ≡ N.before) }
@@ -77,7 +78,7 @@ impl<N: Board> Looker<N> {
     ) -> Result<Vec<Option<Content>, Room>, LookFault>
         ensures later { IsPrefix self.old self.new }
         ensures answer { IfOk result (λ found. plain_contents found.items
-            ≡ map (λ o. table N.opening self.new o.0) objects.now) }
+            ≡ map (λ o. table N.opening_contents self.new o.0) objects.now) }
     {
         replace_with(self, (heap, objects), |looker, asked| {
             looker.looked(asked.0, asked.1)
@@ -91,10 +92,10 @@ impl<N: Board> Looker<N> {
     ) -> (Looker<N>, Result<Vec<Option<Content>, Room>, LookFault>)
         ensures later { IsPrefix self result.0 }
         ensures answer { IfOk result.1 (λ found. plain_contents found.items
-            ≡ map (λ o. table N.opening result.0 o.0) objects.now) }
+            ≡ map (λ o. table N.opening_contents result.0 o.0) objects.now) }
     {
         let Looker { reader, front } = self;
-        match reader.enter_as::<Looks<N>>() {
+        match reader.enter_as::<SeePublished<N>>() {
             Ok(reading) => {
                 let table = reading.get();
                 let front = table.front.again();

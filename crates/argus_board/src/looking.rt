@@ -2,7 +2,7 @@
 
 ghost use Rattle.std.specs.Prelude.{◌≡◌, IfOk, map};
 ghost use Rattle.argus_contents.specs.Content.{plain_option};
-ghost use Rattle.argus_board.specs.Effects.{content_at, plain_contents};
+ghost use Rattle.argus_board.specs.Effects.{content_of_object, plain_contents};
 
 use argus_contents::{Content, ObjId};
 use argus_memory::{Heap, OutOfMemory, Room};
@@ -14,7 +14,7 @@ pub(crate) fn copies_of(
     objects: &[ObjId],
 ) -> Result<Vec<Option<Content>, Room>, OutOfMemory>
     ensures { IfOk result (λ copies. plain_contents copies.items
-        ≡ map (λ o. content_at (plain_contents contents.now) o.0) objects.now) }
+        ≡ map (λ o. content_of_object (plain_contents contents.now) o.0) objects.now) }
 {
     let mut copies = Vec::with_capacity(heap.room(), objects.len())?;
     for object in objects {
@@ -30,7 +30,7 @@ fn copy_of(
     object: ObjId,
 ) -> Result<Option<Content>, OutOfMemory>
     ensures { IfOk result (λ copy. plain_option copy
-        ≡ content_at (plain_contents contents.now) object.0) }
+        ≡ content_of_object (plain_contents contents.now) object.0) }
 {
     match contents.get(object.0 as usize) {
         Some(content) => Content::duplicate_option(heap, content),

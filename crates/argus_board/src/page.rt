@@ -3,11 +3,12 @@
 use std::marker::Model;
 
 /// An effect, as the history has it. No value of it is made.
-pub struct Told;
+pub struct HistoryEffect;
 
-impl Model for Told {
+impl Model for HistoryEffect {
     ghost use Rattle.std.specs.Prelude.{[]};
-    ghost use Rattle.argus_board.specs.Effects.{Effect, effect_coded};
+    ghost use Rattle.argus_board.specs.Effects.{effect_coded};
+    ghost use Rattle.argus_contents.specs.Effect.{Effect};
 
     ghost Value = { Effect };
 
@@ -21,5 +22,5 @@ impl Model for Told {
 pub struct Page {
     pub uses: u64,
     pub gives: u64,
-    pub effect: Told,
+    pub effect: HistoryEffect,
 }

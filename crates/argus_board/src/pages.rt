@@ -69,7 +69,7 @@ pub(crate) struct Leaf {
 
 impl Plain<Leaf, Page, u64> for Add {
     ghost use Rattle.std.specs.Prelude.{None};
-    ghost use Rattle.argus_board.specs.Effects.{plain_effect};
+    ghost use Rattle.argus_contents.specs.Effect.{plain_effect};
 
     ghost ask = { λ v. record {
       uses = 0;
@@ -81,10 +81,10 @@ impl Plain<Leaf, Page, u64> for Add {
 }
 
 /// The step by which the holder of a right sees that no page used it up.
-pub(crate) struct Hold;
+pub(crate) struct SeeUnused;
 
-impl Play<Page, u64> for Hold {
-    ghost use Rattle.argus_board.specs.History.{Holds};
+impl Play<Page, u64> for SeeUnused {
+    ghost use Rattle.argus_board.specs.History.{SeesUnused};
 
-    ghost then = { Holds };
+    ghost then = { SeesUnused };
 }

@@ -1,7 +1,7 @@
 //! The rule of a board, and its two ends under that rule.
 
 use crate::board::Board;
-use crate::change::Change;
+use crate::board_change::BoardChange;
 use crate::table::Table;
 use argus_memory::Room;
 use atomic_table::{Join, Split};
@@ -15,7 +15,8 @@ pub struct View;
 
 impl Model for View {
     ghost use Rattle.std.specs.Prelude.{List, []};
-    ghost use Rattle.argus_board.specs.Effects.{Effect, effects_coded};
+    ghost use Rattle.argus_contents.specs.Effect.{Effect};
+    ghost use Rattle.argus_board.specs.Effects.{effects_coded};
 
     ghost Value = { List Effect };
 
@@ -30,20 +31,20 @@ pub struct Published<N: Board>(PhantomData<N>);
 
 impl<N: Board> Protocol<Table, View> for Published<N> {
     ghost use Rattle.std.specs.Prelude.{[]};
-    ghost use Rattle.argus_board.specs.Published.{Keeps};
+    ghost use Rattle.argus_board.specs.Published.{IsConsistentTable};
 
-    ghost holds = { Keeps N.first N.history N.root };
+    ghost holds = { IsConsistentTable N.first N.history N.root };
 
     ghost first = { [] };
 }
 
 /// The step by which a place comes to see all that is published.
-pub(crate) struct Looks<N: Board>(PhantomData<N>);
+pub(crate) struct SeePublished<N: Board>(PhantomData<N>);
 
-impl<N: Board> Outcome<Table, View> for Looks<N> {
-    ghost use Rattle.argus_board.specs.Published.{Sees};
+impl<N: Board> Outcome<Table, View> for SeePublished<N> {
+    ghost use Rattle.argus_board.specs.Published.{SeesPublished};
 
-    ghost then = { Sees N.first N.history N.root };
+    ghost then = { SeesPublished N.first N.history N.root };
 }
 
 /// What the writer gives out of its view, and what a place makes of it.
@@ -57,9 +58,9 @@ impl Split<View> for Notes {
 
 impl Join<View> for Notes {
     ghost use Rattle.std.specs.Prelude.{[]};
-    ghost use Rattle.argus_board.specs.Published.{told};
+    ghost use Rattle.argus_board.specs.Published.{joined_view};
 
-    ghost both = { told };
+    ghost both = { joined_view };
 
     ghost spent = { [] };
 }
@@ -68,4 +69,4 @@ impl Join<View> for Notes {
 pub(crate) type BoardReader<N> = Reader<Table, View, Published<N>, Room>;
 
 /// The publisher's end, under the rule.
-pub(crate) type Publisher<N> = Writer<Table, Change, View, Published<N>, Room>;
+pub(crate) type Publisher<N> = Writer<Table, BoardChange, View, Published<N>, Room>;

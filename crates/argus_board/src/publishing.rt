@@ -1,17 +1,17 @@
 //! Work on the publisher's end of a board.
 
-ghost use Rattle.std.specs.Prelude.{◌++◌, ◌<◌, ◌∷◌, ◌≡◌, ◌≢◌, [], drop, false, fold, true};
-ghost use Rattle.std.specs.Prelude.{IfOk, MatchResult, OnErr, OnOk};
+ghost use Rattle.std.specs.Prelude.{IfOk, MatchResult, OnErr, OnOk, [], false, fold, true, ◌++◌};
+ghost use Rattle.std.specs.Prelude.{◌<◌, ◌∷◌, ◌≡◌, ◌≢◌};
 ghost use mathlib.Core.List.{IsPrefix};
 ghost use Rattle.left_right.specs.Sides.{view};
-ghost use Rattle.argus_board.specs.Effects.{left_by, plain_contents};
+ghost use Rattle.argus_board.specs.Effects.{contents_after, plain_contents};
 ghost use Rattle.argus_board.specs.History.{line};
-ghost use Rattle.argus_board.specs.Published.{absorbed, effects_in, table_state};
+ghost use Rattle.argus_board.specs.Published.{absorbed, effects_in, pending_changes, table_state};
 
 use crate::board::Board;
-use crate::change::Change;
-use crate::front::Front;
-use crate::published::{BoardReader, Looks, Notes, Publisher};
+use crate::board_change::BoardChange;
+use crate::history_prefix::HistoryPrefix;
+use crate::published::{BoardReader, Notes, Publisher, SeePublished};
 use crate::table::Table;
 use argus_contents::Content;
 use argus_memory::{Heap, OutOfMemory, Room};
@@ -24,7 +24,7 @@ pub(crate) fn opened<N: Board>(
     heap: Heap,
     contents: Vec<Option<Content>, Room>,
     copy: Vec<Option<Content>, Room>,
-    front: &Front,
+    front: &HistoryPrefix,
     readers: usize,
 ) -> Result<Publisher<N>, OutOfMemory>
     requires readers { (0 < readers) × (readers < 4294967296) }
@@ -33,7 +33,7 @@ pub(crate) fn opened<N: Board>(
     requires front { (line N.root front.now.seen.log ≡ []) × (front.now.seen.book ≡ N.history) }
     ensures { IfOk result (λ w. (view w.desk.place ≡ [])
         × (table_state w.desk.shown.value ≡ (N.first, front.now))
-        × (drop w.behind w.log.items ≡ [])) }
+        × (pending_changes w.behind w.log.items ≡ [])) }
 {
     let first = Table {
         contents,
@@ -51,54 +51,58 @@ pub(crate) fn opened<N: Board>(
 pub(crate) fn publish<N: Board, R: Wait>(
     rt: &R,
     writer: &mut Publisher<N>,
-    front: &Front,
+    front: &HistoryPrefix,
 ) -> Result<(), OutOfMemory>
     requires book { front.now.seen.book ≡ N.history }
     requires view { view writer.old.desk.place
         ≡ line N.root writer.old.desk.shown.value.front.seen.log }
     requires contents { plain_contents writer.old.desk.shown.value.contents.items
-        ≡ left_by N.first (line N.root writer.old.desk.shown.value.front.seen.log) }
+        ≡ contents_after N.first (line N.root writer.old.desk.shown.value.front.seen.log) }
     requires whole { line N.root writer.old.desk.shown.value.front.seen.log
-        ++ effects_in (drop writer.old.behind writer.old.log.items)
+        ++ effects_in (pending_changes writer.old.behind writer.old.log.items)
         ≡ line N.root front.now.seen.log }
-    requires marks { effects_in (drop writer.old.behind writer.old.log.items) ≡ []
-        → drop writer.old.behind writer.old.log.items ≡ [] }
+    requires marks { effects_in (pending_changes writer.old.behind writer.old.log.items) ≡ []
+        → pending_changes writer.old.behind writer.old.log.items ≡ [] }
     ensures view { view writer.new.desk.place
         ≡ line N.root writer.new.desk.shown.value.front.seen.log }
     ensures contents { plain_contents writer.new.desk.shown.value.contents.items
-        ≡ left_by N.first (line N.root writer.new.desk.shown.value.front.seen.log) }
+        ≡ contents_after N.first (line N.root writer.new.desk.shown.value.front.seen.log) }
     ensures whole { line N.root writer.new.desk.shown.value.front.seen.log
-        ++ effects_in (drop writer.new.behind writer.new.log.items)
+        ++ effects_in (pending_changes writer.new.behind writer.new.log.items)
         ≡ line N.root front.now.seen.log }
-    ensures marks { effects_in (drop writer.new.behind writer.new.log.items) ≡ []
-        → drop writer.new.behind writer.new.log.items ≡ [] }
-    ensures ok { OnOk result (effects_in (drop writer.new.behind writer.new.log.items) ≡ []) }
+    ensures marks { effects_in (pending_changes writer.new.behind writer.new.log.items) ≡ []
+        → pending_changes writer.new.behind writer.new.log.items ≡ [] }
+    ensures ok { OnOk result (effects_in (pending_changes writer.new.behind writer.new.log.items)
+        ≡ []) }
     ensures err { OnErr result ((writer.new.desk.shown.value ≡ writer.old.desk.shown.value)
-        × (effects_in (drop writer.new.behind writer.new.log.items)
-        ≡ effects_in (drop writer.old.behind writer.old.log.items))
-        × (effects_in (drop writer.old.behind writer.old.log.items) ≢ [])) }
+        × (effects_in (pending_changes writer.new.behind writer.new.log.items)
+        ≡ effects_in (pending_changes writer.old.behind writer.old.log.items))
+        × (effects_in (pending_changes writer.old.behind writer.old.log.items) ≢ [])) }
 {
     if !is_behind::<N>(&*writer) {
         return Ok(());
     }
-    hand::<N>(writer, Change::Marks(front.again()))?;
+    append_change::<N>(writer, BoardChange::Marks(front.again()))?;
     show::<N, R>(rt, writer, front)
 }
 
 fn is_behind<N: Board>(writer: &Publisher<N>) -> bool
-    ensures none { result ≡ false → drop writer.now.behind writer.now.log.items ≡ [] }
-    ensures some { result ≡ true → drop writer.now.behind writer.now.log.items ≢ [] }
+    ensures none { result ≡ false → pending_changes writer.now.behind writer.now.log.items ≡ [] }
+    ensures some { result ≡ true → pending_changes writer.now.behind writer.now.log.items ≢ [] }
 {
     writer.has_pending_operations()
 }
 
 /// Gives the writer one change more. At `Err` there was no memory, and nothing changed.
-pub(crate) fn hand<N: Board>(writer: &mut Publisher<N>, change: Change) -> Result<(), OutOfMemory>
+pub(crate) fn append_change<N: Board>(
+    writer: &mut Publisher<N>,
+    change: BoardChange,
+) -> Result<(), OutOfMemory>
     ensures desk { writer.new.desk ≡ writer.old.desk }
-    ensures ok { OnOk result (drop writer.new.behind writer.new.log.items
-        ≡ drop writer.old.behind writer.old.log.items ++ change ∷ []) }
-    ensures err { OnErr result (drop writer.new.behind writer.new.log.items
-        ≡ drop writer.old.behind writer.old.log.items) }
+    ensures ok { OnOk result (pending_changes writer.new.behind writer.new.log.items
+        ≡ pending_changes writer.old.behind writer.old.log.items ++ change ∷ []) }
+    ensures err { OnErr result (pending_changes writer.new.behind writer.new.log.items
+        ≡ pending_changes writer.old.behind writer.old.log.items) }
 {
     writer.append(change).map_err(|_| OutOfMemory)
 }
@@ -106,66 +110,67 @@ pub(crate) fn hand<N: Board>(writer: &mut Publisher<N>, change: Change) -> Resul
 fn show<N: Board, R: Wait>(
     rt: &R,
     writer: &mut Publisher<N>,
-    front: &Front,
+    front: &HistoryPrefix,
 ) -> Result<(), OutOfMemory>
     requires book { front.now.seen.book ≡ N.history }
     requires begins { IsPrefix (line N.root writer.old.desk.shown.value.front.seen.log)
         (line N.root front.now.seen.log) }
     requires leaves { fold absorbed (table_state writer.old.desk.shown.value)
-        (drop writer.old.behind writer.old.log.items)
-        ≡ (left_by N.first (line N.root front.now.seen.log), front.now) }
+        (pending_changes writer.old.behind writer.old.log.items)
+        ≡ (contents_after N.first (line N.root front.now.seen.log), front.now) }
     ensures { MatchResult result
         (λ _. (view writer.new.desk.place ≡ line N.root front.now.seen.log)
         × (plain_contents writer.new.desk.shown.value.contents.items
-        ≡ left_by N.first (line N.root front.now.seen.log))
+        ≡ contents_after N.first (line N.root front.now.seen.log))
         × (writer.new.desk.shown.value.front ≡ front.now)
-        × (drop writer.new.behind writer.new.log.items ≡ []))
+        × (pending_changes writer.new.behind writer.new.log.items ≡ []))
         (λ _. (view writer.new.desk.place ≡ view writer.old.desk.place)
         × (writer.new.desk.shown.value ≡ writer.old.desk.shown.value)
-        × (drop writer.new.behind writer.new.log.items
-        ≡ drop writer.old.behind writer.old.log.items)) }
+        × (pending_changes writer.new.behind writer.new.log.items
+        ≡ pending_changes writer.old.behind writer.old.log.items)) }
 {
     replace_with(writer, (rt, front), |writer, with| {
-        shown::<N, R>(with.0, writer, with.1)
+        publish_owned::<N, R>(with.0, writer, with.1)
     })
 }
 
 /// Publishes what is pending, where that leaves what the front says.
-fn shown<N: Board, R: Wait>(
+fn publish_owned<N: Board, R: Wait>(
     rt: &R,
     writer: Publisher<N>,
-    front: &Front,
+    front: &HistoryPrefix,
 ) -> (Publisher<N>, Result<(), OutOfMemory>)
     requires book { front.now.seen.book ≡ N.history }
     requires begins { IsPrefix (line N.root writer.desk.shown.value.front.seen.log)
         (line N.root front.now.seen.log) }
     requires leaves { fold absorbed (table_state writer.desk.shown.value)
-        (drop writer.behind writer.log.items)
-        ≡ (left_by N.first (line N.root front.now.seen.log), front.now) }
+        (pending_changes writer.behind writer.log.items)
+        ≡ (contents_after N.first (line N.root front.now.seen.log), front.now) }
     ensures { MatchResult result.1
         (λ _. (view result.0.desk.place ≡ line N.root front.now.seen.log)
         × (plain_contents result.0.desk.shown.value.contents.items
-        ≡ left_by N.first (line N.root front.now.seen.log))
+        ≡ contents_after N.first (line N.root front.now.seen.log))
         × (result.0.desk.shown.value.front ≡ front.now)
-        × (drop result.0.behind result.0.log.items ≡ []))
+        × (pending_changes result.0.behind result.0.log.items ≡ []))
         (λ _. (view result.0.desk.place ≡ view writer.desk.place)
         × (result.0.desk.shown.value ≡ writer.desk.shown.value)
-        × (drop result.0.behind result.0.log.items ≡ drop writer.behind writer.log.items)) }
+        × (pending_changes result.0.behind result.0.log.items
+        ≡ pending_changes writer.behind writer.log.items)) }
 {
-    let (writer, shown) = writer.publish_as::<Looks<N>, R>(rt);
+    let (writer, shown) = writer.publish_as::<SeePublished<N>, R>(rt);
     (writer, shown.map_err(|_| OutOfMemory))
 }
 
 /// A reader that knows all that is published. It takes a free place, and waits for one.
-pub(crate) fn place_of<N: Board, R: Wait>(rt: &R, writer: &mut Publisher<N>) -> BoardReader<N>
+pub(crate) fn briefed_reader<N: Board, R: Wait>(rt: &R, writer: &mut Publisher<N>) -> BoardReader<N>
     ensures reader { view result.place ≡ view writer.old.desk.place }
     ensures view { view writer.new.desk.place ≡ view writer.old.desk.place }
     ensures shown { writer.new.desk.shown ≡ writer.old.desk.shown }
-    ensures pending { drop writer.new.behind writer.new.log.items
-        ≡ drop writer.old.behind writer.old.log.items }
+    ensures pending { pending_changes writer.new.behind writer.new.log.items
+        ≡ pending_changes writer.old.behind writer.old.log.items }
 {
     for _turn in rt.forever() {
-        if let Ok(reader) = informed::<N>(writer) {
+        if let Ok(reader) = try_briefed_reader::<N>(writer) {
             return reader;
         }
     }
@@ -173,12 +178,12 @@ pub(crate) fn place_of<N: Board, R: Wait>(rt: &R, writer: &mut Publisher<N>) -> 
 }
 
 /// A reader that knows all that is published, in a free place.
-fn informed<N: Board>(writer: &mut Publisher<N>) -> Result<BoardReader<N>, AllocError>
+fn try_briefed_reader<N: Board>(writer: &mut Publisher<N>) -> Result<BoardReader<N>, AllocError>
     ensures reader { IfOk result (λ r. view r.place ≡ view writer.old.desk.place) }
     ensures view { view writer.new.desk.place ≡ view writer.old.desk.place }
     ensures shown { writer.new.desk.shown ≡ writer.old.desk.shown }
-    ensures pending { drop writer.new.behind writer.new.log.items
-        ≡ drop writer.old.behind writer.old.log.items }
+    ensures pending { pending_changes writer.new.behind writer.new.log.items
+        ≡ pending_changes writer.old.behind writer.old.log.items }
 {
     let mut reader = writer.factory().reader()?;
     reader.learn::<Notes>(writer.tell::<Notes>());

@@ -2,10 +2,10 @@
 
 ghost use Rattle.argus_board.specs.Published.{absorbed, table_state};
 
-use crate::change::Change;
+use crate::board_change::BoardChange;
 use crate::effect::duplicate_effect;
-use crate::front::Front;
-use crate::writing::{pad, required, write};
+use crate::history_prefix::HistoryPrefix;
+use crate::writing::{needed, pad, write};
 use argus_contents::Content;
 use argus_memory::Room;
 use left_right::Absorb;
@@ -17,7 +17,7 @@ use std::marker::Model;
 #[derive(Drop)]
 pub struct Table {
     pub contents: Vec<Option<Content>, Room>,
-    pub front: Front,
+    pub front: HistoryPrefix,
 }
 
 /// The contents of a table, as contracts see them. No value of it is made.
@@ -35,36 +35,36 @@ impl Model for Contents {
     ghost view = { λ _. [] };
 }
 
-impl Absorb<Change> for Table {
-    type State = (Contents, Front);
+impl Absorb<BoardChange> for Table {
+    type State = (Contents, HistoryPrefix);
 
     ghost state = { table_state };
 
     ghost applied = { absorbed };
 
-    fn absorb_first(&mut self, operation: &Change, _other: &Table) -> Result<(), AllocError> {
+    fn absorb_first(&mut self, operation: &BoardChange, _other: &Table) -> Result<(), AllocError> {
         match operation {
-            Change::Leaves(effect) => {
+            BoardChange::Leaves(effect) => {
                 let Ok(copy) = duplicate_effect(self.contents.allocator().heap(), effect) else {
                     return Err(AllocError);
                 };
-                pad(&mut self.contents, required(copy.as_slice()))?;
+                pad(&mut self.contents, needed(copy.as_slice()))?;
                 write(&mut self.contents, copy);
             }
-            Change::Marks(front) => self.front = front.again(),
+            BoardChange::Marks(front) => self.front = front.again(),
         }
         Ok(())
     }
 
-    fn absorb_second(&mut self, operation: Change, _other: &Table) -> Result<(), Change> {
+    fn absorb_second(&mut self, operation: BoardChange, _other: &Table) -> Result<(), BoardChange> {
         match operation {
-            Change::Leaves(effect) => {
-                if pad(&mut self.contents, required(effect.as_slice())).is_err() {
-                    return Err(Change::Leaves(effect));
+            BoardChange::Leaves(effect) => {
+                if pad(&mut self.contents, needed(effect.as_slice())).is_err() {
+                    return Err(BoardChange::Leaves(effect));
                 }
                 write(&mut self.contents, effect);
             }
-            Change::Marks(front) => self.front = front,
+            BoardChange::Marks(front) => self.front = front,
         }
         Ok(())
     }

@@ -1,7 +1,8 @@
 //! Effects written into the contents of a table.
 
-ghost use Rattle.std.specs.Prelude.{◌<◌, ◌≡◌, ◌≤◌, length, set, OnErr, OnOk};
-ghost use Rattle.argus_board.specs.Effects.{needed, padded, plain_contents, plain_effect, written};
+ghost use Rattle.std.specs.Prelude.{OnErr, OnOk, length, set, ◌<◌, ◌≡◌, ◌≤◌};
+ghost use Rattle.argus_board.specs.Effects.{needed, padded, plain_contents, written};
+ghost use Rattle.argus_contents.specs.Effect.{plain_effect};
 
 use crate::effect::Effect;
 use argus_contents::{Content, ObjId};
@@ -9,7 +10,7 @@ use argus_memory::Room;
 use std::alloc::AllocError;
 
 /// How many objects a table has to have for all that the effect names.
-pub(crate) fn required(effect: &[(ObjId, Option<Content>)]) -> usize
+pub(crate) fn needed(effect: &[(ObjId, Option<Content>)]) -> usize
     ensures { result ≡ needed (plain_effect effect.now) }
 {
     let mut count = 0;

@@ -3,15 +3,15 @@ use mir.Syntax.{impl, tnil, dnil}
 use mathlib.Core.List.{[]}
 use mathlib.Core.Path.{◌≡◌, refl, sym}
 use mathlib.Core.Bool.{true≢false}
-use Rattle.std.specs.Prelude.{Option, Some, None, IsSome}
+use Rattle.std.specs.Prelude.{IsSome, None, Option, Some}
 use denote.Signature.{Slot, plain}
 use Rattle.std_alloc.proofs.BoxSteps.Form.{Bx}
 use Rattle.std_heap.specs.contracts.Global as Heap
-use Rattle.std_heap.specs.contracts.GlobalAllocator.TheImpl.{ghosts, dict}
+use Rattle.std_heap.specs.contracts.GlobalAllocator.TheImpl.{dict, ghosts}
 use Rattle.std_heap.proofs.Global.TheLaws as heap
 use Rattle.argus_embed.specs.contracts.embedded.Embedded as Home
 use Rattle.argus_embed.proofs.embedded.Embedded.TheLaws as home
-use Rattle.argus_c.specs.contracts.parts.Parts as Parts
+use Rattle.argus_c.specs.contracts.raw_box.RawBox as RawBox
 use Rattle.argus_c.specs.contracts.held.Held as Sealed
 
 abbrev pub E : Bx
@@ -29,7 +29,7 @@ E = record {
 }
 
 abbrev pub FromParts : Slot 0
-FromParts = plain (λ _. Parts.the_row Home.the_row Heap.the_row ghosts)
+FromParts = plain (λ _. RawBox.the_row Home.the_row Heap.the_row ghosts)
 
 abbrev pub FromSeal : Slot 0
 FromSeal = plain (λ _. Sealed.the_row)

@@ -7,14 +7,14 @@ use Rattle.std.specs.Coded.{coded_option}
 use Rattle.std.specs.Box.Ownership.{box_owns}
 use Rattle.std.specs.Global.{Global}
 use Rattle.std_heap.specs.contracts.GlobalAllocator.TheImpl.{ghosts}
-use Rattle.argus_embed.specs.State.{State, state_coded}
+use Rattle.argus_embed.specs.Embedded.{EmbeddedState, embedded_state_coded}
 use Rattle.argus_embed.specs.contracts.embedded.Embedded.{the_row}
 
 -- an open handle owns the box at its pointer, a closed one nothing
-abbrev pub held_owns : Global → Ptr → Option State → Fml
+abbrev pub held_owns : Global → Ptr → Option EmbeddedState → Fml
 held_owns alloc at (Some x) = box_owns (ghosts.dealloc_token alloc) the_row at x
 held_owns alloc at None = ftrue
 
 -- what is held is stored
-abbrev pub held_coded : Coded (Option State)
-held_coded = coded_option state_coded
+abbrev pub held_coded : Coded (Option EmbeddedState)
+held_coded = coded_option embedded_state_coded

@@ -1,10 +1,10 @@
 //! `Held`: the address of a guardian that a host keeps.
 
-ghost use Rattle.std.specs.Prelude.{◌≡◌, IsSome, None, Option, Some};
+ghost use Rattle.std.specs.Prelude.{IsSome, None, Option, Some, ◌≡◌};
 ghost use Rattle.argus_c.specs.Held.{held_coded, held_owns};
-ghost use Rattle.argus_embed.specs.State.{State};
+ghost use Rattle.argus_embed.specs.Embedded.{EmbeddedState};
 
-use crate::parts::Parts;
+use crate::raw_box::RawBox;
 use argus_embed::Embedded;
 use std::alloc::Global;
 use std::marker::Model;
@@ -16,7 +16,7 @@ use std::marker::Model;
 pub struct Held {
     at: *mut u8,
     alloc: Global,
-    pub ghost store: { Option State } by { held_coded },
+    pub ghost store: { Option EmbeddedState } by { held_coded },
 }
 
 impl Model for Held {
@@ -33,22 +33,22 @@ impl Held {
         }
     }
 
-    pub(crate) fn of_parts(parts: Parts<Embedded, Global>) -> Held
-        ensures { result.store ≡ Some parts.value }
+    pub(crate) fn of_raw_box(raw: RawBox<Embedded, Global>) -> Held
+        ensures { result.store ≡ Some raw.value }
     {
-        let Parts { ptr, alloc } = parts;
+        let RawBox { ptr, alloc } = raw;
         Held {
             at: ptr as *mut u8,
             alloc,
         }
     }
 
-    pub(crate) fn into_parts(self) -> Parts<Embedded, Global>
+    pub(crate) fn into_raw_box(self) -> RawBox<Embedded, Global>
         requires { IsSome self.store }
         ensures { Some result.value ≡ self.store }
     {
         let Held { at, alloc } = self;
-        Parts {
+        RawBox {
             ptr: at as *mut Embedded,
             alloc,
         }

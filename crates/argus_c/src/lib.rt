@@ -5,14 +5,14 @@
 //! A host gives each slot to one call at a time.
 #![tactic(auto)]
 
-ghost use Rattle.std.specs.Prelude.{◌≡◌, ◌≢◌, ◌<◌, ◌≤◌, IsSome, None, Some, length};
-ghost use Rattle.argus_c.specs.Slots.{Becomes, IsAnswered, IsGiven, IsMade};
-ghost use Rattle.argus_c.specs.Slots.{IsStatusOfFold, IsStatusOfReply, IsTooLong};
-ghost use Rattle.argus_embed.specs.State.{after_fold, at_first};
+ghost use Rattle.std.specs.Prelude.{IsSome, None, Some, length, ◌<◌, ◌≡◌, ◌≢◌, ◌≤◌};
+ghost use Rattle.argus_c.specs.Slots.{Becomes, IsAnswered, IsGiven, IsMade, IsStatusOfFold};
+ghost use Rattle.argus_c.specs.Slots.{IsStatusOfReply, IsTooLong};
+ghost use Rattle.argus_embed.specs.Embedded.{after_fold, empty_state};
 
 mod held;
 mod opening;
-mod parts;
+mod raw_box;
 mod slot;
 
 use argus_embed::{Question, Request};
@@ -40,7 +40,7 @@ const NOT_THERE: u32 = 18;
 /// in the slot is closed.
 #[unsafe(no_mangle)]
 pub extern "C" fn argus_c_open(alloc: Global, slot: &mut Slot, beside: &mut Slot) -> u32
-    ensures done { result ≡ 0 → slot.new.held.store ≡ Some at_first }
+    ensures done { result ≡ 0 → slot.new.held.store ≡ Some empty_state }
     ensures memory { result ≢ 0 → (result ≡ 10) × (slot.new.held.store ≡ slot.old.held.store) }
     ensures beside { beside.new.held.store ≡ beside.old.held.store }
 {
@@ -134,7 +134,7 @@ pub extern "C" fn argus_c_tell(
     let Some(mut guardian) = slot.take(alloc) else {
         return NOT_OPEN;
     };
-    let (status, told) = match guardian.tell(question) {
+    let (status, told) = match guardian.answer_question(question) {
         Ok(outcome) => outcome.codes(),
         Err(error) => error.codes(),
     };

@@ -1,11 +1,11 @@
 //! How a guardian for a slot is made.
 
-ghost use Rattle.std.specs.Prelude.{◌≡◌, IfOk};
-ghost use Rattle.argus_embed.specs.State.{at_first};
+ghost use Rattle.std.specs.Prelude.{IfOk, ◌≡◌};
+ghost use Rattle.argus_embed.specs.Embedded.{empty_state};
 
 use crate::slot::Slot;
 use argus_embed::Embedded;
-use argus_memory::{Heap, OutOfMemory};
+use argus_values::{Heap, OutOfMemory};
 use std::alloc::Global;
 
 /// A guardian with no object, no action and no entry: in the heap of the one that is beside it, or
@@ -14,7 +14,7 @@ pub(crate) fn opened_beside(
     alloc: Global,
     beside: &mut Slot,
 ) -> Result<Box<Embedded, Global>, OutOfMemory>
-    ensures opened { IfOk result (λ guardian. guardian.value ≡ at_first) }
+    ensures opened { IfOk result (λ guardian. guardian.value ≡ empty_state) }
     ensures beside { beside.new.held.store ≡ beside.old.held.store }
 {
     let guardian = made_beside(alloc, beside)?;
@@ -22,7 +22,7 @@ pub(crate) fn opened_beside(
 }
 
 fn made_beside(alloc: Global, beside: &mut Slot) -> Result<Embedded, OutOfMemory>
-    ensures made { IfOk result (λ guardian. guardian ≡ at_first) }
+    ensures made { IfOk result (λ guardian. guardian ≡ empty_state) }
     ensures beside { beside.new.held.store ≡ beside.old.held.store }
 {
     let Some(other) = beside.take(alloc) else {

@@ -1,9 +1,9 @@
 //! `Slot`: what a host keeps in its own memory, a guardian or none.
 
-ghost use Rattle.std.specs.Prelude.{◌≡◌, IfNone, IfSome, IsSome, None, Some};
+ghost use Rattle.std.specs.Prelude.{IfNone, IfSome, IsSome, None, Some, ◌≡◌};
 
 use crate::held::Held;
-use crate::parts::Parts;
+use crate::raw_box::RawBox;
 use argus_embed::Embedded;
 use std::alloc::Global;
 use std::mem::replace;
@@ -35,7 +35,7 @@ impl Slot {
     {
         Slot {
             mark: OPEN,
-            held: Held::of_parts(Parts::of(guardian)),
+            held: Held::of_raw_box(RawBox::of(guardian)),
         }
     }
 
@@ -45,7 +45,7 @@ impl Slot {
     {
         let Slot { mark, held } = self;
         if mark == OPEN {
-            Some(held.into_parts().into_box())
+            Some(held.into_raw_box().into_box())
         } else {
             None
         }

@@ -1,17 +1,19 @@
 -- The value that an option has passed the option's parser.
-use Rattle.std.proofs.Common.{◌≡◌, ◌∙◌, ◌<◌, ◌∷◌, ℕ, [], Bool, List, None, Option, Some, ap, arith, false, inl, inr}
-use Rattle.std.proofs.Common.{length, refl, subst, sym, true, zero, suc}
+use Rattle.std.proofs.Common.{Bool, List, None, Option, Some, [], ap, arith, false, inl, inr}
+use Rattle.std.proofs.Common.{length, refl, subst, suc, sym, true, zero, ℕ, ◌<◌, ◌∙◌, ◌∷◌, ◌≡◌}
 use Rattle.std.specs.Borrow.{Bor}
 use Rattle.std.specs.List.{All, slice_index_or}
-use Rattle.std.specs.Prelude.{codes, map, is_some, option_map, slice_get, unwrap_or}
+use Rattle.std.specs.Prelude.{Ok, Result, codes, is_some, map, option_map, pos, slice_get}
+use Rattle.std.specs.Prelude.{unwrap_or, ◌^◌, ◌≤◌}
 use Rattle.std.specs.Str.{bytes_eq}
 use Rattle.std.proofs.lemmas.List.{get_or-map, length-map}
 use Rattle.std.proofs.lemmas.List.Elements.{All-get_or}
 use Rattle.std.proofs.lemmas.Slice.Eq.{bytes_eq-Decides}
 use Rattle.clap.specs.Built.{SameRules}
 use Rattle.clap.specs.Facts.{Entry, EntryPasses, HasReading, PassesArg, ValuesPass, parser_of_value}
-use Rattle.clap.specs.Words.{Accepts, App, IsParsedFrom, Rule, Text, args_of, found_of, groups_of, matched_of}
-use Rattle.clap.specs.Words.{one_text, parser_of, read_as, reading_of, rule_of}
+use Rattle.clap.specs.Words.{Accepts, App, IsParsedFrom, Rule, Text, args_of, found_of, groups_of}
+use Rattle.clap.specs.Words.{matched_of, one_text, parser_of, read_as, reading_of, rule_of}
+use Rattle.clap.specs.Words.{without_minus}
 use Rattle.clap.proofs.CallerLemmas.{entry_by_id, same_rules_by_id}
 use Rattle.clap.specs.declared.builder.arg.Arg.{Arg}
 use Rattle.clap.specs.declared.builder.command.Command.{Command}
@@ -20,14 +22,13 @@ use Rattle.clap.specs.declared.builder.value_parser.ValueParser.{ValueParser}
 use Rattle.clap.specs.declared.parser.matches.ArgMatches.{ArgMatches}
 use Rattle.clap.specs.declared.parser.matches.Found.{Found}
 use Rattle.clap.specs.declared.parser.matches.MatchedArg.{MatchedArg}
-use Rattle.std.specs.Prelude.{◌≤◌, ◌^◌, Ok, Result, pos}
 use Rattle.std.specs.Str.Parse.{ParsesBool, ParsesUnsigned, digits_value, without_leading_plus}
 use Rattle.clap.specs.Matches.{ReadsOne}
 use Rattle.clap.specs.Values.{IsSignedIn}
-use Rattle.clap.specs.Words.{without_minus}
 use Rattle.clap.proofs.CallerReads.{signed_reads}
 use Rattle.clap.specs.declared.builder.value_parser.ValueParser.TheVariants as vp
-use Rattle.argus_cli.specs.CommandLine.{IsProgram, is_given, listing_by, listing_named, number_or, program}
+use Rattle.argus_cli.specs.CommandLine.{IsProgram, is_given, listing_named, listing_or_bases}
+use Rattle.argus_cli.specs.CommandLine.{number_or, program}
 use Rattle.argus_cli.specs.declared.limits.TheConstants.{MAX_PATIENCE, MAX_WORKERS}
 
 first_read : (P : Bor Text → Type 0) (how : Reading) (vs : List (Bor Text)) (t : Text) → All P vs
@@ -217,7 +218,7 @@ module _ (c : Command) (p : IsProgram c) (m : ArgMatches) (parsed : IsParsedFrom
       (λ d. ap (λ (r : Rule). r.ignore_case) (rule_at c p m parsed 1 d (omega arith))) is
 
 pub listing_or : (o : Option (Bor Text)) (d : Bor Text) → d.now ≡ codes "bases"
-    → listing_by (unwrap_or o d).now ≡ listing_named (option_map (λ s. s.now) o)
+    → listing_named (unwrap_or o d).now ≡ listing_or_bases (option_map (λ s. s.now) o)
 listing_or None d is = rw is refl
 listing_or (Some s) d is = refl
 

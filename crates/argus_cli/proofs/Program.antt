@@ -1,5 +1,5 @@
 -- The program's command line is one of which clap tells the matches and the faults.
-use Rattle.std.proofs.Common.{◌≡◌, List, refl, true}
+use Rattle.std.proofs.Common.{List, refl, true, ◌≡◌}
 use Rattle.std.specs.Borrow.{Bor}
 use Rattle.clap.specs.Words.{Text, is_simple, is_simple_and_free}
 use Rattle.clap.proofs.OnLiterals.{clap_on_literals}

@@ -1,22 +1,21 @@
 -- What a settlement says of a guardian that began with no entry.
 use Rattle.std.specs.Borrow.{Bor}
-use Rattle.std.proofs.Common.{All, Bool, List, None, Option, Some, [], ap, arith, false, is_some, length, not, refl}
-use Rattle.std.proofs.Common.{slice_get}
-use Rattle.std.proofs.Common.{suc, sum_by, take, true, zero, ℕ, ◌+◌, ◌++◌, ◌∙◌, ◌∷◌, ◌≡◌}
+use Rattle.std.proofs.Common.{All, Bool, List, None, Option, Some, [], ap, arith, false, is_some}
+use Rattle.std.proofs.Common.{length, not, refl, slice_get, suc, sum_by, take, true, zero, ℕ, ◌++◌}
+use Rattle.std.proofs.Common.{◌+◌, ◌∙◌, ◌∷◌, ◌≡◌}
 use Rattle.std.proofs.lemmas.List.Elements.{All-head, All-tail}
 use Rattle.std.proofs.lemmas.List.Sums.{sum_by-cons}
-use Rattle.argus_contents.specs.declared.content.Content.{Content}
-use Rattle.argus_contents.specs.declared.shape.Shape.{Shape}
-use Rattle.argus_entries.specs.Entry.{PlainEntry}
+use Rattle.argus_values.specs.contents_declared.content.Content.{Content}
+use Rattle.argus_values.specs.contents_declared.shape.Shape.{Shape}
+use Rattle.argus_journal.specs.Entry.{PlainEntry}
 use Rattle.argus_journal.specs.Folding.{next_entry_number}
 use Rattle.argus_journal.specs.Journal.{plain_opened}
 use Rattle.argus_journal.specs.Opening.{Opening, empty, opening_at}
-use Rattle.argus_receipts.specs.Checking.{entries_since}
-use Rattle.argus_sharing.specs.Locked.{next_number}
-use Rattle.argus_steps.specs.Step.{Said}
+use Rattle.argus_guardian.specs.Checking.{entries_since}
+use Rattle.argus_journal.specs.JournalView.{JournalView, next_entry}
 
 -- a new journal's first entry has the number 0
-pub starts_at_none : (j : Said) → j.opening ≡ empty → j.entries ≡ [] → next_number j ≡ 0
+pub starts_at_none : (j : JournalView) → j.opening ≡ empty → j.entries ≡ [] → next_entry j ≡ 0
 starts_at_none j p q = ap (λ o. next_entry_number o j.entries) p ∙ ap (λ es. next_entry_number empty es) q
 
 -- who have each made no call have made none in all

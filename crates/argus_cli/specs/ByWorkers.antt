@@ -1,26 +1,26 @@
 -- What a run by several workers leaves.
-use Rattle.std.specs.Prelude.{◌≡◌, All, List, length}
+use Rattle.std.specs.Prelude.{All, List, length, ◌≡◌}
 use Rattle.argus_commands.specs.Script.{PlainScript}
 use Rattle.argus_journal.specs.Legal.{Legal}
 use Rattle.argus_journal.specs.Opening.{empty}
-use Rattle.argus_receipts.specs.Checking.{AreApart, Stands}
-use Rattle.argus_receipts.specs.Receipt.{PlainReceipt}
-use Rattle.argus_runs.specs.Played.{Tells}
-use Rattle.argus_shown.specs.Shown.{IsShown, entries_of}
-use Rattle.argus_shown.specs.declared.arm_outcome.ArmOutcome.{ArmOutcome}
-use Rattle.argus_steps.specs.Step.{Said}
+use Rattle.argus_guardian.specs.Checking.{AreApart, Stands}
+use Rattle.argus_guardian.specs.Receipt.{PlainReceipt}
+use Rattle.argus_commands.specs.Played.{Tells}
+use Rattle.argus_commands.specs.RunCheck.{IsCheckedRun, entries_of_receipts}
+use Rattle.argus_commands.specs.run_check_declared.arm_outcome.ArmOutcome.{ArmOutcome}
+use Rattle.argus_journal.specs.JournalView.{JournalView}
 
 -- Several workers ran the script on a new guardian, and this is its journal: its entries, each
 -- once, are those of receipts which show a run of the script.
-pub record IsLeftByWorkers (script : PlainScript) (journal : Said) : Type 0 where
+pub record IsLeftByWorkers (script : PlainScript) (journal : JournalView) : Type 0 where
   pub fresh : journal.opening ≡ empty
   pub legal : Legal journal.opening journal.entries
   -- in the order of the script
   pub receipts : List PlainReceipt
-  pub told : Tells script (entries_of receipts)
+  pub told : Tells script (entries_of_receipts receipts)
   -- of two calls that aren't made by two arms of one coenter, the earlier one came first
   pub outcomes : List ArmOutcome
-  pub shown : IsShown script receipts outcomes
+  pub checked : IsCheckedRun script receipts outcomes
   -- each is of an entry, no two are of one, and they are as many
   pub stand : All (Stands journal.opening journal.entries) receipts
   pub apart : AreApart receipts

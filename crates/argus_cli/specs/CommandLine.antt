@@ -1,16 +1,17 @@
 -- What options a command line asks for.
-use Rattle.std.specs.Prelude.{◌≡◌, ◌≢◌, ◌∷◌, [], ℕ, Bool, false, List, None, Option, Some}
-use Rattle.std.specs.Prelude.{codes, if◌then◌else◌, map, pos}
+use Rattle.std.specs.Prelude.{Bool, List, None, Option, Some, [], codes, false, if◌then◌else◌, map}
+use Rattle.std.specs.Prelude.{pos, ℕ, ◌∷◌, ◌≡◌, ◌≢◌}
 use Rattle.std.specs.Borrow.{Bor}
 use Rattle.std.specs.Str.{bytes_eq}
 use Rattle.std.specs.Str.Parse.{digits_value, without_leading_plus}
 use Rattle.argus_cli.specs.declared.limits.TheConstants.{MAX_PATIENCE, MAX_WORKERS}
-use Rattle.argus_listings.specs.declared.listing.Listing.{Listing}
-use Rattle.argus_listings.specs.declared.listing.Listing.TheVariants.{Audit, Bases, Journal, Stacks}
+use Rattle.argus_guardian.specs.listings_declared.listing.Listing.{Listing}
+use Rattle.argus_guardian.specs.listings_declared.listing.Listing.TheVariants.{Audit, Bases}
+use Rattle.argus_guardian.specs.listings_declared.listing.Listing.TheVariants.{Journal, Stacks}
 use Rattle.argus_cli.specs.declared.no_options.NoOptions.{NoOptions}
 use Rattle.argus_cli.specs.declared.no_options.NoOptions.TheVariants as no
 use Rattle.argus_cli.specs.declared.run_options.Options.{Options}
-use Rattle.clap.specs.Words.{App, IsAmong, IsPlain, Rule, Row, Text, app_of, fault_of, first_of}
+use Rattle.clap.specs.Words.{App, IsAmong, IsPlain, Row, Rule, Text, app_of, fault_of, first_of}
 use Rattle.clap.specs.Words.{matches_of, new_app, new_rule, one_of, with_rule}
 use Rattle.clap.specs.declared.builder.action.ArgAction.TheVariants.{Set, SetTrue}
 use Rattle.clap.specs.declared.builder.command.Command.{Command}
@@ -61,16 +62,16 @@ number_or other None = other
 number_or other (Some text) = digits_value 10 (without_leading_plus text)
 
 -- the listing of a name
-abbrev pub listing_by : Text → Listing
-listing_by name = if bytes_eq name (codes "stacks") then Stacks
+abbrev pub listing_named : Text → Listing
+listing_named name = if bytes_eq name (codes "stacks") then Stacks
     else if bytes_eq name (codes "journal") then Journal
     else if bytes_eq name (codes "audit") then Audit
     else Bases
 
 -- the listing that is named, and the bases where none is
-abbrev pub listing_named : Option Text → Listing
-listing_named None = Bases
-listing_named (Some name) = listing_by name
+abbrev pub listing_or_bases : Option Text → Listing
+listing_or_bases None = Bases
+listing_or_bases (Some name) = listing_named name
 
 -- the flag was given
 abbrev pub is_given : Option Text → Bool
@@ -88,7 +89,7 @@ pub record Asks (words : List Text) (options : Options) : Type 0 where
   pub patience : options.patience
       ≡ number_or 0 (one_of (codes "patience") (rows_of_words listings words))
   pub listing : options.listing
-      ≡ listing_named (first_of (codes "list") (rows_of_words listings words))
+      ≡ listing_or_bases (first_of (codes "list") (rows_of_words listings words))
   pub checkpoint : options.checkpoint
       ≡ is_given (one_of (codes "checkpoint") (rows_of_words listings words))
 
@@ -108,12 +109,12 @@ pub record IsStatusOf (error : ErrorKind) (status : ℕ) : Type 0 where
 abbrev pub AskNothing : List Text → NoOptions → Type 0
 AskNothing words (no.Usage status text) =
     (error : ErrorKind) × IsRefused words error × IsStatusOf error status
-AskNothing words no.OutOfMemory = Unit {0}
+AskNothing words no.Memory = Unit {0}
 
 -- how the program ends on an error of this kind
 abbrev pub IsUsage : ErrorKind → NoOptions → Type 0
 IsUsage error (no.Usage status text) = (error ≢ kind.OutOfMemory) × IsStatusOf error status
-IsUsage error no.OutOfMemory = Unit {0}
+IsUsage error no.Memory = Unit {0}
 
 -- clap's command is the program's command line, without conflicts and without global options
 pub record IsProgram (c : Command) : Type 0 where

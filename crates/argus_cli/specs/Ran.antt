@@ -1,6 +1,6 @@
 -- What a run reads and writes.
-use Rattle.std.specs.Prelude.{◌≡◌, ◌<◌, ℕ, Bool, false, true, ◌&&◌, if◌then◌else◌, List, []}
-use Rattle.std.specs.Prelude.{nat_le, take, Option, ◌⊎◌}
+use Rattle.std.specs.Prelude.{Bool, List, Option, [], false, if◌then◌else◌, nat_le, take, true, ℕ}
+use Rattle.std.specs.Prelude.{◌&&◌, ◌<◌, ◌≡◌, ◌⊎◌}
 use Rattle.std.specs.Io.KnownBytes.{Appends}
 use Rattle.argus_cli.specs.ByWorkers.{IsLeftByWorkers}
 use Rattle.argus_cli.specs.declared.cli_fault.CliFault.{CliFault}
@@ -9,86 +9,101 @@ use Rattle.argus_cli.specs.declared.run_options.Options.{Options}
 use Rattle.argus_commands.specs.Fault.{IsFaultOf, NoFault}
 use Rattle.argus_commands.specs.Lines.{lines_of}
 use Rattle.argus_commands.specs.Script.{PlainScript, Spells}
-use Rattle.argus_commands.specs.declared.script_fault.ScriptFault.{ScriptFault}
+use Rattle.argus_commands.specs.language_declared.script_fault.ScriptFault.{ScriptFault}
 use Rattle.argus_guardian.specs.Checkpoint.{after_checkpoint, is_quiet}
 use Rattle.argus_journal.specs.Folding.{next_entry_number}
 use Rattle.argus_journal.specs.Opening.{empty}
 use Rattle.argus_journal.specs.declared.limits.TheConstants.{MAX_FIRST_ENTRY}
-use Rattle.argus_listings.specs.Listing.{listing_of}
-use Rattle.argus_runs.specs.Played.{IsPlay}
-use Rattle.argus_steps.specs.Step.{Said}
-use Rattle.argus_streams.specs.Input.{ReadUpTo}
+use Rattle.argus_guardian.specs.Listing.{listing_of}
+use Rattle.argus_commands.specs.Played.{IsPlay}
+use Rattle.argus_journal.specs.JournalView.{JournalView}
+use Rattle.argus_commands.specs.FailStop.{has_failed, inner_of}
+use Rattle.argus_commands.specs.Input.{ReadUpTo}
+use Rattle.argus_commands.specs.streams_declared.fail_stop.FailStop.{FailStop}
 
 -- the journal of a new guardian
-abbrev pub new_journal : Said
+abbrev pub new_journal : JournalView
 new_journal = record { opening = empty; entries = [] }
 
 -- there can be a checkpoint: no action is live, and the next entry's number is within the limit
-abbrev pub may_fold : Said → Bool
+abbrev pub may_fold : JournalView → Bool
 may_fold j = is_quiet j && nat_le (next_entry_number j.opening j.entries) MAX_FIRST_ENTRY
 
 -- the journal behind the option: folded where a checkpoint is asked for and there can be one
-abbrev pub checkpointed : Bool → Said → Said
+abbrev pub checkpointed : Bool → JournalView → JournalView
 checkpointed false j = j
 checkpointed true j = if may_fold j then after_checkpoint j else j
 
 -- The bytes spell the script without a faulty line, and its run after a new journal, with the
 -- options, leaves this one: with one worker the arms of a coenter run one after another.
-pub record RunsTo (bytes : List ℕ) (options : Options) (script : PlainScript) (journal : Said)
+pub record RunsTo (bytes : List ℕ) (options : Options) (script : PlainScript)
+    (journal : JournalView)
     : Type 0 where
   pub spelled : Spells (lines_of bytes) script
   pub fine : NoFault (lines_of bytes)
-  pub left : Said
+  pub left : JournalView
   pub alone : options.workers ≡ 1 → IsPlay new_journal script left
   pub together : 1 < options.workers → IsLeftByWorkers script left
   pub folded : journal ≡ checkpointed options.checkpoint left
 
 -- The text is the listing of the guardian on which the script was run that the bytes spell.
-pub record Lists (bytes : List ℕ) (options : Options) (text : List ℕ) : Type 0 where
+pub record ListsRun (bytes : List ℕ) (options : Options) (text : List ℕ) : Type 0 where
   pub script : PlainScript
-  pub journal : Said
+  pub journal : JournalView
   pub runs : RunsTo bytes options script journal
   pub listed : text ≡ listing_of options.listing script.objects.names journal
 
+-- What a run's reader has left to give and what its writer has taken, as far as they tell, and
+-- whether they have failed.
+pub record RunStreams : Type 0 where
+  pub input : Option (List ℕ)
+  pub output : Option (List ℕ)
+  pub input_failed : Bool
+  pub output_failed : Bool
+
+-- the streams of a run, where these tell what a reader has left and what a writer has taken
+abbrev pub streams : {R W : Type 0} → (R → Option (List ℕ)) → (W → Option (List ℕ)) → FailStop R
+    → FailStop W → RunStreams
+streams remaining contents reader writer = record {
+  input = remaining (inner_of reader);
+  output = contents (inner_of writer);
+  input_failed = has_failed reader;
+  output_failed = has_failed writer;
+}
+
 -- A run that succeeded: what was read up to the limit spells a script, and the listing was written.
-pub record Ran (options : Options) (limit : ℕ) (reader reader' writer writer' : Option (List ℕ))
-    : Type 0 where
+pub record Ran (options : Options) (limit : ℕ) (before after : RunStreams) : Type 0 where
   pub bytes : List ℕ
-  pub read : ReadUpTo limit reader reader' bytes
+  pub read : ReadUpTo limit before.input after.input bytes
   pub text : List ℕ
-  pub lists : Lists bytes options text
-  pub written : Appends writer writer' text
+  pub lists : ListsRun bytes options text
+  pub written : Appends before.output after.output text
 
 -- a run whose script was refused: this is the fault of what was read, and nothing was written
-pub record Refused (limit : ℕ) (reader reader' writer writer' : Option (List ℕ))
-    (f : ScriptFault) : Type 0 where
+pub record Refused (limit : ℕ) (before after : RunStreams) (f : ScriptFault) : Type 0 where
   pub bytes : List ℕ
-  pub read : ReadUpTo limit reader reader' bytes
+  pub read : ReadUpTo limit before.input after.input bytes
   pub fault : IsFaultOf (lines_of bytes) f
-  pub kept : writer' ≡ writer
+  pub kept : after.output ≡ before.output
 
 -- a run whose listing was cut short: the front of it was written
-pub record CutShort (options : Options) (limit : ℕ)
-    (reader reader' writer writer' : Option (List ℕ)) : Type 0 where
+pub record CutShort (options : Options) (limit : ℕ) (before after : RunStreams) : Type 0 where
   pub bytes : List ℕ
-  pub read : ReadUpTo limit reader reader' bytes
+  pub read : ReadUpTo limit before.input after.input bytes
   pub text : List ℕ
-  pub lists : Lists bytes options text
+  pub lists : ListsRun bytes options text
   pub count : ℕ
-  pub written : Appends writer writer' (take count text)
+  pub written : Appends before.output after.output (take count text)
 
--- What a run has read and written that failed so; the two flags say whether the reader and the
--- writer have failed.
-abbrev pub Failed : CliFault → Options → ℕ → Option (List ℕ) → Option (List ℕ) → Bool
-    → Option (List ℕ) → Option (List ℕ) → Bool → Type 0
-Failed (fault.Script f) options limit r r' reader_failed w w' writer_failed =
-    Refused limit r r' w w' f
-Failed fault.Memory options limit r r' reader_failed w w' writer_failed =
-    (w' ≡ w) ⊎ CutShort options limit r r' w w'
-Failed fault.Read options limit r r' reader_failed w w' writer_failed =
-    (reader_failed ≡ true) × (w' ≡ w)
-Failed fault.Write options limit r r' reader_failed w w' writer_failed =
-    (writer_failed ≡ true) × CutShort options limit r r' w w'
+-- what a run has read and written that failed so
+abbrev pub RunFailed : Options → ℕ → RunStreams → RunStreams → CliFault → Type 0
+RunFailed options limit before after (fault.Script f) = Refused limit before after f
+RunFailed options limit before after fault.Memory =
+    (after.output ≡ before.output) ⊎ CutShort options limit before after
+RunFailed options limit before after fault.Read =
+    (after.input_failed ≡ true) × (after.output ≡ before.output)
+RunFailed options limit before after fault.Write =
+    (after.output_failed ≡ true) × CutShort options limit before after
 
 -- why bytes weren't run to their end: the fault of their script, or want of memory
 abbrev pub IsRunFault : List ℕ → CliFault → Type 0

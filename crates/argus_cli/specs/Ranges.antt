@@ -1,5 +1,5 @@
 -- Which options a run takes.
-use Rattle.std.specs.Prelude.{◌≤◌, ℕ}
+use Rattle.std.specs.Prelude.{ℕ, ◌≤◌}
 use Rattle.argus_cli.specs.declared.limits.TheConstants.{MAX_PATIENCE, MAX_WORKERS}
 use Rattle.argus_cli.specs.declared.run_options.Options.{Options}
 

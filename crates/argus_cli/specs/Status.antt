@@ -1,5 +1,5 @@
 -- With which status a program ends.
-use Rattle.std.specs.Prelude.{◌≡◌, ℕ, ◌⊎◌, Bool, true}
+use Rattle.std.specs.Prelude.{Bool, true, ℕ, ◌≡◌, ◌⊎◌}
 use Rattle.argus_cli.specs.declared.cli_fault.CliFault.{CliFault}
 use Rattle.argus_cli.specs.declared.cli_fault.CliFault.TheVariants as fault
 use Rattle.argus_cli.specs.declared.no_options.NoOptions.{NoOptions}
@@ -15,7 +15,7 @@ status_of fault.Write = 5
 -- the status is that of a mistake in the command line, or of help
 abbrev pub EndsWith0Or2 : NoOptions → Type 0
 EndsWith0Or2 (no.Usage status text) = (status ≡ 0) ⊎ (status ≡ 2)
-EndsWith0Or2 no.OutOfMemory = Unit {0}
+EndsWith0Or2 no.Memory = Unit {0}
 
 -- a fault that a listing may have: want of memory; or a failed write, if the writer has failed
 abbrev pub IsListingFault : CliFault → Bool → Type 0

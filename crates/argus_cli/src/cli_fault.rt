@@ -4,7 +4,7 @@ ghost use Rattle.std.specs.Prelude.{◌≡◌};
 ghost use Rattle.argus_cli.specs.Status.{status_of};
 
 use argus_commands::ScriptFault;
-use argus_memory::OutOfMemory;
+use argus_values::OutOfMemory;
 use thiserror::Error;
 
 /// Why a run has no listing, or not all of it. Its text is what the program writes to standard

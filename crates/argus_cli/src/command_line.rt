@@ -1,10 +1,10 @@
 //! `options`: what a command line asks for.
 
 ghost use Rattle.std.specs.Borrow.{Bor};
-ghost use Rattle.std.specs.Prelude.{◌≡◌, ◌⊎◌, ◌∷◌, IfErr, IfOk, List, codes, false, map, pos};
-ghost use Rattle.std.specs.Prelude.{string_bytes};
+ghost use Rattle.std.specs.Prelude.{IfErr, IfOk, List, codes, false, map, pos, string_bytes, ◌∷◌};
+ghost use Rattle.std.specs.Prelude.{◌≡◌, ◌⊎◌};
 ghost use Rattle.argus_cli.specs.CommandLine.{AskNothing, Asks, IsProgram, IsRefused, IsUsage};
-ghost use Rattle.argus_cli.specs.CommandLine.{NamesListings, flag_of, listing_by, option_of};
+ghost use Rattle.argus_cli.specs.CommandLine.{NamesListings, flag_of, listing_named, option_of};
 ghost use Rattle.argus_cli.specs.Ranges.{KeepsRanges};
 ghost use Rattle.argus_cli.specs.Status.{EndsWith0Or2};
 ghost use Rattle.argus_cli.specs.declared.limits.TheConstants.{MAX_PATIENCE, MAX_WORKERS};
@@ -14,7 +14,7 @@ ghost use Rattle.clap.specs.declared.builder.value_parser.ValueParser.TheVariant
 use crate::limits::{MAX_PATIENCE, MAX_WORKERS};
 use crate::no_options::NoOptions;
 use crate::run_options::Options;
-use argus_listings::Listing;
+use argus_guardian::Listing;
 use clap::error::ErrorKind;
 use clap::{Arg, ArgAction, Command, Error, value_parser};
 use std::alloc::{AllocError, Global};
@@ -82,7 +82,7 @@ fn with_name(alloc: Global, words: &[String]) -> Result<Vec<&str>, AllocError>
 
 // The listing of a name that the command takes.
 fn listing_named(name: &str) -> Listing
-    ensures { result ≡ listing_by name.now }
+    ensures { result ≡ listing_named name.now }
 {
     match name {
         "stacks" => Listing::Stacks,
@@ -161,11 +161,11 @@ fn usage(alloc: Global, error: &Error) -> NoOptions
     ensures usage { IsUsage (kind_of error.now) result }
 {
     if let ErrorKind::OutOfMemory = error.kind() {
-        return NoOptions::OutOfMemory;
+        return NoOptions::Memory;
     }
     let status = if error.use_stderr() { 2 } else { 0 };
     match format!(in alloc; "{error}") {
         Ok(text) => NoOptions::Usage { status, text },
-        Err(_) => NoOptions::OutOfMemory,
+        Err(_) => NoOptions::Memory,
     }
 }

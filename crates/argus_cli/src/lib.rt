@@ -14,7 +14,7 @@ mod running;
 mod running_by_workers;
 
 pub use argus_commands::{FaultKind, ScriptFault};
-pub use argus_listings::Listing;
+pub use argus_guardian::Listing;
 pub use cli_fault::CliFault;
 pub use command_line::options;
 pub use listing::list;

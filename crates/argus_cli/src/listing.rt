@@ -1,20 +1,18 @@
 //! `list`: what is asked of a guardian, written.
 
-ghost use Rattle.std.specs.Prelude.{◌≡◌, ℕ, take, false, IfErr, OnErr, OnOk};
+ghost use Rattle.std.specs.Prelude.{IfErr, OnErr, OnOk, false, take, ℕ, ◌≡◌};
 ghost use Rattle.std.specs.Io.KnownBytes.{Appends};
-ghost use Rattle.argus_listings.specs.Listing.{listing_of};
+ghost use Rattle.argus_guardian.specs.Listing.{listing_of};
 ghost use Rattle.argus_cli.specs.Status.{IsListingFault};
-ghost use Rattle.argus_streams.specs.Watched.{has_failed, inner_of};
+ghost use Rattle.argus_commands.specs.FailStop.{has_failed, inner_of};
 
 use crate::cli_fault::CliFault;
-use argus_contents::Name;
-use argus_guardian::Guardian;
-use argus_listings::{ListError, Listing};
-use argus_memory::Heap;
-use argus_streams::Watched;
+use argus_commands::FailStop;
+use argus_guardian::{Guardian, ListError, Listing};
+use argus_values::{Heap, Name};
 use std::io::Write;
 
-/// Writes a listing of the guardian, its objects under these names, as `argus_listings::list` does;
+/// Writes a listing of the guardian, its objects under these names, as `argus_guardian::list` does;
 /// the two errors are faults of the program.
 ///
 /// | Error | When | What was written |
@@ -25,7 +23,7 @@ use std::io::Write;
 /// The writer may not have failed before.
 ///
 /// ```text
-/// let mut writer = Watched::new(rt.stdout());
+/// let mut writer = FailStop::new(rt.stdout());
 /// list(heap, &guardian, script.names(), Listing::Stacks, &mut writer)?;
 /// ```
 pub fn list<W: Write + Drop>(
@@ -33,7 +31,7 @@ pub fn list<W: Write + Drop>(
     guardian: &Guardian,
     names: &[Name],
     listing: Listing,
-    writer: &mut Watched<W>,
+    writer: &mut FailStop<W>,
 ) -> Result<(), CliFault>
     requires { has_failed writer.old ≡ false }
     ensures written { OnOk result (Appends (W.contents (inner_of writer.old))
@@ -42,7 +40,7 @@ pub fn list<W: Write + Drop>(
         (W.contents (inner_of writer.new)) (take n (listing_of listing names.now guardian.now))) }
     ensures failed { IfErr result (λ e. IsListingFault e (has_failed writer.new)) }
 {
-    match argus_listings::list(heap, guardian, names, listing, writer) {
+    match argus_guardian::write_listing(heap, guardian, names, listing, writer) {
         Ok(()) => Ok(()),
         Err(ListError::OutOfMemory) => Err(CliFault::Memory),
         Err(ListError::Write) => Err(CliFault::Write),

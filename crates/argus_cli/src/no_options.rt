@@ -8,7 +8,7 @@ use std::alloc::AllocError;
 /// match options(rt.alloc(), words) {
 ///     Ok(options) => ..,
 ///     Err(NoOptions::Usage { status, text }) => ..,     // of `argus --list locks`: 2
-///     Err(NoOptions::OutOfMemory) => ..,
+///     Err(NoOptions::Memory) => ..,
 /// }
 /// ```
 #[derive(Debug, Drop)]
@@ -17,16 +17,16 @@ pub enum NoOptions {
     /// `--help`.
     Usage { status: u8, text: String },
     /// There was no memory to read the command line.
-    OutOfMemory,
+    Memory,
 }
 
 impl From<AllocError> for NoOptions {
     ghost use Rattle.std.specs.Prelude.{◌≡◌};
-    ghost use Rattle.argus_cli.specs.declared.no_options.NoOptions.TheVariants.{OutOfMemory};
+    ghost use Rattle.argus_cli.specs.declared.no_options.NoOptions.TheVariants.{Memory};
 
-    ghost from_gives = { λ _ e. e ≡ OutOfMemory };
+    ghost from_gives = { λ _ e. e ≡ Memory };
 
     fn from(_refused: AllocError) -> NoOptions {
-        NoOptions::OutOfMemory
+        NoOptions::Memory
     }
 }

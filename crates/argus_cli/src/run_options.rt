@@ -1,6 +1,6 @@
 //! `Options`: what is asked of a run.
 
-use argus_listings::Listing;
+use argus_guardian::Listing;
 
 /// What is asked of a run: how many workers run the arms of coenters, how long an access waits for
 /// its lock, which listing is written, and whether a checkpoint is made before it.

@@ -1,34 +1,37 @@
 //! `run`: from the bytes of a script to the listing of the guardian on which it was run.
 
-ghost use Rattle.std.specs.Prelude.{◌≡◌, ◌+◌, ◌<◌, false, IfErr, IfOk, OnOk};
+ghost use Rattle.std.specs.Prelude.{IfErr, IfOk, OnOk, false, ◌+◌, ◌<◌, ◌≡◌};
 ghost use Rattle.argus_commands.specs.Script.{plain_script};
-ghost use Rattle.argus_commands.specs.declared.limits.TheConstants.{MAX_SCRIPT_BYTES};
+ghost use Rattle.argus_commands.specs.language_declared.limits.TheConstants.{MAX_SCRIPT_BYTES};
 ghost use Rattle.argus_cli.specs.ByWorkers.{IsLeftByWorkers};
-ghost use Rattle.argus_cli.specs.Ran.{Failed, IsRunFault, Ran, RunsTo, checkpointed, new_journal};
+ghost use Rattle.argus_cli.specs.Ran.{IsRunFault, Ran, RunFailed, RunsTo, checkpointed};
+ghost use Rattle.argus_cli.specs.Ran.{new_journal, streams};
 ghost use Rattle.argus_cli.specs.Ranges.{IsTeam, KeepsRanges};
-ghost use Rattle.argus_runs.specs.Played.{IsPlay};
-ghost use Rattle.argus_streams.specs.Watched.{has_failed, inner_of};
+ghost use Rattle.argus_commands.specs.Played.{IsPlay};
+ghost use Rattle.argus_commands.specs.FailStop.{has_failed};
 
 use crate::cli_fault::CliFault;
 use crate::listing::list;
 use crate::run_options::Options;
 use crate::running_by_workers::run_by_workers;
 use argus_commands::limits::MAX_SCRIPT_BYTES;
-use argus_commands::{ParseError, Script, parse};
+use argus_commands::{
+    FailStop, InputError, ParseError, Script, parse, read_up_to, run_without_output,
+};
 use argus_guardian::{CheckpointError, Guardian};
-use argus_memory::{Heap, OutOfMemory};
-use argus_runs::run_unwritten;
-use argus_streams::{InputError, Watched, read_up_to};
+use argus_values::{Heap, OutOfMemory};
 use std::io::{Read, Write};
 use std::sync::Wait;
 use std::thread::Threads;
 
 /// Reads a script, runs it on a new guardian and writes the listing that is asked for.
 ///
-/// A script is read up to 16,777,217 bytes: one more than it may have. One worker runs the arms of a
-/// coenter one after another. Several run those of an outermost coenter at once, each on a thread of
+/// A script is read up to 16,777,217 bytes: one more than it may have. One worker runs the arms of
+/// a
+/// coenter one after another. Several run those of an outermost coenter at once, each on a thread
+/// of
 /// its own, and accesses wait for their locks as long as the patience lasts; what they did is then
-/// held against the script and the journal. Where the options ask for a checkpoint, one is made
+/// checked against the script and the journal. Where the options ask for a checkpoint, one is made
 /// behind the run; where there can't be one (an action is live, or the next entry's number is too
 /// great), the journal is listed as it stands.
 ///
@@ -43,29 +46,27 @@ use std::thread::Threads;
 /// several workers it may wait for other threads: for ever where two arms wait for each other.
 ///
 /// ```text
-/// let mut reader = Watched::new(rt.stdin());
-/// let mut writer = Watched::new(rt.stdout());
+/// let mut reader = FailStop::new(rt.stdin());
+/// let mut writer = FailStop::new(rt.stdout());
 /// let asked = Options { workers: 2, patience: 9, listing: Listing::Bases, checkpoint: false };
 /// run(&rt, heap, &mut reader, &mut writer, asked)?;
 /// ```
 pub fn run<T: Threads + Wait + Copy + Drop + Send + Sync, R: Read + Drop, W: Write + Drop>(
     rt: &T,
     heap: Heap,
-    reader: &mut Watched<R>,
-    writer: &mut Watched<W>,
+    reader: &mut FailStop<R>,
+    writer: &mut FailStop<W>,
     options: Options,
 ) -> Result<(), CliFault>
     requires options { KeepsRanges options }
     requires reader { has_failed reader.old ≡ false }
     requires writer { has_failed writer.old ≡ false }
     ensures ran { OnOk result (Ran options (MAX_SCRIPT_BYTES + 1)
-        (R.remaining (inner_of reader.old)) (R.remaining (inner_of reader.new))
-        (W.contents (inner_of writer.old)) (W.contents (inner_of writer.new))) }
-    ensures failed { IfErr result (λ e. Failed e options (MAX_SCRIPT_BYTES + 1)
-        (R.remaining (inner_of reader.old)) (R.remaining (inner_of reader.new))
-        (has_failed reader.new)
-        (W.contents (inner_of writer.old)) (W.contents (inner_of writer.new))
-        (has_failed writer.new)) }
+        (streams R.remaining W.contents reader.old writer.old)
+        (streams R.remaining W.contents reader.new writer.new)) }
+    ensures failed { IfErr result (RunFailed options (MAX_SCRIPT_BYTES + 1)
+        (streams R.remaining W.contents reader.old writer.old)
+        (streams R.remaining W.contents reader.new writer.new)) }
 {
     let bytes = match read_up_to(heap, reader, MAX_SCRIPT_BYTES + 1) {
         Ok(bytes) => bytes,
@@ -117,7 +118,7 @@ fn run_script<T: Threads + Wait + Copy + Drop + Send + Sync>(
         return run_by_workers(rt, heap, script, workers, patience);
     }
     let mut guardian = Guardian::new(heap);
-    run_unwritten(heap, &mut guardian, script)?;
+    run_without_output(heap, &mut guardian, script)?;
     Ok(guardian)
 }
 
@@ -132,6 +133,6 @@ fn fold_if(asked: bool, guardian: &mut Guardian) -> Result<(), OutOfMemory>
         Ok(()) => Ok(()),
         Err(CheckpointError::Busy) => Ok(()),
         Err(CheckpointError::Full) => Ok(()),
-        Err(CheckpointError::OutOfMemory) => Err(OutOfMemory),
+        Err(CheckpointError::Memory) => Err(OutOfMemory),
     }
 }

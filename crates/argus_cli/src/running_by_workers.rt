@@ -1,22 +1,17 @@
 //! A run by several workers, who share a new guardian.
 
-ghost use Rattle.std.specs.Prelude.{◌+◌, ◌≡◌, ◌≤◌, [], All, IfOk, length, true};
-ghost use Rattle.argus_board.specs.Keeper.{Opens};
+ghost use Rattle.std.specs.Prelude.{All, IfOk, [], length, true, ◌+◌, ◌≡◌, ◌≤◌};
+ghost use Rattle.argus_guardian.specs.Keeper.{StartsHistory};
 ghost use Rattle.argus_cli.specs.ByWorkers.{IsLeftByWorkers};
 ghost use Rattle.argus_cli.specs.Ranges.{IsTeam};
 ghost use Rattle.argus_commands.specs.Script.{plain_script};
 ghost use Rattle.argus_journal.specs.Opening.{content_in, empty};
-ghost use Rattle.argus_sharing.specs.Following.{bases_told, effects_told};
-ghost use Rattle.argus_sharing.specs.Locked.{next_number};
+ghost use Rattle.argus_guardian.specs.Following.{journal_bases, journal_effects};
+ghost use Rattle.argus_journal.specs.JournalView.{next_entry};
 
-use argus_board::Keeper;
-use argus_commands::Script;
-use argus_contents::ObjId;
-use argus_guardian::Guardian;
-use argus_memory::{Heap, OutOfMemory};
-use argus_sharing::{Parts, Shared, Sharing};
-use argus_shown::what_is_shown_is_told;
-use argus_workers::{NoGate, run_shared};
+use argus_commands::{NoGate, Script, checked_runs_are_runs, run_shared};
+use argus_guardian::{Guardian, Keeper, Parts, Shared, Sharing};
+use argus_values::{Heap, ObjId, OutOfMemory};
 use std::marker::Brand;
 use std::sync::Wait;
 use std::sync::ledger::Blank;
@@ -66,11 +61,11 @@ fn share<N: Sharing + Send + Sync, T: Threads + Wait + Copy + Drop + Send + Sync
     requires fresh { (guardian.opening ≡ empty) × (guardian.entries ≡ []) }
     requires name { blank.name ≡ N.name }
     requires parts { (blank.parts ≡ N.parts) × (blank.parts ≡ workers + 1) }
-    requires keeper { Opens N.history N.root keeper }
-    requires start { N.start ≡ next_number guardian }
-    requires before { N.before ≡ effects_told guardian }
-    requires opening { N.opening ≡ content_in guardian.opening.objects }
-    requires first { N.first ≡ bases_told guardian }
+    requires keeper { StartsHistory N.history N.root keeper }
+    requires start { N.start ≡ next_entry guardian }
+    requires before { N.before ≡ journal_effects guardian }
+    requires opening { N.opening_contents ≡ content_in guardian.opening.objects }
+    requires first { N.first ≡ journal_bases guardian }
     ensures { IfOk result (λ left. IsLeftByWorkers (plain_script script.now) left) }
 {
     match Shared::<N, T>::new(*rt, heap, guardian, workers + 1, 0, blank, keeper) {
@@ -108,7 +103,7 @@ fn run_and_settle<N: Sharing + Send + Sync, T: Threads + Wait + Drop + Send + Sy
     };
     if is_from_start(&guardian) {
         guardian.journal_is_legal();
-        what_is_shown_is_told();
+        checked_runs_are_runs();
         Ok(guardian)
     } else {
         Err(OutOfMemory)

@@ -1,17 +1,20 @@
-pub mod Command
-pub mod Fault
-pub mod Fields
-pub mod Int
-pub mod Laws
-pub mod Levels
-pub mod Lines
-pub mod Numbered
-pub mod Objects
-pub mod Operation
-pub mod Part
-pub mod Parsed
-pub mod Reading
-pub mod Said
-pub mod Script
-pub mod Spelled
-pub mod Stands
+pub use Rattle.argus_language.specs.Fault
+pub use Rattle.argus_language.specs.Laws as LanguageLaws
+pub use Rattle.argus_language.specs.Lines
+pub use Rattle.argus_language.specs.PlainStep
+pub use Rattle.argus_language.specs.Script
+pub use Rattle.argus_runs.specs.Laws as RunLaws
+pub use Rattle.argus_runs.specs.Lines as EntryLines
+pub use Rattle.argus_runs.specs.Played
+pub use Rattle.argus_runs.specs.RunOutcome
+pub use Rattle.argus_runs.specs.RunPrefix
+pub use Rattle.argus_runs.specs.Running
+pub use Rattle.argus_run_check.specs.Laws as RunCheckLaws
+pub use Rattle.argus_run_check.specs.Order
+pub use Rattle.argus_run_check.specs.RunCheck
+pub use Rattle.argus_streams.specs.FailStop
+pub use Rattle.argus_streams.specs.Input
+pub use Rattle.argus_language.specs.declared as language_declared
+pub use Rattle.argus_runs.specs.declared as runs_declared
+pub use Rattle.argus_run_check.specs.declared as run_check_declared
+pub use Rattle.argus_streams.specs.declared as streams_declared

@@ -1,48 +1,21 @@
-//! Scripts: the language, parsed.
+//! Scripts: the crate that users name.
 //!
-//! [`parse`] goes from the bytes of a script to its steps, or to its first faulty line.
+//! It passes on `argus_language` (scripts, parsed), `argus_runs` (a script, run on a guardian),
+//! `argus_workers` (a script, run by several workers), `argus_run_check` (a run, checked by its
+//! receipts) and `argus_streams` (readers and writers that are never tried again once they failed).
+//!
+//! ```text
+//! use argus_commands::{FailStop, Gate, parse, run_serial, run_shared};
+//! ```
 #![tactic(auto)]
 
-mod action_kind;
-mod any_operation;
-mod array_operation;
-mod cut;
-mod fault_kind;
-mod fields;
-mod int;
-mod laws;
-mod level;
-pub mod limits;
-mod line;
-mod line_error;
-mod line_reading;
-mod lock;
-mod numbering;
-mod objects;
-mod open_block;
-mod opening;
-mod operation;
-mod operation_reading;
-mod parse_error;
-mod parsing;
-mod place;
-mod reading;
-mod record_operation;
-mod script;
-mod script_fault;
-mod step;
-mod step_making;
-mod taking;
-mod variant_operation;
-mod words;
-
-pub use action_kind::ActionKind;
-pub use fault_kind::FaultKind;
-pub use laws::lines_spell_one_script;
-pub use lock::Lock;
-pub use opening::Opening;
-pub use parse_error::ParseError;
-pub use parsing::parse;
-pub use script::Script;
-pub use script_fault::ScriptFault;
-pub use step::Step;
+pub use argus_language::{
+    ActionKind, BlockKind, FaultKind, Lock, ParseError, Script, ScriptFault, Step, limits,
+    lines_spell_one_script, parse,
+};
+pub use argus_run_check::{
+    ArmOutcome, Ended, RunReport, check_run, checked_runs_are_runs, has_risen, report_of,
+};
+pub use argus_runs::{RunFault, plays_tell, run_serial, run_without_output, runs_end};
+pub use argus_streams::{FailStop, InputError, read_up_to, write_whole};
+pub use argus_workers::{Gate, NoGate, run_shared};

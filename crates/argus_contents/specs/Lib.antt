@@ -2,6 +2,7 @@ pub mod Answer
 pub mod Change
 pub mod Content
 pub mod ContentCode
+pub mod Effect
 pub mod Fitting
 pub mod Name
 pub mod Place

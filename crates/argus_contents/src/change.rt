@@ -35,7 +35,8 @@ use std::collections::VecDeque;
 /// | `Remh` | an array | the last leaves | `Val` of it |
 /// | `Reml` | an array | the first leaves and `low` rises by 1 | `Val` of it |
 /// | `SetLow(i)` | an array | `low` becomes `i` | `Done` |
-/// | `Trim(i, n)` | an array | what is from `i` on is kept, at most `n`; `low` becomes `i` | `Done` |
+/// | `Trim(i, n)` | an array | what is from `i` on is kept, at most `n`; `low` becomes `i` | `Done`
+/// |
 /// | `ChangeTag(t, v)` | a variant | tag and value become these | `Done` |
 /// | `Touch` | any, also absent | unchanged | `Done` |
 ///

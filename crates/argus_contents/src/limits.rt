@@ -3,9 +3,11 @@
 //! | What | Limit |
 //! |---|---|
 //! | low bound of an array | `MIN_BOUND` to `MAX_BOUND` |
-//! | high bound of an array | `MAX_BOUND`; an empty array at `MIN_BOUND` has the high bound `MIN_BOUND - 1` |
+//! | high bound of an array | `MAX_BOUND`; an empty array at `MIN_BOUND` has the high bound
+//! `MIN_BOUND - 1` |
 //! | elements of an array | `MAX_ITEMS` |
-//! | depth of a value or a type | `MAX_VALUE_DEPTH`: a scalar has 1, a compound 1 more than its deepest part |
+//! | depth of a value or a type | `MAX_VALUE_DEPTH`: a scalar has 1, a compound 1 more than its
+//! deepest part |
 //! | names of a record, variant, struct or oneof | 1 to `MAX_NAMES`, all distinct |
 //! | bytes of a name | 1 to `MAX_NAME_BYTES`, of `[a-z0-9_]` |
 //! | ancestors of an action, itself among them | `MAX_ACTION_DEPTH` |

@@ -4,10 +4,10 @@ use denote.Param.Send.{IsSend, recorded_send, sendable, struct_send, view_send}
 use Rattle.argus_embed.specs.contracts.embedded.Embedded.{the_row as embedded_row}
 use Rattle.argus_embed.specs.contracts.embedded.Embedded.TheInside.{the_type as embedded_inside}
 use Rattle.argus_embed.specs.contracts.kept.Kept.{the_field as kept_field}
-use Rattle.argus_entries.proofs.Crossing as entries
-use Rattle.argus_guardian.proofs.Crossing.{guardian_sends}
-use Rattle.argus_memory.proofs.Crossing as memory
-use Rattle.argus_memory.proofs.heap.Heap.TheSendSync.{the_field_send as heap_field_sends}
+use Rattle.argus_journal.proofs.EntriesCrossing as entries
+use Rattle.argus_guardian.proofs.GuardianCrossing.{guardian_sends}
+use Rattle.argus_values.proofs.MemoryCrossing as memory
+use Rattle.argus_values.proofs.HeapCrossing.{the_field_send as heap_field_sends}
 use Rattle.std.proofs.Crossing.{crosses as std_crosses}
 
 kept_field_sends : IsSend kept_field.row

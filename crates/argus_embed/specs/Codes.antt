@@ -1,13 +1,17 @@
--- The two numbers by which a host is told what came of a call: a status, and what goes with it. They
+-- The two numbers by which a host is told what came of a call: a status, and what goes with it.
+-- They
 -- are those of the C header.
-use Rattle.std.specs.Prelude.{Bool, false, if◌then◌else◌, nat_lt, pos, true, ℕ, ℤ, ◌^◌, ◌-◌}
-use Rattle.argus_contents.specs.declared.signal.Signal.{Signal}
-use Rattle.argus_contents.specs.declared.signal.Signal.TheVariants.{Absent, Bounds, Exists, Limits}
-use Rattle.argus_contents.specs.declared.signal.Signal.TheVariants.{NegativeSize, WrongTag}
-use Rattle.argus_entries.specs.declared.refusal.Refusal.{Refusal}
-use Rattle.argus_entries.specs.declared.refusal.Refusal.TheVariants.{Conflict, IllTyped, NoAction}
-use Rattle.argus_entries.specs.declared.refusal.Refusal.TheVariants.{NoObject, NoSiblings, Over}
-use Rattle.argus_entries.specs.declared.refusal.Refusal.TheVariants.{Suspended, TooDeep, TooMany}
+use Rattle.std.specs.Prelude.{Bool, false, if◌then◌else◌, nat_lt, pos, true, ℕ, ℤ, ◌-◌, ◌^◌}
+use Rattle.argus_values.specs.contents_declared.signal.Signal.{Signal}
+use Rattle.argus_values.specs.contents_declared.signal.Signal.TheVariants.{Absent, Bounds, Exists}
+use Rattle.argus_values.specs.contents_declared.signal.Signal.TheVariants.{Limits, NegativeSize}
+use Rattle.argus_values.specs.contents_declared.signal.Signal.TheVariants.{WrongTag}
+use Rattle.argus_journal.specs.entries_declared.refusal.Refusal.{Refusal}
+use Rattle.argus_journal.specs.entries_declared.refusal.Refusal.TheVariants.{Conflict, IllTyped}
+use Rattle.argus_journal.specs.entries_declared.refusal.Refusal.TheVariants.{NoAction, NoObject}
+use Rattle.argus_journal.specs.entries_declared.refusal.Refusal.TheVariants.{NoSiblings, Over}
+use Rattle.argus_journal.specs.entries_declared.refusal.Refusal.TheVariants.{Suspended, TooDeep}
+use Rattle.argus_journal.specs.entries_declared.refusal.Refusal.TheVariants.{TooMany}
 use Rattle.argus_embed.specs.declared.embed_error.EmbedError.{EmbedError}
 use Rattle.argus_embed.specs.declared.embed_error.EmbedError.TheVariants as error
 use Rattle.argus_embed.specs.declared.outcome.Outcome.{Outcome}

@@ -1,7 +1,7 @@
 -- The text that is kept.
 use Rattle.std.specs.Prelude.{List, None, Option, Some, length, take, ℕ, ◌<◌, ◌≡◌, ◌≤◌}
-use Rattle.argus_entries.specs.Reply.{plain_reply}
-use Rattle.argus_embed.specs.State.{reply_text}
+use Rattle.argus_journal.specs.Reply.{plain_reply}
+use Rattle.argus_embed.specs.Embedded.{reply_text}
 use Rattle.argus_embed.specs.declared.kept.Kept.{Kept}
 use Rattle.argus_embed.specs.declared.kept.Kept.TheVariants as kept
 

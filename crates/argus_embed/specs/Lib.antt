@@ -2,4 +2,4 @@ pub mod Codes
 pub mod Kept
 pub mod Questions
 pub mod Requests
-pub mod State
+pub mod Embedded

@@ -3,26 +3,27 @@ use Rattle.std.specs.Fmt.{decimal}
 use Rattle.std.specs.List.{flat_map, range_with_len}
 use Rattle.std.specs.Option.{option_map}
 use Rattle.std.specs.Prelude.{List, None, Option, Some, [], codes, map, pos, ℕ, ◌++◌, ◌∷◌, ◌≡◌}
-use Rattle.argus_contents.specs.Content.{PlainContent}
-use Rattle.argus_entries.specs.Call.{test_read, test_write}
-use Rattle.argus_entries.specs.EntrySpelling.{entry_spelling}
-use Rattle.argus_guardian.specs.Telling.{where_declared}
+use Rattle.argus_values.specs.Content.{PlainContent}
+use Rattle.argus_journal.specs.Call.{test_read, test_write}
+use Rattle.argus_journal.specs.EntrySpelling.{entry_spelling}
+use Rattle.argus_guardian.specs.Objects.{where_declared}
 use Rattle.argus_journal.specs.Events.{says_yes}
 use Rattle.argus_journal.specs.Folding.{next_entry_number}
 use Rattle.argus_journal.specs.Journal.{entry_at}
 use Rattle.argus_journal.specs.Objects.{declared}
-use Rattle.argus_journal.specs.Words.{base_of, readers_of, versions_of}
-use Rattle.argus_listings.specs.Listing.{content_text, listing_of}
-use Rattle.argus_steps.specs.Step.{Said, reply_to}
+use Rattle.argus_journal.specs.JournalFacts.{base_of, readers_of, versions_of}
+use Rattle.argus_guardian.specs.Listing.{content_text, listing_of}
+use Rattle.argus_journal.specs.JournalView.{JournalView, reply_to}
 use Rattle.argus_embed.specs.Codes.{as_number}
-use Rattle.argus_embed.specs.State.{State, actions_begun}
+use Rattle.argus_embed.specs.Embedded.{EmbeddedState, actions_begun}
 use Rattle.argus_embed.specs.declared.embed_error.EmbedError.{EmbedError}
 use Rattle.argus_embed.specs.declared.embed_error.EmbedError.TheVariants as error
 use Rattle.argus_embed.specs.declared.outcome.Outcome.{Outcome}
 use Rattle.argus_embed.specs.declared.outcome.Outcome.TheVariants as outcome
 use Rattle.argus_embed.specs.declared.question.Question.{Question}
 use Rattle.argus_embed.specs.declared.question.Question.TheVariants as question
-use Rattle.argus_listings.specs.declared.listing.Listing.TheVariants.{Audit, Bases, Journal, Stacks}
+use Rattle.argus_guardian.specs.listings_declared.listing.Listing.TheVariants.{Audit, Bases}
+use Rattle.argus_guardian.specs.listings_declared.listing.Listing.TheVariants.{Journal, Stacks}
 
 -- the numbers stand for the question
 abbrev pub Asks : ℕ → ℕ → ℕ → ℕ → Question → Type 0
@@ -65,25 +66,28 @@ abbrev pub object_names : ℕ → List (List ℕ)
 object_names count = map object_name (range_with_len 0 count)
 
 -- the text that a question is answered, if it is answered by one
-abbrev pub text_to : Said → Question → Option (List ℕ)
-text_to said (question.Base o) =
-    option_map content_text (where_declared said o.0 (base_of said.opening said.entries o.0))
-text_to said (question.Readers o) =
-    option_map action_lines (where_declared said o.0 (readers_of said.opening said.entries o.0))
-text_to said (question.Versions o) =
-    option_map seen_lines (where_declared said o.0 (versions_of said.opening said.entries o.0))
-text_to said (question.Entry at) =
-    option_map (entry_spelling at) (entry_at said.opening said.entries at)
-text_to said (question.List listing) =
-    Some (listing_of listing (object_names (declared said.opening said.entries)) said)
-text_to said (question.CanRead a o) = None
-text_to said (question.CanWrite a o) = None
-text_to said question.Objects = None
-text_to said question.Actions = None
-text_to said question.Entries = None
+abbrev pub text_to : JournalView → Question → Option (List ℕ)
+text_to journal (question.Base o) =
+    option_map content_text (where_declared journal o.0
+    (base_of journal.opening journal.entries o.0))
+text_to journal (question.Readers o) =
+    option_map action_lines (where_declared journal o.0
+    (readers_of journal.opening journal.entries o.0))
+text_to journal (question.Versions o) =
+    option_map seen_lines (where_declared journal o.0
+    (versions_of journal.opening journal.entries o.0))
+text_to journal (question.Entry at) =
+    option_map (entry_spelling at) (entry_at journal.opening journal.entries at)
+text_to journal (question.List listing) =
+    Some (listing_of listing (object_names (declared journal.opening journal.entries)) journal)
+text_to journal (question.CanRead a o) = None
+text_to journal (question.CanWrite a o) = None
+text_to journal question.Objects = None
+text_to journal question.Actions = None
+text_to journal question.Entries = None
 
 -- the same with this text kept
-abbrev pub with_text : State → List ℕ → State
+abbrev pub with_text : EmbeddedState → List ℕ → EmbeddedState
 with_text state text = record {
   journal = state.journal;
   newest = state.newest;
@@ -91,45 +95,45 @@ with_text state text = record {
 }
 
 -- it is told as a text, which is there and is kept
-abbrev pub IsText : Option (List ℕ) → State → State → Outcome → Type 0
+abbrev pub IsText : Option (List ℕ) → EmbeddedState → EmbeddedState → Outcome → Type 0
 IsText (Some text) old new told = (told ≡ outcome.Text) × (new ≡ with_text old text)
 IsText None old new told = ⊥
 
 -- it is told as this, and nothing has changed
-abbrev pub IsPlain : Outcome → State → State → Outcome → Type 0
+abbrev pub IsPlain : Outcome → EmbeddedState → EmbeddedState → Outcome → Type 0
 IsPlain expected old new told = (told ≡ expected) × (new ≡ old)
 
 -- what the question is told as, by the journal, and what is kept of it
-abbrev pub IsTold : Question → State → State → Outcome → Type 0
-IsTold (question.CanRead a o) old new told =
+abbrev pub IsAnswerTo : Question → EmbeddedState → EmbeddedState → Outcome → Type 0
+IsAnswerTo (question.CanRead a o) old new told =
     IsPlain (outcome.Flag (says_yes (reply_to old.journal (test_read a.0 o.0)))) old new told
-IsTold (question.CanWrite a o) old new told =
+IsAnswerTo (question.CanWrite a o) old new told =
     IsPlain (outcome.Flag (says_yes (reply_to old.journal (test_write a.0 o.0)))) old new told
-IsTold question.Objects old new told =
+IsAnswerTo question.Objects old new told =
     IsPlain (outcome.Number (pos (declared old.journal.opening old.journal.entries))) old new told
-IsTold question.Actions old new told =
+IsAnswerTo question.Actions old new told =
     IsPlain (outcome.Number (actions_begun old.newest)) old new told
-IsTold question.Entries old new told =
+IsAnswerTo question.Entries old new told =
     IsPlain (outcome.Number (as_number
     (next_entry_number old.journal.opening old.journal.entries))) old new told
-IsTold (question.Base o) old new told =
+IsAnswerTo (question.Base o) old new told =
     IsText (text_to old.journal (question.Base o)) old new told
-IsTold (question.Readers o) old new told =
+IsAnswerTo (question.Readers o) old new told =
     IsText (text_to old.journal (question.Readers o)) old new told
-IsTold (question.Versions o) old new told =
+IsAnswerTo (question.Versions o) old new told =
     IsText (text_to old.journal (question.Versions o)) old new told
-IsTold (question.Entry at) old new told =
+IsAnswerTo (question.Entry at) old new told =
     IsText (text_to old.journal (question.Entry at)) old new told
-IsTold (question.List listing) old new told =
+IsAnswerTo (question.List listing) old new told =
     IsText (text_to old.journal (question.List listing)) old new told
 
 -- why there is no answer: there is nothing of which it is asked; want of memory says nothing of it
-abbrev pub IsUntold : Option (List ℕ) → EmbedError → Type 0
-IsUntold text error.NotThere = text ≡ None
-IsUntold text error.OutOfMemory = Unit {0}
-IsUntold text (error.BadText at) = ⊥
-IsUntold text error.BadShape = ⊥
-IsUntold text error.BadNumber = ⊥
-IsUntold text error.BadKind = ⊥
-IsUntold text error.Busy = ⊥
-IsUntold text error.Full = ⊥
+abbrev pub IsUnanswered : Option (List ℕ) → EmbedError → Type 0
+IsUnanswered text error.NotThere = text ≡ None
+IsUnanswered text error.OutOfMemory = Unit {0}
+IsUnanswered text (error.BadText at) = ⊥
+IsUnanswered text error.BadShape = ⊥
+IsUnanswered text error.BadNumber = ⊥
+IsUnanswered text error.BadKind = ⊥
+IsUnanswered text error.Busy = ⊥
+IsUnanswered text error.Full = ⊥

@@ -1,22 +1,23 @@
 -- Which call the numbers and the text of a request stand for, and why one stands for none.
-use Rattle.std.specs.Prelude.{List, pos, true, ℕ, ℤ, int_lt, ◌≡◌, ◌≤◌, ◌⊎◌, ◌||◌}
-use Rattle.argus_contents.specs.Change.{PlainChange, addh, addl, change_tag, create, reml, remh}
-use Rattle.argus_contents.specs.Change.{set_field, set_low, store, touch, trim}
-use Rattle.argus_contents.specs.declared.query.Query.{Query}
-use Rattle.argus_contents.specs.declared.query.Query.TheVariants.{Bottom, Fetch, Field, High, IsTag}
-use Rattle.argus_contents.specs.declared.query.Query.TheVariants.{Low, Size, TagValue, Top, Whole}
-use Rattle.argus_entries.specs.Call.{PlainCall, abort, abort_others, alter, ask, begin_nested}
-use Rattle.argus_entries.specs.Call.{begin_sub, begin_top, commit, declare, test_read, test_write}
-use Rattle.argus_texts.specs.ContentSpelling.{content_spelling}
-use Rattle.argus_texts.specs.Fault.{IsContentText, IsFault, IsValueText}
-use Rattle.argus_texts.specs.ShapeSpelling.{IsShapeText, shape_spelling}
-use Rattle.argus_texts.specs.Spelling.{spelling}
-use Rattle.argus_embed.specs.State.{State, after_call, outcome_of}
+use Rattle.std.specs.Prelude.{List, int_lt, pos, true, ℕ, ℤ, ◌||◌, ◌≡◌, ◌≤◌, ◌⊎◌}
+use Rattle.argus_values.specs.Change.{PlainChange, addh, addl, change_tag, create, remh, reml}
+use Rattle.argus_values.specs.Change.{set_field, set_low, store, touch, trim}
+use Rattle.argus_values.specs.contents_declared.query.Query.{Query}
+use Rattle.argus_values.specs.contents_declared.query.Query.TheVariants.{Bottom, Fetch, Field, High}
+use Rattle.argus_values.specs.contents_declared.query.Query.TheVariants.{IsTag, Low, Size, TagValue}
+use Rattle.argus_values.specs.contents_declared.query.Query.TheVariants.{Top, Whole}
+use Rattle.argus_journal.specs.Call.{PlainCall, abort, abort_others, alter, ask, begin_nested}
+use Rattle.argus_journal.specs.Call.{begin_sub, begin_top, commit, declare, test_read, test_write}
+use Rattle.argus_values.specs.ContentSpelling.{content_spelling}
+use Rattle.argus_values.specs.Fault.{IsContentText, IsFault, IsValueText}
+use Rattle.argus_values.specs.ShapeSpelling.{IsShapeText, shape_spelling}
+use Rattle.argus_values.specs.Spelling.{spelling}
+use Rattle.argus_embed.specs.Embedded.{EmbeddedState, after_call, outcome_of}
 use Rattle.argus_embed.specs.declared.embed_error.EmbedError.{EmbedError}
 use Rattle.argus_embed.specs.declared.embed_error.EmbedError.TheVariants as error
 use Rattle.argus_embed.specs.declared.outcome.Outcome.{Outcome}
 use Rattle.argus_embed.specs.declared.request.Request.{Request}
-use Rattle.argus_steps.specs.Step.{reply_to}
+use Rattle.argus_journal.specs.JournalView.{reply_to}
 
 -- the kind and the first number are those of the query
 abbrev pub SaysQuery : ℕ → ℤ → Query → Type 0
@@ -66,8 +67,10 @@ Says r text (alter a o change) =
 abbrev pub IsNoPart : ℤ → Type 0
 IsNoPart n = (int_lt n (pos 0) || int_lt (pos 255) n) ≡ true
 
--- why the request stands for no call: the text is no content's for a creation, no value's for another
--- change, no shape's for a declaration; a field's or tag's number is none; there is no such kind. Want
+-- why the request stands for no call: the text is no content's for a creation, no value's for
+-- another
+-- change, no shape's for a declaration; a field's or tag's number is none; there is no such kind.
+-- Want
 -- of memory says nothing of it
 abbrev pub IsUnread : Request → List ℕ → EmbedError → Type 0
 IsUnread r text (error.BadText at) =
@@ -82,7 +85,7 @@ IsUnread r text error.Busy = ⊥
 IsUnread r text error.Full = ⊥
 
 -- the call that the request stands for was made, and this came of it
-abbrev pub IsCalled : Request → List ℕ → State → State → Outcome → Type 0
+abbrev pub IsCalled : Request → List ℕ → EmbeddedState → EmbeddedState → Outcome → Type 0
 IsCalled r text old new outcome =
     (call : PlainCall) × Says r text call × (new ≡ after_call old call)
     × (outcome ≡ outcome_of (reply_to old.journal call))

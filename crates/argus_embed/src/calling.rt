@@ -1,10 +1,10 @@
 //! How a host calls.
 
-ghost use Rattle.std.specs.Prelude.{◌≡◌, IfErr, IfOk, OnErr, OnOk};
+ghost use Rattle.std.specs.Prelude.{IfErr, IfOk, OnErr, OnOk, ◌≡◌};
 ghost use Rattle.argus_embed.specs.Requests.{IsCalled, IsUnread};
-ghost use Rattle.argus_embed.specs.State.{after_call, outcome_of};
-ghost use Rattle.argus_entries.specs.Call.{plain_call};
-ghost use Rattle.argus_steps.specs.Step.{reply_to};
+ghost use Rattle.argus_embed.specs.Embedded.{after_call, outcome_of};
+ghost use Rattle.argus_journal.specs.Call.{plain_call};
+ghost use Rattle.argus_journal.specs.JournalView.{reply_to};
 
 use crate::embed_error::EmbedError;
 use crate::embedded::Embedded;
@@ -13,8 +13,8 @@ use crate::outcome::Outcome;
 use crate::reporting::{newest_by, outcome_of};
 use crate::request::Request;
 use crate::requesting::call_of;
-use argus_entries::Call;
-use argus_memory::OutOfMemory;
+use argus_journal::Call;
+use argus_values::OutOfMemory;
 use std::mem::replace;
 
 impl Embedded {
@@ -24,7 +24,8 @@ impl Embedded {
     /// | Error | When |
     /// |---|---|
     /// | `BadText`, `BadShape` | the text is no written form of what the call takes |
-    /// | `BadNumber` | the call takes a field or a tag, and the first number isn't within 0 to 255 |
+    /// | `BadNumber` | the call takes a field or a tag, and the first number isn't within 0 to 255
+    /// |
     /// | `BadKind` | there is no such kind |
     /// | `OutOfMemory` | memory is wanting, for what the text says or for the call |
     ///

@@ -1,10 +1,10 @@
 //! How a host folds the journal's past.
 
-ghost use Rattle.std.specs.Prelude.{◌≡◌, ◌↔◌, ◌<◌, ◌⊎◌, IfErr, OnErr, OnOk};
-ghost use Rattle.std.specs.Prelude.{Some, false, true};
+ghost use Rattle.std.specs.Prelude.{IfErr, OnErr, OnOk, Some, false, true, ◌<◌, ◌↔◌, ◌≡◌, ◌⊎◌};
 ghost use Rattle.std.specs.Result.{result_err};
-ghost use Rattle.argus_embed.specs.State.{after_fold};
-ghost use Rattle.argus_embed.specs.declared.embed_error.EmbedError.TheVariants.{Busy, Full, OutOfMemory};
+ghost use Rattle.argus_embed.specs.Embedded.{after_fold};
+ghost use Rattle.argus_embed.specs.declared.embed_error.EmbedError.TheVariants.{Busy, Full};
+ghost use Rattle.argus_embed.specs.declared.embed_error.EmbedError.TheVariants.{OutOfMemory};
 ghost use Rattle.argus_guardian.specs.Checkpoint.{is_quiet};
 ghost use Rattle.argus_journal.specs.Folding.{next_entry_number};
 ghost use Rattle.argus_journal.specs.declared.limits.TheConstants.{MAX_FIRST_ENTRY};
@@ -14,7 +14,8 @@ use crate::embedded::Embedded;
 use argus_guardian::CheckpointError;
 
 impl Embedded {
-    /// Folds the journal's past into its opening: objects keep what is in them for good, entries and
+    /// Folds the journal's past into its opening: objects keep what is in them for good, entries
+    /// and
     /// actions their numbers. What is kept for the host stays.
     ///
     /// Errors, in this order: `Busy` where an action is live, `Full` where the next entry's number
@@ -34,7 +35,7 @@ impl Embedded {
             Ok(()) => Ok(()),
             Err(CheckpointError::Busy) => Err(EmbedError::Busy),
             Err(CheckpointError::Full) => Err(EmbedError::Full),
-            Err(CheckpointError::OutOfMemory) => Err(EmbedError::OutOfMemory),
+            Err(CheckpointError::Memory) => Err(EmbedError::OutOfMemory),
         }
     }
 }

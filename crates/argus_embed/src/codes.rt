@@ -3,8 +3,8 @@
 ghost use Rattle.std.specs.Prelude.{◌≡◌};
 ghost use Rattle.argus_embed.specs.Codes.{as_number, flag_code, refusal_code, signal_code};
 
-use argus_contents::Signal;
-use argus_entries::Refusal;
+use argus_journal::Refusal;
+use argus_values::Signal;
 
 pub(crate) fn flag_code(truth: bool) -> i64
     ensures { result ≡ flag_code truth }

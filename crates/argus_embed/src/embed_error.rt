@@ -4,7 +4,7 @@ ghost use Rattle.std.specs.Prelude.{◌≡◌, ◌≤◌};
 ghost use Rattle.argus_embed.specs.Codes.{error_codes};
 
 use crate::codes::as_number;
-use argus_memory::OutOfMemory;
+use argus_values::OutOfMemory;
 use thiserror::Error;
 
 /// Why no call was made, or no question answered. Nothing has changed then.

@@ -1,12 +1,12 @@
 //! `Embedded`: a guardian with what is kept for its host.
 
 ghost use Rattle.std.specs.Prelude.{◌≡◌};
-ghost use Rattle.argus_embed.specs.State.{at_first};
+ghost use Rattle.argus_embed.specs.Embedded.{empty_state};
 
 use crate::kept::Kept;
 use argus_actions::ActionId;
 use argus_guardian::Guardian;
-use argus_memory::Heap;
+use argus_values::Heap;
 use std::marker::Model;
 
 /// A guardian as a host holds it. Contracts see its journal, the newest action that was begun, and
@@ -15,7 +15,7 @@ use std::marker::Model;
 /// ```text
 /// let mut bank = Embedded::new(heap);
 /// let begun = bank.call(&begin_top, "")?;                 // Outcome::Action(0)
-/// let stacks = bank.tell(Question::List(Listing::Stacks))?;
+/// let stacks = bank.answer_question(Question::List(Listing::Stacks))?;
 /// let size = bank.reply(&mut room)?;                      // its text, and again if it didn't fit
 /// ```
 #[derive(Drop)]
@@ -28,16 +28,16 @@ pub struct Embedded {
 
 impl Model for Embedded {
     ghost use Rattle.argus_embed.specs.Kept.{kept_text};
-    ghost use Rattle.argus_embed.specs.State.{State, state_coded};
-    ghost use Rattle.argus_journal.specs.Journal.{number_of};
+    ghost use Rattle.argus_embed.specs.Embedded.{EmbeddedState, embedded_state_coded};
+    ghost use Rattle.argus_journal.specs.Journal.{action_number_of};
 
-    ghost Value = { State };
+    ghost Value = { EmbeddedState };
 
-    ghost coded = { state_coded };
+    ghost coded = { embedded_state_coded };
 
     ghost view = { λ e. record {
       journal = e.guardian;
-      newest = number_of e.newest;
+      newest = action_number_of e.newest;
       text = kept_text e.kept;
     } };
 }
@@ -45,7 +45,7 @@ impl Model for Embedded {
 impl Embedded {
     /// A guardian with no object, no action and no entry. It takes no memory.
     pub fn new(heap: Heap) -> Embedded
-        ensures { result ≡ at_first }
+        ensures { result ≡ empty_state }
     {
         Embedded {
             heap,
@@ -57,7 +57,7 @@ impl Embedded {
 
     /// Another one with no object, no action and no entry, in the same heap. It takes no memory.
     pub fn beside(&self) -> Embedded
-        ensures { result ≡ at_first }
+        ensures { result ≡ empty_state }
     {
         Embedded::new(self.heap)
     }

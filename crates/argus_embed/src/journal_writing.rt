@@ -1,20 +1,17 @@
 //! An entry's line, and the listings, as texts.
 
 ghost use Rattle.std.specs.Option.{option_map};
-ghost use Rattle.std.specs.Prelude.{◌≡◌, IfOk};
+ghost use Rattle.std.specs.Prelude.{IfOk, ◌≡◌};
 ghost use Rattle.argus_embed.specs.Questions.{object_name, object_names};
-ghost use Rattle.argus_entries.specs.EntrySpelling.{entry_spelling};
+ghost use Rattle.argus_journal.specs.EntrySpelling.{entry_spelling};
 ghost use Rattle.argus_journal.specs.Journal.{entry_at};
 ghost use Rattle.argus_journal.specs.Objects.{declared};
-ghost use Rattle.argus_listings.specs.Listing.{listing_of};
+ghost use Rattle.argus_guardian.specs.Listing.{listing_of};
 
 use crate::object_writing::append_number;
-use argus_contents::Name;
-use argus_entries::write_entry;
-use argus_guardian::Guardian;
-use argus_listings::{Listing, list};
-use argus_memory::{Heap, OutOfMemory, Room};
-use argus_streams::Watched;
+use argus_guardian::{FailStop, Guardian, Listing, write_listing};
+use argus_journal::write_entry;
+use argus_values::{Heap, Name, OutOfMemory, Room};
 
 /// The line of the entry with this number; None where the journal hasn't it.
 pub(crate) fn entry_text(
@@ -44,9 +41,9 @@ pub(crate) fn listing_text(
         (object_names (declared guardian.now.opening guardian.now.entries)) guardian.now) }
 {
     let names = object_names(heap, guardian.objects())?;
-    let mut writer = Watched::new(Vec::new(heap.room()));
+    let mut writer = FailStop::new(Vec::new(heap.room()));
     // A write to a list fails for want of memory alone.
-    match list(heap, guardian, names.as_slice(), listing, &mut writer) {
+    match write_listing(heap, guardian, names.as_slice(), listing, &mut writer) {
         Ok(()) => {}
         Err(_) => return Err(OutOfMemory),
     }
@@ -68,7 +65,8 @@ fn object_names(heap: Heap, count: u32) -> Result<Vec<Name, Room>, OutOfMemory>
     Ok(names)
 }
 
-/// The name of an object: a letter and its number. It has a name's form, so that making it fails for
+/// The name of an object: a letter and its number. It has a name's form, so that making it fails
+/// for
 /// want of memory alone.
 fn object_name(heap: Heap, o: u32) -> Result<Name, OutOfMemory>
     ensures { IfOk result (λ name. name ≡ object_name o) }

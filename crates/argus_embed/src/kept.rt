@@ -1,7 +1,7 @@
 //! `Kept`: what an embedded guardian keeps of the last call, or of the last question.
 
-use argus_entries::Reply;
-use argus_memory::Room;
+use argus_journal::Reply;
+use argus_values::Room;
 
 /// What is kept until the next call or question: a reply, whose text is made when it is asked for,
 /// so that no memory is wanted between a call and its reply; or the text of a question's answer.

@@ -8,6 +8,7 @@
 //! ```
 #![tactic(auto)]
 
+mod answering;
 mod calling;
 mod checkpointing;
 mod codes;
@@ -22,7 +23,6 @@ mod replying;
 mod reporting;
 mod request;
 mod requesting;
-mod telling;
 
 pub use embed_error::EmbedError;
 pub use embedded::Embedded;

@@ -2,19 +2,17 @@
 
 ghost use Rattle.std.specs.Fmt.{decimal};
 ghost use Rattle.std.specs.Option.{option_map};
-ghost use Rattle.std.specs.Prelude.{◌≡◌, ◌++◌, IfOk, OnOk, map, string_bytes};
-ghost use Rattle.argus_contents.specs.Content.{plain_option};
+ghost use Rattle.std.specs.Prelude.{IfOk, OnOk, map, string_bytes, ◌++◌, ◌≡◌};
+ghost use Rattle.argus_values.specs.Content.{plain_option};
 ghost use Rattle.argus_embed.specs.Questions.{action_line, action_lines, seen_line, seen_lines};
-ghost use Rattle.argus_guardian.specs.Telling.{version_told, where_declared};
-ghost use Rattle.argus_journal.specs.Words.{base_of, readers_of, versions_of};
-ghost use Rattle.argus_listings.specs.Listing.{content_text};
+ghost use Rattle.argus_guardian.specs.Objects.{version_pair, where_declared};
+ghost use Rattle.argus_journal.specs.JournalFacts.{base_of, readers_of, versions_of};
+ghost use Rattle.argus_guardian.specs.Listing.{content_text};
 
 use argus_actions::ActionId;
-use argus_contents::{Content, ObjId};
 use argus_guardian::Guardian;
-use argus_memory::{Heap, OutOfMemory, Room};
 use argus_objects::Version;
-use argus_texts::write_content;
+use argus_values::{Content, Heap, ObjId, OutOfMemory, Room, write_content};
 
 /// What is in the object for good; None where it isn't declared.
 pub(crate) fn base_text(
@@ -82,7 +80,7 @@ fn append_readers(readers: &[ActionId], text: &mut String<Room>) -> Result<(), O
 
 fn append_versions(versions: &[Version], text: &mut String<Room>) -> Result<(), OutOfMemory>
     ensures { OnOk result (string_bytes text.new
-        ≡ string_bytes text.old ++ seen_lines (map version_told versions.now)) }
+        ≡ string_bytes text.old ++ seen_lines (map version_pair versions.now)) }
 {
     for version in versions {
         append_version(version.holder, &version.content, text)?;

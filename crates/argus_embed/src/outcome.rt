@@ -1,11 +1,11 @@
 //! `Outcome`: what came of a call, or of a question.
 
-ghost use Rattle.std.specs.Prelude.{◌≡◌, ◌<◌};
+ghost use Rattle.std.specs.Prelude.{◌<◌, ◌≡◌};
 ghost use Rattle.argus_embed.specs.Codes.{outcome_codes};
 
 use crate::codes::{flag_code, refusal_code, signal_code};
-use argus_contents::Signal;
-use argus_entries::Refusal;
+use argus_journal::Refusal;
+use argus_values::Signal;
 
 /// What came of a call that was made, or of a question that was answered.
 ///

@@ -1,13 +1,14 @@
 //! `Question`: what a host asks without an entry in the journal.
 
-ghost use Rattle.std.specs.Prelude.{◌≤◌, IfNone, IfSome};
+ghost use Rattle.std.specs.Prelude.{IfNone, IfSome, ◌≤◌};
 ghost use Rattle.argus_embed.specs.Questions.{Asks};
 
 use argus_actions::ActionId;
-use argus_contents::ObjId;
-use argus_listings::Listing;
+use argus_guardian::Listing;
+use argus_values::ObjId;
 
-/// What a host asks without an entry in the journal. Nothing changes by it, but for the text that is
+/// What a host asks without an entry in the journal. Nothing changes by it, but for the text that
+/// is
 /// kept where it is answered by one.
 ///
 /// | Kind | Question | Answer |

@@ -1,18 +1,16 @@
 //! The text that is kept, as it is given to the host.
 
 ghost use Rattle.std.specs.Option.{option_map};
-ghost use Rattle.std.specs.Prelude.{◌≡◌, IfOk, length};
-ghost use Rattle.argus_contents.specs.Answer.{plain_answer};
+ghost use Rattle.std.specs.Prelude.{IfOk, length, ◌≡◌};
+ghost use Rattle.argus_values.specs.Answer.{plain_answer};
 ghost use Rattle.argus_embed.specs.Kept.{IsCopied, IsPut};
-ghost use Rattle.argus_embed.specs.State.{answer_text, reply_text};
-ghost use Rattle.argus_entries.specs.Reply.{plain_reply};
+ghost use Rattle.argus_embed.specs.Embedded.{answer_text, reply_text};
+ghost use Rattle.argus_journal.specs.Reply.{plain_reply};
 
 use crate::embedded::Embedded;
 use crate::kept::Kept;
-use argus_contents::Answer;
-use argus_entries::Reply;
-use argus_memory::{Heap, OutOfMemory, Room};
-use argus_texts::{write_content, write_value};
+use argus_journal::Reply;
+use argus_values::{Answer, Heap, OutOfMemory, Room, write_content, write_value};
 
 impl Embedded {
     /// The size of the text that is kept, which is put at the front of the room where it fits; a

@@ -1,15 +1,15 @@
 //! What a reply is told as.
 
 ghost use Rattle.std.specs.Prelude.{◌≡◌};
-ghost use Rattle.argus_contents.specs.Answer.{plain_answer};
-ghost use Rattle.argus_embed.specs.State.{answer_outcome, newest_by, outcome_of};
-ghost use Rattle.argus_entries.specs.Reply.{plain_reply};
-ghost use Rattle.argus_journal.specs.Journal.{number_of};
+ghost use Rattle.argus_values.specs.Answer.{plain_answer};
+ghost use Rattle.argus_embed.specs.Embedded.{answer_outcome, newest_by, outcome_of};
+ghost use Rattle.argus_journal.specs.Reply.{plain_reply};
+ghost use Rattle.argus_journal.specs.Journal.{action_number_of};
 
 use crate::outcome::Outcome;
 use argus_actions::ActionId;
-use argus_contents::Answer;
-use argus_entries::Reply;
+use argus_journal::Reply;
+use argus_values::Answer;
 
 pub(crate) fn outcome_of(reply: &Reply) -> Outcome
     ensures { result ≡ outcome_of (plain_reply reply.now) }
@@ -37,7 +37,8 @@ fn answer_outcome(answer: &Answer) -> Outcome
 
 /// The newest action, after this reply.
 pub(crate) fn newest_by(reply: &Reply, newest: Option<ActionId>) -> Option<ActionId>
-    ensures { number_of result ≡ newest_by (plain_reply reply.now) (number_of newest) }
+    ensures { action_number_of result ≡ newest_by (plain_reply reply.now)
+        (action_number_of newest) }
 {
     match reply {
         Reply::Begun(a) => Some(*a),

@@ -10,7 +10,8 @@
 /// | 4, 5, 6 | `Commit`, `Abort`, `AbortOthers` | the action |
 /// | 7, 8 | `TestRead`, `TestWrite` | action and object |
 /// | 9 to 18 | `Ask` of a query, in the order of `Query` | action, object, the query's number |
-/// | 19 to 29 | `Alter` by a change, in the order of `Change` | action, object, what the change has |
+/// | 19 to 29 | `Alter` by a change, in the order of `Change` | action, object, what the change has
+/// |
 ///
 /// A query takes its number from the first one. So does a change; `Trim` takes its second from the
 /// second. The text is a change's value, or the content of `Create`.

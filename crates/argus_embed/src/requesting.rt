@@ -1,21 +1,21 @@
 //! The call that a request stands for.
 
-ghost use Rattle.std.specs.Prelude.{◌≡◌, ◌≤◌, ◌<◌, IfErr, IfOk, List, pos, ℕ};
-ghost use Rattle.argus_contents.specs.Change.{plain_change};
-ghost use Rattle.argus_contents.specs.Content.{plain_content};
-ghost use Rattle.argus_contents.specs.Value.{plain_value};
+ghost use Rattle.std.specs.Prelude.{IfErr, IfOk, List, pos, ℕ, ◌<◌, ◌≡◌, ◌≤◌};
+ghost use Rattle.argus_values.specs.Change.{plain_change};
+ghost use Rattle.argus_values.specs.Content.{plain_content};
+ghost use Rattle.argus_values.specs.Value.{plain_value};
 ghost use Rattle.argus_embed.specs.Requests.{IsUnread, Says, SaysChange, SaysQuery};
-ghost use Rattle.argus_entries.specs.Call.{plain_call};
-ghost use Rattle.argus_texts.specs.ContentSpelling.{content_spelling};
-ghost use Rattle.argus_texts.specs.Spelling.{spelling};
+ghost use Rattle.argus_journal.specs.Call.{plain_call};
+ghost use Rattle.argus_values.specs.ContentSpelling.{content_spelling};
+ghost use Rattle.argus_values.specs.Spelling.{spelling};
 
 use crate::embed_error::EmbedError;
 use crate::request::Request;
 use argus_actions::ActionId;
-use argus_contents::{Change, Content, ObjId, Query, Value};
-use argus_entries::Call;
-use argus_memory::Heap;
-use argus_texts::{ReadError, read_content, read_shape, read_value};
+use argus_journal::Call;
+use argus_values::{
+    Change, Content, Heap, ObjId, Query, ReadError, Value, read_content, read_shape, read_value,
+};
 
 /// The call that the request with its text stands for.
 pub(crate) fn call_of(heap: Heap, request: &Request, text: &str) -> Result<Call, EmbedError>

@@ -2,19 +2,16 @@
 #![tactic(auto)]
 
 ghost use Rattle.std.specs.Prelude.{◌≡◌};
-ghost use Rattle.argus_board.specs.Keeper.{Opens};
+ghost use Rattle.argus_guardian.specs.Keeper.{StartsHistory};
 ghost use Rattle.argus_journal.specs.Opening.{content_in};
-ghost use Rattle.argus_sharing.specs.Following.{bases_told, effects_told};
-ghost use Rattle.argus_sharing.specs.Locked.{next_number};
+ghost use Rattle.argus_guardian.specs.Following.{journal_bases, journal_effects};
+ghost use Rattle.argus_journal.specs.JournalView.{next_entry};
 
 use anyhow::{Result, anyhow};
 use argus_actions::ActionId;
-use argus_board::Keeper;
-use argus_contents::{Change, Content, ObjId, Shape, Ty, Value};
-use argus_entries::{Call, Reply};
-use argus_guardian::Guardian;
-use argus_memory::{Heap, OutOfMemory, Room};
-use argus_sharing::{Parts, Receipt, Seat, Shared, Sharing};
+use argus_guardian::{Guardian, Keeper, Parts, Receipt, Seat, Shared, Sharing};
+use argus_journal::{Call, Reply};
+use argus_values::{Change, Content, Heap, ObjId, OutOfMemory, Room, Shape, Ty, Value};
 use std::collections::VecDeque;
 use std::marker::Brand;
 use std::sync::Wait;
@@ -50,11 +47,11 @@ fn pay_from_threads<N: Sharing + Send + Sync, R: Threads + Wait + Copy + Drop + 
 ) -> Result<Guardian>
     requires name { blank.name ≡ N.name }
     requires parts { (blank.parts ≡ N.parts) × (blank.parts ≡ 2) }
-    requires keeper { Opens N.history N.root keeper }
-    requires start { N.start ≡ next_number guardian }
-    requires before { N.before ≡ effects_told guardian }
-    requires opening { N.opening ≡ content_in guardian.opening.objects }
-    requires first { N.first ≡ bases_told guardian }
+    requires keeper { StartsHistory N.history N.root keeper }
+    requires start { N.start ≡ next_entry guardian }
+    requires before { N.before ≡ journal_effects guardian }
+    requires opening { N.opening_contents ≡ content_in guardian.opening.objects }
+    requires first { N.first ≡ journal_bases guardian }
 {
     let parts = Shared::<N, R>::new(rt, heap, guardian, 2, 0, blank, keeper);
     let Parts {

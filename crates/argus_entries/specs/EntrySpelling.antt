@@ -1,7 +1,7 @@
 -- The line of an entry: its number, the call, an arrow and the reply. Action 3 is `a3`, object 2 is
 -- `o2`.
 use Rattle.std.specs.Fmt.{decimal, signed_decimal}
-use Rattle.std.specs.Prelude.{List, codes, false, true, ℕ, ◌++◌}
+use Rattle.std.specs.Prelude.{List, [], codes, false, true, ℕ, ◌++◌, ◌∷◌}
 use Rattle.argus_contents.specs.Answer.{PlainAnswer, body, done, flag, num, signal, val}
 use Rattle.argus_contents.specs.declared.signal.Signal.{Signal}
 use Rattle.argus_contents.specs.declared.signal.Signal.TheVariants.{Absent, Bounds, Exists, Limits}
@@ -81,3 +81,7 @@ reply_spelling (refused r) = codes "refused " ++ refusal_name r
 abbrev pub entry_spelling : ℕ → PlainEntry → List ℕ
 entry_spelling at e =
     decimal at ++ codes " " ++ call_spelling e.call ++ codes " -> " ++ reply_spelling e.reply
+
+-- the line of the entry with this number, with its end
+abbrev pub entry_line : ℕ → PlainEntry → List ℕ
+entry_line at e = entry_spelling at e ++ 10 ∷ []

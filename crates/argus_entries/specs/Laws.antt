@@ -80,7 +80,7 @@ EntryWithin k e = CallWithin k e.call × ReplyWithin k e.reply
 
 -- numbered entries, with values of whatever depth, with one line are the same, and have the same
 -- number
-abbrev pub EachEntryIsTold : Type 0
-EachEntryIsTold =
+abbrev pub EntryLinesAreUnambiguous : Type 0
+EntryLinesAreUnambiguous =
     (k m n : ℕ) (d e : PlainEntry) → m < 2 ^ 64 → n < 2 ^ 64 → EntryWithin k d → EntryWithin k e
     → entry_spelling m d ≡ entry_spelling n e → (m ≡ n) × (d ≡ e)

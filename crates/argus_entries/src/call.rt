@@ -19,7 +19,8 @@ use argus_memory::{Heap, OutOfMemory};
 /// | `BeginSub` | a subaction of this parent |
 /// | `BeginNested` | a topaction that this creator begins: it has no privilege from its creator |
 /// | `Commit`, `Abort` | an end of this action |
-/// | `AbortOthers` | an end of all live siblings of this action: other actions with the same parent or creator |
+/// | `AbortOthers` | an end of all live siblings of this action: other actions with the same parent
+/// or creator |
 /// | `Ask`, `Alter` | a query, a change of this object by this action |
 /// | `TestRead`, `TestWrite` | whether the action may have the lock, and the lock where it may |
 ///

@@ -9,12 +9,14 @@ use thiserror::Error;
 /// |---|---|---|
 /// | `NoAction` | the action isn't begun | all that name an action |
 /// | `Over` | it has committed or was aborted | all that name an action |
-/// | `Suspended` | it has a live child | `Commit`, `AbortOthers`, `Ask`, `Alter`, `TestRead`, `TestWrite` |
+/// | `Suspended` | it has a live child | `Commit`, `AbortOthers`, `Ask`, `Alter`, `TestRead`,
+/// `TestWrite` |
 /// | `NoObject` | the object isn't declared | `Ask`, `Alter`, `TestRead`, `TestWrite` |
 /// | `IllTyped` | the operation doesn't suit the object's shape | `Ask`, `Alter` |
 /// | `Conflict` | the lock rule denies the lock | `Ask` the read lock, `Alter` the write lock |
 /// | `TooDeep` | the parent has the greatest depth | `BeginSub` |
-/// | `TooMany` | as many are begun or declared as may be | `Declare`, `BeginTop`, `BeginSub`, `BeginNested` |
+/// | `TooMany` | as many are begun or declared as may be | `Declare`, `BeginTop`, `BeginSub`,
+/// `BeginNested` |
 /// | `NoSiblings` | it has neither parent nor creator | `AbortOthers` |
 ///
 /// ```text

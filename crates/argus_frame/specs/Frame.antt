@@ -1,11 +1,11 @@
 -- Where things stand in a picture, in pixels from its upper left corner.
 use Rattle.std.specs.Prelude.{ℕ, ◌+◌, ◌*◌, max}
-use Rattle.argus_frame.specs.declared.step.Step.{Step}
+use Rattle.argus_frame.specs.declared.entry_spacing.EntrySpacing.{EntrySpacing}
 use Rattle.argus_frame.specs.declared.frame.Frame.{Frame}
-use Rattle.argus_frame.specs.Step.{pixels_of}
+use Rattle.argus_frame.specs.EntrySpacing.{pixels_of}
 
 -- where an entry stands
-abbrev pub x_of : Step → ℕ → ℕ
+abbrev pub x_of : EntrySpacing → ℕ → ℕ
 x_of step entry = 168 + pixels_of step * entry
 
 -- the top of the bars in a row

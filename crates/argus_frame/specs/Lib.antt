@@ -1,3 +1,3 @@
 pub mod Frame
-pub mod Status
-pub mod Step
+pub mod DrawError
+pub mod EntrySpacing

@@ -31,11 +31,11 @@ pub enum DrawError {
 }
 
 impl DrawError {
-    ghost use Rattle.argus_frame.specs.Status.{status_of};
+    ghost use Rattle.argus_frame.specs.DrawError.{draw_status};
 
     /// The status with which a program ends.
     pub fn status(self) -> u8
-        ensures { result ≡ status_of self }
+        ensures { result ≡ draw_status self }
     {
         match self {
             DrawError::Fault(_) => 3,

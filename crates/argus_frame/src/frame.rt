@@ -3,18 +3,18 @@
 ghost use Rattle.std.specs.Prelude.{◌≡◌, ◌+◌, ◌*◌, ◌<◌, ◌≤◌};
 ghost use Rattle.argus_frame.specs.Frame.{height_of, lane_top, row_top, width_of, x_of};
 
-use crate::step::{Step, pixels};
+use crate::entry_spacing::{EntrySpacing, pixels};
 
 /// The size of a picture: how far apart entries stand and how many there are, how many rows of
 /// actions and lanes of objects. All else follows from it, in pixels from the upper left corner.
 ///
 /// ```text
-/// let frame = Frame { step: Step::for_entries(2), entries: 2, rows: 1, lanes: 0 };
+/// let frame = Frame { step: EntrySpacing::for_entries(2), entries: 2, rows: 1, lanes: 0 };
 /// assert!(rt; entry_left(&frame, 1) == 196);
 /// ```
 #[derive(Clone, Copy)]
 pub struct Frame {
-    pub step: Step,
+    pub step: EntrySpacing,
     pub entries: u32,
     pub rows: u32,
     pub lanes: u32,

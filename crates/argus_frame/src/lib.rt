@@ -4,13 +4,13 @@
 #![tactic(auto)]
 
 mod draw_error;
-mod fault_kind;
+mod entry_spacing;
 mod frame;
 mod listing_fault;
-mod step;
+mod listing_fault_kind;
 
 pub use draw_error::DrawError;
-pub use fault_kind::FaultKind;
+pub use entry_spacing::{EntrySpacing, pixels};
 pub use frame::{BAR, Frame, LANE, bar_top, entry_left, height, lane_at, width};
 pub use listing_fault::ListingFault;
-pub use step::{Step, pixels};
+pub use listing_fault_kind::ListingFaultKind;

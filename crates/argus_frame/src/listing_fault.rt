@@ -1,6 +1,6 @@
 //! `ListingFault`: the first faulty line of a listing.
 
-use crate::fault_kind::FaultKind;
+use crate::listing_fault_kind::ListingFaultKind;
 use thiserror::Error;
 
 /// The first faulty line of a listing, numbered from 1, and why it is refused.
@@ -12,5 +12,5 @@ use thiserror::Error;
 #[error("line {line}: {kind}")]
 pub struct ListingFault {
     pub line: u64,
-    pub kind: FaultKind,
+    pub kind: ListingFaultKind,
 }

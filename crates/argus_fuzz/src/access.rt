@@ -1,7 +1,7 @@
 //! `Access`: an entry by which an action took a lock.
 
-use argus_contents::{Answer, ObjId};
-use argus_entries::{Call, Entry, Reply};
+use argus_journal::{Call, Entry, Reply};
+use argus_values::{Answer, ObjId};
 
 /// An entry by which an action took a lock: an operation that was answered, if by a signal, and a
 /// test that was answered yes.

@@ -2,13 +2,13 @@
 
 use crate::difference::Difference;
 use crate::family::Family;
-use crate::story::{declared, is_fit, may_have, seen, shape_of};
+use crate::object_history::{declared, is_fit, may_have, seen, shape_of};
 use argus_actions::ActionId;
-use argus_contents::limits::{MAX_ACTION_DEPTH, MAX_ACTIONS, MAX_OBJECTS};
-use argus_contents::{Answer, Change, ObjId, Query, ask, change_answer, change_fits, query_fits};
-use argus_entries::{Call, Refusal, Reply};
-use argus_journal::Journal;
-use argus_memory::Heap;
+use argus_journal::{Call, Journal, Refusal, Reply};
+use argus_values::limits::{MAX_ACTION_DEPTH, MAX_ACTIONS, MAX_OBJECTS};
+use argus_values::{
+    Answer, Change, Heap, ObjId, Query, ask, change_answer, change_fits, query_fits,
+};
 
 /// The first refusal that applies, or else what the call asks for.
 pub(crate) fn answer_to(

@@ -2,10 +2,9 @@
 
 use crate::chance::Chance;
 use crate::family::Family;
-use crate::story::{declared, shape_of};
-use argus_contents::{ObjId, Shape, ShapeView};
+use crate::object_history::{declared, shape_of};
 use argus_journal::Journal;
-use argus_memory::{OutOfMemory, Room};
+use argus_values::{ObjId, OutOfMemory, Room, Shape, ShapeView};
 use std::fmt::Write;
 use test_rows::first_word;
 

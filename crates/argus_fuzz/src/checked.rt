@@ -1,16 +1,17 @@
-//! `Checked`: a guardian of which each call is held against the definitions.
+//! `Checked`: a guardian of which each call is checked against the definitions.
 
 use crate::answering::answer_to;
 use crate::comparing::{compare_audits, compare_objects};
 use crate::difference::{Difference, must};
 use crate::family::Family;
-use crate::told::Told;
-use argus_entries::{Call, Reply};
+use crate::reply_kind::ReplyKind;
 use argus_guardian::{CheckpointError, Guardian};
-use argus_memory::{Budget, Heap, OutOfMemory};
+use argus_journal::{Call, Reply};
+use argus_values::{Budget, Heap, OutOfMemory};
 use test_rows::call_of;
 
-/// A guardian of which each call is held against the definitions, worked out anew from its journal.
+/// A guardian of which each call is checked against the definitions, worked out anew from its
+/// journal.
 ///
 /// ```text
 /// let mut checked = Checked::new(heap, tight, budget);
@@ -41,30 +42,35 @@ impl Checked {
 
     /// Makes the call, which is spelled as in a journal's line. The reply has to be the one that
     /// the journal before it gives, and the objects have to be as the journal behind it tells.
-    pub(crate) fn call(&mut self, text: &str) -> Result<Told, Difference> {
+    pub(crate) fn call(&mut self, text: &str) -> Result<ReplyKind, Difference> {
         match self.call_within(u64::MAX, text)? {
-            Told::Nothing => Err(Difference::Memory),
+            ReplyKind::Nothing => Err(Difference::Memory),
             told => Ok(told),
         }
     }
 
-    /// The same with so many allocations; `Nothing` where these aren't enough, and all is as before.
-    pub(crate) fn call_within(&mut self, allowed: u64, text: &str) -> Result<Told, Difference> {
+    /// The same with so many allocations; `Nothing` where these aren't enough, and all is as
+    /// before.
+    pub(crate) fn call_within(
+        &mut self,
+        allowed: u64,
+        text: &str,
+    ) -> Result<ReplyKind, Difference> {
         let before = self.length();
         let told = self.told(allowed, text)?;
-        let added = if let Told::Nothing = told { 0 } else { 1 };
+        let added = if let ReplyKind::Nothing = told { 0 } else { 1 };
         must(
             self.length() == before.saturating_add(added),
             Difference::Entries,
         )?;
         self.compare()?;
         match told {
-            Told::Another => Err(Difference::Reply),
+            ReplyKind::Another => Err(Difference::Reply),
             told => Ok(told),
         }
     }
 
-    fn told(&mut self, allowed: u64, text: &str) -> Result<Told, Difference> {
+    fn told(&mut self, allowed: u64, text: &str) -> Result<ReplyKind, Difference> {
         let call = call_of(self.heap, text)?;
         let wanted = self.answer(&call)?;
         Ok(told_as(self.reply_within(allowed, call), &wanted))
@@ -115,7 +121,7 @@ impl Checked {
             Ok(()) => must(is_quiet, Difference::Checkpoint),
             Err(CheckpointError::Busy) => must(!is_quiet, Difference::Checkpoint),
             Err(CheckpointError::Full) => Err(Difference::Checkpoint),
-            Err(CheckpointError::OutOfMemory) => Err(Difference::Memory),
+            Err(CheckpointError::Memory) => Err(Difference::Memory),
         }
     }
 
@@ -126,13 +132,13 @@ impl Checked {
 }
 
 // What is told by the answer, where it is the one that is wanted.
-fn told_as(answer: Result<Reply, OutOfMemory>, wanted: &Reply) -> Told {
+fn told_as(answer: Result<Reply, OutOfMemory>, wanted: &Reply) -> ReplyKind {
     match answer {
         Ok(reply) => if reply == *wanted {
-            Told::of(wanted)
+            ReplyKind::of(wanted)
         } else {
-            Told::Another
+            ReplyKind::Another
         },
-        Err(OutOfMemory) => Told::Nothing,
+        Err(OutOfMemory) => ReplyKind::Nothing,
     }
 }

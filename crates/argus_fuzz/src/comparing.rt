@@ -1,14 +1,13 @@
-//! What a guardian tells of its objects, held against its journal.
+//! What a guardian tells of its objects, checked against its journal.
 
 use crate::difference::{Difference, must};
 use crate::family::Family;
-use crate::story::{declared, is_holder, may_have, seen, shape_of};
+use crate::object_history::{declared, is_holder, may_have, seen, shape_of};
 use argus_actions::ActionId;
-use argus_contents::{Content, ObjId, Shape, fits};
 use argus_guardian::Guardian;
 use argus_journal::{Journal, owner_of, replay_base, replay_for};
-use argus_memory::Heap;
 use argus_objects::Version;
+use argus_values::{Content, Heap, ObjId, Shape, fits};
 
 /// Each object has the shape, the holders, the versions and the base that the entries tell.
 pub(crate) fn compare_objects(
@@ -49,7 +48,7 @@ fn compare_shape(guardian: &Guardian, o: ObjId) -> Result<(), Difference> {
     }
 }
 
-// Its shape was held against the entries before.
+// Its shape was checked against the entries before.
 fn compare_base(
     heap: Heap,
     guardian: &Guardian,

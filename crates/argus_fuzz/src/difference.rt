@@ -1,9 +1,8 @@
 //! `Difference`: what is another than the definitions say.
 
 use argus_cli::CliFault;
-use argus_commands::ParseError;
-use argus_memory::OutOfMemory;
-use argus_runs::RunFault;
+use argus_commands::{ParseError, RunFault};
+use argus_values::OutOfMemory;
 use std::alloc::{AllocError, AllocFailed};
 use test_rows::RowFault;
 

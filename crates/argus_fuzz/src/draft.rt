@@ -2,7 +2,7 @@
 
 use crate::chance::Chance;
 use crate::line::{ACCESSES, Kind, Line, OBJECTS};
-use argus_memory::{Heap, OutOfMemory, Room};
+use argus_values::{Heap, OutOfMemory, Room};
 
 // Where the next line of a draft stands.
 #[derive(Clone, Copy)]

@@ -1,10 +1,9 @@
 //! `Family`: which actions a journal's entries began and ended, worked out anew.
 
 use argus_actions::ActionId;
-use argus_contents::limits::MAX_ACTION_DEPTH;
-use argus_entries::{Call, Entry, Reply};
-use argus_journal::{Journal, Owner};
-use argus_memory::{Heap, OutOfMemory, Room};
+use argus_journal::{Call, Entry, Journal, Owner, Reply};
+use argus_values::limits::MAX_ACTION_DEPTH;
+use argus_values::{Heap, OutOfMemory, Room};
 
 // What an action was begun by: a parent, a creator, or nobody.
 #[derive(Clone, Copy)]

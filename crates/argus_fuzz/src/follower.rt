@@ -3,9 +3,9 @@
 use crate::checked::Checked;
 use crate::difference::Difference;
 use crate::line::{Kind, Line, access};
-use crate::told::Told;
+use crate::reply_kind::ReplyKind;
 use argus_actions::ActionId;
-use argus_memory::{Heap, Room};
+use argus_values::{Heap, Room};
 use test_rows::first_word;
 
 // What a block is: one that its own action ends with, an arm, a coenter, or an `if`.
@@ -116,7 +116,7 @@ impl Follower {
     }
 
     // Makes the call of this action; `rest` is what stands behind it.
-    fn call(&mut self, verb: &str, a: ActionId, rest: &str) -> Result<Told, Difference> {
+    fn call(&mut self, verb: &str, a: ActionId, rest: &str) -> Result<ReplyKind, Difference> {
         let gap = if rest.is_empty() { "" } else { " " };
         let text = format!(in self.heap.room(); "{verb} a{}{gap}{rest}", a.0)?;
         self.checked.call(text.as_str())
@@ -128,12 +128,12 @@ impl Follower {
             (Kind::Top, None) => self.checked.call("begin_top")?,
             (Kind::Top, Some(a)) => self.call("begin_nested", a, "")?,
             (Kind::Sub, Some(a)) => self.call("begin_sub", a, "")?,
-            (Kind::Sub, None) => Told::Over,
+            (Kind::Sub, None) => ReplyKind::Over,
         };
         match told {
-            Told::Begun(a) => Ok(Some(a)),
-            Told::Yes | Told::Done | Told::Over | Told::Refused => Ok(None),
-            Told::Another | Told::Nothing => Ok(None),
+            ReplyKind::Begun(a) => Ok(Some(a)),
+            ReplyKind::Yes | ReplyKind::Done | ReplyKind::Over | ReplyKind::Refused => Ok(None),
+            ReplyKind::Another | ReplyKind::Nothing => Ok(None),
         }
     }
 
@@ -233,7 +233,7 @@ impl Follower {
         let rest = if o == 0 { "o0" } else { "o1" };
         let told = self.call(verb, a, rest)?;
         self.heed(a, told)?;
-        self.push(Block::If, action, matches!(told, Told::Yes))
+        self.push(Block::If, action, matches!(told, ReplyKind::Yes))
     }
 
     fn access(&mut self, place: u32) -> Result<(), Difference> {
@@ -246,14 +246,18 @@ impl Follower {
     }
 
     // What is refused ends the block, by an abort unless its action is over or was never begun.
-    fn heed(&mut self, a: ActionId, told: Told) -> Result<(), Difference> {
+    fn heed(&mut self, a: ActionId, told: ReplyKind) -> Result<(), Difference> {
         match told {
-            Told::Refused => {
+            ReplyKind::Refused => {
                 let _told = self.call("abort", a, "")?;
                 self.end_block();
             }
-            Told::Over => self.end_block(),
-            Told::Begun(_) | Told::Yes | Told::Done | Told::Another | Told::Nothing => {}
+            ReplyKind::Over => self.end_block(),
+            ReplyKind::Begun(_)
+            | ReplyKind::Yes
+            | ReplyKind::Done
+            | ReplyKind::Another
+            | ReplyKind::Nothing => {}
         }
         Ok(())
     }

@@ -1,6 +1,6 @@
 //! `Line`: a line of a script, and what it says.
 
-use argus_memory::{Heap, OutOfMemory, Room};
+use argus_values::{Heap, OutOfMemory, Room};
 use std::fmt::Write;
 
 /// How many objects a script declares.

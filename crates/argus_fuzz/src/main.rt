@@ -1,7 +1,8 @@
 //! Calls and scripts as if by chance: `argus_fuzz SEQUENCES SCRIPTS SEED`.
 //!
 //! Each sequence of calls and each script has a seed of its own, from the one given on. What a
-//! guardian answers and tells is held against the definitions, worked out anew from its journal. A
+//! guardian answers and tells is checked against the definitions, worked out anew from its journal.
+//! A
 //! seed that shows a difference is told, and the status is then 1.
 #![tactic(auto)]
 
@@ -16,14 +17,14 @@ mod draft;
 mod family;
 mod follower;
 mod line;
+mod object_history;
+mod reply_kind;
 mod script_trial;
 mod sequence;
-mod story;
 mod team_trial;
-mod told;
 
 use anyhow::{Result, ensure};
-use argus_memory::{Budget, Heap};
+use argus_values::{Budget, Heap};
 use difference::Difference;
 use script_trial::run_script;
 use sequence::Sequence;

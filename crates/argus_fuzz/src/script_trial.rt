@@ -1,4 +1,4 @@
-//! A script as if by chance, run, and held against its own calls made one by one.
+//! A script as if by chance, run, and checked against its own calls made one by one.
 
 use crate::chance::Chance;
 use crate::checked::Checked;
@@ -6,16 +6,14 @@ use crate::difference::{Difference, must};
 use crate::draft::Draft;
 use crate::follower::Follower;
 use crate::line::{Line, text_of};
-use argus_commands::{Script, parse};
-use argus_entries::write_entry;
+use argus_commands::{FailStop, Script, parse, run_serial};
 use argus_guardian::Guardian;
-use argus_journal::Journal;
-use argus_memory::{Budget, Heap, OutOfMemory, Room};
-use argus_runs::run_serial;
-use argus_streams::Watched;
+use argus_journal::{Journal, write_entry};
+use argus_values::{Budget, Heap, OutOfMemory, Room};
 
 /// Runs the script of this seed, and makes the calls of its lines one by one on another guardian,
-/// which is held against the definitions: both journals have to have the same entries, and what the
+/// which is checked against the definitions: both journals have to have the same entries, and what
+/// the
 /// run writes are their lines. The script is parsed from its text, and the calls are made from what
 /// the text was made of.
 pub(crate) fn run_script(
@@ -43,7 +41,7 @@ fn run_lines(
     guardian: &mut Guardian,
 ) -> Result<Vec<u8, Room>, Difference> {
     let script = parsed(heap, lines)?;
-    let mut writer = Watched::new(Vec::new(heap.room()));
+    let mut writer = FailStop::new(Vec::new(heap.room()));
     run_serial(heap, guardian, &script, &mut writer)?;
     match writer.into_inner() {
         Some(written) => Ok(written),

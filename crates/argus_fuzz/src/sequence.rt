@@ -6,12 +6,12 @@ use crate::checked::Checked;
 use crate::comparing::{compare_guardians, compare_tests};
 use crate::difference::Difference;
 use crate::family::Family;
-use crate::told::Told;
+use crate::reply_kind::ReplyKind;
 use argus_actions::ActionId;
-use argus_contents::ObjId;
-use argus_memory::{Budget, Heap, Room};
+use argus_values::{Budget, Heap, ObjId, Room};
 
-/// Calls as if by chance, made to two guardians that are held against the definitions. One of them
+/// Calls as if by chance, made to two guardians that are checked against the definitions. One of
+/// them
 /// is never checkpointed; of the other the journal is folded now and then, and allocations are
 /// refused. Their replies and bases have to be the same.
 ///
@@ -98,7 +98,7 @@ impl Sequence {
         } else {
             u64::MAX
         };
-        if let Told::Nothing = self.folded.call_within(allowed, text)? {
+        if let ReplyKind::Nothing = self.folded.call_within(allowed, text)? {
             let _told = self.folded.call(text)?;
         }
         Ok(())

@@ -1,4 +1,4 @@
-//! A script as if by chance, run by workers, and held against the journal that they leave.
+//! A script as if by chance, run by workers, and checked against the journal that they leave.
 
 ghost use Rattle.std.specs.Prelude.{◌≤◌};
 
@@ -9,8 +9,8 @@ use crate::draft::Draft;
 use crate::line::text_of;
 use crate::script_trial::compare_lines;
 use argus_cli::{Listing, Options, run};
-use argus_memory::{Budget, Heap, Room};
-use argus_streams::Watched;
+use argus_commands::FailStop;
+use argus_values::{Budget, Heap, Room};
 use std::str;
 use std::sync::Wait;
 use std::thread::Threads;
@@ -18,7 +18,8 @@ use test_rows::first_word;
 
 /// Runs the script of this seed by two to eight workers, none of whom waits for a lock. That what
 /// they did is a run of the script is tested by the run itself; the calls of the journal that it
-/// leaves are made once more, one by one, on a guardian that is held against the definitions: they
+/// leaves are made once more, one by one, on a guardian that is checked against the definitions:
+/// they
 /// have to have the same replies.
 pub(crate) fn run_by_team<T: Threads + Wait + Copy + Drop + Send + Sync>(
     rt: &T,
@@ -50,8 +51,8 @@ fn listed_by<T: Threads + Wait + Copy + Drop + Send + Sync>(
 ) -> Result<Vec<u8, Room>, Difference>
     requires { (1 ≤ workers) × (workers ≤ 8) }
 {
-    let mut reader = Watched::new(script);
-    let mut writer = Watched::new(Vec::new(heap.room()));
+    let mut reader = FailStop::new(script);
+    let mut writer = FailStop::new(Vec::new(heap.room()));
     let asked = Options {
         workers,
         patience: 0,

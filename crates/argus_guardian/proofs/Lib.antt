@@ -1,6 +1,2 @@
-pub mod Commits
-pub mod Effects
-pub mod Written
-pub mod Told
-pub mod Checkpoints
-pub mod Crossing
+pub use Rattle.argus_core.proofs.Crossing as GuardianCrossing
+pub use Rattle.argus_sharing.proofs.Crossing

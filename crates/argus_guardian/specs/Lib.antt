@@ -1,4 +1,20 @@
-pub mod Checkpoint
-pub mod Leaving
-pub mod Telling
-pub mod Committing
+pub use Rattle.argus_core.specs.Checkpoint
+pub use Rattle.argus_core.specs.Effect
+pub use Rattle.argus_core.specs.Objects
+pub use Rattle.argus_core.specs.ReadyCommit
+pub use Rattle.argus_receipts.specs.Checking
+pub use Rattle.argus_receipts.specs.Receipt
+pub use Rattle.argus_board.specs.BoardView
+pub use Rattle.argus_board.specs.Effects
+pub use Rattle.argus_board.specs.Keeper
+pub use Rattle.argus_sharing.specs.Checkpoint as SharedCheckpoint
+pub use Rattle.argus_sharing.specs.Following
+pub use Rattle.argus_sharing.specs.Locked
+pub use Rattle.argus_sharing.specs.Waking
+pub use Rattle.argus_listings.specs.Listing
+pub use Rattle.argus_streams.specs.FailStop
+pub use Rattle.argus_core.specs.declared as core_declared
+pub use Rattle.argus_receipts.specs.declared as receipts_declared
+pub use Rattle.argus_board.specs.declared as board_declared
+pub use Rattle.argus_sharing.specs.declared as sharing_declared
+pub use Rattle.argus_listings.specs.declared as listings_declared

@@ -21,7 +21,7 @@ use Rattle.argus_model.specs.Event.{Accessed}
 use Rattle.argus_model.specs.History.{History, ◌▹◌}
 use Rattle.argus_model.specs.Holders.{may_read, may_write}
 use Rattle.argus_journal.specs.Answers.{granted, if_declared, or_refused, refusal, suits, suits_change, unless}
-use Rattle.argus_journal.specs.Entries.{entries, is_write, left_by}
+use Rattle.argus_journal.specs.Entries.{entries, is_write, content_after_call}
 use Rattle.argus_journal.specs.Events.{history, with_event}
 use Rattle.argus_journal.specs.Legal.{Legal}
 use Rattle.argus_journal.specs.Objects.{declared, declared_by, shape_of, shapes}
@@ -75,10 +75,10 @@ module _ (counts : ℕ → Bool) (objects : List PlainShape) (o : ℕ) (c : Opti
   -- an access that leaves a fitting content, where it is one to this object
   accessed : (a i : ℕ) (call : PlainCall) (r : PlainReply) (h : History PlainEntry)
       → (i ≡ o → is_write call ≡ true
-      → fits_shape (slice_get objects o) (length objects) (left_by call (content h)) ≡ true) → AllFits h
+      → fits_shape (slice_get objects o) (length objects) (content_after_call call (content h)) ≡ true) → AllFits h
       → AllFits (Accessed (a + 1) i (record { call = call; reply = r }) ▹ h)
   accessed a i call r h f w =
-      chosen (i == o && (is_write call && counts (a + 1))) (left_by call (content h)) (content h)
+      chosen (i == o && (is_write call && counts (a + 1))) (content_after_call call (content h)) (content h)
       (λ k. let p = and_parts (i == o) (is_write call && counts (a + 1)) k in
       f (eqb-true i o p.0) (and_parts (is_write call) (counts (a + 1)) p.1).0)
       w

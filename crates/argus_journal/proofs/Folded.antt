@@ -16,8 +16,9 @@ use Rattle.argus_journal.specs.Events.{history}
 use Rattle.argus_journal.specs.Folding.{fold, next_entry_number, with_contents}
 use Rattle.argus_journal.specs.Legal.{Legal}
 use Rattle.argus_journal.specs.Objects.{declared, shape_of, shapes}
-use Rattle.argus_journal.specs.Opening.{KeepsNumbers, Opening, content_in, fits_shape, is_sound, opened, opening_at}
-use Rattle.argus_journal.specs.Words.{base_of, effects_of, next_number}
+use Rattle.argus_journal.specs.Opening.{KeepsNumbers, Opening, content_in, fits_shape, is_sound, model_opening}
+use Rattle.argus_journal.specs.Opening.{opening_at}
+use Rattle.argus_journal.specs.JournalFacts.{base_of, effects_of, next_action_number}
 use Rattle.argus_journal.specs.declared.limits.TheConstants.{MAX_FIRST_ENTRY}
 use Rattle.argus_journal.proofs.Contents.{content_fits}
 use Rattle.argus_journal.proofs.Fitting.{nothing}
@@ -79,13 +80,13 @@ module _ (s : Opening) (j : List PlainEntry) where
     effects_after later o =
         table-append (content_in s.objects) (effects_of s j) later o
         ∙ table_same (table (content_in s.objects) (effects_of s j)) (content_in (fold s j).objects) later
-        (λ x. table_is_base entries (opened s) (history s j) x (lawful s j l) ∙ sym (fold_content x)) o
+        (λ x. table_is_base entries (model_opening s) (history s j) x (lawful s j l) ∙ sym (fold_content x)) o
 
     pub base_after : (later : List PlainEntry) (o : ℕ) → Legal (fold s j) later
         → table (content_in s.objects) (effects_of s j ++ effects_of (fold s j) later) o ≡ base_of (fold s j) later o
     base_after later o k =
         effects_after (effects_of (fold s j) later) o
-        ∙ table_is_base entries (opened (fold s j)) (history (fold s j) later) o (lawful (fold s j) later k)
+        ∙ table_is_base entries (model_opening (fold s j)) (history (fold s j) later) o (lawful (fold s j) later k)
 
   pub fold_numbers : KeepsNumbers s → Legal s j → next_entry_number s j ≤ MAX_FIRST_ENTRY → KeepsNumbers (fold s j)
   fold_numbers k l n = record {
@@ -95,8 +96,8 @@ module _ (s : Opening) (j : List PlainEntry) where
     entries = n;
   }
 
-  pub next_stays : next_number (fold s j) [] ≡ next_number s j
-  next_stays = before (next_number s j)
+  pub next_stays : next_action_number (fold s j) [] ≡ next_action_number s j
+  next_stays = before (next_action_number s j)
 
   pub entry_stays : next_entry_number (fold s j) [] ≡ next_entry_number s j
   entry_stays = omega arith
@@ -113,7 +114,7 @@ contents_are f (object ∷ rest) same =
 pub fold_made : (s : Opening) (j : List PlainEntry) (objects : List (PlainShape × Option PlainContent)) (first : ℕ)
     → map (λ object. object.0) objects ≡ shapes s j
     → ((o : ℕ) → o < length objects → content_in objects o ≡ base_of s j o)
-    → first ≡ next_number s j
+    → first ≡ next_action_number s j
     → opening_at objects first (next_entry_number s j) ≡ fold s j
 fold_made s j objects first kinds same next =
     let last = next_entry_number s j in

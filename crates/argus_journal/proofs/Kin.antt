@@ -12,9 +12,9 @@ use Rattle.argus_entries.specs.Call.{commit, declare, test_read, test_write}
 use Rattle.argus_entries.specs.Entry.{PlainEntry}
 use Rattle.argus_entries.specs.Reply.{PlainReply, answered, begun, refused}
 use Rattle.argus_entries.specs.declared.refusal.Refusal.{Refusal}
-use Rattle.argus_model.specs.Ancestors.{creator, is_ancestor, lineage, parent}
-use Rattle.argus_model.specs.Event.{Aborted, Accessed, Began, Committed, Nested, Origin, Sub, Top, creator_of}
-use Rattle.argus_model.specs.Event.{parent_of}
+use Rattle.argus_model.specs.Ancestors.{begun_by, is_ancestor, lineage, parent}
+use Rattle.argus_model.specs.Event.{Aborted, Accessed, Began, Committed, Nested, Origin, Sub, Top, origin_begun_by}
+use Rattle.argus_model.specs.Event.{origin_parent}
 use Rattle.argus_model.specs.History.{History, Opened, next_action, ◌▹◌}
 use Rattle.argus_model.specs.Holders.{may_read, may_write}
 use Rattle.argus_model.specs.Numbers.{contains}
@@ -33,9 +33,10 @@ use Rattle.argus_journal.specs.Events.{history, with_event}
 use Rattle.argus_journal.specs.Legal.{Legal}
 use Rattle.argus_journal.specs.Numbering.{unless_base}
 use Rattle.argus_journal.specs.Objects.{shapes}
-use Rattle.argus_journal.specs.Opening.{Opening, opened}
-use Rattle.argus_journal.specs.Told.{at_parent, begins, creator_by, is_the, parent_by, told_above, told_beside}
-use Rattle.argus_journal.specs.Told.{told_creator, told_parent}
+use Rattle.argus_journal.specs.Opening.{Opening, model_opening}
+use Rattle.argus_journal.specs.Replaying.{at_parent, begins, begun_by_call, is_this_action, parent_by}
+use Rattle.argus_journal.specs.Replaying.{is_ancestor_by_entries, is_under_sibling_by_entries}
+use Rattle.argus_journal.specs.Replaying.{begun_by_entries, parent_by_entries}
 use Rattle.argus_journal.proofs.Legal.{lawful, live_none, refused_is_none, test_read_event, test_write_event, tested}
 use Rattle.argus_journal.proofs.Legal.{then_event}
 use Rattle.argus_journal.proofs.Shifted.{before, not_base, one_more, or_none, zero_not_one_more}
@@ -56,7 +57,7 @@ pub record SameTree (h g : History PlainEntry) : Type 0 where
   pub next : next_action g ≡ next_action h
   pub lines : (a : ℕ) → lineage g a ≡ lineage h a
   pub parents : (a : ℕ) → parent g a ≡ parent h a
-  pub creators : (a : ℕ) → creator g a ≡ creator h a
+  pub creators : (a : ℕ) → begun_by g a ≡ begun_by h a
 
 same_tree : (h : History PlainEntry) → SameTree h h
 same_tree h = record { next = refl; lines = λ a. refl; parents = λ a. refl; creators = λ a. refl }
@@ -149,10 +150,10 @@ opened_above n x a =
     ∙ or_none ((x + 1) == (a + 1)) ∙ one_more x a)
 
 begun_above : (h : History PlainEntry) (from : Origin) (x a : ℕ) (up old : Bool)
-    → up ≡ is_ancestor h (x + 1) (parent_of from) → old ≡ is_ancestor h (x + 1) (a + 1)
+    → up ≡ is_ancestor h (x + 1) (origin_parent from) → old ≡ is_ancestor h (x + 1) (a + 1)
     → cond ((next_action h - 1) == a) (x == a || up) old ≡ is_ancestor (Began from ▹ h) (x + 1) (a + 1)
 begun_above h from x a up old u o =
-    let at = λ (b : Bool). contains (cond b ((a + 1) ∷ lineage h (parent_of from)) (lineage h (a + 1))) (x + 1) in
+    let at = λ (b : Bool). contains (cond b ((a + 1) ∷ lineage h (origin_parent from)) (lineage h (a + 1))) (x + 1) in
     ⊎_elim
     (λ e. ap (λ b. cond b (x == a || up) old) (is_last (next_action h) a (next_pos h) e)
     ∙ ap (λ b. b || up) (sym (one_more x a)) ∙ ap (λ b. ((x + 1) == (a + 1)) || b) u
@@ -165,17 +166,19 @@ base_above : (h : History PlainEntry) (x : ℕ) → false ≡ is_ancestor h (x +
 base_above h x = sym (ap (λ t. contains t (x + 1)) (lineage-base h) ∙ or_none ((x + 1) == 0) ∙ not_base x)
 
 pub above_told : (s : Opening) (j : List PlainEntry) → Legal s j → (x a : ℕ)
-    → told_above j x a ≡ is_ancestor (history s j) (x + 1) (a + 1)
+    → is_ancestor_by_entries j x a ≡ is_ancestor (history s j) (x + 1) (a + 1)
 above_told s [] l x a = opened_above s.first_action x a
 above_told s (e ∷ older) l x a =
     let h = history s older in
-    let old = told_above older x a in
-    entry_tree s e older l (λ c r g. told_above (with_reply c r ∷ older) x a ≡ is_ancestor g (x + 1) (a + 1))
+    let old = is_ancestor_by_entries older x a in
+    entry_tree s e older l (λ c r g. is_ancestor_by_entries (with_reply c r ∷ older) x a ≡ is_ancestor g (x + 1)
+    (a + 1))
     (begun_above h Top x a false old (base_above h x) (above_told s older l.1 x a))
-    (λ p _. begun_above h (Sub (p + 1)) x a (told_above older x p) old (above_told s older l.1 x p)
+    (λ p _. begun_above h (Sub (p + 1)) x a (is_ancestor_by_entries older x p) old (above_told s older l.1 x p)
     (above_told s older l.1 x a))
     (λ c. begun_above h (Nested (c + 1)) x a false old (base_above h x) (above_told s older l.1 x a))
-    (λ c r g none same. ap (λ b. cond b (x == a || at_parent false (parent_by c) (told_above older x)) old) (none a)
+    (λ c r g none same. ap (λ b. cond b (x == a || at_parent false (parent_by c) (is_ancestor_by_entries older x)) old)
+    (none a)
     ∙ above_told s older l.1 x a ∙ sym (ap (λ t. contains t (x + 1)) (same.lines (a + 1))))
 
 -- parents and creators
@@ -195,86 +198,87 @@ begun_kin h a kin old new was u o =
     (cases_eq (a + 1) (next_action h))
 
 pub parent_told : (s : Opening) (j : List PlainEntry) → Legal s j → (a : ℕ)
-    → told_parent j a ≡ unless_base (parent (history s j) (a + 1))
+    → parent_by_entries j a ≡ unless_base (parent (history s j) (a + 1))
 parent_told s [] l a = refl
 parent_told s (e ∷ older) l a =
     let h = history s older in
     let old = parent h (a + 1) in
     let ih = parent_told s older l.1 a in
-    entry_tree s e older l (λ c r g. told_parent (with_reply c r ∷ older) a ≡ unless_base (parent g (a + 1)))
-    (begun_kin h a 0 old None (told_parent older a) refl ih)
-    (λ p _. begun_kin h a (p + 1) old (Some p) (told_parent older a) (some_kin p) ih)
-    (λ c. begun_kin h a 0 old None (told_parent older a) refl ih)
-    (λ c r g none same. ap (λ b. cond b (parent_by c) (told_parent older a)) (none a) ∙ ih
+    entry_tree s e older l (λ c r g. parent_by_entries (with_reply c r ∷ older) a ≡ unless_base (parent g (a + 1)))
+    (begun_kin h a 0 old None (parent_by_entries older a) refl ih)
+    (λ p _. begun_kin h a (p + 1) old (Some p) (parent_by_entries older a) (some_kin p) ih)
+    (λ c. begun_kin h a 0 old None (parent_by_entries older a) refl ih)
+    (λ c r g none same. ap (λ b. cond b (parent_by c) (parent_by_entries older a)) (none a) ∙ ih
     ∙ sym (ap unless_base (same.parents (a + 1))))
 
 pub creator_told : (s : Opening) (j : List PlainEntry) → Legal s j → (a : ℕ)
-    → told_creator j a ≡ unless_base (creator (history s j) (a + 1))
+    → begun_by_entries j a ≡ unless_base (begun_by (history s j) (a + 1))
 creator_told s [] l a = refl
 creator_told s (e ∷ older) l a =
     let h = history s older in
-    let old = creator h (a + 1) in
+    let old = begun_by h (a + 1) in
     let ih = creator_told s older l.1 a in
-    entry_tree s e older l (λ c r g. told_creator (with_reply c r ∷ older) a ≡ unless_base (creator g (a + 1)))
-    (begun_kin h a 0 old None (told_creator older a) refl ih)
-    (λ p _. begun_kin h a (p + 1) old (Some p) (told_creator older a) (some_kin p) ih)
-    (λ c. begun_kin h a (c + 1) old (Some c) (told_creator older a) (some_kin c) ih)
-    (λ c r g none same. ap (λ b. cond b (creator_by c) (told_creator older a)) (none a) ∙ ih
+    entry_tree s e older l (λ c r g. begun_by_entries (with_reply c r ∷ older) a ≡ unless_base (begun_by g (a + 1)))
+    (begun_kin h a 0 old None (begun_by_entries older a) refl ih)
+    (λ p _. begun_kin h a (p + 1) old (Some p) (begun_by_entries older a) (some_kin p) ih)
+    (λ c. begun_kin h a (c + 1) old (Some c) (begun_by_entries older a) (some_kin c) ih)
+    (λ c r g none same. ap (λ b. cond b (begun_by_call c) (begun_by_entries older a)) (none a) ∙ ih
     ∙ sym (ap unless_base (same.creators (a + 1))))
 
 -- siblings
 
 -- c + 1 began y, which is another than b + 1
-abbrev pub is_beside : History PlainEntry → ℕ → ℕ → ℕ → Bool
-is_beside h c b y = not (y == 0) && (not (y == (b + 1)) && (creator h y == (c + 1)))
+abbrev pub is_under_sibling : History PlainEntry → ℕ → ℕ → ℕ → Bool
+is_under_sibling h c b y = not (y == 0) && (not (y == (b + 1)) && (begun_by h y == (c + 1)))
 
-none_beside : (n c b : ℕ) (ys : List ℕ) → false ≡ list_any (is_beside (Opened n) c b) ys
+none_beside : (n c b : ℕ) (ys : List ℕ) → false ≡ list_any (is_under_sibling (Opened n) c b) ys
 none_beside n c b [] = refl
 none_beside n c b (y ∷ ys) =
     none_beside n c b ys
-    ∙ sym (ap (λ t. t || list_any (is_beside (Opened n) c b) ys)
+    ∙ sym (ap (λ t. t || list_any (is_under_sibling (Opened n) c b) ys)
     (ap (λ t. not (y == 0) && t)
     (ap (λ t. not (y == (b + 1)) && t) (zero_not_one_more c) ∙ and_none (not (y == (b + 1))))
     ∙ and_none (not (y == 0))))
 
 -- one more action changes nothing of those above y
 same_beside : (h : History PlainEntry) (from : Origin) (c b y : ℕ) → ParentsAreOlder h → y < next_action h
-    → list_any (is_beside h c b) (lineage h y) ≡ list_any (is_beside (Began from ▹ h) c b) (lineage h y)
+    → list_any (is_under_sibling h c b) (lineage h y) ≡ list_any (is_under_sibling (Began from ▹ h) c b) (lineage h y)
 same_beside h from c b y f lt =
-    any_agree (is_beside h c b) (is_beside (Began from ▹ h) c b) (lineage h y)
+    any_agree (is_under_sibling h c b) (is_under_sibling (Began from ▹ h) c b) (lineage h y)
     (λ z m. let le = ancestor_le h z y f lt m in
-    sym (ap (λ t. not (z == 0) && (not (z == (b + 1)) && (cond t (creator_of from) (creator h z) == (c + 1))))
+    sym (ap (λ t. not (z == 0) && (not (z == (b + 1)) && (cond t (origin_begun_by from) (begun_by h z) == (c + 1))))
     (ne_eqb z (next_action h) (λ e. absurd (omega arith)))))
 
-base_beside : (h g : History PlainEntry) (c b : ℕ) → false ≡ list_any (is_beside g c b) (lineage h 0)
-base_beside h g c b = sym (ap (list_any (is_beside g c b)) (lineage-base h))
+base_beside : (h g : History PlainEntry) (c b : ℕ) → false ≡ list_any (is_under_sibling g c b) (lineage h 0)
+base_beside h g c b = sym (ap (list_any (is_under_sibling g c b)) (lineage-base h))
 
 module _ (h : History PlainEntry) (from : Origin) (c b x : ℕ) (the up old : Bool) where
   abbrev g : History PlainEntry
   g = Began from ▹ h
 
-  first : (x + 1) ≡ next_action h → is_beside g c b (x + 1) ≡ (not (x == b) && (creator_of from == (c + 1)))
+  first : (x + 1) ≡ next_action h → is_under_sibling g c b (x + 1) ≡ (not (x == b) && (origin_begun_by from == (c + 1)))
   first e =
-      let made = λ (t : Bool). cond t (creator_of from) (creator h (x + 1)) == (c + 1) in
+      let made = λ (t : Bool). cond t (origin_begun_by from) (begun_by h (x + 1)) == (c + 1) in
       ap (λ t. not t && (not ((x + 1) == (b + 1)) && made ((x + 1) == next_action h))) (not_base x)
       ∙ ap (λ t. not t && made ((x + 1) == next_action h)) (one_more x b)
       ∙ ap (λ t. not (x == b) && made t) (eq-eqb (x + 1) (next_action h) e)
 
-  begun_beside : ParentsAreOlder h → the ≡ (creator_of from == (c + 1))
-      → up ≡ list_any (is_beside g c b) (lineage h (parent_of from))
-      → (x + 1 < next_action h → old ≡ list_any (is_beside h c b) (lineage h (x + 1))) → x + 1 < next_action h + 1
+  begun_beside : ParentsAreOlder h → the ≡ (origin_begun_by from == (c + 1))
+      → up ≡ list_any (is_under_sibling g c b) (lineage h (origin_parent from))
+      → (x + 1 < next_action h → old ≡ list_any (is_under_sibling h c b) (lineage h (x + 1)))
+      → x + 1 < next_action h + 1
       → cond ((next_action h - 1) == x) ((not (x == b) && the) || up) old
-      ≡ list_any (is_beside g c b) (lineage g (x + 1))
+      ≡ list_any (is_under_sibling g c b) (lineage g (x + 1))
   begun_beside f t u o lt =
       let n = next_action h in
       let at = λ (k : Bool).
-      list_any (is_beside g c b) (cond k ((x + 1) ∷ lineage h (parent_of from)) (lineage h (x + 1))) in
+      list_any (is_under_sibling g c b) (cond k ((x + 1) ∷ lineage h (origin_parent from)) (lineage h (x + 1))) in
       ⊎_elim
       (λ e. ap (λ k. cond k ((not (x == b) && the) || up) old) (is_last n x (next_pos h) e)
       ∙ ap (λ k. (not (x == b) && k) || up) t
-      ∙ ap (λ k. (not (x == b) && (creator_of from == (c + 1))) || k) u
+      ∙ ap (λ k. (not (x == b) && (origin_begun_by from == (c + 1))) || k) u
       ∙ sym (ap at (eq-eqb (x + 1) n e)
-      ∙ ap (λ k. k || list_any (is_beside g c b) (lineage h (parent_of from))) (first e)))
+      ∙ ap (λ k. k || list_any (is_under_sibling g c b) (lineage h (origin_parent from))) (first e)))
       (λ ne. let lt' : x + 1 < n = omega (arith, lt, ne) in
       ap (λ k. cond k ((not (x == b) && the) || up) old) (not_last n x (next_pos h) ne)
       ∙ o lt' ∙ same_beside h from c b (x + 1) f lt'
@@ -282,28 +286,31 @@ module _ (h : History PlainEntry) (from : Origin) (c b x : ℕ) (the up old : Bo
       (cases_eq (x + 1) n)
 
 pub beside_told : (s : Opening) (j : List PlainEntry) → Legal s j → (c b x : ℕ) → x + 1 < next_action (history s j)
-    → told_beside j c b x ≡ list_any (is_beside (history s j) c b) (lineage (history s j) (x + 1))
+    → is_under_sibling_by_entries j c b x ≡ list_any (is_under_sibling (history s j) c b) (lineage (history s j)
+    (x + 1))
 beside_told s [] l c b x lt = none_beside s.first_action c b (lineage {V = PlainEntry} (Opened s.first_action) (x + 1))
 beside_told s (e ∷ older) l c b x below =
     let h = history s older in
-    let f = parents_are_older h (lawful_orderly entries (opened s) h (lawful s older l.1)) in
-    let old = told_beside older c b x in
+    let f = parents_are_older h (lawful_orderly entries (model_opening s) h (lawful s older l.1)) in
+    let old = is_under_sibling_by_entries older c b x in
     let ih = beside_told s older l.1 c b in
     entry_tree s e older l
     (λ call r g. x + 1 < next_action g
-    → told_beside (with_reply call r ∷ older) c b x ≡ list_any (is_beside g c b) (lineage g (x + 1)))
+    → is_under_sibling_by_entries (with_reply call r ∷ older) c b x ≡ list_any (is_under_sibling g c b) (lineage g
+    (x + 1)))
     (begun_beside h Top c b x false false old f (sym (zero_not_one_more c)) (base_beside h (Began Top ▹ h) c b) (ih x))
     (λ p live. let lt = (is_begun_parts h (p + 1) (live_begun h (p + 1) live)).1 in
-    begun_beside h (Sub (p + 1)) c b x (p == c) (told_beside older c b p) old f (sym (one_more p c))
+    begun_beside h (Sub (p + 1)) c b x (p == c) (is_under_sibling_by_entries older c b p) old f (sym (one_more p c))
     (ih p lt ∙ same_beside h (Sub (p + 1)) c b (p + 1) f lt) (ih x))
     (λ k. begun_beside h (Nested (k + 1)) c b x (k == c) false old f (sym (one_more k c))
     (base_beside h (Began (Nested (k + 1)) ▹ h) c b) (ih x))
     (λ call r g none same lt.
     ap (λ k. cond k
-    ((not (x == b) && is_the (creator_by call) c) || at_parent false (parent_by call) (told_beside older c b)) old)
+    ((not (x == b) && is_this_action (begun_by_call call) c) || at_parent false (parent_by call)
+    (is_under_sibling_by_entries older c b)) old)
     (none x)
     ∙ ih x (subst (λ n. x + 1 < n) same.next lt)
-    ∙ sym (ap (list_any (is_beside g c b)) (same.lines (x + 1))
-    ∙ any_agree (is_beside g c b) (is_beside h c b) (lineage h (x + 1))
+    ∙ sym (ap (list_any (is_under_sibling g c b)) (same.lines (x + 1))
+    ∙ any_agree (is_under_sibling g c b) (is_under_sibling h c b) (lineage h (x + 1))
     (λ z _. ap (λ k. not (z == 0) && (not (z == (b + 1)) && (k == (c + 1)))) (same.creators z))))
     below

@@ -23,7 +23,7 @@ use Rattle.argus_journal.specs.Entries.{entries}
 use Rattle.argus_journal.specs.Events.{event_of, history, with_event}
 use Rattle.argus_journal.specs.Legal.{Legal}
 use Rattle.argus_journal.specs.Objects.{shapes}
-use Rattle.argus_journal.specs.Opening.{Opening, opened}
+use Rattle.argus_journal.specs.Opening.{Opening, model_opening}
 
 -- where nothing is refused, the test holds and the rest refuses nothing
 pub unless_none : (test : Bool) (why : Refusal) (rest : Option Refusal) → unless test why rest ≡ None
@@ -98,7 +98,7 @@ pub test_write_event : (h : History PlainEntry) (a o : ℕ) (x : Bool) (e : Plai
 test_write_event h a o x e = refl
 
 abbrev IsLawful : Opening → History PlainEntry → Type 0
-IsLawful s h = Lawful entries (opened s) h
+IsLawful s h = Lawful entries (model_opening s) h
 
 or_live : (a b : Bool) → b ≡ true → (a || b) ≡ true
 or_live true b e = refl
@@ -149,7 +149,7 @@ answered_step s h objects c (Some why) e w =
     w
 
 -- a legal journal tells a lawful history
-pub lawful : (s : Opening) (j : List PlainEntry) → Legal s j → Lawful entries (opened s) (history s j)
+pub lawful : (s : Opening) (j : List PlainEntry) → Legal s j → Lawful entries (model_opening s) (history s j)
 lawful s [] l = refl
 lawful s (e ∷ older) l =
     subst (λ r. IsLawful s (then_event e.call r (history s older))) (sym l.0)

@@ -7,10 +7,11 @@ pub mod Contents
 pub mod Serial
 pub mod NextEntry
 pub mod Kin
-pub mod Told
+pub mod OwnersByEntries
 pub mod Newest
 pub mod Owners
 pub mod Replay
 pub mod Within
 pub mod Folded
 pub mod Crossing
+pub use Rattle.argus_entries.proofs.Crossing as EntriesCrossing

@@ -28,13 +28,14 @@ use Rattle.argus_model.proofs.NextSees.{sees_after_begin, sees_after_begin_new, 
 use Rattle.argus_model.proofs.Owner.{base_above}
 use Rattle.argus_model.proofs.Serial.{guarded}
 use Rattle.argus_model.proofs.Standing.{Orderly}
-use Rattle.argus_journal.specs.Entries.{entries, is_write, left_by}
+use Rattle.argus_journal.specs.Entries.{entries, is_write, content_after_call}
 use Rattle.argus_journal.specs.Events.{event_if, event_of, happens, history, is_answered, with_event}
 use Rattle.argus_journal.specs.Legal.{Legal}
 use Rattle.argus_journal.specs.Numbering.{all_in_history, all_in_program, unless_base}
-use Rattle.argus_journal.specs.Opening.{Opening, opened}
-use Rattle.argus_journal.specs.Words.{base_of, handed_over, is_live_in, is_parent_above, is_under_in, live_siblings_in}
-use Rattle.argus_journal.specs.Words.{next_number, parent_in, readers_of, seen_by, writers_of}
+use Rattle.argus_journal.specs.Opening.{Opening, model_opening}
+use Rattle.argus_journal.specs.JournalFacts.{base_of, holders_inherited, is_live_in, is_parent_above, is_under_in}
+use Rattle.argus_journal.specs.JournalFacts.{live_siblings_in}
+use Rattle.argus_journal.specs.JournalFacts.{next_action_number, parent_in, readers_of, visible_to, writers_of}
 use Rattle.argus_journal.proofs.Legal.{lawful}
 use Rattle.argus_journal.proofs.Shifted.{NoBase, after, all_back, any-map, contains_in_program, filter_in_program}
 use Rattle.argus_journal.proofs.Shifted.{handed_in_program, insert_in_program, is_next, is_none_base, map_cond}
@@ -47,10 +48,10 @@ same_history s e j q = ap (λ x. with_event x (history s j)) q
 -- what holds of the history with this event holds of the journal with the entry that says so
 pub by_event : (s : Opening) (e : PlainEntry) (j : List PlainEntry) (event : Event PlainEntry)
     (P : History PlainEntry → Type 0) → Legal s (e ∷ j) → happens s e j ≡ Some event
-    → (Lawful entries (opened s) (event ▹ history s j) → P (event ▹ history s j)) → P (history s (e ∷ j))
+    → (Lawful entries (model_opening s) (event ▹ history s j) → P (event ▹ history s j)) → P (history s (e ∷ j))
 by_event s e j event P l q f =
     let same : history s (e ∷ j) ≡ (event ▹ history s j) = ap (λ x. with_event x (history s j)) q in
-    subst P (sym same) (f (subst (λ h. Lawful entries (opened s) h) same (lawful s (e ∷ j) l)))
+    subst P (sym same) (f (subst (λ h. Lawful entries (model_opening s) h) same (lawful s (e ∷ j) l)))
 
 -- no holder is the base
 pub readers_above : (h : History PlainEntry) (o : ℕ) → NoBase (readers entries h o)
@@ -75,13 +76,13 @@ module _ (s : Opening) (e : PlainEntry) (j : List PlainEntry) where
   h = history s j
 
   abbrev seen_in : History PlainEntry → ℕ → ℕ → Option PlainContent
-  seen_in g x o = sees entries (opened s) g x o
+  seen_in g x o = sees entries (model_opening s) g x o
 
-  orderly : (g : History PlainEntry) → Lawful entries (opened s) g → Orderly g
-  orderly g l = lawful_orderly entries (opened s) g l
+  orderly : (g : History PlainEntry) → Lawful entries (model_opening s) g → Orderly g
+  orderly g l = lawful_orderly entries (model_opening s) g l
 
   module _ (from : Origin) (l : Legal s (e ∷ j)) (q : happens s e j ≡ Some (Began from)) where
-    pub begin_live : (x : ℕ) → is_live_in s (e ∷ j) x ≡ ((x == next_number s j) || is_live_in s j x)
+    pub begin_live : (x : ℕ) → is_live_in s (e ∷ j) x ≡ ((x == next_action_number s j) || is_live_in s j x)
     begin_live x =
         by_event s e j (Began from) (λ g. is_live g (x + 1) ≡ ((x + 1 == next_action h) || is_live h (x + 1))) l q
         (λ w. live_after_begin h from (orderly (Began from ▹ h) w) (x + 1))
@@ -99,42 +100,43 @@ module _ (s : Opening) (e : PlainEntry) (j : List PlainEntry) where
         (by_event s e j (Began from) (λ g. writers entries g o ≡ writers entries h o) l q
         (λ w. holders_after_begin entries.writes h from (orderly (Began from ▹ h) w) o))
 
-    pub begin_others_see : (x o : ℕ) → x ≢ next_number s j → seen_by s (e ∷ j) x o ≡ seen_by s j x o
+    pub begin_others_see : (x o : ℕ) → x ≢ next_action_number s j → visible_to s (e ∷ j) x o ≡ visible_to s j x o
     begin_others_see x o n =
         by_event s e j (Began from) (λ g. seen_in g (x + 1) o ≡ seen_in h (x + 1) o) l q
-        (λ w. sees_after_begin entries (opened s) h from (orderly (Began from ▹ h) w) (x + 1) o
+        (λ w. sees_after_begin entries (model_opening s) h from (orderly (Began from ▹ h) w) (x + 1) o
         (λ k. n (let p = next_pos h in omega (arith, k))))
 
     pub begin_base : (o : ℕ) → base_of s (e ∷ j) o ≡ base_of s j o
     begin_base o =
-        by_event s e j (Began from) (λ g. base entries (opened s) g o ≡ base entries (opened s) h o) l q
-        (λ w. base_after_begin entries (opened s) h from (orderly (Began from ▹ h) w) o)
+        by_event s e j (Began from) (λ g. base entries (model_opening s) g o ≡ base entries (model_opening s) h o) l q
+        (λ w. base_after_begin entries (model_opening s) h from (orderly (Began from ▹ h) w) o)
 
   next_is : (next_action h - 1) + 1 ≡ next_action h
   next_is = let p = next_pos h in omega arith
 
   pub sub_sees : (p o : ℕ) → Legal s (e ∷ j) → happens s e j ≡ Some (Began (Sub (p + 1)))
-      → seen_by s (e ∷ j) (next_number s j) o ≡ seen_by s j p o
+      → visible_to s (e ∷ j) (next_action_number s j) o ≡ visible_to s j p o
   sub_sees p o l q =
       ap (λ n. seen_in (history s (e ∷ j)) n o) next_is
       ∙ by_event s e j (Began (Sub (p + 1))) (λ g. seen_in g (next_action h) o ≡ seen_in h (p + 1) o) l q
-      (λ w. sees_after_begin_new entries (opened s) h (Sub (p + 1)) (orderly (Began (Sub (p + 1)) ▹ h) w) o)
+      (λ w. sees_after_begin_new entries (model_opening s) h (Sub (p + 1)) (orderly (Began (Sub (p + 1)) ▹ h) w) o)
 
   pub top_sees : (o : ℕ) → Legal s (e ∷ j) → happens s e j ≡ Some (Began Top)
-      → seen_by s (e ∷ j) (next_number s j) o ≡ base_of s j o
+      → visible_to s (e ∷ j) (next_action_number s j) o ≡ base_of s j o
   top_sees o l q =
       ap (λ n. seen_in (history s (e ∷ j)) n o) next_is
       ∙ by_event s e j (Began Top) (λ g. seen_in g (next_action h) o ≡ seen_in h 0 o) l q
-      (λ w. sees_after_begin_new entries (opened s) h Top (orderly (Began Top ▹ h) w) o)
-      ∙ sees_base entries (opened s) h (orderly h (lawful s j l.1)) o
+      (λ w. sees_after_begin_new entries (model_opening s) h Top (orderly (Began Top ▹ h) w) o)
+      ∙ sees_base entries (model_opening s) h (orderly h (lawful s j l.1)) o
 
   pub nested_sees : (c o : ℕ) → Legal s (e ∷ j) → happens s e j ≡ Some (Began (Nested (c + 1)))
-      → seen_by s (e ∷ j) (next_number s j) o ≡ base_of s j o
+      → visible_to s (e ∷ j) (next_action_number s j) o ≡ base_of s j o
   nested_sees c o l q =
       ap (λ n. seen_in (history s (e ∷ j)) n o) next_is
       ∙ by_event s e j (Began (Nested (c + 1))) (λ g. seen_in g (next_action h) o ≡ seen_in h 0 o) l q
-      (λ w. sees_after_begin_new entries (opened s) h (Nested (c + 1)) (orderly (Began (Nested (c + 1)) ▹ h) w) o)
-      ∙ sees_base entries (opened s) h (orderly h (lawful s j l.1)) o
+      (λ w. sees_after_begin_new entries (model_opening s) h (Nested (c + 1)) (orderly (Began (Nested
+      (c + 1)) ▹ h) w) o)
+      ∙ sees_base entries (model_opening s) h (orderly h (lawful s j l.1)) o
 
   -- who holds after a granted access, in the program's numbers
   inserted : (b : Bool) (a : ℕ) (xs : List ℕ) → NoBase xs
@@ -168,22 +170,25 @@ module _ (s : Opening) (e : PlainEntry) (j : List PlainEntry) where
         ∙ inserted b a (writers entries h o) (writers_above h o)
 
     pub access_sees : (o : ℕ)
-        → seen_by s (e ∷ j) a o ≡ cond (i == o) (left_by e.call (seen_by s j a o)) (seen_by s j a o)
+        → visible_to s (e ∷ j) a o ≡ cond (i == o) (content_after_call e.call (visible_to s j a o)) (visible_to s j a o)
     access_sees o =
         by_event s e j (Accessed (a + 1) i e)
-        (λ g. seen_in g (a + 1) o ≡ cond (i == o) (left_by e.call (seen_in h (a + 1) o)) (seen_in h (a + 1) o)) l q
-        (λ w. sees_after_access_own entries (opened s) h (a + 1) i e (orderly (Accessed (a + 1) i e ▹ h) w) o)
+        (λ g. seen_in g (a + 1) o ≡ cond (i == o) (content_after_call e.call (seen_in h (a + 1) o)) (seen_in h
+        (a + 1) o)) l q
+        (λ w. sees_after_access_own entries (model_opening s) h (a + 1) i e (orderly (Accessed (a + 1) i e ▹ h) w) o)
 
-    pub access_others_see : (x o : ℕ) → is_live_in s j x ≡ true → x ≢ a → seen_by s (e ∷ j) x o ≡ seen_by s j x o
+    pub access_others_see : (x o : ℕ) → is_live_in s j x ≡ true → x ≢ a → visible_to s (e ∷ j) x o ≡ visible_to s j x o
     access_others_see x o k n =
         by_event s e j (Accessed (a + 1) i e) (λ g. seen_in g (x + 1) o ≡ seen_in h (x + 1) o) l q
-        (λ w. sees_after_access_other entries (opened s) h (a + 1) i e (orderly (Accessed (a + 1) i e ▹ h) w) (x + 1) o
+        (λ w. sees_after_access_other entries (model_opening s) h (a + 1) i e (orderly (Accessed (a + 1) i e ▹ h) w)
+        (x + 1) o
         (live_stands h (orderly h w.1) (x + 1) k).1 (λ m. n (omega (arith, m))))
 
     pub access_base : (o : ℕ) → base_of s (e ∷ j) o ≡ base_of s j o
     access_base o =
-        by_event s e j (Accessed (a + 1) i e) (λ g. base entries (opened s) g o ≡ base entries (opened s) h o) l q
-        (λ w. base_after_access entries (opened s) h (a + 1) i e (orderly (Accessed (a + 1) i e ▹ h) w) o)
+        by_event s e j (Accessed (a + 1) i e) (λ g. base entries (model_opening s) g o ≡ base entries
+        (model_opening s) h o) l q
+        (λ w. base_after_access entries (model_opening s) h (a + 1) i e (orderly (Accessed (a + 1) i e ▹ h) w) o)
 
   -- a parent in the history's numbers is above x where it is so in the program's
   parent_above : (p x : ℕ) → is_ancestor h p (x + 1) ≡ is_parent_above s j (unless_base p) x
@@ -208,45 +213,45 @@ module _ (s : Opening) (e : PlainEntry) (j : List PlainEntry) where
         (λ w. live_after_commit h (a + 1) (orderly (Committed (a + 1) ▹ h) w) (x + 1))
         ∙ ap (λ b. is_live h (x + 1) && not b) (one_more x a)
 
-    pub commit_readers : (o : ℕ) → readers_of s (e ∷ j) o ≡ handed_over a (parent_in s j a) (readers_of s j o)
+    pub commit_readers : (o : ℕ) → readers_of s (e ∷ j) o ≡ holders_inherited a (parent_in s j a) (readers_of s j o)
     commit_readers o =
         let g = Committed (a + 1) ▹ h in
         by_event s e j (Committed (a + 1))
-        (λ g. all_in_program (readers entries g o) ≡ handed_over a (parent_in s j a) (readers_of s j o)) l q
+        (λ g. all_in_program (readers entries g o) ≡ holders_inherited a (parent_in s j a) (readers_of s j o)) l q
         (λ w. ap all_in_program (holders_after_commit (reads entries) h (a + 1) (orderly g w) o)
         ∙ handed_in_program a up (readers entries h o) (readers_above h o))
 
-    pub commit_writers : (o : ℕ) → writers_of s (e ∷ j) o ≡ handed_over a (parent_in s j a) (writers_of s j o)
+    pub commit_writers : (o : ℕ) → writers_of s (e ∷ j) o ≡ holders_inherited a (parent_in s j a) (writers_of s j o)
     commit_writers o =
         let g = Committed (a + 1) ▹ h in
         by_event s e j (Committed (a + 1))
-        (λ g. all_in_program (writers entries g o) ≡ handed_over a (parent_in s j a) (writers_of s j o)) l q
+        (λ g. all_in_program (writers entries g o) ≡ holders_inherited a (parent_in s j a) (writers_of s j o)) l q
         (λ w. ap all_in_program (holders_after_commit entries.writes h (a + 1) (orderly g w) o)
         ∙ handed_in_program a up (writers entries h o) (writers_above h o))
 
     pub commit_sees : (x o : ℕ) → is_live_in s j x ≡ true → x ≢ a
-        → seen_by s (e ∷ j) x o
-        ≡ cond (contains (writers_of s j o) a && is_parent_above s j (parent_in s j a) x) (seen_by s j a o)
-        (seen_by s j x o)
+        → visible_to s (e ∷ j) x o
+        ≡ cond (contains (writers_of s j o) a && is_parent_above s j (parent_in s j a) x) (visible_to s j a o)
+        (visible_to s j x o)
     commit_sees x o k n =
         let both = λ (b c : Bool). cond (b && c) (seen_in h (a + 1) o) (seen_in h (x + 1) o) in
         by_event s e j (Committed (a + 1))
         (λ g. seen_in g (x + 1) o ≡ both (contains (writers entries h o) (a + 1)) (is_ancestor h up (x + 1))) l q
-        (λ w. sees_after_commit entries (opened s) h (a + 1) (orderly (Committed (a + 1) ▹ h) w)
-        (guarded entries (opened s).contents h (lawful_steps entries (opened s) h w.1)) (x + 1)
+        (λ w. sees_after_commit entries (model_opening s) h (a + 1) (orderly (Committed (a + 1) ▹ h) w)
+        (guarded entries (model_opening s).contents h (lawful_steps entries (model_opening s) h w.1)) (x + 1)
         (live_stands h (orderly h w.1) (x + 1) k).1 (λ m. n (omega (arith, m))) o)
         ∙ ap (λ b. both b (is_ancestor h up (x + 1))) (wrote_it o)
         ∙ ap (both (contains (writers_of s j o) a)) (parent_above up x)
 
     pub commit_base : (o : ℕ)
         → base_of s (e ∷ j) o
-        ≡ cond (contains (writers_of s j o) a && is_none (parent_in s j a)) (seen_by s j a o) (base_of s j o)
+        ≡ cond (contains (writers_of s j o) a && is_none (parent_in s j a)) (visible_to s j a o) (base_of s j o)
     commit_base o =
-        let both = λ (b c : Bool). cond (b && c) (seen_in h (a + 1) o) (base entries (opened s) h o) in
+        let both = λ (b c : Bool). cond (b && c) (seen_in h (a + 1) o) (base entries (model_opening s) h o) in
         by_event s e j (Committed (a + 1))
-        (λ g. base entries (opened s) g o ≡ both (contains (writers entries h o) (a + 1)) (up == 0)) l q
-        (λ w. base_after_commit entries (opened s) h (a + 1) (orderly (Committed (a + 1) ▹ h) w)
-        (guarded entries (opened s).contents h (lawful_steps entries (opened s) h w.1)) o)
+        (λ g. base entries (model_opening s) g o ≡ both (contains (writers entries h o) (a + 1)) (up == 0)) l q
+        (λ w. base_after_commit entries (model_opening s) h (a + 1) (orderly (Committed (a + 1) ▹ h) w)
+        (guarded entries (model_opening s).contents h (lawful_steps entries (model_opening s) h w.1)) o)
         ∙ ap (λ b. both b (up == 0)) (wrote_it o)
         ∙ ap (both (contains (writers_of s j o) a)) (sym (is_none_base up))
 
@@ -289,13 +294,14 @@ module _ (s : Opening) (e : PlainEntry) (j : List PlainEntry) where
         (λ w. holders_after_abort entries.writes h ended (orderly (Aborted ended ▹ h) w) o))
         ∙ spared (writers entries h o) (writers_above h o)
 
-    pub abort_sees : (x o : ℕ) → is_live_in s (e ∷ j) x ≡ true → seen_by s (e ∷ j) x o ≡ seen_by s j x o
+    pub abort_sees : (x o : ℕ) → is_live_in s (e ∷ j) x ≡ true → visible_to s (e ∷ j) x o ≡ visible_to s j x o
     abort_sees x o =
         by_event s e j (Aborted ended) (λ g. is_live g (x + 1) ≡ true → seen_in g (x + 1) o ≡ seen_in h (x + 1) o) l q
-        (λ w k. sees_after_abort entries (opened s) h ended (orderly (Aborted ended ▹ h) w) (x + 1) o
+        (λ w k. sees_after_abort entries (model_opening s) h ended (orderly (Aborted ended ▹ h) w) (x + 1) o
         (live_stands (Aborted ended ▹ h) (orderly (Aborted ended ▹ h) w) (x + 1) k).1)
 
     pub abort_base : (o : ℕ) → base_of s (e ∷ j) o ≡ base_of s j o
     abort_base o =
-        by_event s e j (Aborted ended) (λ g. base entries (opened s) g o ≡ base entries (opened s) h o) l q
-        (λ w. base_after_abort entries (opened s) h ended (orderly (Aborted ended ▹ h) w) o)
+        by_event s e j (Aborted ended) (λ g. base entries (model_opening s) g o ≡ base entries
+        (model_opening s) h o) l q
+        (λ w. base_after_abort entries (model_opening s) h ended (orderly (Aborted ended ▹ h) w) o)

@@ -25,22 +25,24 @@ use Rattle.argus_journal.specs.Events.{history, is_answered, says_yes}
 use Rattle.argus_journal.specs.Journal.{newest_first}
 use Rattle.argus_journal.specs.Legal.{Legal}
 use Rattle.argus_journal.specs.Objects.{shapes}
-use Rattle.argus_journal.specs.Opening.{Opening, opened}
-use Rattle.argus_journal.specs.Told.{IsTold, begins, first_heir, last_owner, owner_next, owner_then, told_owner}
-use Rattle.argus_journal.specs.Told.{writer_by}
-use Rattle.argus_journal.specs.Words.{in_program_owner}
+use Rattle.argus_journal.specs.Opening.{Opening, model_opening}
+use Rattle.argus_journal.specs.Replaying.{IsOwnerByEntries, begins, first_heir, last_owner, owner_next, owner_then}
+use Rattle.argus_journal.specs.Replaying.{owner_by_entries}
+use Rattle.argus_journal.specs.Replaying.{writer_by}
+use Rattle.argus_journal.specs.JournalFacts.{in_program_owner}
 use Rattle.argus_journal.specs.declared.owner.Owner.{Owner}
 use Rattle.argus_journal.specs.declared.owner.Owner.TheVariants.{Base, Folded, Gone, Held}
 use Rattle.argus_journal.proofs.Kin.{entry_tree}
 use Rattle.argus_journal.proofs.Legal.{free_none, lawful}
 use Rattle.argus_journal.proofs.Newest.{newest_parted, taken_legal}
 use Rattle.argus_journal.proofs.Shifted.{before}
-use Rattle.argus_journal.proofs.Told.{held_live, model_owner, next_there, owner_is_told, owner_there, owner_told}
-use Rattle.argus_journal.proofs.Told.{spared_owner}
+use Rattle.argus_journal.proofs.OwnersByEntries.{held_live, model_owner, next_there, owner_is_told, owner_there}
+use Rattle.argus_journal.proofs.OwnersByEntries.{owner_told}
+use Rattle.argus_journal.proofs.OwnersByEntries.{spared_owner}
 
 -- an action that was begun isn't begun again
 begun_once : (s : Opening) (e : PlainEntry) (older : List PlainEntry) → Legal s (e ∷ older) → (a : ℕ)
-    → is_some (told_owner s.first_action older a) ≡ true → begins e.reply a ≡ false
+    → is_some (owner_by_entries s.first_action older a) ≡ true → begins e.reply a ≡ false
 begun_once s e older l a there =
     let n = next_action (history s older) in
     let other = another n a (sym (owner_there s older l.1 a) ∙ there) in
@@ -51,17 +53,17 @@ begun_once s e older l a there =
 
 -- so of one that was begun, the next entry changes the owner only
 then_owner : (s : Opening) (e : PlainEntry) (older : List PlainEntry) → Legal s (e ∷ older) → (a : ℕ)
-    → is_some (told_owner s.first_action older a) ≡ true
-    → told_owner s.first_action (e ∷ older) a ≡ owner_next e older (told_owner s.first_action older a)
+    → is_some (owner_by_entries s.first_action older a) ≡ true
+    → owner_by_entries s.first_action (e ∷ older) a ≡ owner_next e older (owner_by_entries s.first_action older a)
 then_owner s e older l a there =
-    let was = told_owner s.first_action older a in
+    let was = owner_by_entries s.first_action older a in
     ap (λ b. cond b (Some (Held (record { 0 = a }))) (owner_next e older was)) (begun_once s e older l a there)
 
 -- what has the same owner at one time has the same owner ever after
 
 module _ (s : Opening) (older : List PlainEntry) (a : ℕ) where
   abbrev told : List PlainEntry → ℕ → Option Owner
-  told j x = told_owner s.first_action j x
+  told j x = owner_by_entries s.first_action j x
 
   stays_there : (newer : List PlainEntry) → Legal s (newer ++ older) → is_some (told older a) ≡ true
       → is_some (told (newer ++ older) a) ≡ true
@@ -92,10 +94,10 @@ module _ (s : Opening) (older : List PlainEntry) (a : ℕ) where
 
 -- a live action answers for itself
 live_held : (s : Opening) (older : List PlainEntry) → Legal s older → (a : ActionId)
-    → is_live (history s older) (a.0 + 1) ≡ true → told_owner s.first_action older a.0 ≡ Some (Held a)
+    → is_live (history s older) (a.0 + 1) ≡ true → owner_by_entries s.first_action older a.0 ≡ Some (Held a)
 live_held s older l a live =
     let h = history s older in
-    let w = lawful_orderly entries (opened s) h (lawful s older l) in
+    let w = lawful_orderly entries (model_opening s) h (lawful s older l) in
     owner_told s older l a.0
     ∙ ap (λ b. cond b (Some (in_program_owner (owner h (a.0 + 1)))) None)
     (below (a.0 + 1) (next_action h) (is_begun_parts h (a.0 + 1) (live_begun h (a.0 + 1) live)).1)
@@ -125,27 +127,27 @@ module _ (s : Opening) (items : List Entry) (l : Legal s (newest_first items)) (
   parted : all ≡ newest_first (drop i items) ++ some
   parted = newest_parted items i
 
-  last_settled : (k : Owner) → told_owner s.first_action some a ≡ Some k
+  last_settled : (k : Owner) → owner_by_entries s.first_action some a ≡ Some k
       → ((e : PlainEntry) (j : List PlainEntry) → owner_next e j (Some k) ≡ Some k)
-      → Some k ≡ told_owner s.first_action all a
+      → Some k ≡ owner_by_entries s.first_action all a
   last_settled k is stays =
-      sym (ap (λ j. told_owner s.first_action j a) parted
+      sym (ap (λ j. owner_by_entries s.first_action j a) parted
       ∙ settled_stays s some a (newest_first (drop i items)) (subst (Legal s) parted l) k is stays)
 
   -- what an action holds shares the fate of its own work
-  held_fate : (x : ActionId) → told_owner s.first_action some a ≡ Some (Held x)
-      → told_owner s.first_action all a ≡ told_owner s.first_action all x.0
+  held_fate : (x : ActionId) → owner_by_entries s.first_action some a ≡ Some (Held x)
+      → owner_by_entries s.first_action all a ≡ owner_by_entries s.first_action all x.0
   held_fate x is =
       let legal = taken_legal s items i l in
-      let w = lawful_orderly entries (opened s) (history s some) (lawful s some legal) in
+      let w = lawful_orderly entries (model_opening s) (history s some) (lawful s some legal) in
       let live = held_live (history s some) w (a + 1) x (sym (ap model_owner is) ∙ owner_is_told s some legal a) in
-      subst (λ j. told_owner s.first_action j a ≡ told_owner s.first_action j x.0) (sym parted)
+      subst (λ j. owner_by_entries s.first_action j a ≡ owner_by_entries s.first_action j x.0) (sym parted)
       (same_fate s some a (newest_first (drop i items)) (subst (Legal s) parted l) x.0 (ap is_some is)
       (is ∙ sym (live_held s some legal x live)))
 
-  pub heir_fate : (heir : ActionId) (q : Option Owner) → q ≡ told_owner s.first_action some a
-      → told_owner s.first_action all a ≡ told_owner s.first_action all heir.0
-      → told_owner s.first_action all a ≡ told_owner s.first_action all (first_heir a heir q).0
+  pub heir_fate : (heir : ActionId) (q : Option Owner) → q ≡ owner_by_entries s.first_action some a
+      → owner_by_entries s.first_action all a ≡ owner_by_entries s.first_action all heir.0
+      → owner_by_entries s.first_action all a ≡ owner_by_entries s.first_action all (first_heir a heir q).0
   heir_fate heir None is fate = fate
   heir_fate heir (Some Folded) is fate = fate
   heir_fate heir (Some Gone) is fate = fate
@@ -153,13 +155,14 @@ module _ (s : Opening) (items : List Entry) (l : Legal s (newest_first items)) (
   heir_fate heir (Some (Held x)) is fate = either (heir.0 == a)
     where
       either : (b : Bool)
-          → told_owner s.first_action all a ≡ told_owner s.first_action all (cond b x heir).0
+          → owner_by_entries s.first_action all a ≡ owner_by_entries s.first_action all (cond b x heir).0
       either true = held_fate x (sym is)
       either false = fate
 
   pub last_told : (known : Option (ActionId × Option Owner)) (q last : Option Owner)
-      → IsTold s.first_action all known → q ≡ told_owner s.first_action some a → last_owner known q ≡ Some last
-      → last ≡ told_owner s.first_action all a
+      → IsOwnerByEntries s.first_action all known → q ≡ owner_by_entries s.first_action some a → last_owner known q
+      ≡ Some last
+      → last ≡ owner_by_entries s.first_action all a
   last_told known None last k is e = absurd (false≢true (ap is_some e))
   last_told known (Some Folded) last k is e =
       unwrapped (Some Folded) last e ∙ last_settled Folded (sym is) (λ x j. refl)
@@ -171,7 +174,7 @@ module _ (s : Opening) (items : List Entry) (l : Legal s (newest_first items)) (
   last_told (Some known) (Some (Held x)) last k is e =
       ⊎_elim
       (λ same. unwrapped known.1 last (sym (ap (λ b. cond b (Some known.1) None) (eq-eqb known.0.0 x.0 same)) ∙ e)
-      ∙ k ∙ ap (told_owner s.first_action all) same ∙ sym (held_fate x (sym is)))
+      ∙ k ∙ ap (owner_by_entries s.first_action all) same ∙ sym (held_fate x (sym is)))
       (λ other. absurd (false≢true (ap is_some
       (sym (ap (λ b. cond b (Some known.1) None) (ne_eqb known.0.0 x.0 other)) ∙ e))))
       (cases_eq known.0.0 x.0)
@@ -237,11 +240,11 @@ module _ (s : Opening) (older : List PlainEntry) (o : ℕ) (a : ActionId) where
 
 pub writer_held : (s : Opening) (e : PlainEntry) (older : List PlainEntry) → Legal s (e ∷ older)
     → (o : ℕ) (a : ActionId) → writer_by e.call e.reply o ≡ Some a
-    → told_owner s.first_action (e ∷ older) a.0 ≡ Some (Held a)
+    → owner_by_entries s.first_action (e ∷ older) a.0 ≡ Some (Held a)
 writer_held s e older l o a w =
     let writes = who_writes s older o a e.call (subst (λ r. writer_by e.call r o ≡ Some a) l.0 w) in
     ap (cond (begins e.reply a.0) (Some (Held a)))
-    (spared_owner e.call e.reply older (told_owner s.first_action older a.0) writes.spares
+    (spared_owner e.call e.reply older (owner_by_entries s.first_action older a.0) writes.spares
     ∙ live_held s older l.1 a writes.live)
     ∙ either (begins e.reply a.0) (Some (Held a))
   where

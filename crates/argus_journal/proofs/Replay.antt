@@ -13,20 +13,21 @@ use Rattle.argus_model.specs.Event.{Aborted, Accessed, Began, Committed, Event, 
 use Rattle.argus_model.specs.History.{History, ◌▹◌}
 use Rattle.argus_model.specs.Owner.{counts_for, is_base, owner}
 use Rattle.argus_model.specs.Status.{live_siblings}
-use Rattle.argus_journal.specs.Entries.{entries, is_write, left_by}
+use Rattle.argus_journal.specs.Entries.{entries, is_write, content_after_call}
 use Rattle.argus_journal.specs.Events.{event_if, event_of, history, is_answered, is_begun_reply, says_yes, with_event}
 use Rattle.argus_journal.specs.Legal.{Legal}
 use Rattle.argus_journal.specs.Objects.{declared, shape_of}
 use Rattle.argus_journal.specs.Opening.{Opening, content_in, is_sound}
-use Rattle.argus_journal.specs.Told.{counts_with, replay_next, replayed, told_counts, told_owner, writer_by, written_if}
-use Rattle.argus_journal.specs.Words.{base_of, seen_by}
+use Rattle.argus_journal.specs.Replaying.{counts_with, replay_next, replayed, counts_by_entries, owner_by_entries}
+use Rattle.argus_journal.specs.Replaying.{writer_by, written_if}
+use Rattle.argus_journal.specs.JournalFacts.{base_of, visible_to}
 use Rattle.argus_journal.specs.declared.owner.Owner.{Owner}
 use Rattle.argus_journal.specs.declared.owner.Owner.TheVariants.{Base, Folded, Gone, Held}
 use Rattle.argus_journal.proofs.Contents.{content_fits}
 use Rattle.argus_journal.proofs.Fitting.{fits_keeps}
 use Rattle.argus_journal.proofs.Kin.{above_told, with_reply}
 use Rattle.argus_journal.proofs.Shifted.{before}
-use Rattle.argus_journal.proofs.Told.{model_owner, owner_is_told}
+use Rattle.argus_journal.proofs.OwnersByEntries.{model_owner, owner_is_told}
 
 -- one more entry
 
@@ -52,24 +53,31 @@ module _ (counts : ℕ → Bool) (o : ℕ) (v : Option PlainContent) (h : Histor
       → replay entries counts o v (with_event (event_if b (Accessed (a + 1) i (with_reply c r))) h) ≡ left
   looked b c r a i w =
       skipped b (Accessed (a + 1) i (with_reply c r))
-      (ap (λ t. cond (i == o && (t && counts (a + 1))) (left_by c left) left) w
-      ∙ no_write (i == o) (counts (a + 1)) (left_by c left) left)
+      (ap (λ t. cond (i == o && (t && counts (a + 1))) (content_after_call c left) left) w
+      ∙ no_write (i == o) (counts (a + 1)) (content_after_call c left) left)
 
   -- a write, where it happened at all
   wrote : (b : Bool) (c : PlainCall) (r : PlainReply) (a i : ℕ) → is_write c ≡ true
       → replay entries counts o v (with_event (event_if b (Accessed (a + 1) i (with_reply c r))) h)
-      ≡ written_if (λ x. counts (x + 1)) (left_by c) (cond (i == o && b) (Some (record { 0 = a })) None) left
-  wrote true c r a i w = ap (λ t. cond (i == o && (t && counts (a + 1))) (left_by c left) left) w ∙ counted (i == o)
+      ≡ written_if (λ x. counts (x + 1)) (content_after_call c) (cond (i == o && b) (Some (record { 0 = a })) None) left
+  wrote true c r a i w = ap (λ t. cond (i == o && (t && counts (a + 1))) (content_after_call c left) left) w ∙ counted
+      (i == o)
     where
       counted : (m : Bool)
-          → cond (m && (true && counts (a + 1))) (left_by c left) left
-          ≡ written_if (λ x. counts (x + 1)) (left_by c) (cond (m && true) (Some (record { 0 = a })) None) left
+          → cond (m && (true && counts (a + 1))) (content_after_call c left) left
+          ≡ written_if (λ x. counts (x + 1)) (content_after_call c) (cond (m && true) (Some (record {
+            0
+                = a;
+          })) None) left
       counted true = refl
       counted false = refl
   wrote false c r a i w = not_written (i == o)
     where
       not_written : (m : Bool)
-          → left ≡ written_if (λ x. counts (x + 1)) (left_by c) (cond (m && false) (Some (record { 0 = a })) None) left
+          → left ≡ written_if (λ x. counts (x + 1)) (content_after_call c) (cond (m && false) (Some (record {
+            0
+                = a;
+          })) None) left
       not_written true = refl
       not_written false = refl
 
@@ -88,18 +96,19 @@ module _ (counts : ℕ → Bool) (o : ℕ) (v : Option PlainContent) (h : Histor
 
 next_same : (p q : ℕ → Bool) → ((a : ℕ) → p a ≡ q a)
     → (e : PlainEntry) (w : Option ActionId) (x y : Option PlainContent) → x ≡ y
-    → written_if p (left_by e.call) w x ≡ written_if q (left_by e.call) w y
+    → written_if p (content_after_call e.call) w x ≡ written_if q (content_after_call e.call) w y
 next_same p q f e None x y same = same
 next_same p q f e (Some a) x y same =
-    ap (λ b. cond b (left_by e.call x) x) (f a.0) ∙ ap (λ z. cond (q a.0) (left_by e.call z) z) same
+    ap (λ b. cond b (content_after_call e.call x) x) (f a.0) ∙ ap (λ z. cond (q a.0)
+    (content_after_call e.call z) z) same
 
 -- what is replayed entry by entry is what the history leaves
 pub replayed_is : (s : Opening) (j : List PlainEntry) (reader : Option ActionId) (o : ℕ) (counts : ℕ → Bool)
-    → ((a : ℕ) → told_counts s.first_action j reader a ≡ counts (a + 1)) → (rest : List PlainEntry)
+    → ((a : ℕ) → counts_by_entries s.first_action j reader a ≡ counts (a + 1)) → (rest : List PlainEntry)
     → replayed s j reader o rest ≡ replay entries counts o (content_in s.objects o) (history s rest)
 replayed_is s j reader o counts f [] = refl
 replayed_is s j reader o counts f (e ∷ older) =
-    next_same (told_counts s.first_action j reader) (λ a. counts (a + 1)) f e (writer_by e.call e.reply o)
+    next_same (counts_by_entries s.first_action j reader) (λ a. counts (a + 1)) f e (writer_by e.call e.reply o)
     (replayed s j reader o older) (replay entries counts o (content_in s.objects o) (history s older))
     (replayed_is s j reader o counts f older)
     ∙ sym (next_entry counts o (content_in s.objects o) (history s older) e.call e.reply)
@@ -107,9 +116,9 @@ replayed_is s j reader o counts f (e ∷ older) =
 pub replayed_keeps : (s : Opening) (j : List PlainEntry) (reader : Option ActionId) (o : ℕ) (rest : List PlainEntry)
     → is_sound s ≡ true → Legal s rest → KeepsLimits (replayed s j reader o rest)
 replayed_keeps s j reader o rest sound l =
-    let counts = λ (b : ℕ). told_counts s.first_action j reader (b - 1) in
+    let counts = λ (b : ℕ). counts_by_entries s.first_action j reader (b - 1) in
     subst KeepsLimits
-    (sym (replayed_is s j reader o counts (λ a. ap (told_counts s.first_action j reader) (sym (before a))) rest))
+    (sym (replayed_is s j reader o counts (λ a. ap (counts_by_entries s.first_action j reader) (sym (before a))) rest))
     (fits_keeps (shape_of s rest o) (declared s rest)
     (replay entries counts o (content_in s.objects o) (history s rest)) (content_fits counts s rest o sound l))
 
@@ -131,13 +140,13 @@ module _ (s : Opening) (j : List PlainEntry) (l : Legal s j) where
   for_good (Some Base) = refl
   for_good (Some (Held x)) = refl
 
-  pub replayed_seen : (h : ActionId) (o : ℕ) → replayed s j (Some h) o j ≡ seen_by s j h.0 o
+  pub replayed_seen : (h : ActionId) (o : ℕ) → replayed s j (Some h) o j ≡ visible_to s j h.0 o
   replayed_seen h o =
       replayed_is s j (Some h) o (λ b. counts_for (history s j) (h.0 + 1) (owner (history s j) b))
-      (λ a. for_action h (told_owner s.first_action j a)
+      (λ a. for_action h (owner_by_entries s.first_action j a)
       ∙ ap (counts_for (history s j) (h.0 + 1)) (owner_is_told s j l a)) j
 
   pub replayed_base : (o : ℕ) → replayed s j None o j ≡ base_of s j o
   replayed_base o =
       replayed_is s j None o (λ b. is_base (owner (history s j) b))
-      (λ a. for_good (told_owner s.first_action j a) ∙ ap is_base (owner_is_told s j l a)) j
+      (λ a. for_good (owner_by_entries s.first_action j a) ∙ ap is_base (owner_is_told s j l a)) j

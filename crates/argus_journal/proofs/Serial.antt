@@ -13,22 +13,22 @@ use Rattle.argus_model.specs.Lawful.{Lawful}
 use Rattle.argus_model.specs.Work.{Access, IsOnRecord}
 use Rattle.argus_model.proofs.Commits.{effects_step}
 use Rattle.argus_journal.specs.Effects.{added_by}
-use Rattle.argus_journal.specs.Entries.{entries, said_by}
+use Rattle.argus_journal.specs.Entries.{entries, answer_at_content}
 use Rattle.argus_journal.specs.Events.{event_if, event_of, happens, history, is_answered, is_begun_reply, says_yes}
 use Rattle.argus_journal.specs.Events.{with_event}
 use Rattle.argus_journal.specs.Legal.{Legal}
-use Rattle.argus_journal.specs.Opening.{Opening, opened}
+use Rattle.argus_journal.specs.Opening.{Opening, model_opening}
 use Rattle.argus_journal.specs.Serial.{IsAnsweredAt}
-use Rattle.argus_journal.specs.Words.{effects_of}
+use Rattle.argus_journal.specs.JournalFacts.{effects_of}
 use Rattle.argus_journal.proofs.Legal.{lawful}
 
 -- what one more entry adds to the effects
 
 one_more : (s : Opening) (j : List PlainEntry) (e : Option (Event PlainEntry))
-    → Lawful entries (opened s) (with_event e (history s j))
-    → effects entries (opened s) (with_event e (history s j)) ≡ effects_of s j ++ added_by s e j
+    → Lawful entries (model_opening s) (with_event e (history s j))
+    → effects entries (model_opening s) (with_event e (history s j)) ≡ effects_of s j ++ added_by s e j
 one_more s j None l = sym (append-nil (effects_of s j))
-one_more s j (Some e) l = effects_step entries (opened s) (history s j) e l
+one_more s j (Some e) l = effects_step entries (model_opening s) (history s j) e l
 
 pub effects_added : (s : Opening) (e : PlainEntry) (j : List PlainEntry) → Legal s (e ∷ j)
     → effects_of s (e ∷ j) ≡ effects_of s j ++ added_by s (happens s e j) j
@@ -90,7 +90,7 @@ access_named s (e ∷ older) x m = named_step e.call e.reply (history s older) x
 
 -- an access of the object that its call names, answered as the content says
 pub answered_at : (c : PlainCall) (r : PlainReply) (i : ℕ) (v : Option PlainContent) → IsAccessOf c i
-    → r ≡ answered (said_by c v) → IsAnsweredAt c r i v
+    → r ≡ answered (answer_at_content c v) → IsAnsweredAt c r i v
 answered_at (ask a o q) r i v n e = (n, e)
 answered_at (alter a o x) r i v n e = (n, e)
 answered_at (test_read a o) r i v n e = (n, e)

@@ -10,7 +10,7 @@ use Rattle.argus_model.specs.Numbers.{contains, insert, without}
 use Rattle.argus_model.proofs.NextHolders.{contains_without}
 use Rattle.argus_model.proofs.Numbers.{joined_cases}
 use Rattle.argus_journal.specs.Numbering.{all_in_history, all_in_program, unless_base}
-use Rattle.argus_journal.specs.Words.{handed_over}
+use Rattle.argus_journal.specs.JournalFacts.{holders_inherited}
 
 pub one_more : (x y : ℕ) → ((x + 1) == (y + 1)) ≡ (x == y)
 one_more x y = grind (arith, nat_tests)
@@ -139,7 +139,7 @@ pub unless_base_some : (p : ℕ) → p ≢ 0 → unless_base p ≡ Some (p - 1)
 unless_base_some p n = ap (λ b. cond b None (Some (p - 1))) (ne_eqb p 0 n)
 
 pub handed_in_program : (a p : ℕ) (xs : List ℕ) → NoBase xs
-    → all_in_program (inherited (a + 1) p xs) ≡ handed_over a (unless_base p) (all_in_program xs)
+    → all_in_program (inherited (a + 1) p xs) ≡ holders_inherited a (unless_base p) (all_in_program xs)
 handed_in_program a p xs n =
     let ys = without (a + 1) xs in
     let out = all_in_program xs in
@@ -151,13 +151,13 @@ handed_in_program a p xs n =
     (λ k. ap (λ b. cond b (all_in_program ys) out) k ∙ without_in_program a xs n)
     (λ k. ap (λ b. cond b (all_in_program ys) out) k ∙ sym (without_absent a out (there ∙ k)))
     (cases_Bool (contains xs (a + 1)))
-    ∙ sym (ap (λ q. handed_over a q out) (unless_base_none p e)))
+    ∙ sym (ap (λ q. holders_inherited a q out) (unless_base_none p e)))
     (λ e. ap (λ b. cond (contains xs (a + 1)) (all_in_program (cond b ys (insert p ys))) out) (ne_eqb p 0 e)
     ∙ ap (λ zs. cond (contains xs (a + 1)) zs out)
     (ap (λ k. all_in_program (insert k ys)) (sym (after p e))
     ∙ insert_in_program (p - 1) ys (no_base-without (a + 1) xs n) ∙ ap (insert (p - 1)) (without_in_program a xs n))
     ∙ ap (λ b. cond b (insert (p - 1) (without a out)) out) (sym there)
-    ∙ sym (ap (λ q. handed_over a q out) (unless_base_some p e)))
+    ∙ sym (ap (λ q. holders_inherited a q out) (unless_base_some p e)))
     (cases_eq p 0)
 
 pub any-map : (t : ℕ → Bool) (f : ℕ → ℕ) (xs : List ℕ) → list_any t (map f xs) ≡ list_any (λ x. t (f x)) xs

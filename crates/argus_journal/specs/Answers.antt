@@ -19,7 +19,7 @@ use Rattle.argus_entries.specs.declared.refusal.Refusal.{Refusal}
 use Rattle.argus_entries.specs.declared.refusal.Refusal.TheVariants.{Conflict, IllTyped, NoAction}
 use Rattle.argus_entries.specs.declared.refusal.Refusal.TheVariants.{NoObject, NoSiblings, Over}
 use Rattle.argus_entries.specs.declared.refusal.Refusal.TheVariants.{Suspended, TooDeep, TooMany}
-use Rattle.argus_model.specs.Ancestors.{creator, lineage}
+use Rattle.argus_model.specs.Ancestors.{begun_by, lineage}
 use Rattle.argus_model.specs.Contents.{sees}
 use Rattle.argus_model.specs.History.{History, next_action}
 use Rattle.argus_model.specs.Holders.{may_read, may_write}
@@ -28,7 +28,7 @@ use Rattle.argus_journal.specs.Entries.{entries}
 use Rattle.argus_journal.specs.Events.{history}
 use Rattle.argus_journal.specs.Numbering.{in_history, in_program}
 use Rattle.argus_journal.specs.Objects.{shapes}
-use Rattle.argus_journal.specs.Opening.{Opening, opened}
+use Rattle.argus_journal.specs.Opening.{Opening, model_opening}
 
 -- this refusal unless the test holds, and then the rest
 abbrev pub unless : Bool → Refusal → Option Refusal → Option Refusal
@@ -64,7 +64,7 @@ suits_change shapes o change =
 
 -- an action began it: its parent or its creator
 abbrev pub if_created : History PlainEntry → ℕ → Option Refusal
-if_created h a = unless (not (creator h (in_history a) == 0)) NoSiblings None
+if_created h a = unless (not (begun_by h (in_history a) == 0)) NoSiblings None
 
 -- how many ancestors an action has, itself among them
 abbrev pub depth : History PlainEntry → ℕ → ℕ
@@ -100,8 +100,8 @@ refusal h shapes (test_read a o) = if_free h a (if_declared shapes o None)
 refusal h shapes (test_write a o) = if_free h a (if_declared shapes o None)
 
 -- what the action sees in the object
-abbrev pub seen : Opening → History PlainEntry → ℕ → ℕ → Option PlainContent
-seen s h a o = sees entries (opened s) h (in_history a) o
+abbrev pub visible_in_history : Opening → History PlainEntry → ℕ → ℕ → Option PlainContent
+visible_in_history s h a o = sees entries (model_opening s) h (in_history a) o
 
 -- the reply where no refusal applies: the next number, an answer, or whether the lock is granted
 abbrev pub granted : Opening → History PlainEntry → List PlainShape → PlainCall → PlainReply
@@ -112,8 +112,8 @@ granted s h shapes (begin_nested creator) = begun (in_program (next_action h))
 granted s h shapes (commit a) = answered done
 granted s h shapes (abort a) = answered done
 granted s h shapes (abort_others a) = answered done
-granted s h shapes (ask a o query) = answered (reply query (seen s h a o))
-granted s h shapes (alter a o change) = answered (outcome change (seen s h a o)).1
+granted s h shapes (ask a o query) = answered (reply query (visible_in_history s h a o))
+granted s h shapes (alter a o change) = answered (outcome change (visible_in_history s h a o)).1
 granted s h shapes (test_read a o) = answered (flag (may_read entries h (in_history a) o))
 granted s h shapes (test_write a o) = answered (flag (may_write entries h (in_history a) o))
 

@@ -6,11 +6,11 @@ use Rattle.argus_model.specs.Effects.{added_effects}
 use Rattle.argus_model.specs.Event.{Event}
 use Rattle.argus_journal.specs.Entries.{entries}
 use Rattle.argus_journal.specs.Events.{history}
-use Rattle.argus_journal.specs.Opening.{Opening, opened}
+use Rattle.argus_journal.specs.Opening.{Opening, model_opening}
 
 -- the commit of a topaction adds what it sees in each object that it has written, and everything
 -- else nothing
 abbrev pub added_by : Opening → Option (Event PlainEntry) → List PlainEntry
     → List (List (ℕ × Option PlainContent))
 added_by s None j = []
-added_by s (Some event) j = added_effects entries (opened s) (history s j) event
+added_by s (Some event) j = added_effects entries (model_opening s) (history s j) event

@@ -27,36 +27,36 @@ is_write (ask a o query) = false
 is_write (test_read a o) = false
 
 -- what the call leaves of a content; a granted test for writing acts as the change `touch`
-abbrev pub left_by : PlainCall → Option PlainContent → Option PlainContent
-left_by (alter a o change) c = (outcome change c).0
-left_by (test_write a o) c = (outcome touch c).0
-left_by (declare shape) c = c
-left_by begin_top c = c
-left_by (begin_sub parent) c = c
-left_by (begin_nested creator) c = c
-left_by (commit a) c = c
-left_by (abort a) c = c
-left_by (abort_others a) c = c
-left_by (ask a o query) c = c
-left_by (test_read a o) c = c
+abbrev pub content_after_call : PlainCall → Option PlainContent → Option PlainContent
+content_after_call (alter a o change) c = (outcome change c).0
+content_after_call (test_write a o) c = (outcome touch c).0
+content_after_call (declare shape) c = c
+content_after_call begin_top c = c
+content_after_call (begin_sub parent) c = c
+content_after_call (begin_nested creator) c = c
+content_after_call (commit a) c = c
+content_after_call (abort a) c = c
+content_after_call (abort_others a) c = c
+content_after_call (ask a o query) c = c
+content_after_call (test_read a o) c = c
 
 -- what the call is answered at a content, where its lock is granted
-abbrev pub said_by : PlainCall → Option PlainContent → PlainAnswer
-said_by (ask a o query) c = reply query c
-said_by (alter a o change) c = (outcome change c).1
-said_by (test_read a o) c = flag true
-said_by (test_write a o) c = flag true
-said_by (declare shape) c = done
-said_by begin_top c = done
-said_by (begin_sub parent) c = done
-said_by (begin_nested creator) c = done
-said_by (commit a) c = done
-said_by (abort a) c = done
-said_by (abort_others a) c = done
+abbrev pub answer_at_content : PlainCall → Option PlainContent → PlainAnswer
+answer_at_content (ask a o query) c = reply query c
+answer_at_content (alter a o change) c = (outcome change c).1
+answer_at_content (test_read a o) c = flag true
+answer_at_content (test_write a o) c = flag true
+answer_at_content (declare shape) c = done
+answer_at_content begin_top c = done
+answer_at_content (begin_sub parent) c = done
+answer_at_content (begin_nested creator) c = done
+answer_at_content (commit a) c = done
+answer_at_content (abort a) c = done
+answer_at_content (abort_others a) c = done
 
 -- a call that needs no write lock leaves the content
 abbrev pub calls_keep : (call : PlainCall) → is_write call ≡ false → (c : Option PlainContent)
-    → left_by call c ≡ c
+    → content_after_call call c ≡ c
 calls_keep (alter a o change) n c = absurd (false≢true (sym n))
 calls_keep (test_write a o) n c = absurd (false≢true (sym n))
 calls_keep (declare shape) n c = refl
@@ -71,15 +71,15 @@ calls_keep (test_read a o) n c = refl
 
 -- an entry that is no write leaves what it finds
 abbrev pub entry_keeps : (e : PlainEntry) → is_write e.call ≡ false → (c : Option PlainContent)
-    → left_by e.call c ≡ c
+    → content_after_call e.call c ≡ c
 entry_keeps e n c = calls_keep e.call n c
 
 -- the recorded reply is the one that the content gives
 abbrev pub entries : Meaning PlainEntry (Option PlainContent) PlainReply
 entries = record {
   writes = λ e. is_write e.call;
-  after = λ e c. left_by e.call c;
-  answer = λ e c. answered (said_by e.call c);
+  after = λ e c. content_after_call e.call c;
+  answer = λ e c. answered (answer_at_content e.call c);
   recorded = λ e. e.reply;
   reads_keep = entry_keeps;
 }

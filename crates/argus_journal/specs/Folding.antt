@@ -5,7 +5,7 @@ use Rattle.argus_contents.specs.Shape.{PlainShape}
 use Rattle.argus_entries.specs.Entry.{PlainEntry}
 use Rattle.argus_journal.specs.Objects.{shapes}
 use Rattle.argus_journal.specs.Opening.{Opening}
-use Rattle.argus_journal.specs.Words.{base_of, next_number}
+use Rattle.argus_journal.specs.JournalFacts.{base_of, next_action_number}
 
 -- objects of these shapes, each with the content that the function gives its number
 abbrev pub with_contents : (ℕ → Option PlainContent) → List PlainShape
@@ -23,6 +23,6 @@ next_entry_number s j = s.first_entry + length j
 abbrev pub fold : Opening → List PlainEntry → Opening
 fold s j = record {
   objects = with_contents (base_of s j) (shapes s j);
-  first_action = next_number s j;
+  first_action = next_action_number s j;
   first_entry = next_entry_number s j;
 }

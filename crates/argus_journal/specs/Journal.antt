@@ -33,8 +33,8 @@ abbrev pub entries_of : Journal → List PlainEntry
 entries_of j = newest_first j.entries.items
 
 -- so many of them from the first on, the newest first
-abbrev pub first_of : Journal → ℕ → List PlainEntry
-first_of j n = newest_first (take n j.entries.items)
+abbrev pub first_entries_of : Journal → ℕ → List PlainEntry
+first_entries_of j n = newest_first (take n j.entries.items)
 
 -- each reply is the answer of the entries before it
 abbrev pub IsLegal : Journal → Type 0
@@ -55,11 +55,11 @@ entry_at s j at =
     if nat_lt at s.first_entry then None else slice_get (reverse j) (at - s.first_entry)
 
 -- what an entry says that was looked for
-abbrev pub plain_found : Option (Bor Entry) → Option PlainEntry
-plain_found None = None
-plain_found (Some entry) = Some (plain_entry entry.now)
+abbrev pub plain_entry_found : Option (Bor Entry) → Option PlainEntry
+plain_entry_found None = None
+plain_entry_found (Some entry) = Some (plain_entry entry.now)
 
 -- the number of an action, if there is one
-abbrev pub number_of : Option ActionId → Option ℕ
-number_of None = None
-number_of (Some a) = Some a.0
+abbrev pub action_number_of : Option ActionId → Option ℕ
+action_number_of None = None
+action_number_of (Some a) = Some a.0

@@ -5,7 +5,7 @@ pub mod Events
 pub mod Objects
 pub mod Answers
 pub mod Legal
-pub mod Words
+pub mod JournalFacts
 pub mod Serial
 pub mod Effects
 pub mod Folding
@@ -14,6 +14,13 @@ pub mod Worked
 pub mod WorkedOrders
 pub mod WorkedSiblings
 pub mod WorkedOpenings
-pub mod Told
+pub mod Replaying
 pub mod Journal
 pub mod LegalJournal
+pub mod JournalView
+pub use Rattle.argus_entries.specs.Call
+pub use Rattle.argus_entries.specs.Entry
+pub use Rattle.argus_entries.specs.EntrySpelling
+pub use Rattle.argus_entries.specs.OperationSpelling
+pub use Rattle.argus_entries.specs.Reply
+pub use Rattle.argus_entries.specs.declared as entries_declared

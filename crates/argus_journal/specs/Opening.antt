@@ -31,8 +31,8 @@ abbrev pub content_in : List (PlainShape × Option PlainContent) → ℕ → Opt
 content_in objects o = option_and_then (λ object. object.1) (slice_get objects o)
 
 -- the opening of the history
-abbrev pub opened : Opening → model.Opening (Option PlainContent)
-opened s = record {
+abbrev pub model_opening : Opening → model.HistoryOpening (Option PlainContent)
+model_opening s = record {
   contents = content_in s.objects;
   first_action = s.first_action;
   first_entry = s.first_entry;

@@ -15,7 +15,7 @@ use Rattle.argus_entries.specs.Entry.{PlainEntry}
 use Rattle.argus_entries.specs.Reply.{PlainReply}
 use Rattle.argus_journal.specs.Answers.{answer}
 use Rattle.argus_journal.specs.Opening.{Opening, empty}
-use Rattle.argus_journal.specs.Words.{serial_run}
+use Rattle.argus_journal.specs.JournalFacts.{serial_run}
 use Rattle.argus_journal.specs.declared.owner.Owner.{Owner}
 use Rattle.argus_journal.specs.declared.owner.Owner.TheVariants.{Held}
 

@@ -10,7 +10,7 @@ ghost use Rattle.argus_journal.specs.Legal.{Legal};
 ghost use Rattle.argus_journal.specs.Objects.{shapes};
 ghost use Rattle.argus_journal.specs.Opening.{KeepsNumbers, Opening, content_in, is_sound};
 ghost use Rattle.argus_journal.specs.Opening.{opening_at};
-ghost use Rattle.argus_journal.specs.Words.{base_of, effects_of, next_number};
+ghost use Rattle.argus_journal.specs.JournalFacts.{base_of, effects_of, next_action_number};
 ghost use Rattle.argus_journal.specs.declared.limits.TheConstants.{MAX_FIRST_ENTRY};
 ghost use Rattle.argus_model.specs.Effects.{table};
 
@@ -31,7 +31,7 @@ pub fn what_makes_a_fold()
         (objects : List (PlainShape × Option PlainContent)) (first : ℕ)
         → map (λ object. object.0) objects ≡ shapes s j
         → ((o : ℕ) → o < length objects → content_in objects o ≡ base_of s j o)
-        → first ≡ next_number s j
+        → first ≡ next_action_number s j
         → opening_at objects first (next_entry_number s j) ≡ fold s j }
 {}
 
@@ -41,7 +41,7 @@ pub fn a_fold_goes_on()
     ensures base { (s : Opening) (j : List PlainEntry) (o : ℕ) → is_sound s ≡ true → Legal s j
         → base_of (fold s j) [] o ≡ base_of s j o }
     ensures action { (s : Opening) (j : List PlainEntry)
-        → next_number (fold s j) [] ≡ next_number s j }
+        → next_action_number (fold s j) [] ≡ next_action_number s j }
     ensures entry { (s : Opening) (j : List PlainEntry)
         → next_entry_number (fold s j) [] ≡ next_entry_number s j }
 {}

@@ -40,7 +40,8 @@ pub struct Journal {
 }
 
 impl Journal {
-    ghost use Rattle.argus_journal.specs.Journal.{entries_of, entry_at, opening_of, plain_found};
+    ghost use Rattle.argus_journal.specs.Journal.{entries_of, entry_at, opening_of};
+    ghost use Rattle.argus_journal.specs.Journal.{plain_entry_found};
     ghost use Rattle.argus_journal.specs.Journal.{plain_opened, room_of};
 
     /// A journal with no entry, of no object and no action. It takes no memory.
@@ -160,7 +161,8 @@ impl Journal {
     /// The entry with this number. None where it is the number of no entry, or of one before the
     /// opening.
     pub fn get(&self, at: u64) -> Option<&Entry>
-        ensures { plain_found result ≡ entry_at (opening_of self.now) (entries_of self.now) at }
+        ensures { plain_entry_found result ≡ entry_at (opening_of self.now)
+            (entries_of self.now) at }
     {
         if at < self.first_entry {
             return None;
@@ -191,7 +193,7 @@ impl Journal {
     }
 
     fn at_place(entries: &[Entry], place: usize) -> Option<&Entry>
-        ensures { plain_found result ≡ slice_get (map plain_entry entries.now) place }
+        ensures { plain_entry_found result ≡ slice_get (map plain_entry entries.now) place }
     {
         entries.get(place)
     }

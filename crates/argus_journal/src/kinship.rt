@@ -5,14 +5,14 @@ ghost use Rattle.std.specs.Prelude.{◌≡◌, None, Option, Some};
 ghost use Rattle.argus_actions.specs.declared.action_id.ActionId.{ActionId};
 ghost use Rattle.argus_entries.specs.Call.{plain_call};
 ghost use Rattle.argus_entries.specs.Reply.{plain_reply};
-ghost use Rattle.argus_journal.specs.Journal.{newest_first, number_of};
-ghost use Rattle.argus_journal.specs.Told as told;
+ghost use Rattle.argus_journal.specs.Journal.{newest_first, action_number_of};
+ghost use Rattle.argus_journal.specs.Replaying as by_entries;
 
 use argus_actions::ActionId;
 use argus_entries::{Call, Entry, Reply};
 
 pub(crate) fn begins(reply: &Reply, a: ActionId) -> bool
-    ensures { result ≡ told.begins (plain_reply reply.now) a.0 }
+    ensures { result ≡ by_entries.begins (plain_reply reply.now) a.0 }
 {
     match reply {
         Reply::Begun(n) => *n == a,
@@ -21,7 +21,7 @@ pub(crate) fn begins(reply: &Reply, a: ActionId) -> bool
 }
 
 fn parent_by(call: &Call) -> Option<ActionId>
-    ensures { number_of result ≡ told.parent_by (plain_call call.now) }
+    ensures { action_number_of result ≡ by_entries.parent_by (plain_call call.now) }
 {
     match call {
         Call::BeginSub(parent) => Some(*parent),
@@ -32,8 +32,8 @@ fn parent_by(call: &Call) -> Option<ActionId>
     }
 }
 
-fn creator_by(call: &Call) -> Option<ActionId>
-    ensures { number_of result ≡ told.creator_by (plain_call call.now) }
+fn begun_by_call(call: &Call) -> Option<ActionId>
+    ensures { action_number_of result ≡ by_entries.begun_by_call (plain_call call.now) }
 {
     match call {
         Call::BeginSub(parent) => Some(*parent),
@@ -47,7 +47,8 @@ fn creator_by(call: &Call) -> Option<ActionId>
 
 /// The parent of the action; none of a topaction.
 pub(crate) fn parent_of(entries: &[Entry], a: ActionId) -> Option<ActionId>
-    ensures { number_of result ≡ told.told_parent (newest_first entries.now) a.0 }
+    ensures { action_number_of result ≡ by_entries.parent_by_entries
+        (newest_first entries.now) a.0 }
 {
     let mut rest = entries;
     while let Some((entry, older)) = rest.split_last() {
@@ -60,13 +61,13 @@ pub(crate) fn parent_of(entries: &[Entry], a: ActionId) -> Option<ActionId>
 }
 
 /// Who began the action: its parent or its creator.
-pub(crate) fn creator_of(entries: &[Entry], a: ActionId) -> Option<ActionId>
-    ensures { number_of result ≡ told.told_creator (newest_first entries.now) a.0 }
+pub(crate) fn begun_by(entries: &[Entry], a: ActionId) -> Option<ActionId>
+    ensures { action_number_of result ≡ by_entries.begun_by_entries (newest_first entries.now) a.0 }
 {
     let mut rest = entries;
     while let Some((entry, older)) = rest.split_last() {
         if begins(&entry.reply, a) {
-            return creator_by(&entry.call);
+            return begun_by_call(&entry.call);
         }
         rest = older;
     }
@@ -75,7 +76,7 @@ pub(crate) fn creator_of(entries: &[Entry], a: ActionId) -> Option<ActionId>
 
 /// Whether `x` is `a` or an ancestor of it.
 pub(crate) fn is_above(entries: &[Entry], x: ActionId, a: ActionId) -> bool
-    ensures { result ≡ told.told_above (newest_first entries.now) x.0 a.0 }
+    ensures { result ≡ by_entries.is_ancestor_by_entries (newest_first entries.now) x.0 a.0 }
 {
     let mut at = a;
     let mut rest = entries;
@@ -95,14 +96,15 @@ pub(crate) fn is_above(entries: &[Entry], x: ActionId, a: ActionId) -> bool
 }
 
 /// Whether `x`, or an ancestor of it, is another than `b` and was begun by `c`.
-pub(crate) fn is_beside(entries: &[Entry], c: ActionId, b: ActionId, x: ActionId) -> bool
-    ensures { result ≡ told.told_beside (newest_first entries.now) c.0 b.0 x.0 }
+pub(crate) fn is_under_sibling(entries: &[Entry], c: ActionId, b: ActionId, x: ActionId) -> bool
+    ensures { result ≡ by_entries.is_under_sibling_by_entries
+        (newest_first entries.now) c.0 b.0 x.0 }
 {
     let mut at = x;
     let mut rest = entries;
     while let Some((entry, older)) = rest.split_last() {
         if begins(&entry.reply, at) {
-            if at != b && is_the(creator_by(&entry.call), c) {
+            if at != b && is_this_action(begun_by_call(&entry.call), c) {
                 return true;
             }
             let Some(parent) = parent_by(&entry.call) else {
@@ -115,8 +117,8 @@ pub(crate) fn is_beside(entries: &[Entry], c: ActionId, b: ActionId, x: ActionId
     false
 }
 
-fn is_the(creator: Option<ActionId>, c: ActionId) -> bool
-    ensures { result ≡ told.is_the (number_of creator) c.0 }
+fn is_this_action(creator: Option<ActionId>, c: ActionId) -> bool
+    ensures { result ≡ by_entries.is_this_action (action_number_of creator) c.0 }
 {
     match creator {
         Some(x) => x == c,

@@ -12,13 +12,14 @@ ghost use Rattle.argus_journal.specs.Events.{happens, history};
 ghost use Rattle.argus_journal.specs.Legal.{Legal};
 ghost use Rattle.argus_journal.specs.Objects.{declared, shape_of};
 ghost use Rattle.argus_journal.specs.Opening.{KeepsNumbers, Opening, content_in, fits_shape};
-ghost use Rattle.argus_journal.specs.Opening.{is_sound, opened};
+ghost use Rattle.argus_journal.specs.Opening.{is_sound, model_opening};
 ghost use Rattle.argus_journal.specs.References.{OccursIn, references_in};
 ghost use Rattle.argus_journal.specs.Serial.{AnswersAt};
-ghost use Rattle.argus_journal.specs.Words.{base_of, effects_of, is_ancestor_in, is_live_in};
-ghost use Rattle.argus_journal.specs.Words.{next_number};
-ghost use Rattle.argus_journal.specs.Words.{readers_of, seen_by, serial_run, serial_run_to};
-ghost use Rattle.argus_journal.specs.Words.{writers_of, written_by};
+ghost use Rattle.argus_journal.specs.JournalFacts.{base_of, effects_of, is_ancestor_in, is_live_in};
+ghost use Rattle.argus_journal.specs.JournalFacts.{next_action_number};
+ghost use Rattle.argus_journal.specs.JournalFacts.{readers_of, visible_to, serial_run};
+ghost use Rattle.argus_journal.specs.JournalFacts.{serial_run_to};
+ghost use Rattle.argus_journal.specs.JournalFacts.{writers_of, written_by};
 ghost use Rattle.argus_model.specs.Effects.{table};
 ghost use Rattle.argus_model.specs.Lawful.{Lawful};
 ghost use Rattle.argus_model.specs.Numbers.{contains};
@@ -29,7 +30,7 @@ ghost use Rattle.argus_model.specs.Work.{Access, content_after};
 /// of `argus_model` holds of its history.
 pub fn history_is_lawful()
     ensures { (s : Opening) (j : List PlainEntry) → Legal s j
-        → Lawful entries (opened s) (history s j) }
+        → Lawful entries (model_opening s) (history s j) }
 {}
 
 /// Of one who holds an object for writing and any other holder of it, one is an ancestor of the
@@ -87,7 +88,8 @@ pub fn live_work_runs_again()
         → AnswersAt (content_in s.objects) e earlier }
     ensures leaves { (s : Opening) (j : List PlainEntry) (a o : ℕ) → Legal s j
         → is_live_in s j a ≡ true
-        → run entries (content_in s.objects) (reverse (serial_run_to s j a)) o ≡ seen_by s j a o }
+        → run entries (content_in s.objects) (reverse (serial_run_to s j a)) o
+        ≡ visible_to s j a o }
 {}
 
 /// What is in an object for good, and what an action sees in it, is absent or fits the object's
@@ -96,7 +98,7 @@ pub fn contents_fit()
     ensures base { (s : Opening) (j : List PlainEntry) (o : ℕ) → is_sound s ≡ true → Legal s j
         → fits_shape (shape_of s j o) (declared s j) (base_of s j o) ≡ true }
     ensures seen { (s : Opening) (j : List PlainEntry) (a o : ℕ) → is_sound s ≡ true → Legal s j
-        → fits_shape (shape_of s j o) (declared s j) (seen_by s j a o) ≡ true }
+        → fits_shape (shape_of s j o) (declared s j) (visible_to s j a o) ≡ true }
 {}
 
 /// What fits a shape keeps the limits of arrays, and each reference in it, however deep, names a
@@ -133,5 +135,5 @@ pub fn numbers_stay_within_limits()
     ensures objects { (s : Opening) (j : List PlainEntry) → KeepsNumbers s → Legal s j
         → declared s j ≤ MAX_OBJECTS }
     ensures actions { (s : Opening) (j : List PlainEntry) → KeepsNumbers s → Legal s j
-        → next_number s j ≤ MAX_ACTIONS }
+        → next_action_number s j ≤ MAX_ACTIONS }
 {}

@@ -5,22 +5,27 @@
 //! | | nothing | a begins | an access of a | a commits, p its parent | some are aborted |
 //! |---|---|---|---|---|---|
 //! | live | the same | a, too | the same | a no more | those under them no more |
-//! | readers, writers | the same | the same | a, too | p in the place of a | without those under them |
-//! | a live x sees | the same | a as its parent | a what it left | as a saw it, where a wrote, if under p | the same |
-//! | for good | the same | the same | the same | as a saw it, where a wrote, if it has no parent | the same |
+//! | readers, writers | the same | the same | a, too | p in the place of a | without those under
+//! them |
+//! | a live x sees | the same | a as its parent | a what it left | as a saw it, where a wrote, if
+//! under p | the same |
+//! | for good | the same | the same | the same | as a saw it, where a wrote, if it has no parent |
+//! the same |
 ghost use Rattle.std.specs.Prelude.{◌≡◌, ◌≢◌, ◌&&◌, ◌||◌, ◌==◌, ◌∷◌, List, None, Some, filter};
 ghost use Rattle.std.specs.Prelude.{if◌then◌else◌, is_none, not, true, ℕ};
 ghost use Rattle.argus_entries.specs.Call.{abort_others};
 ghost use Rattle.argus_entries.specs.Entry.{PlainEntry};
-ghost use Rattle.argus_journal.specs.Entries.{is_write, left_by};
+ghost use Rattle.argus_journal.specs.Entries.{is_write, content_after_call};
 ghost use Rattle.argus_journal.specs.Events.{happens, history, is_answered};
 ghost use Rattle.argus_journal.specs.Legal.{Legal};
 ghost use Rattle.argus_journal.specs.Numbering.{all_in_history, in_history};
 ghost use Rattle.argus_journal.specs.Opening.{Opening};
-ghost use Rattle.argus_journal.specs.Words.{base_of, handed_over, is_live_in, is_parent_above};
-ghost use Rattle.argus_journal.specs.Words.{is_under_in};
-ghost use Rattle.argus_journal.specs.Words.{live_siblings_in, next_number, parent_in, readers_of};
-ghost use Rattle.argus_journal.specs.Words.{seen_by, writers_of};
+ghost use Rattle.argus_journal.specs.JournalFacts.{base_of, holders_inherited, is_live_in};
+ghost use Rattle.argus_journal.specs.JournalFacts.{is_parent_above};
+ghost use Rattle.argus_journal.specs.JournalFacts.{is_under_in};
+ghost use Rattle.argus_journal.specs.JournalFacts.{live_siblings_in, next_action_number, parent_in};
+ghost use Rattle.argus_journal.specs.JournalFacts.{readers_of};
+ghost use Rattle.argus_journal.specs.JournalFacts.{visible_to, writers_of};
 ghost use Rattle.argus_model.specs.Event.{Aborted, Accessed, Began, Committed, Nested, Origin};
 ghost use Rattle.argus_model.specs.Event.{Sub, Top};
 ghost use Rattle.argus_model.specs.Numbers.{contains, insert};
@@ -36,7 +41,7 @@ pub fn nothing_happens()
 pub fn a_begin()
     ensures live { (s : Opening) (e : PlainEntry) (j : List PlainEntry) (from : Origin) (x : ℕ)
         → Legal s (e ∷ j) → happens s e j ≡ Some (Began from)
-        → is_live_in s (e ∷ j) x ≡ ((x == next_number s j) || is_live_in s j x) }
+        → is_live_in s (e ∷ j) x ≡ ((x == next_action_number s j) || is_live_in s j x) }
     ensures readers { (s : Opening) (e : PlainEntry) (j : List PlainEntry) (from : Origin) (o : ℕ)
         → Legal s (e ∷ j) → happens s e j ≡ Some (Began from)
         → readers_of s (e ∷ j) o ≡ readers_of s j o }
@@ -45,17 +50,17 @@ pub fn a_begin()
         → writers_of s (e ∷ j) o ≡ writers_of s j o }
     ensures sub_sees { (s : Opening) (e : PlainEntry) (j : List PlainEntry) (p o : ℕ)
         → Legal s (e ∷ j) → happens s e j ≡ Some (Began (Sub (in_history p)))
-        → seen_by s (e ∷ j) (next_number s j) o ≡ seen_by s j p o }
+        → visible_to s (e ∷ j) (next_action_number s j) o ≡ visible_to s j p o }
     ensures top_sees { (s : Opening) (e : PlainEntry) (j : List PlainEntry) (o : ℕ)
         → Legal s (e ∷ j) → happens s e j ≡ Some (Began Top)
-        → seen_by s (e ∷ j) (next_number s j) o ≡ base_of s j o }
+        → visible_to s (e ∷ j) (next_action_number s j) o ≡ base_of s j o }
     ensures nested_sees { (s : Opening) (e : PlainEntry) (j : List PlainEntry) (c o : ℕ)
         → Legal s (e ∷ j) → happens s e j ≡ Some (Began (Nested (in_history c)))
-        → seen_by s (e ∷ j) (next_number s j) o ≡ base_of s j o }
+        → visible_to s (e ∷ j) (next_action_number s j) o ≡ base_of s j o }
     ensures others_see { (s : Opening) (e : PlainEntry) (j : List PlainEntry) (from : Origin)
         (x o : ℕ)
-        → Legal s (e ∷ j) → happens s e j ≡ Some (Began from) → x ≢ next_number s j
-        → seen_by s (e ∷ j) x o ≡ seen_by s j x o }
+        → Legal s (e ∷ j) → happens s e j ≡ Some (Began from) → x ≢ next_action_number s j
+        → visible_to s (e ∷ j) x o ≡ visible_to s j x o }
     ensures base { (s : Opening) (e : PlainEntry) (j : List PlainEntry) (from : Origin) (o : ℕ)
         → Legal s (e ∷ j) → happens s e j ≡ Some (Began from)
         → base_of s (e ∷ j) o ≡ base_of s j o }
@@ -78,12 +83,12 @@ pub fn an_access()
         ≡ (if i == o && is_write e.call then insert a (writers_of s j o) else writers_of s j o) }
     ensures sees { (s : Opening) (e : PlainEntry) (j : List PlainEntry) (a i o : ℕ)
         → Legal s (e ∷ j) → happens s e j ≡ Some (Accessed (in_history a) i e)
-        → seen_by s (e ∷ j) a o
-        ≡ (if i == o then left_by e.call (seen_by s j a o) else seen_by s j a o) }
+        → visible_to s (e ∷ j) a o
+        ≡ (if i == o then content_after_call e.call (visible_to s j a o) else visible_to s j a o) }
     ensures others_see { (s : Opening) (e : PlainEntry) (j : List PlainEntry) (a i x o : ℕ)
         → Legal s (e ∷ j) → happens s e j ≡ Some (Accessed (in_history a) i e)
         → is_live_in s j x ≡ true → x ≢ a
-        → seen_by s (e ∷ j) x o ≡ seen_by s j x o }
+        → visible_to s (e ∷ j) x o ≡ visible_to s j x o }
     ensures base { (s : Opening) (e : PlainEntry) (j : List PlainEntry) (a i o : ℕ)
         → Legal s (e ∷ j) → happens s e j ≡ Some (Accessed (in_history a) i e)
         → base_of s (e ∷ j) o ≡ base_of s j o }
@@ -97,21 +102,21 @@ pub fn a_commit()
         → is_live_in s (e ∷ j) x ≡ (is_live_in s j x && not (x == a)) }
     ensures readers { (s : Opening) (e : PlainEntry) (j : List PlainEntry) (a o : ℕ)
         → Legal s (e ∷ j) → happens s e j ≡ Some (Committed (in_history a))
-        → readers_of s (e ∷ j) o ≡ handed_over a (parent_in s j a) (readers_of s j o) }
+        → readers_of s (e ∷ j) o ≡ holders_inherited a (parent_in s j a) (readers_of s j o) }
     ensures writers { (s : Opening) (e : PlainEntry) (j : List PlainEntry) (a o : ℕ)
         → Legal s (e ∷ j) → happens s e j ≡ Some (Committed (in_history a))
-        → writers_of s (e ∷ j) o ≡ handed_over a (parent_in s j a) (writers_of s j o) }
+        → writers_of s (e ∷ j) o ≡ holders_inherited a (parent_in s j a) (writers_of s j o) }
     ensures sees { (s : Opening) (e : PlainEntry) (j : List PlainEntry) (a x o : ℕ)
         → Legal s (e ∷ j) → happens s e j ≡ Some (Committed (in_history a))
         → is_live_in s j x ≡ true → x ≢ a
-        → seen_by s (e ∷ j) x o
+        → visible_to s (e ∷ j) x o
         ≡ (if contains (writers_of s j o) a && is_parent_above s j (parent_in s j a) x
-        then seen_by s j a o else seen_by s j x o) }
+        then visible_to s j a o else visible_to s j x o) }
     ensures base { (s : Opening) (e : PlainEntry) (j : List PlainEntry) (a o : ℕ)
         → Legal s (e ∷ j) → happens s e j ≡ Some (Committed (in_history a))
         → base_of s (e ∷ j) o
         ≡ (if contains (writers_of s j o) a && is_none (parent_in s j a)
-        then seen_by s j a o else base_of s j o) }
+        then visible_to s j a o else base_of s j o) }
 {}
 
 /// An abort of some actions in one step: all that stand under them are over, and what they held is
@@ -136,7 +141,7 @@ pub fn an_abort()
     ensures sees { (s : Opening) (e : PlainEntry) (j : List PlainEntry) (actions : List ℕ) (x o : ℕ)
         → Legal s (e ∷ j) → happens s e j ≡ Some (Aborted (all_in_history actions))
         → is_live_in s (e ∷ j) x ≡ true
-        → seen_by s (e ∷ j) x o ≡ seen_by s j x o }
+        → visible_to s (e ∷ j) x o ≡ visible_to s j x o }
     ensures base { (s : Opening) (e : PlainEntry) (j : List PlainEntry) (actions : List ℕ) (o : ℕ)
         → Legal s (e ∷ j) → happens s e j ≡ Some (Aborted (all_in_history actions))
         → base_of s (e ∷ j) o ≡ base_of s j o }

@@ -5,13 +5,14 @@ ghost use Rattle.argus_entries.specs.Call.{plain_call};
 ghost use Rattle.argus_entries.specs.Entry.{plain_entry};
 ghost use Rattle.argus_entries.specs.Reply.{plain_reply};
 ghost use Rattle.argus_journal.specs.Events as events;
-ghost use Rattle.argus_journal.specs.Journal.{entries_of, first_of, newest_first, opening_of};
+ghost use Rattle.argus_journal.specs.Journal.{entries_of, first_entries_of, newest_first};
+ghost use Rattle.argus_journal.specs.Journal.{opening_of};
 ghost use Rattle.argus_journal.specs.Legal.{Legal};
-ghost use Rattle.argus_journal.specs.Told as told;
-ghost use Rattle.argus_journal.specs.Words.{owner_in};
+ghost use Rattle.argus_journal.specs.Replaying as by_entries;
+ghost use Rattle.argus_journal.specs.JournalFacts.{owner_in};
 
 use crate::journal::Journal;
-use crate::kinship::{begins, creator_of, is_above, is_beside, parent_of};
+use crate::kinship::{begins, begun_by, is_above, is_under_sibling, parent_of};
 use crate::owner::Owner;
 use argus_actions::ActionId;
 use argus_entries::{Call, Entry, Reply};
@@ -48,12 +49,16 @@ pub(crate) fn owner_from(
 ) -> Option<Owner>
     requires legal { Legal (opening_of journal.now) (entries_of journal.now) }
     requires owner { owner
-        ≡ told.told_owner (opening_of journal.now).first_action (first_of journal.now from) a.0 }
-    requires known { told.IsTold (opening_of journal.now).first_action (entries_of journal.now)
+        ≡ by_entries.owner_by_entries (opening_of journal.now).first_action
+        (first_entries_of journal.now from) a.0 }
+    requires known { by_entries.IsOwnerByEntries (opening_of journal.now).first_action
+        (entries_of journal.now)
         known.old }
     ensures owner { result
-        ≡ told.told_owner (opening_of journal.now).first_action (entries_of journal.now) a.0 }
-    ensures known { told.IsTold (opening_of journal.now).first_action (entries_of journal.now)
+        ≡ by_entries.owner_by_entries (opening_of journal.now).first_action
+        (entries_of journal.now) a.0 }
+    ensures known { by_entries.IsOwnerByEntries (opening_of journal.now).first_action
+        (entries_of journal.now)
         known.new }
 {
     let entries = journal.entries();
@@ -76,7 +81,7 @@ fn last_owner(
     known: Option<(ActionId, Option<Owner>)>,
     owner: Option<Owner>,
 ) -> Option<Option<Owner>>
-    ensures { result ≡ told.last_owner known owner }
+    ensures { result ≡ by_entries.last_owner known owner }
 {
     match owner {
         Some(Owner::Folded) | Some(Owner::Gone) | Some(Owner::Base) => Some(owner),
@@ -86,7 +91,7 @@ fn last_owner(
 }
 
 fn last_known(known: Option<(ActionId, Option<Owner>)>, x: ActionId) -> Option<Option<Owner>>
-    ensures { result ≡ told.last_owner known (Some (Owner.Held x)) }
+    ensures { result ≡ by_entries.last_owner known (Some (Owner.Held x)) }
 {
     match known {
         Some((holder, last)) => { if holder == x { Some(last) } else { None } }
@@ -96,7 +101,7 @@ fn last_known(known: Option<(ActionId, Option<Owner>)>, x: ActionId) -> Option<O
 
 // The first other than a to hold its work, where this was the first so far, or a itself.
 fn first_heir(a: ActionId, heir: ActionId, owner: Option<Owner>) -> ActionId
-    ensures { result ≡ told.first_heir a.0 heir owner }
+    ensures { result ≡ by_entries.first_heir a.0 heir owner }
 {
     match owner {
         Some(Owner::Held(x)) => { if heir == a { x } else { heir } }
@@ -105,8 +110,9 @@ fn first_heir(a: ActionId, heir: ActionId, owner: Option<Owner>) -> ActionId
 }
 
 fn owner_after(older: &[Entry], entry: &Entry, a: ActionId, owner: Option<Owner>) -> Option<Owner>
-    ensures { result ≡ (if told.begins (plain_reply entry.now.reply) a.0 then Some (Owner.Held a)
-        else told.owner_next (plain_entry entry.now) (newest_first older.now) owner) }
+    ensures { result ≡ (if by_entries.begins (plain_reply entry.now.reply) a.0 then Some
+        (Owner.Held a)
+        else by_entries.owner_next (plain_entry entry.now) (newest_first older.now) owner) }
 {
     if begins(&entry.reply, a) {
         return Some(Owner::Held(a));
@@ -124,7 +130,7 @@ fn owner_after(older: &[Entry], entry: &Entry, a: ActionId, owner: Option<Owner>
 }
 
 fn owner_then(older: &[Entry], call: &Call, x: ActionId) -> Owner
-    ensures { result ≡ told.owner_then (plain_call call.now) (newest_first older.now) x }
+    ensures { result ≡ by_entries.owner_then (plain_call call.now) (newest_first older.now) x }
 {
     match call {
         Call::Commit(b) => {
@@ -145,14 +151,15 @@ fn owner_then(older: &[Entry], call: &Call, x: ActionId) -> Owner
 }
 
 fn gone_if(over: bool, x: ActionId) -> Owner
-    ensures { result ≡ told.gone_if over x }
+    ensures { result ≡ by_entries.gone_if over x }
 {
     if over { Owner::Gone } else { Owner::Held(x) }
 }
 
 // Who is next to answer for what the action did, once it commits.
 fn heir_of(entries: &[Entry], a: ActionId) -> Owner
-    ensures { result ≡ told.heir (told.told_parent (newest_first entries.now) a.0) }
+    ensures { result ≡ by_entries.heir (by_entries.parent_by_entries
+        (newest_first entries.now) a.0) }
 {
     match parent_of(entries, a) {
         Some(parent) => Owner::Held(parent),
@@ -163,11 +170,11 @@ fn heir_of(entries: &[Entry], a: ActionId) -> Owner
 // Whether x, or an ancestor of it, is a sibling of b.
 fn has_sibling_above(entries: &[Entry], b: ActionId, x: ActionId) -> bool
     ensures { let older = newest_first entries.now in
-        result ≡ told.at_parent false (told.told_creator older b.0)
-        (λ c. told.told_beside older c b.0 x.0) }
+        result ≡ by_entries.at_parent false (by_entries.begun_by_entries older b.0)
+        (λ c. by_entries.is_under_sibling_by_entries older c b.0 x.0) }
 {
-    match creator_of(entries, b) {
-        Some(creator) => is_beside(entries, creator, b, x),
+    match begun_by(entries, b) {
+        Some(creator) => is_under_sibling(entries, creator, b, x),
         None => false,
     }
 }

@@ -5,12 +5,13 @@ ghost use Rattle.argus_contents.specs.Content.{KeepsLimits, plain_option};
 ghost use Rattle.argus_entries.specs.Entry.{plain_entry};
 ghost use Rattle.argus_entries.specs.Reply.{plain_reply};
 ghost use Rattle.argus_contents.specs.Answer.{plain_answer};
-ghost use Rattle.argus_journal.specs.Entries.{left_by};
+ghost use Rattle.argus_journal.specs.Entries.{content_after_call};
 ghost use Rattle.argus_journal.specs.Events as events;
-ghost use Rattle.argus_journal.specs.Journal.{entries_of, first_of, newest_first, opening_of};
+ghost use Rattle.argus_journal.specs.Journal.{entries_of, first_entries_of, newest_first};
+ghost use Rattle.argus_journal.specs.Journal.{opening_of};
 ghost use Rattle.argus_journal.specs.Legal.{Legal};
-ghost use Rattle.argus_journal.specs.Told as told;
-ghost use Rattle.argus_journal.specs.Words.{base_of, seen_by};
+ghost use Rattle.argus_journal.specs.Replaying as by_entries;
+ghost use Rattle.argus_journal.specs.JournalFacts.{base_of, visible_to};
 
 use crate::journal::Journal;
 use crate::kinship::is_above;
@@ -35,7 +36,7 @@ pub fn replay_for(
 ) -> Result<Option<Content>, OutOfMemory>
     requires { Legal (opening_of journal.now) (entries_of journal.now) }
     ensures { IfOk result (λ content. plain_option content
-        ≡ seen_by (opening_of journal.now) (entries_of journal.now) h.0 o.0) }
+        ≡ visible_to (opening_of journal.now) (entries_of journal.now) h.0 o.0) }
 {
     replay(heap, journal, Some(h), o)
 }
@@ -63,7 +64,7 @@ fn replay(
     requires { Legal (opening_of journal.now) (entries_of journal.now) }
     ensures { let j = entries_of journal.now in
         IfOk result (λ content. plain_option content
-        ≡ told.replayed (opening_of journal.now) j reader o.0 j) }
+        ≡ by_entries.replayed (opening_of journal.now) j reader o.0 j) }
 {
     let mut content = journal.opening_content(heap, o)?;
     let entries = journal.entries();
@@ -88,15 +89,18 @@ fn is_counted(
     known: &mut Option<(ActionId, Option<Owner>)>,
 ) -> bool
     requires legal { Legal (opening_of journal.now) (entries_of journal.now) }
-    requires last { first_of journal.now count
-        ≡ plain_entry entry.now ∷ first_of journal.now (count - 1) }
-    requires known { told.IsTold (opening_of journal.now).first_action (entries_of journal.now)
+    requires last { first_entries_of journal.now count
+        ≡ plain_entry entry.now ∷ first_entries_of journal.now (count - 1) }
+    requires known { by_entries.IsOwnerByEntries (opening_of journal.now).first_action
+        (entries_of journal.now)
         known.old }
     ensures counted { let first = (opening_of journal.now).first_action in
         let e = plain_entry entry.now in
-        result ≡ told.is_counted (told.told_counts first (entries_of journal.now) reader)
-        (told.writer_by e.call e.reply o.0) }
-    ensures known { told.IsTold (opening_of journal.now).first_action (entries_of journal.now)
+        result ≡ by_entries.is_counted (by_entries.counts_by_entries first
+        (entries_of journal.now) reader)
+        (by_entries.writer_by e.call e.reply o.0) }
+    ensures known { by_entries.IsOwnerByEntries (opening_of journal.now).first_action
+        (entries_of journal.now)
         known.new }
 {
     match writer_of(entry, o) {
@@ -110,7 +114,7 @@ fn is_counted(
 
 // The action that writes the object by this entry.
 fn writer_of(entry: &Entry, o: ObjId) -> Option<ActionId>
-    ensures { let e = plain_entry entry.now in result ≡ told.writer_by e.call e.reply o.0 }
+    ensures { let e = plain_entry entry.now in result ≡ by_entries.writer_by e.call e.reply o.0 }
 {
     match &entry.call {
         Call::Alter(a, i, _) => action_if(*i == o && is_answered(&entry.reply), *a),
@@ -148,7 +152,7 @@ fn truth_of(answer: &Answer) -> bool
 
 // Whether what has this owner counts for the reader.
 fn counts(entries: &[Entry], reader: Option<ActionId>, owner: Option<Owner>) -> bool
-    ensures { result ≡ told.counts_with (newest_first entries.now) reader owner }
+    ensures { result ≡ by_entries.counts_with (newest_first entries.now) reader owner }
 {
     match owner {
         Some(Owner::Base) => true,
@@ -164,7 +168,7 @@ fn counts(entries: &[Entry], reader: Option<ActionId>, owner: Option<Owner>) -> 
 fn write(heap: Heap, entry: &Entry, content: &mut Option<Content>) -> Result<(), OutOfMemory>
     requires { KeepsLimits (plain_option content.old) }
     ensures { OnOk result (plain_option content.new
-        ≡ left_by (plain_entry entry.now).call (plain_option content.old)) }
+        ≡ content_after_call (plain_entry entry.now).call (plain_option content.old)) }
 {
     match &entry.call {
         Call::Alter(_, _, change) => {

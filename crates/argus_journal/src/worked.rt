@@ -16,9 +16,9 @@ ghost use Rattle.argus_entries.specs.declared.refusal.Refusal.TheVariants.{Over,
 ghost use Rattle.argus_entries.specs.declared.refusal.Refusal.TheVariants.{TooDeep, TooMany};
 ghost use Rattle.argus_journal.specs.declared.owner.Owner.TheVariants.{Base, Gone};
 ghost use Rattle.argus_journal.specs.Opening.{empty};
-ghost use Rattle.argus_journal.specs.Words.{base_of, committed_in, effects_of, owner_in};
-ghost use Rattle.argus_journal.specs.Words.{readers_of};
-ghost use Rattle.argus_journal.specs.Words.{versions_of, writers_of};
+ghost use Rattle.argus_journal.specs.JournalFacts.{base_of, committed_in, effects_of, owner_in};
+ghost use Rattle.argus_journal.specs.JournalFacts.{readers_of};
+ghost use Rattle.argus_journal.specs.JournalFacts.{versions_of, writers_of};
 ghost use Rattle.argus_journal.specs.Worked.{chain, full, held, holding, journal, prepared};
 ghost use Rattle.argus_journal.specs.Worked.{calls_run, replies, set_to};
 ghost use Rattle.argus_journal.specs.Worked.{all_wait, nested_outlives, reference_waits};
@@ -64,7 +64,7 @@ pub fn a_subaction_commits()
 
 /// Two subactions read an object; one may write it once the other has committed, since then their
 /// parent is the other reader.
-pub fn readers_are_handed_up()
+pub fn readers_are_inherited()
     ensures replies { replies empty (journal prepared) two_read
         ≡ begun 1 ∷ begun 2 ∷ begun 3 ∷ answered (val (int (pos 0))) ∷ answered (val (int (pos 0)))
         ∷ refused Conflict ∷ answered done ∷ [] }
@@ -140,7 +140,8 @@ pub fn tests_take_locks()
         versions_of empty (journal (prepared ++ tests_no ++ ends)) 0 ≡ (2, Some (holding 0)) ∷ [] }
 {}
 
-/// Topactions count in the order of their commits: 1 began first, and commits last. So does the work
+/// Topactions count in the order of their commits: 1 began first, and commits last. So does the
+/// work
 /// of subactions in that of their parent.
 pub fn turns_are_taken()
     ensures replies { replies empty (journal prepared) turns

@@ -6,7 +6,7 @@ ghost use Rattle.argus_contents.specs.Value.{int};
 ghost use Rattle.argus_entries.specs.Reply.{answered, begun, refused};
 ghost use Rattle.argus_entries.specs.declared.refusal.Refusal.TheVariants.{NoAction, Over};
 ghost use Rattle.argus_journal.specs.Folding.{fold};
-ghost use Rattle.argus_journal.specs.Words.{base_of, owner_in};
+ghost use Rattle.argus_journal.specs.JournalFacts.{base_of, owner_in};
 ghost use Rattle.argus_journal.specs.declared.owner.Owner.TheVariants.{Base, Folded};
 ghost use Rattle.argus_journal.specs.Opening.{empty};
 ghost use Rattle.argus_journal.specs.Worked.{holding, journal, prepared, replies, then_calls};

@@ -13,7 +13,7 @@ ghost use Rattle.argus_entries.specs.declared.refusal.Refusal.TheVariants.{Confl
 ghost use Rattle.argus_entries.specs.declared.refusal.Refusal.TheVariants.{NoAction, NoObject};
 ghost use Rattle.argus_entries.specs.declared.refusal.Refusal.TheVariants.{Over, Suspended};
 ghost use Rattle.argus_entries.specs.declared.refusal.Refusal.TheVariants.{TooDeep, TooMany};
-ghost use Rattle.argus_journal.specs.Words.{effects_of, readers_of, versions_of};
+ghost use Rattle.argus_journal.specs.JournalFacts.{effects_of, readers_of, versions_of};
 ghost use Rattle.argus_journal.specs.Opening.{Opening, empty};
 ghost use Rattle.argus_journal.specs.Worked.{holding, journal, prepared, replies, then_calls};
 ghost use Rattle.argus_journal.specs.WorkedOrders.{a_reader, a_signalled_question};

@@ -6,7 +6,7 @@ ghost use Rattle.argus_contents.specs.Value.{int};
 ghost use Rattle.argus_entries.specs.Reply.{answered, begun, refused};
 ghost use Rattle.argus_entries.specs.declared.refusal.Refusal.TheVariants.{NoAction, NoSiblings};
 ghost use Rattle.argus_entries.specs.declared.refusal.Refusal.TheVariants.{Over, Suspended};
-ghost use Rattle.argus_journal.specs.Words.{base_of, is_live_in, owner_in, versions_of};
+ghost use Rattle.argus_journal.specs.JournalFacts.{base_of, is_live_in, owner_in, versions_of};
 ghost use Rattle.argus_journal.specs.declared.owner.Owner.TheVariants.{Gone};
 ghost use Rattle.argus_journal.specs.Opening.{empty};
 ghost use Rattle.argus_journal.specs.Worked.{held, holding, journal, prepared, replies};

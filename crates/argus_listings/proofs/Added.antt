@@ -6,7 +6,7 @@ use Rattle.std.proofs.Common.{Err, Ok, OnErr, Result, zero, ◌∙◌, ◌∷◌
 use Rattle.std.proofs.Math.Seq.{take-append-add}
 use Rattle.std.proofs.lemmas.List.{append-nil}
 use Rattle.std.specs.Io.KnownBytes.{Appends}
-use Rattle.argus_listings.specs.Pouring.{Added, Cut}
+use Rattle.argus_listings.specs.Flushing.{Added, Cut}
 
 appends_none : (c : Option (List ℕ)) → Appends c c []
 appends_none None = tt

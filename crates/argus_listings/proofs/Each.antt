@@ -11,7 +11,7 @@ use Rattle.argus_journal.specs.Journal.{entry_at}
 use Rattle.argus_journal.specs.Opening.{Opening}
 use Rattle.argus_listings.proofs.Added.{Left, left_added, left_cut, left_ends, left_starts, left_stops, text_added}
 use Rattle.argus_listings.specs.Listing.{each_from, folded_line, opened_line, opening_text}
-use Rattle.argus_listings.specs.Pouring.{Added, Cut}
+use Rattle.argus_listings.specs.Flushing.{Added, Cut}
 
 found : {A : Type 0} (xs : List A) (i : ℕ) (x : A) → slice_get xs i ≡ Some x → drop i xs ≡ x ∷ drop (i + 1) xs
 found xs i x e =

@@ -1,2 +1,2 @@
 pub mod Listing
-pub mod Pouring
+pub mod Flushing

@@ -6,13 +6,13 @@ use Rattle.std.specs.Prelude.{take, ℕ, ◌++◌, ◌==◌, ◌∷◌}
 use Rattle.argus_contents.specs.Content.{PlainContent}
 use Rattle.argus_contents.specs.Shape.{PlainShape}
 use Rattle.argus_entries.specs.Entry.{PlainEntry}
-use Rattle.argus_entries.specs.EntrySpelling.{entry_spelling}
+use Rattle.argus_entries.specs.EntrySpelling.{entry_line}
 use Rattle.argus_journal.specs.Folding.{next_entry_number}
 use Rattle.argus_journal.specs.Objects.{declared}
 use Rattle.argus_journal.specs.Opening.{Opening}
-use Rattle.argus_journal.specs.Told.{replayed}
-use Rattle.argus_journal.specs.Words.{base_of, readers_of, versions_of, writers_of}
-use Rattle.argus_steps.specs.Step.{Said}
+use Rattle.argus_journal.specs.Replaying.{replayed}
+use Rattle.argus_journal.specs.JournalFacts.{base_of, readers_of, versions_of, writers_of}
+use Rattle.argus_journal.specs.JournalView.{JournalView}
 use Rattle.argus_texts.specs.ContentSpelling.{content_spelling}
 use Rattle.argus_texts.specs.ShapeSpelling.{shape_spelling}
 use Rattle.argus_listings.specs.declared.listing.Listing.{Listing}
@@ -53,55 +53,55 @@ abbrev pub readers_line : List ℕ → List ℕ → List ℕ
 readers_line name readers = name ++ codes " readers" ++ readers_text readers ++ 10 ∷ []
 
 -- what is in the object for good, as the journal's writes leave it when they are run again
-abbrev pub base_again : Said → ℕ → Option PlainContent
-base_again said o = replayed said.opening said.entries None o said.entries
+abbrev pub base_again : JournalView → ℕ → Option PlainContent
+base_again journal o = replayed journal.opening journal.entries None o journal.entries
 
 -- what the action sees in the object, likewise
-abbrev pub seen_again : Said → ℕ → ℕ → Option PlainContent
-seen_again said a o =
-    replayed said.opening said.entries (Some (record { 0 = a })) o said.entries
+abbrev pub seen_again : JournalView → ℕ → ℕ → Option PlainContent
+seen_again journal a o =
+    replayed journal.opening journal.entries (Some (record { 0 = a })) o journal.entries
 
 -- each who holds the object for writing, from ancestor to descendant, with what it sees, likewise
-abbrev pub versions_again : Said → ℕ → List (ℕ × Option PlainContent)
-versions_again said o =
-    map (λ a. (a, seen_again said a o)) (writers_of said.opening said.entries o)
+abbrev pub versions_again : JournalView → ℕ → List (ℕ × Option PlainContent)
+versions_again journal o =
+    map (λ a. (a, seen_again journal a o)) (writers_of journal.opening journal.entries o)
 
 -- the line of an object in the listing of bases
-abbrev pub bases_text : Said → ℕ → List ℕ → List ℕ
-bases_text said o name =
-    object_line name (codes " ") (base_of said.opening said.entries o)
+abbrev pub bases_text : JournalView → ℕ → List ℕ → List ℕ
+bases_text journal o name =
+    object_line name (codes " ") (base_of journal.opening journal.entries o)
 
 -- the lines of an object in the listing of stacks
-abbrev pub stacks_text : Said → ℕ → List ℕ → List ℕ
-stacks_text said o name =
-    base_line name (base_of said.opening said.entries o)
-    ++ readers_line name (readers_of said.opening said.entries o)
-    ++ version_lines name (versions_of said.opening said.entries o)
+abbrev pub stacks_text : JournalView → ℕ → List ℕ → List ℕ
+stacks_text journal o name =
+    base_line name (base_of journal.opening journal.entries o)
+    ++ readers_line name (readers_of journal.opening journal.entries o)
+    ++ version_lines name (versions_of journal.opening journal.entries o)
 
 -- the lines of an object in the audit
-abbrev pub audit_text : Said → ℕ → List ℕ → List ℕ
-audit_text said o name =
-    base_line name (base_again said o) ++ version_lines name (versions_again said o)
+abbrev pub audit_text : JournalView → ℕ → List ℕ → List ℕ
+audit_text journal o name =
+    base_line name (base_again journal o) ++ version_lines name (versions_again journal o)
 
 -- the lines of an object in each listing; the journal has none
-abbrev pub object_text : Listing → Said → ℕ → List ℕ → List ℕ
-object_text Bases said o name = bases_text said o name
-object_text Stacks said o name = stacks_text said o name
-object_text Journal said o name = []
-object_text Audit said o name = audit_text said o name
+abbrev pub object_text : Listing → JournalView → ℕ → List ℕ → List ℕ
+object_text Bases journal o name = bases_text journal o name
+object_text Stacks journal o name = stacks_text journal o name
+object_text Journal journal o name = []
+object_text Audit journal o name = audit_text journal o name
 
 -- what the function says of each, with its number, where the first has this number
 abbrev pub each_from : {A : Type 0} → (ℕ → A → List ℕ) → ℕ → List A → List ℕ
 each_from text n xs = flat_map (λ p. text p.0 p.1) (enumerate_from n xs)
 
 -- the names of declared objects
-abbrev pub names_within : Said → List (List ℕ) → List (List ℕ)
-names_within said names = take (declared said.opening said.entries) names
+abbrev pub names_within : JournalView → List (List ℕ) → List (List ℕ)
+names_within journal names = take (declared journal.opening journal.entries) names
 
 -- the lines of the objects, in the order of their numbers
-abbrev pub objects_text : Listing → List (List ℕ) → Said → List ℕ
-objects_text listing names said =
-    each_from (object_text listing said) 0 (names_within said names)
+abbrev pub objects_text : Listing → List (List ℕ) → JournalView → List ℕ
+objects_text listing names journal =
+    each_from (object_text listing journal) 0 (names_within journal names)
 
 -- the line of how many entries and actions went before the opening
 abbrev pub folded_line : ℕ → ℕ → List ℕ
@@ -121,23 +121,19 @@ opening_text s =
     if s.first_entry == 0 then [] else
     (folded_line s.first_entry s.first_action ++ each_from opened_line 0 s.objects)
 
--- the line of the entry with this number
-abbrev pub entry_line : ℕ → PlainEntry → List ℕ
-entry_line at e = entry_spelling at e ++ 10 ∷ []
-
 -- the lines of the entries since the opening, the oldest first
 abbrev pub entries_text : Opening → List PlainEntry → List ℕ
 entries_text s j = each_from entry_line s.first_entry (reverse j)
 
 -- the last line of an audit: the number of the next entry
-abbrev pub length_line : Said → List ℕ
-length_line said =
-    codes "entries " ++ decimal (next_entry_number said.opening said.entries) ++ 10 ∷ []
+abbrev pub length_line : JournalView → List ℕ
+length_line journal =
+    codes "entries " ++ decimal (next_entry_number journal.opening journal.entries) ++ 10 ∷ []
 
 -- a listing of a guardian whose objects have these names, as far as there are both
-abbrev pub listing_of : Listing → List (List ℕ) → Said → List ℕ
-listing_of Bases names said = objects_text Bases names said
-listing_of Stacks names said = objects_text Stacks names said
-listing_of Journal names said =
-    opening_text said.opening ++ entries_text said.opening said.entries
-listing_of Audit names said = objects_text Audit names said ++ length_line said
+abbrev pub listing_of : Listing → List (List ℕ) → JournalView → List ℕ
+listing_of Bases names journal = objects_text Bases names journal
+listing_of Stacks names journal = objects_text Stacks names journal
+listing_of Journal names journal =
+    opening_text journal.opening ++ entries_text journal.opening journal.entries
+listing_of Audit names journal = objects_text Audit names journal ++ length_line journal

@@ -4,13 +4,13 @@ ghost use Rattle.std.specs.Prelude.{◌≡◌, ◌<◌, ◌++◌, OnOk, map, str
 ghost use Rattle.argus_journal.specs.Journal.{entries_of, opening_of};
 ghost use Rattle.argus_journal.specs.Legal.{Legal};
 ghost use Rattle.argus_journal.specs.Objects.{declared};
-ghost use Rattle.argus_journal.specs.Words.{base_of, seen_by};
+ghost use Rattle.argus_journal.specs.JournalFacts.{base_of, visible_to};
 ghost use Rattle.argus_listings.specs.Listing.{audit_text, base_line, length_line};
 ghost use Rattle.argus_listings.specs.Listing.{version_lines};
 
 use crate::appending::{append, append_number, append_object_line, append_version_line};
 use argus_contents::{Name, ObjId};
-use argus_guardian::Guardian;
+use argus_core::Guardian;
 use argus_journal::{Journal, replay_base, replay_for};
 use argus_memory::{Heap, OutOfMemory, Room};
 use argus_objects::Version;
@@ -64,7 +64,7 @@ fn append_versions_again(
     ensures { OnOk result (string_bytes text.new ≡ string_bytes text.old
         ++ version_lines name.now (map (λ v. (
           v.holder.0,
-          seen_by (opening_of journal.now) (entries_of journal.now) v.holder.0 o.0,
+          visible_to (opening_of journal.now) (entries_of journal.now) v.holder.0 o.0,
         ))
         versions.now)) }
 {

@@ -1,25 +1,26 @@
 //! The lines of a journal: of its opening, and of its entries.
 
-ghost use Rattle.std.specs.Prelude.{◌≡◌, ◌≤◌, ◌++◌, IfErr, OnErr, OnOk, false, length};
-ghost use Rattle.std.specs.Prelude.{string_bytes, true};
+ghost use Rattle.std.specs.Prelude.{IfErr, OnErr, OnOk, false, length, string_bytes, true, ◌++◌};
+ghost use Rattle.std.specs.Prelude.{◌≡◌, ◌≤◌};
 ghost use Rattle.argus_contents.specs.Content.{plain_option};
 ghost use Rattle.argus_contents.specs.declared.limits.TheConstants.{MAX_OBJECTS};
 ghost use Rattle.argus_entries.specs.Entry.{plain_entry};
 ghost use Rattle.argus_journal.specs.Journal.{entries_of, opening_of};
-ghost use Rattle.argus_listings.specs.Listing.{each_from, entries_text, entry_line};
-ghost use Rattle.argus_listings.specs.Listing.{folded_line, opened_line, opening_text};
-ghost use Rattle.argus_listings.specs.Pouring.{Added, Cut};
+ghost use Rattle.argus_listings.specs.Listing.{each_from, entries_text, folded_line, opened_line};
+ghost use Rattle.argus_listings.specs.Listing.{opening_text};
+ghost use Rattle.argus_entries.specs.EntrySpelling.{entry_line};
+ghost use Rattle.argus_listings.specs.Flushing.{Added, Cut};
 ghost use Rattle.argus_listings.specs.declared.list_error.ListError.TheVariants.{Write};
-ghost use Rattle.argus_streams.specs.Watched.{has_failed, inner_of};
+ghost use Rattle.argus_streams.specs.FailStop.{has_failed, inner_of};
 
 use crate::appending::{append, append_content, append_number};
+use crate::flushing::flush_long;
 use crate::list_error::ListError;
-use crate::pouring::pour_long;
 use argus_contents::{Content, ObjId, Shape};
 use argus_entries::{Entry, write_entry};
 use argus_journal::Journal;
 use argus_memory::{OutOfMemory, Room};
-use argus_streams::Watched;
+use argus_streams::FailStop;
 use argus_texts::write_shape;
 use std::io::Write;
 
@@ -27,7 +28,7 @@ use std::io::Write;
 pub(crate) fn write_opening<W: Write + Drop>(
     journal: &Journal,
     text: &mut String<Room>,
-    writer: &mut Watched<W>,
+    writer: &mut FailStop<W>,
 ) -> Result<(), ListError>
     requires { has_failed writer.old ≡ false }
     ensures ok { OnOk result (Added (W.contents (inner_of writer.old)) (string_bytes text.old)
@@ -58,7 +59,7 @@ fn append_folded(entries: u64, actions: u32, text: &mut String<Room>) -> Result<
 fn write_opened<W: Write + Drop>(
     journal: &Journal,
     text: &mut String<Room>,
-    writer: &mut Watched<W>,
+    writer: &mut FailStop<W>,
 ) -> Result<(), ListError>
     requires few { length (opening_of journal.now).objects ≤ MAX_OBJECTS }
     requires fine { has_failed writer.old ≡ false }
@@ -74,7 +75,7 @@ fn write_opened<W: Write + Drop>(
     let mut o = 0;
     while let Some((shape, content)) = journal.opening(ObjId(o)) {
         append_opened(o, shape, content, text)?;
-        pour_long(text, writer)?;
+        flush_long(text, writer)?;
         o += 1;
     }
     Ok(())
@@ -101,7 +102,7 @@ fn append_opened(
 pub(crate) fn write_entries<W: Write + Drop>(
     journal: &Journal,
     text: &mut String<Room>,
-    writer: &mut Watched<W>,
+    writer: &mut FailStop<W>,
 ) -> Result<(), ListError>
     requires { has_failed writer.old ≡ false }
     ensures ok { OnOk result (Added (W.contents (inner_of writer.old)) (string_bytes text.old)
@@ -118,7 +119,7 @@ pub(crate) fn write_entries<W: Write + Drop>(
             return Ok(());
         };
         append_entry(at, entry, text)?;
-        pour_long(text, writer)?;
+        flush_long(text, writer)?;
     }
     Ok(())
 }

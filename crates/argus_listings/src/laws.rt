@@ -2,11 +2,11 @@
 //! laws.
 
 ghost use Rattle.std.specs.Prelude.{◌≡◌, ◌++◌, List, ℕ};
-ghost use Rattle.argus_journal.specs.Words.{base_of, versions_of};
+ghost use Rattle.argus_journal.specs.JournalFacts.{base_of, versions_of};
 ghost use Rattle.argus_listings.specs.Listing.{audit_text, base_again, base_line};
 ghost use Rattle.argus_listings.specs.Listing.{version_lines, versions_again};
 
-use argus_guardian::Guardian;
+use argus_core::Guardian;
 
 /// A law for proofs; it does nothing. What the journal's writes leave when they are run again is
 /// what the guardian holds: so the audit says of each object what the stacks say of its base and

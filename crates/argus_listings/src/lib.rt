@@ -3,15 +3,15 @@
 
 mod appending;
 mod auditing;
+mod flushing;
 mod journal_listing;
 pub mod laws;
 mod list_error;
 mod listing;
 mod object_listing;
-mod pouring;
 mod stacking;
 mod writing;
 
 pub use list_error::ListError;
 pub use listing::Listing;
-pub use writing::list;
+pub use writing::write_listing;

@@ -11,7 +11,7 @@ use thiserror::Error;
 /// | `Write` | `write fault` | the writer failed, or took nothing |
 ///
 /// ```text
-/// list(heap, &guardian, script.names(), Listing::Bases, &mut writer)?;
+/// write_listing(heap, &guardian, script.names(), Listing::Bases, &mut writer)?;
 /// ```
 #[derive(Clone, Copy, Debug, PartialEq, Eq, Error)]
 pub enum ListError {

@@ -16,7 +16,7 @@
 /// object. The last line of an audit has the number of the next entry.
 ///
 /// ```text
-/// list(heap, &guardian, script.names(), Listing::Stacks, &mut writer)?;
+/// write_listing(heap, &guardian, script.names(), Listing::Stacks, &mut writer)?;
 /// ```
 #[derive(Clone, Copy, Debug, PartialEq, Eq)]
 pub enum Listing {

@@ -4,19 +4,19 @@ ghost use Rattle.std.specs.Prelude.{◌≡◌, ◌<◌, ◌^◌, ◌++◌, IfErr
 ghost use Rattle.std.specs.Prelude.{string_bytes, true};
 ghost use Rattle.argus_journal.specs.Objects.{declared};
 ghost use Rattle.argus_listings.specs.Listing.{names_within, object_text, objects_text};
-ghost use Rattle.argus_listings.specs.Pouring.{Added, Cut};
+ghost use Rattle.argus_listings.specs.Flushing.{Added, Cut};
 ghost use Rattle.argus_listings.specs.declared.list_error.ListError.TheVariants.{Write};
-ghost use Rattle.argus_streams.specs.Watched.{has_failed, inner_of};
+ghost use Rattle.argus_streams.specs.FailStop.{has_failed, inner_of};
 
 use crate::auditing::append_audit;
+use crate::flushing::flush_long;
 use crate::list_error::ListError;
 use crate::listing::Listing;
-use crate::pouring::pour_long;
 use crate::stacking::{append_base, append_stack};
 use argus_contents::{Name, ObjId};
-use argus_guardian::Guardian;
+use argus_core::Guardian;
 use argus_memory::{Heap, OutOfMemory, Room};
-use argus_streams::Watched;
+use argus_streams::FailStop;
 use std::io::Write;
 
 /// The lines of each object, as far as there are both a name and a declared object.
@@ -26,7 +26,7 @@ pub(crate) fn write_objects<W: Write + Drop>(
     names: &[Name],
     listing: Listing,
     text: &mut String<Room>,
-    writer: &mut Watched<W>,
+    writer: &mut FailStop<W>,
 ) -> Result<(), ListError>
     requires { has_failed writer.old ≡ false }
     ensures ok { OnOk result (Added (W.contents (inner_of writer.old)) (string_bytes text.old)
@@ -40,7 +40,7 @@ pub(crate) fn write_objects<W: Write + Drop>(
     let mut o = 0;
     for name in declared_names(guardian, names) {
         append_object(heap, guardian, ObjId(o), name, listing, text)?;
-        pour_long(text, writer)?;
+        flush_long(text, writer)?;
         o += 1;
     }
     Ok(())

@@ -1,15 +1,15 @@
 //! An object's lines as the guardian keeps it: its base, its readers and its versions.
 
 ghost use Rattle.std.specs.Prelude.{◌≡◌, ◌<◌, ◌++◌, OnOk, map, string_bytes};
-ghost use Rattle.argus_guardian.specs.Telling.{version_told};
+ghost use Rattle.argus_core.specs.Objects.{version_pair};
 ghost use Rattle.argus_journal.specs.Objects.{declared};
-ghost use Rattle.argus_journal.specs.Words.{base_of, readers_of, versions_of};
+ghost use Rattle.argus_journal.specs.JournalFacts.{base_of, readers_of, versions_of};
 ghost use Rattle.argus_listings.specs.Listing.{object_line, readers_line, stacks_text};
 ghost use Rattle.argus_listings.specs.Listing.{version_lines};
 
 use crate::appending::{append_object_line, append_readers_line, append_version_line};
 use argus_contents::{Name, ObjId};
-use argus_guardian::Guardian;
+use argus_core::Guardian;
 use argus_memory::{OutOfMemory, Room};
 use argus_objects::Version;
 
@@ -86,7 +86,7 @@ fn append_each_version(
     text: &mut String<Room>,
 ) -> Result<(), OutOfMemory>
     ensures { OnOk result (string_bytes text.new ≡ string_bytes text.old
-        ++ version_lines name.now (map version_told versions.now)) }
+        ++ version_lines name.now (map version_pair versions.now)) }
 {
     for version in versions {
         append_version_line(name, version.holder, &version.content, text)?;

@@ -1,22 +1,22 @@
-//! `list`: a listing of a guardian, written.
+//! `write_listing`: a listing of a guardian, written.
 
 ghost use Rattle.std.specs.Io.KnownBytes.{Appends};
 ghost use Rattle.std.specs.Prelude.{IfErr, OnErr, OnOk, false, string_bytes, take, true, ℕ, ◌≡◌};
 ghost use Rattle.argus_listings.specs.Listing.{listing_of};
-ghost use Rattle.argus_listings.specs.Pouring.{Added, Cut};
+ghost use Rattle.argus_listings.specs.Flushing.{Added, Cut};
 ghost use Rattle.argus_listings.specs.declared.list_error.ListError.TheVariants.{Write};
-ghost use Rattle.argus_streams.specs.Watched.{has_failed, inner_of};
+ghost use Rattle.argus_streams.specs.FailStop.{has_failed, inner_of};
 
 use crate::auditing::append_length;
+use crate::flushing::flush;
 use crate::journal_listing::{write_entries, write_opening};
 use crate::list_error::ListError;
 use crate::listing::Listing;
 use crate::object_listing::write_objects;
-use crate::pouring::pour;
 use argus_contents::Name;
-use argus_guardian::Guardian;
+use argus_core::Guardian;
 use argus_memory::{Heap, Room};
-use argus_streams::Watched;
+use argus_streams::FailStop;
 use std::io::Write;
 
 /// Writes a listing of the guardian. The first name is that of object 0, and so on; objects are
@@ -34,16 +34,16 @@ use std::io::Write;
 /// for each version once more.
 ///
 /// ```text
-/// let mut writer = Watched::new(rt.stdout());
-/// list(heap, &guardian, script.names(), Listing::Bases, &mut writer)?;
+/// let mut writer = FailStop::new(rt.stdout());
+/// write_listing(heap, &guardian, script.names(), Listing::Bases, &mut writer)?;
 /// // acct {7}
 /// ```
-pub fn list<W: Write + Drop>(
+pub fn write_listing<W: Write + Drop>(
     heap: Heap,
     guardian: &Guardian,
     names: &[Name],
     listing: Listing,
-    writer: &mut Watched<W>,
+    writer: &mut FailStop<W>,
 ) -> Result<(), ListError>
     requires { has_failed writer.old ≡ false }
     ensures written { OnOk result (Appends (W.contents (inner_of writer.old))
@@ -53,18 +53,18 @@ pub fn list<W: Write + Drop>(
     ensures failed { IfErr result (λ e. e ≡ Write → has_failed writer.new ≡ true) }
 {
     let mut text = String::new(heap.room());
-    write_listing(heap, guardian, names, listing, &mut text, writer)?;
-    pour(&mut text, writer)
+    write_lines(heap, guardian, names, listing, &mut text, writer)?;
+    flush(&mut text, writer)
 }
 
 // Writes the listing but for what is then left in the text.
-fn write_listing<W: Write + Drop>(
+fn write_lines<W: Write + Drop>(
     heap: Heap,
     guardian: &Guardian,
     names: &[Name],
     listing: Listing,
     text: &mut String<Room>,
-    writer: &mut Watched<W>,
+    writer: &mut FailStop<W>,
 ) -> Result<(), ListError>
     requires { has_failed writer.old ≡ false }
     ensures ok { OnOk result (Added (W.contents (inner_of writer.old)) (string_bytes text.old)

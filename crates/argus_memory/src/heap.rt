@@ -41,7 +41,8 @@ impl Heap {
         Limited::over(self.inner, Count::of(self.budget))
     }
 
-    /// Takes one from the budget for an allocation that is made outside of rooms, as by a collection
+    /// Takes one from the budget for an allocation that is made outside of rooms, as by a
+    /// collection
     /// that takes only allocators which are `Copy`, and gives what to make it with.
     ///
     /// `OutOfMemory` comes where nothing was left.

@@ -5,7 +5,7 @@ use Rattle.std.specs.Prelude.{◌==◌}
 use Rattle.std.proofs.lemmas.Bool.{cases_eq, eqb-true, ne_eqb, or_cases}
 use Rattle.std.proofs.lemmas.Bool.Decides.{nat_tests}
 use Rattle.argus_model.specs.Ancestors.{is_ancestor, is_under, lineage, parent, to_base}
-use Rattle.argus_model.specs.Event.{Aborted, Accessed, Began, Committed, Origin, parent_of}
+use Rattle.argus_model.specs.Event.{Aborted, Accessed, Began, Committed, Origin, origin_parent}
 use Rattle.argus_model.specs.History.{History, Opened, folded, next_action, ◌▹◌}
 use Rattle.argus_model.specs.Numbers.{contains}
 use Rattle.argus_model.proofs.Numbers.{any_found, any_from, contains_first, joined}
@@ -13,7 +13,7 @@ use Rattle.argus_model.proofs.Numbers.{any_found, any_from, contains_first, join
 -- each parent was begun before
 abbrev pub ParentsAreOlder : {V : Type 0} → History V → Type 0
 ParentsAreOlder (Opened n) = Unit {0}
-ParentsAreOlder (Began from ▹ older) = ((parent_of from) < next_action older) × ParentsAreOlder older
+ParentsAreOlder (Began from ▹ older) = ((origin_parent from) < next_action older) × ParentsAreOlder older
 ParentsAreOlder (Committed a ▹ older) = ParentsAreOlder older
 ParentsAreOlder (Aborted a ▹ older) = ParentsAreOlder older
 ParentsAreOlder (Accessed a o v ▹ older) = ParentsAreOlder older
@@ -28,7 +28,7 @@ next_pos (Accessed a o v ▹ h) = next_pos h
 
 -- the lineage of what began last is itself, then its parent's; every other lineage stays
 pub lineage_cases : {V : Type 0} (h : History V) (from : Origin) (y : ℕ)
-    → ((y ≡ next_action h) × (lineage (Began from ▹ h) y ≡ y ∷ lineage h (parent_of from)))
+    → ((y ≡ next_action h) × (lineage (Began from ▹ h) y ≡ y ∷ lineage h (origin_parent from)))
     ⊎ ((y ≢ next_action h) × (lineage (Began from ▹ h) y ≡ lineage h y))
 lineage_cases h from y = grind (arith, nat_tests)
 
@@ -67,8 +67,8 @@ pub ancestor_le : {V : Type 0} (h : History V) (x y : ℕ) → ParentsAreOlder h
     → is_ancestor h x y ≡ true → x ≤ y
 ancestor_le (Opened n) x y f l a = ⊎_elim (λ e. omega arith) (λ k. omega (arith, k.0)) (opened_ancestor x y a)
 ancestor_le (Began from ▹ h) x y f l a =
-    small_step (next_action h) (parent_of from) x y (lineage h (parent_of from)) (lineage h y)
-    (lineage (Began from ▹ h) y) f.0 l (lineage_cases h from y) (ancestor_le h x (parent_of from) f.1 f.0)
+    small_step (next_action h) (origin_parent from) x y (lineage h (origin_parent from)) (lineage h y)
+    (lineage (Began from ▹ h) y) f.0 l (lineage_cases h from y) (ancestor_le h x (origin_parent from) f.1 f.0)
     (ancestor_le h x y f.1) a
 ancestor_le (Committed b ▹ h) x y f l a = ancestor_le h x y f l a
 ancestor_le (Aborted b ▹ h) x y f l a = ancestor_le h x y f l a
@@ -130,10 +130,12 @@ split_lineage (Opened n) x y f l a =
 split_lineage (Began from ▹ h) x y f l a =
     ⊎_elim
     (λ e. split_same x y (lineage (Began from ▹ h) y) (lineage (Began from ▹ h) x) (ap (lineage (Began from ▹ h)) e))
-    (λ ne. split_step (next_action h) (parent_of from) x y (lineage h (parent_of from)) (lineage h y) (lineage h x)
+    (λ ne. split_step (next_action h) (origin_parent from) x y (lineage h (origin_parent from)) (lineage h y)
+    (lineage h x)
     (lineage (Began from ▹ h) y) (lineage (Began from ▹ h) x) f.0 l ne
-    (lineage_cases h from y) (lineage_old h from x) (ancestor_le h x (parent_of from) f.1 f.0) (ancestor_le h x y f.1)
-    (split_lineage h x (parent_of from) f.1 f.0) (split_lineage h x y f.1) a)
+    (lineage_cases h from y) (lineage_old h from x) (ancestor_le h x (origin_parent from) f.1 f.0)
+    (ancestor_le h x y f.1)
+    (split_lineage h x (origin_parent from) f.1 f.0) (split_lineage h x y f.1) a)
     (cases_eq x y)
 split_lineage (Committed b ▹ h) x y f l a = split_lineage h x y f l a
 split_lineage (Aborted b ▹ h) x y f l a = split_lineage h x y f l a
@@ -146,7 +148,7 @@ ancestor_trans h x y z f l a b = let s = split_lineage h y z f l b in rw (s.is) 
 
 -- the parent of what began last is that of its origin; every other parent stays
 pub parent_cases : {V : Type 0} (h : History V) (from : Origin) (y : ℕ)
-    → ((y ≡ next_action h) × (parent (Began from ▹ h) y ≡ (parent_of from)))
+    → ((y ≡ next_action h) × (parent (Began from ▹ h) y ≡ (origin_parent from)))
     ⊎ ((y ≢ next_action h) × (parent (Began from ▹ h) y ≡ parent h y))
 parent_cases h from y = grind (arith, nat_tests)
 
@@ -163,7 +165,7 @@ pub parent_older : {V : Type 0} (h : History V) (y : ℕ) → ParentsAreOlder h 
 parent_older (Opened n) y f y0 l = (y0, opened_lineage y (omega arith))
 parent_older (Began from ▹ h) y f y0 l =
     let q' = parent (Began from ▹ h) y in
-    parent_step (next_action h) (parent_of from) y (parent h y) q' (lineage h (parent_of from)) (lineage h y)
+    parent_step (next_action h) (origin_parent from) y (parent h y) q' (lineage h (origin_parent from)) (lineage h y)
     (lineage h (parent h y)) (lineage (Began from ▹ h) q') (lineage (Began from ▹ h) y) f.0 y0 l
     (lineage_cases h from y) (parent_cases h from y)
     (λ ne e. lineage_old h from q' ne ∙ ap (lineage h) e) (λ ne e. lineage_old h from q' ne ∙ ap (lineage h) e)
@@ -180,7 +182,7 @@ pub record Child {V : Type 0} (h : History V) (x y : ℕ) : Type 0 where
   pub below : is_ancestor h child y ≡ true
   pub of : parent h child ≡ x
 
-child_at : {V : Type 0} (h : History V) (from : Origin) (x y : ℕ) → y ≡ next_action h → (parent_of from) ≡ x
+child_at : {V : Type 0} (h : History V) (from : Origin) (x y : ℕ) → y ≡ next_action h → (origin_parent from) ≡ x
     → Child (Began from ▹ h) x y
 child_at h from x y e k =
     record {
@@ -204,7 +206,7 @@ child_up h from x y z k m =
 
 -- an ancestor of the parent is one of what began last
 pub ancestor_new : {V : Type 0} (h : History V) (from : Origin) (x y : ℕ) → y ≡ next_action h
-    → is_ancestor h x (parent_of from) ≡ true → is_ancestor (Began from ▹ h) x y ≡ true
+    → is_ancestor h x (origin_parent from) ≡ true → is_ancestor (Began from ▹ h) x y ≡ true
 ancestor_new h from x y e a = grind (arith, nat_tests)
 
 -- a begin takes no ancestor from what was there
@@ -214,7 +216,7 @@ ancestor_old h from x y e a = grind (arith, nat_tests)
 
 -- an ancestor of what began last, other than itself, is one of its parent
 pub ancestor_new_is : {V : Type 0} (h : History V) (from : Origin) (x y : ℕ) → y ≡ next_action h → x ≢ y
-    → is_ancestor (Began from ▹ h) x y ≡ true → is_ancestor h x (parent_of from) ≡ true
+    → is_ancestor (Began from ▹ h) x y ≡ true → is_ancestor h x (origin_parent from) ≡ true
 ancestor_new_is h from x y e ne a = grind (arith, nat_tests)
 
 -- a begin gives no ancestor to what was there
@@ -239,9 +241,9 @@ child_on_path (Began from ▹ h) x y f l ne a =
     ⊎_elim
     (λ e. ⊎_elim
     (λ k. child_at h from x y e (sym k))
-    (λ k. let w = child_on_path h x (parent_of from) f.1 f.0 k (ancestor_new_is h from x y e ne a) in
-    child_up h from x (parent_of from) y w (ancestor_new h from w.child y e w.below))
-    (cases_eq x (parent_of from)))
+    (λ k. let w = child_on_path h x (origin_parent from) f.1 f.0 k (ancestor_new_is h from x y e ne a) in
+    child_up h from x (origin_parent from) y w (ancestor_new h from w.child y e w.below))
+    (cases_eq x (origin_parent from)))
     (λ e. let w = child_on_path h x y f.1 (omega arith) ne (ancestor_old_is h from x y e a) in
     child_up h from x y y w (ancestor_old h from w.child y e w.below))
     (cases_eq y (next_action h))

@@ -8,7 +8,7 @@ use Rattle.argus_model.specs.Contents.{base, sees}
 use Rattle.argus_model.specs.Effects.{added_effects, effects, table, written_objects}
 use Rattle.argus_model.specs.Event.{Aborted, Accessed, Began, Committed, Event}
 use Rattle.argus_model.specs.Fold.{fold}
-use Rattle.argus_model.specs.History.{History, Opened, Opening, next_action, ◌▹◌}
+use Rattle.argus_model.specs.History.{History, Opened, HistoryOpening, next_action, ◌▹◌}
 use Rattle.argus_model.specs.Holders.{writers}
 use Rattle.argus_model.specs.Lawful.{Lawful}
 use Rattle.argus_model.specs.Meaning.{Meaning}
@@ -27,7 +27,7 @@ use Rattle.argus_model.proofs.Theorems.{table_continues, table_is_base}
 use Rattle.argus_model.proofs.Topactions.{tops_same}
 use Rattle.argus_model.proofs.Work.{work_final}
 
-module _ {V C A : Type 0} (meaning : Meaning V C A) (opening : Opening C) where
+module _ {V C A : Type 0} (meaning : Meaning V C A) (opening : HistoryOpening C) where
   stays : (h : History V) (e : Event V) → Lawful meaning opening (e ▹ h)
       → committed_topactions (e ▹ h) ≡ committed_topactions h
       → effects meaning opening (e ▹ h) ≡ effects meaning opening h ++ []

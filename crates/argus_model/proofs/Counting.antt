@@ -11,7 +11,7 @@ use Rattle.argus_model.specs.Event.{Aborted, Accessed, Began, Committed, Event}
 use Rattle.argus_model.specs.History.{History, Opened, next_action, ◌▹◌}
 use Rattle.argus_model.specs.Numbers.{contains}
 use Rattle.argus_model.specs.Owner.{Base, Gone, Held, Owner, is_base, owner}
-use Rattle.argus_model.specs.OwnerSteps.{as_owner, handed_up, owner_by_steps, stands, unless_lost}
+use Rattle.argus_model.specs.OwnerSteps.{as_owner, owner_inherited, owner_by_steps, stands, unless_lost}
 use Rattle.argus_model.specs.Status.{has_committed, is_begun, is_doomed, is_live}
 use Rattle.argus_model.specs.Work.{committed_topactions}
 use Rattle.argus_model.proofs.Ancestors.{parent_cases, parent_older}
@@ -112,7 +112,7 @@ pub none_stays : {V : Type 0} (h : History V) (e : Event V) (a : ℕ) → is_beg
     → owner_by_steps (e ▹ h) a ≡ None
 none_stays h (Began from) a k n = let q = is_begun_parts h a k in
     ⊎_elim (λ c. absurd (omega (arith, q.1, c.0))) (λ c. c.1 ∙ n) (owner_cases h from a)
-none_stays h (Committed s) a k n = ap (handed_up s (parent h s)) n
+none_stays h (Committed s) a k n = ap (owner_inherited s (parent h s)) n
 none_stays h (Aborted z) a k n = ap (unless_lost (is_under h z)) n
 none_stays h (Accessed b o v) a k n = n
 

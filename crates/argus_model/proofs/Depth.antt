@@ -5,7 +5,7 @@ use Rattle.std.specs.List.{list_any}
 use Rattle.std.specs.Prelude.{◌==◌, ◌⊎◌}
 use Rattle.std.proofs.lemmas.Bool.{cases_eq, eq-eqb, ne_eqb}
 use Rattle.argus_model.specs.Ancestors.{lineage, to_base}
-use Rattle.argus_model.specs.Event.{Aborted, Accessed, Began, Committed, parent_of}
+use Rattle.argus_model.specs.Event.{Aborted, Accessed, Began, Committed, origin_parent}
 use Rattle.argus_model.specs.History.{History, Opened, folded, next_action, ◌▹◌}
 use Rattle.argus_model.specs.OwnerSteps.{stands}
 use Rattle.argus_model.specs.Rows.{Row, depth_at, is_above, mark, rows, with_status}
@@ -19,14 +19,15 @@ depth_at-mark : (n : ℕ) (which : ℕ → Bool) (s : Status) (rs : List Row) (a
 depth_at-mark n which s [] a = refl
 depth_at-mark n which s (r ∷ rs) a =
     ap (λ k. cond (a == n + k + 1)
-    (depth_at n (mark n which s rs) (parent_of (cond (which (n + length rs + 1)) (with_status s r) r).origin) + 1)
+    (depth_at n (mark n which s rs) (origin_parent (cond (which (n + length rs + 1)) (with_status s r) r).origin) + 1)
     (depth_at n (mark n which s rs) a)) (length-mark n which s rs)
     ∙ ap (λ d. cond (a == n + length rs + 1) (d + 1) (depth_at n (mark n which s rs) a))
     (ap (λ o. depth_at n (mark n which s rs) o) (same (which (n + length rs + 1)))
-    ∙ depth_at-mark n which s rs (parent_of r.origin))
-    ∙ ap (λ d. cond (a == n + length rs + 1) (depth_at n rs (parent_of r.origin) + 1) d) (depth_at-mark n which s rs a)
+    ∙ depth_at-mark n which s rs (origin_parent r.origin))
+    ∙ ap (λ d. cond (a == n + length rs + 1) (depth_at n rs (origin_parent r.origin) + 1) d)
+    (depth_at-mark n which s rs a)
   where
-    same : (b : Bool) → parent_of (cond b (with_status s r) r).origin ≡ parent_of r.origin
+    same : (b : Bool) → origin_parent (cond b (with_status s r) r).origin ≡ origin_parent r.origin
     same true = refl
     same false = refl
 
@@ -47,16 +48,16 @@ depth_up {V} (Opened n) w a k =
     k
 depth_up (Began from ▹ h) w a k =
     let top = rows_length h in
-    let up = depth_at (folded h) (rows h) (parent_of from) in
+    let up = depth_at (folded h) (rows h) (origin_parent from) in
     let old = depth_at (folded h) (rows h) a in
     ⊎_elim
     (λ e. ap (λ b. cond b (up + 1) old + 1) (eq-eqb a (folded h + length (rows h) + 1) (e ∙ sym top))
-    ∙ more up (length (lineage h (parent_of from)))
-    (depth_up h w.1 (parent_of from) (stands_known h (parent_of from) w.0))
-    ∙ sym (ap (λ b. length (cond b (a ∷ lineage h (parent_of from)) (lineage h a))) (eq-eqb a (next_action h) e)))
+    ∙ more up (length (lineage h (origin_parent from)))
+    (depth_up h w.1 (origin_parent from) (stands_known h (origin_parent from) w.0))
+    ∙ sym (ap (λ b. length (cond b (a ∷ lineage h (origin_parent from)) (lineage h a))) (eq-eqb a (next_action h) e)))
     (λ n. ap (λ b. cond b (up + 1) old + 1) (ne_eqb a (folded h + length (rows h) + 1) (λ e. n (e ∙ top)))
     ∙ depth_up h w.1 a (before n k)
-    ∙ sym (ap (λ b. length (cond b (a ∷ lineage h (parent_of from)) (lineage h a))) (ne_eqb a (next_action h) n)))
+    ∙ sym (ap (λ b. length (cond b (a ∷ lineage h (origin_parent from)) (lineage h a))) (ne_eqb a (next_action h) n)))
     (cases_eq a (next_action h))
   where
     more : (d l : ℕ) → d + 1 ≡ l → d + 1 + 1 ≡ suc l

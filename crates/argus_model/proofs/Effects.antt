@@ -8,7 +8,7 @@ use Rattle.std.proofs.lemmas.List.{reverse-append}
 use Rattle.argus_model.specs.Ancestors.{is_under, lineage, parent}
 use Rattle.argus_model.specs.Effects.{content_by, effect_of, effects, effects_of, table, written_objects}
 use Rattle.argus_model.specs.Event.{Aborted, Accessed, Began, Committed, Event}
-use Rattle.argus_model.specs.History.{History, Opened, Opening, ◌▹◌}
+use Rattle.argus_model.specs.History.{History, Opened, HistoryOpening, ◌▹◌}
 use Rattle.argus_model.specs.HolderSteps.{has_used, holds}
 use Rattle.argus_model.specs.Meaning.{Meaning}
 use Rattle.argus_model.specs.Numbers.{contains, insert}
@@ -160,7 +160,7 @@ module _ {V C A : Type 0} (meaning : Meaning V C A) where
       (λ m. let q = used_by_found meaning.writes (λ b. is_exactly (owner_by_steps h b) y) o false h m in
       work_of_user h w q.0 y o false q.1 (at_some (owner_by_steps h q.0) y q.2))
 
-module _ {V C A : Type 0} (meaning : Meaning V C A) (opening : Opening C) where
+module _ {V C A : Type 0} (meaning : Meaning V C A) (opening : HistoryOpening C) where
   effects_of_agree : (f g : ℕ → List (Access V)) (ts : List ℕ) → ((t : ℕ) → contains ts t ≡ true → f t ≡ g t)
       → effects_of meaning opening.contents f ts ≡ effects_of meaning opening.contents g ts
   effects_of_agree f g [] same = refl

@@ -9,7 +9,7 @@ use Rattle.argus_model.specs.Ancestors.{is_ancestor, is_under, parent}
 use Rattle.argus_model.specs.Event.{Aborted, Accessed, Began, Committed, Origin}
 use Rattle.argus_model.specs.History.{History, Opened, ◌▹◌}
 use Rattle.argus_model.specs.HolderSteps.{has_used, holds, may_by_steps, used_by}
-use Rattle.argus_model.specs.OwnerSteps.{handed_up, is_exactly, owner_by_steps, stands, unless_lost}
+use Rattle.argus_model.specs.OwnerSteps.{owner_inherited, is_exactly, owner_by_steps, stands, unless_lost}
 use Rattle.argus_model.proofs.Exclusion.{Guarded, exclusion, has_used_begun, has_used_cases, may_from, may_tells}
 use Rattle.argus_model.proofs.Standing.{Orderly, at_some, handed_from, handed_stays, owner_cases, some_at}
 
@@ -23,7 +23,7 @@ and_apart true a c r = grind arith
 and_apart false a c r = grind arith
 
 at_handed_parent : (s p : ℕ) (q : Option ℕ) → p ≢ s
-    → is_exactly (handed_up s p q) p ≡ (is_exactly q s || is_exactly q p)
+    → is_exactly (owner_inherited s p q) p ≡ (is_exactly q s || is_exactly q p)
 at_handed_parent s p None ne = refl
 at_handed_parent s p (Some y) ne =
     ⊎_elim
@@ -32,7 +32,7 @@ at_handed_parent s p (Some y) ne =
     (λ n. ap (λ o. is_exactly o p) (handed_stays s p (Some y) y refl n) ∙ sym (ap (λ b. b || (y == p)) (ne_eqb y s n)))
     (cases_eq y s)
 
-at_handed_other : (s p x : ℕ) (q : Option ℕ) → x ≢ s → x ≢ p → is_exactly (handed_up s p q) x ≡ is_exactly q x
+at_handed_other : (s p x : ℕ) (q : Option ℕ) → x ≢ s → x ≢ p → is_exactly (owner_inherited s p q) x ≡ is_exactly q x
 at_handed_other s p x None ns np = refl
 at_handed_other s p x (Some y) ns np =
     ⊎_elim
@@ -114,7 +114,7 @@ module _ {V : Type 0} (writes : V → Bool) where
       ≡ (holds writes h o all s || holds writes h o all (parent h s))
   holds_commit_parent h s o all ne =
       let p = parent h s in
-      used_by_agree (λ b. is_exactly (handed_up s p (owner_by_steps h b)) p)
+      used_by_agree (λ b. is_exactly (owner_inherited s p (owner_by_steps h b)) p)
       (λ b. is_exactly (owner_by_steps h b) s || is_exactly (owner_by_steps h b) p) o all h
       (λ b u. at_handed_parent s p (owner_by_steps h b) ne)
       ∙ used_by_or (λ b. is_exactly (owner_by_steps h b) s) (λ b. is_exactly (owner_by_steps h b) p) o all h
@@ -123,7 +123,7 @@ module _ {V : Type 0} (writes : V → Bool) where
   pub holds_commit_other : (h : History V) (s o : ℕ) (all : Bool) (x : ℕ) → x ≢ s → x ≢ parent h s
       → holds writes (Committed s ▹ h) o all x ≡ holds writes h o all x
   holds_commit_other h s o all x ns np =
-      used_by_agree (λ b. is_exactly (handed_up s (parent h s) (owner_by_steps h b)) x)
+      used_by_agree (λ b. is_exactly (owner_inherited s (parent h s) (owner_by_steps h b)) x)
       (λ b. is_exactly (owner_by_steps h b) x) o all h
       (λ b u. at_handed_other s (parent h s) x (owner_by_steps h b) ns np)
 

@@ -3,9 +3,10 @@ use Rattle.std.proofs.Common.{List, ap, cond, false, subst, sym, true, ℕ, ⊎_
 use Rattle.std.specs.List.{list_all}
 use Rattle.std.specs.Prelude.{◌==◌, ◌||◌}
 use Rattle.std.proofs.lemmas.Bool.{cases_Bool, eqb-true, or_cases}
-use Rattle.argus_model.specs.Event.{Aborted, Accessed, Began, Committed, Event, Nested, Origin, Sub, Top, creator_of}
-use Rattle.argus_model.specs.Event.{parent_of}
-use Rattle.argus_model.specs.History.{History, Opened, Opening, ◌▹◌}
+use Rattle.argus_model.specs.Event.{Aborted, Accessed, Began, Committed, Event, Nested, Origin, Sub, Top}
+use Rattle.argus_model.specs.Event.{origin_begun_by}
+use Rattle.argus_model.specs.Event.{origin_parent}
+use Rattle.argus_model.specs.History.{History, Opened, HistoryOpening, ◌▹◌}
 use Rattle.argus_model.specs.HolderSteps.{may_by_steps}
 use Rattle.argus_model.specs.Holders.{may_read, may_write}
 use Rattle.argus_model.specs.Lawful.{Allowed, Lawful, may_access}
@@ -22,7 +23,7 @@ use Rattle.argus_model.proofs.Standing.{Orderly}
 
 -- the parent of an action that may begin stands
 pub parent_stands : {V : Type 0} (h : History V) → Orderly h → (from : Origin)
-    → (creator_of from == 0 || is_live h (creator_of from)) ≡ true → stands h (parent_of from) ≡ true
+    → (origin_begun_by from == 0 || is_live h (origin_begun_by from)) ≡ true → stands h (origin_parent from) ≡ true
 parent_stands h w Top e = base_stands h w
 parent_stands h w (Nested c) e = base_stands h w
 parent_stands h w (Sub p) e =
@@ -40,7 +41,7 @@ stands_alone : {V : Type 0} (h : History V) → Orderly h → (a : ℕ) → is_l
 stands_alone h w a l n = let s = live_stands h w a l in
     record { not_base = s.0; standing = s.1; childless = child_is h w a ∙ n }
 
-module _ {V C A : Type 0} (meaning : Meaning V C A) (opening : Opening C) where
+module _ {V C A : Type 0} (meaning : Meaning V C A) (opening : HistoryOpening C) where
   access_by_steps : (h : History V) → Orderly h → (a o : ℕ) (v : V)
       → may_access meaning h a o v ≡ may_by_steps meaning.writes h a o (meaning.writes v) h
   access_by_steps h w a o v =

@@ -7,8 +7,8 @@ use Rattle.std.proofs.lemmas.Bool.{and_from, and_parts, both_ways, cases_eq, eq-
 use Rattle.std.proofs.lemmas.Bool.{ne_eqb, not-true, or_left}
 use Rattle.std.proofs.lemmas.Bool.Decides.{nat_tests}
 use Rattle.std.proofs.lemmas.List.Folds.{list_any-append}
-use Rattle.argus_model.specs.Ancestors.{creator, parent}
-use Rattle.argus_model.specs.Event.{Aborted, Accessed, Began, Committed, creator_of, parent_of}
+use Rattle.argus_model.specs.Ancestors.{begun_by, parent}
+use Rattle.argus_model.specs.Event.{Aborted, Accessed, Began, Committed, origin_begun_by, origin_parent}
 use Rattle.argus_model.specs.History.{History, Opened, begun_actions, folded, next_action, ◌▹◌}
 use Rattle.argus_model.specs.Numbers.{contains}
 use Rattle.argus_model.specs.OwnerSteps.{owner_by_steps, standing_child, stands}
@@ -101,27 +101,29 @@ begun_rising (Aborted a ▹ h) = begun_rising h
 begun_rising (Accessed a o v ▹ h) = begun_rising h
 
 children_in : {V : Type 0} (h k : History V) (y : ℕ)
-    → standing_child h y k ≡ list_any (λ x. stands h x && (parent k x == y || creator k x == y)) (begun_actions k)
+    → standing_child h y k ≡ list_any (λ x. stands h x && (parent k x == y || begun_by k x == y)) (begun_actions k)
 children_in h (Opened n) y = refl
 children_in h (Began from ▹ k) y =
     let g = Began from ▹ k in
-    let t = λ (x : ℕ). stands h x && (parent k x == y || creator k x == y) in
-    let u = λ (x : ℕ). stands h x && (parent g x == y || creator g x == y) in
-    let own : u (next_action k) ≡ (((parent_of from) == y || (creator_of from) == y) && stands h (next_action k)) =
+    let t = λ (x : ℕ). stands h x && (parent k x == y || begun_by k x == y) in
+    let u = λ (x : ℕ). stands h x && (parent g x == y || begun_by g x == y) in
+    let own : u (next_action k) ≡ (((origin_parent from) == y || (origin_begun_by from) == y) && stands h
+    (next_action k)) =
     ap (λ b. stands h
     (next_action k)
-    && (cond b (parent_of from) (parent k (next_action k)) == y || cond b (creator_of from)
-    (creator k (next_action k)) == y)) (eq-eqb (next_action k) (next_action k) refl)
-    ∙ and_comm (stands h (next_action k)) ((parent_of from) == y || (creator_of from) == y) in
-    ap (λ b. (((parent_of from) == y || (creator_of from) == y) && stands h (next_action k)) || b) (children_in h k y)
-    ∙ or_comm (((parent_of from) == y || (creator_of from) == y) && stands h (next_action k))
+    && (cond b (origin_parent from) (parent k (next_action k)) == y || cond b (origin_begun_by from)
+    (begun_by k (next_action k)) == y)) (eq-eqb (next_action k) (next_action k) refl)
+    ∙ and_comm (stands h (next_action k)) ((origin_parent from) == y || (origin_begun_by from) == y) in
+    ap (λ b. (((origin_parent from) == y || (origin_begun_by from) == y) && stands h (next_action k)) || b)
+    (children_in h k y)
+    ∙ or_comm (((origin_parent from) == y || (origin_begun_by from) == y) && stands h (next_action k))
     (list_any t (begun_actions k))
     ∙ ap (λ b. list_any t (begun_actions k) || b) (sym own ∙ or_none (u (next_action k)))
     ∙ ap (λ b. b || list_any u (next_action k ∷ []))
     (any_agree t u (begun_actions k)
     (λ x m. let l = begun_below k x m in
     sym (ap (λ b.
-    stands h x && (cond b (parent_of from) (parent k x) == y || cond b (creator_of from) (creator k x) == y))
+    stands h x && (cond b (origin_parent from) (parent k x) == y || cond b (origin_begun_by from) (begun_by k x) == y))
     (ne_eqb x (next_action k) (λ e. omega arith)))))
     ∙ sym (list_any-append u (begun_actions k) (next_action k ∷ []))
 children_in h (Committed a ▹ k) y = children_in h k y
@@ -132,10 +134,10 @@ children_in h (Accessed a o v ▹ k) y = children_in h k y
 pub child_is : {V : Type 0} (h : History V) → Orderly h → (y : ℕ) → standing_child h y h ≡ has_live_child h y
 child_is h w y =
     children_in h h y
-    ∙ any_agree (λ x. stands h x && (parent h x == y || creator h x == y))
-    (λ x. is_live h x && (parent h x == y || creator h x == y)) (begun_actions h)
+    ∙ any_agree (λ x. stands h x && (parent h x == y || begun_by h x == y))
+    (λ x. is_live h x && (parent h x == y || begun_by h x == y)) (begun_actions h)
     (λ x m. let f = contains_unfolded h x m in
-    ap (λ b. b && (parent h x == y || creator h x == y)) (stands_is_live h w x (λ e. omega arith)))
+    ap (λ b. b && (parent h x == y || begun_by h x == y)) (stands_is_live h w x (λ e. omega arith)))
 
 -- the list of live siblings has each live sibling, and no other
 pub contains_siblings : {V : Type 0} (h : History V) (a x : ℕ)

@@ -5,10 +5,10 @@ use Rattle.std.specs.Prelude.{not, ◌&&◌, ◌==◌, ◌||◌}
 use Rattle.std.proofs.lemmas.Bool.{and_from, and_parts, both_ways, cases_Bool, cases_eq, eq-eqb, false_from_ne_true}
 use Rattle.std.proofs.lemmas.Bool.{ne_eqb, not-true}
 use Rattle.argus_model.specs.Ancestors.{is_under, lineage, parent}
-use Rattle.argus_model.specs.Event.{Aborted, Accessed, Began, Committed, Origin, parent_of}
+use Rattle.argus_model.specs.Event.{Aborted, Accessed, Began, Committed, Origin, origin_parent}
 use Rattle.argus_model.specs.History.{History, next_action, ◌▹◌}
 use Rattle.argus_model.specs.Owner.{Base, Gone, Held, owner, passed_up, unless_gone}
-use Rattle.argus_model.specs.OwnerSteps.{as_owner, handed_up, owner_by_steps, stands, unless_lost}
+use Rattle.argus_model.specs.OwnerSteps.{as_owner, owner_inherited, owner_by_steps, stands, unless_lost}
 use Rattle.argus_model.specs.Status.{has_committed, is_begun, is_doomed, is_live}
 use Rattle.argus_model.proofs.Ancestors.{folded_next, lineage_cases, next_pos}
 use Rattle.argus_model.proofs.Bools.{same_bool}
@@ -95,7 +95,7 @@ pub owner_after_access : {V : Type 0} (h : History V) (a o : ℕ) (v : V) → Or
     → is_begun h x ≡ true → owner (Accessed a o v ▹ h) x ≡ owner h x
 owner_after_access h a o v w x k = owner_is (Accessed a o v ▹ h) w x k ∙ sym (owner_is h w.1 x k)
 
-handed_is : (s p : ℕ) → s ≢ 0 → (q : Option ℕ) → as_owner (handed_up s p q) ≡ passed_up s p (as_owner q)
+handed_is : (s p : ℕ) → s ≢ 0 → (q : Option ℕ) → as_owner (owner_inherited s p q) ≡ passed_up s p (as_owner q)
 handed_is s p s0 None = refl
 handed_is s p s0 (Some x) =
     ⊎_elim
@@ -152,5 +152,5 @@ new_owner h from w =
 
 -- a new action's lineage is itself, then its parent's
 pub new_lineage : {V : Type 0} (h : History V) (from : Origin)
-    → lineage (Began from ▹ h) (next_action h) ≡ next_action h ∷ lineage h (parent_of from)
+    → lineage (Began from ▹ h) (next_action h) ≡ next_action h ∷ lineage h (origin_parent from)
 new_lineage h from = ⊎_elim (λ k. k.1) (λ k. absurd (k.0 refl)) (lineage_cases h from (next_action h))

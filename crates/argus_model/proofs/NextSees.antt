@@ -4,8 +4,8 @@ use Rattle.std.specs.Prelude.{◌&&◌, ◌==◌}
 use Rattle.std.proofs.lemmas.Bool.{and_from, and_left, and_right, both_ways, cases_Bool}
 use Rattle.argus_model.specs.Ancestors.{is_ancestor, parent}
 use Rattle.argus_model.specs.Contents.{base, sees}
-use Rattle.argus_model.specs.Event.{Aborted, Accessed, Began, Committed, Origin, parent_of}
-use Rattle.argus_model.specs.History.{History, Opening, next_action, ◌▹◌}
+use Rattle.argus_model.specs.Event.{Aborted, Accessed, Began, Committed, Origin, origin_parent}
+use Rattle.argus_model.specs.History.{History, HistoryOpening, next_action, ◌▹◌}
 use Rattle.argus_model.specs.HolderSteps.{has_used}
 use Rattle.argus_model.specs.Holders.{writers}
 use Rattle.argus_model.specs.Meaning.{Meaning}
@@ -23,7 +23,7 @@ use Rattle.argus_model.proofs.Serial.{base_stands, lineage-base, seen_abort, see
 use Rattle.argus_model.proofs.Serial.{seen_as_s, seen_aside, seen_begin_new, seen_begin_old, seen_same}
 use Rattle.argus_model.proofs.Standing.{Orderly, alone, at_some, parents_are_older, some_at, stands_upward}
 
-module _ {V C A : Type 0} (meaning : Meaning V C A) (opening : Opening C) where
+module _ {V C A : Type 0} (meaning : Meaning V C A) (opening : HistoryOpening C) where
   -- the base sees what is there for good
   pub sees_base : (h : History V) → Orderly h → (o : ℕ) → sees meaning opening h 0 o ≡ base meaning opening h o
   sees_base h w o = sees_is meaning opening h w 0 o ∙ sym (base_is meaning opening h w o)
@@ -42,9 +42,9 @@ module _ {V C A : Type 0} (meaning : Meaning V C A) (opening : Opening C) where
 
   -- a new action sees what its parent sees
   pub sees_after_begin_new : (h : History V) (from : Origin) → Orderly (Began from ▹ h) → (o : ℕ)
-      → sees meaning opening (Began from ▹ h) (next_action h) o ≡ sees meaning opening h (parent_of from) o
+      → sees meaning opening (Began from ▹ h) (next_action h) o ≡ sees meaning opening h (origin_parent from) o
   sees_after_begin_new h from w o =
-      both (Began from ▹ h) h w w.1 (next_action h) (parent_of from) o
+      both (Began from ▹ h) h w w.1 (next_action h) (origin_parent from) o
       (seen_begin_new meaning opening.contents h from (next_action h) o w.1 refl)
 
   -- a begin leaves what every other sees

@@ -5,7 +5,7 @@ use Rattle.std.specs.Prelude.{◌==◌, ◌||◌}
 use Rattle.std.proofs.lemmas.Bool.{cases_Bool, cases_eq, eq-eqb, ne_eqb, or_right}
 use Rattle.std.proofs.lemmas.Bool.Decides.{nat_tests}
 use Rattle.argus_model.specs.Ancestors.{is_ancestor, is_under, lineage, parent, to_base}
-use Rattle.argus_model.specs.Event.{Aborted, Accessed, Began, Committed, parent_of}
+use Rattle.argus_model.specs.Event.{Aborted, Accessed, Began, Committed, origin_parent}
 use Rattle.argus_model.specs.History.{History, Opened, folded, next_action, ◌▹◌}
 use Rattle.argus_model.specs.Numbers.{contains}
 use Rattle.argus_model.specs.Owner.{Base, Folded, Gone, Held, counts_for, is_base, is_held_by, owner, owner_up}
@@ -25,7 +25,7 @@ pub parent_unfolded : {V : Type 0} (h : History V) → Orderly h → (a : ℕ) �
 parent_unfolded (Opened m) w a l b n = absurd (omega arith)
 parent_unfolded (Began from ▹ h) w a l b n =
     ⊎_elim
-    (λ k. subst (λ u. folded h < u) (sym k.1) (stands_unfolded h (parent_of from) (λ e. n (k.1 ∙ e)) w.0))
+    (λ k. subst (λ u. folded h < u) (sym k.1) (stands_unfolded h (origin_parent from) (λ e. n (k.1 ∙ e)) w.0))
     (λ k. subst (λ u. folded h < u) (sym k.1) (parent_unfolded h w.1 a l (omega (arith, k.0)) (λ e. n (k.1 ∙ e))))
     (parent_cases h from a)
 parent_unfolded (Committed s ▹ h) w a l b n = parent_unfolded h w.1 a l b n
@@ -94,7 +94,7 @@ base_above (Opened n) y =
 base_above (Began from ▹ h) y =
     ⊎_elim
     (λ k. ap (λ t. contains t 0) k.1
-    ∙ or_right (0 == y) (contains (lineage h (parent_of from)) 0) (base_above h (parent_of from)))
+    ∙ or_right (0 == y) (contains (lineage h (origin_parent from)) 0) (base_above h (origin_parent from)))
     (λ k. ap (λ t. contains t 0) k.1 ∙ base_above h y)
     (lineage_cases h from y)
 base_above (Committed a ▹ h) y = base_above h y

@@ -7,10 +7,10 @@ use Rattle.std.proofs.lemmas.Bool.{cases_Bool, cases_eq, eq-eqb, eqb-false, eqb-
 use Rattle.std.proofs.lemmas.Bool.{ne_eqb, or_cases, or_parts}
 use Rattle.std.proofs.lemmas.Bool.Decides.{nat_tests}
 use Rattle.argus_model.specs.Ancestors.{is_ancestor, is_under, lineage, parent}
-use Rattle.argus_model.specs.Event.{Aborted, Accessed, Began, Committed, parent_of}
+use Rattle.argus_model.specs.Event.{Aborted, Accessed, Began, Committed, origin_parent}
 use Rattle.argus_model.specs.History.{History, Opened, folded, next_action, ◌▹◌}
 use Rattle.argus_model.specs.Numbers.{contains}
-use Rattle.argus_model.specs.OwnerSteps.{handed_up, is_exactly, owner_by_steps, stands, unless_lost}
+use Rattle.argus_model.specs.OwnerSteps.{owner_inherited, is_exactly, owner_by_steps, stands, unless_lost}
 use Rattle.argus_model.specs.Status.{has_committed, is_doomed, was_aborted}
 use Rattle.argus_model.proofs.Ancestors.{ancestor_le, ancestor_old, ancestor_old_is, ancestor_self, ancestor_trans}
 use Rattle.argus_model.proofs.Ancestors.{lineage_cases, parent_cases}
@@ -86,7 +86,7 @@ aborted_agree t u (Aborted zs ▹ h) w same =
     ∙ ap (λ b. list_any u zs || b) (aborted_agree t u h w.1 same)
 aborted_agree t u (Accessed a o v ▹ h) w same = aborted_agree t u h w.1 same
 
-gone-handed : (s p : ℕ) (o : Option ℕ) → gone (handed_up s p o) ≡ gone o
+gone-handed : (s p : ℕ) (o : Option ℕ) → gone (owner_inherited s p o) ≡ gone o
 gone-handed s p None = refl
 gone-handed s p (Some x) =
     ⊎_elim (λ k. ap gone (handed_from s p (Some x) (ap Some k))) (λ k. ap gone (handed_stays s p (Some x) x refl k))
@@ -110,11 +110,12 @@ doomed_gone (Opened n) w a u l = let e : a ≡ 0 =
 doomed_gone (Began from ▹ h) w a u l =
     ⊎_elim
     (λ k. ap (λ t. was_aborted (λ z. contains t z) h) k.1
-    ∙ aborted_agree (λ z. contains (a ∷ lineage h (parent_of from)) z) (λ z. is_ancestor h z (parent_of from)) h w.1
-    (λ z zl. ap (λ b. b || contains (lineage h (parent_of from)) z) (ne_eqb z a (λ q. omega (arith, k.0))))
-    ∙ doomed_gone h w.1 (parent_of from) (λ k. stands_unfolded h (parent_of from) k w.0)
-    (stands_begun h (parent_of from) w.0)
-    ∙ ap gone (at_some (owner_by_steps h (parent_of from)) (parent_of from) w.0)
+    ∙ aborted_agree (λ z. contains (a ∷ lineage h (origin_parent from)) z) (λ z. is_ancestor h z
+    (origin_parent from)) h w.1
+    (λ z zl. ap (λ b. b || contains (lineage h (origin_parent from)) z) (ne_eqb z a (λ q. omega (arith, k.0))))
+    ∙ doomed_gone h w.1 (origin_parent from) (λ k. stands_unfolded h (origin_parent from) k w.0)
+    (stands_begun h (origin_parent from) w.0)
+    ∙ ap gone (at_some (owner_by_steps h (origin_parent from)) (origin_parent from) w.0)
     ∙ sym (ap (λ b. gone (cond b (Some a) (owner_by_steps h a))) (eq-eqb a (next_action h) k.0)))
     (λ k. ap (λ t. was_aborted (λ z. contains t z) h) k.1
     ∙ doomed_gone h w.1 a u (omega (arith, k.0))
@@ -188,10 +189,10 @@ passed_on (Committed s ▹ h) w a m =
     (λ k. let e = eqb-true s a k in
     let i = parent_is h (parents_are_older h w.1) s w.0.not_base w.0.standing in
     let op = at_some (owner_by_steps h p) p (stands_upward h w.1 p s w.0.standing i.1) in
-    subst (λ u. handed_up s p (owner_by_steps h u) ≡ handed_up s p (owner_by_steps h (parent h u))) e
+    subst (λ u. owner_inherited s p (owner_by_steps h u) ≡ owner_inherited s p (owner_by_steps h (parent h u))) e
     (handed_from s p (owner_by_steps h s) (at_some (owner_by_steps h s) s w.0.standing)
     ∙ sym (handed_stays s p (owner_by_steps h p) p op (omega (arith, i.0)))))
-    (λ k. ap (handed_up s p) (passed_on h w.1 a k))
+    (λ k. ap (owner_inherited s p) (passed_on h w.1 a k))
     (or_cases (s == a) (has_committed h a) m)
 passed_on (Aborted z ▹ h) w a m = ap (unless_lost (is_under h z)) (passed_on h w.1 a m)
 passed_on (Accessed b o v ▹ h) w a m = passed_on h w.1 a m

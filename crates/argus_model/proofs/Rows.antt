@@ -7,8 +7,8 @@ use Rattle.std.proofs.Math.Bool.{or_comm}
 use Rattle.std.proofs.lemmas.Bool.{and_from, and_parts, both_ways, cases_Bool, cases_eq, eq-eqb, eqb-true}
 use Rattle.std.proofs.lemmas.Bool.{false_from_ne_true, ne_eqb, or_cases}
 use Rattle.std.proofs.lemmas.List.Folds.{list_any-append}
-use Rattle.argus_model.specs.Ancestors.{creator, is_ancestor, is_under, lineage, parent}
-use Rattle.argus_model.specs.Event.{Aborted, Accessed, Began, Committed, Origin, creator_of, parent_of}
+use Rattle.argus_model.specs.Ancestors.{begun_by, is_ancestor, is_under, lineage, parent}
+use Rattle.argus_model.specs.Event.{Aborted, Accessed, Began, Committed, Origin, origin_begun_by, origin_parent}
 use Rattle.argus_model.specs.History.{History, Opened, begun_actions, folded, next_action, ◌▹◌}
 use Rattle.argus_model.specs.Numbers.{contains}
 use Rattle.argus_model.specs.OwnerSteps.{stands}
@@ -41,7 +41,7 @@ stands_status h w a n l =
 
 -- what began last is live
 pub status_began_new : {V : Type 0} (h : History V) (from : Origin) (y : ℕ) → Orderly h
-    → stands h (parent_of from) ≡ true → y ≡ next_action h → status (Began from ▹ h) y ≡ IsLive
+    → stands h (origin_parent from) ≡ true → y ≡ next_action h → status (Began from ▹ h) y ≡ IsLive
 status_began_new h from y w lp e = let f = folded_next h in
     stands_status (Began from ▹ h) (lp, w) y (λ k. omega arith) (stands_new h from y e)
 
@@ -124,17 +124,17 @@ is_above-mark : (n : ℕ) (which : ℕ → Bool) (s : Status) (rs : List Row) (x
 is_above-mark n which s [] x y = refl
 is_above-mark n which s (r ∷ rs) x y =
     let r' = cond (which (n + length rs + 1)) (with_status s r) r in
-    let same : parent_of r'.origin ≡ parent_of r.origin = kept (which (n + length rs + 1)) in
-    ap (λ k. cond (y == n + k + 1) (x == y || is_above n (mark n which s rs) x (parent_of r'.origin))
+    let same : origin_parent r'.origin ≡ origin_parent r.origin = kept (which (n + length rs + 1)) in
+    ap (λ k. cond (y == n + k + 1) (x == y || is_above n (mark n which s rs) x (origin_parent r'.origin))
     (is_above n (mark n which s rs) x y)) (length-mark n which s rs)
     ∙ ap (λ q. cond (y == n + length rs + 1) (x == y || is_above n (mark n which s rs) x q)
     (is_above n (mark n which s rs) x y)) same
     ∙ ap (λ b. cond (y == n + length rs + 1) (x == y || b) (is_above n (mark n which s rs) x y))
-    (is_above-mark n which s rs x (parent_of r.origin))
-    ∙ ap (λ b. cond (y == n + length rs + 1) (x == y || is_above n rs x (parent_of r.origin)) b)
+    (is_above-mark n which s rs x (origin_parent r.origin))
+    ∙ ap (λ b. cond (y == n + length rs + 1) (x == y || is_above n rs x (origin_parent r.origin)) b)
     (is_above-mark n which s rs x y)
   where
-    kept : (b : Bool) → parent_of (cond b (with_status s r) r).origin ≡ parent_of r.origin
+    kept : (b : Bool) → origin_parent (cond b (with_status s r) r).origin ≡ origin_parent r.origin
     kept true = refl
     kept false = refl
 
@@ -143,7 +143,7 @@ is_above_low : {V : Type 0} (h : History V) (x y : ℕ) → (folded h < y → �
 is_above_low (Opened n) x y u = refl
 is_above_low (Began from ▹ h) x y u =
     let t = rows_length h in
-    ap (λ b. cond b (x == y || is_above (folded h) (rows h) x (parent_of from)) (is_above (folded h) (rows h) x y))
+    ap (λ b. cond b (x == y || is_above (folded h) (rows h) x (origin_parent from)) (is_above (folded h) (rows h) x y))
     (ne_eqb y (folded h + length (rows h) + 1) (λ e. u (omega arith)))
     ∙ is_above_low h x y u
 is_above_low (Committed s ▹ h) x y u =
@@ -162,18 +162,18 @@ is_above_is (Began from ▹ h) w x y x0 k =
     let q = is_begun_parts (Began from ▹ h) y k in
     let top = rows_length h in
     let at = λ (b : Bool).
-    cond b (x == y || is_above (folded h) (rows h) x (parent_of from)) (is_above (folded h) (rows h) x y) in
+    cond b (x == y || is_above (folded h) (rows h) x (origin_parent from)) (is_above (folded h) (rows h) x y) in
     ⊎_elim
     (λ t. ap at (eq-eqb y (folded h + length (rows h) + 1) (t.0 ∙ sym top))
     ∙ ap (λ b. x == y || b)
     (⊎_elim
-    (λ e. is_above_low h x (parent_of from) (λ l. omega arith)
+    (λ e. is_above_low h x (origin_parent from) (λ l. omega arith)
     ∙ sym (subst (λ u. is_ancestor h x u ≡ false) (sym e)
     (ap (λ l. contains l x) (lineage-base h) ∙ ap (λ b. b || false) (ne_eqb x 0 x0))))
-    (λ ne. is_above_is h w.1 x (parent_of from) x0
-    (is_begun_from h (parent_of from) (stands_unfolded h (parent_of from) ne w.0)
-    (stands_begun h (parent_of from) w.0)))
-    (cases_eq (parent_of from) 0))
+    (λ ne. is_above_is h w.1 x (origin_parent from) x0
+    (is_begun_from h (origin_parent from) (stands_unfolded h (origin_parent from) ne w.0)
+    (stands_begun h (origin_parent from) w.0)))
+    (cases_eq (origin_parent from) 0))
     ∙ sym (ap (λ l. contains l x) t.1))
     (λ t. ap at (ne_eqb y (folded h + length (rows h) + 1) (λ e. t.0 (e ∙ top)))
     ∙ is_above_is h w.1 x y x0 (is_begun_from h y q.0 (let u = q.1 in let v = t.0 in omega arith))
@@ -240,26 +240,28 @@ row_is (Aborted zs ▹ h) w a k =
 row_is (Accessed d o v ▹ h) w a k = row_is h w.1 a k
 
 -- the origin says who is the parent
-pub parent_of_origin : {V : Type 0} (h : History V) (a : ℕ) → parent_of (origin h a) ≡ parent h a
+pub parent_of_origin : {V : Type 0} (h : History V) (a : ℕ) → origin_parent (origin h a) ≡ parent h a
 parent_of_origin (Opened n) a = refl
 parent_of_origin (Began from ▹ h) a =
     ⊎_elim
-    (λ e. ap (λ b. parent_of (cond b from (origin h a))) e ∙ sym (ap (λ b. cond b (parent_of from) (parent h a)) e))
-    (λ e. ap (λ b. parent_of (cond b from (origin h a))) e ∙ parent_of_origin h a
-    ∙ sym (ap (λ b. cond b (parent_of from) (parent h a)) e))
+    (λ e. ap (λ b. origin_parent (cond b from (origin h a))) e ∙ sym (ap (λ b. cond b (origin_parent from)
+    (parent h a)) e))
+    (λ e. ap (λ b. origin_parent (cond b from (origin h a))) e ∙ parent_of_origin h a
+    ∙ sym (ap (λ b. cond b (origin_parent from) (parent h a)) e))
     (cases_Bool (a == next_action h))
 parent_of_origin (Committed s ▹ h) a = parent_of_origin h a
 parent_of_origin (Aborted z ▹ h) a = parent_of_origin h a
 parent_of_origin (Accessed b o v ▹ h) a = parent_of_origin h a
 
 -- the origin says who is the creator
-pub creator_of_origin : {V : Type 0} (h : History V) (a : ℕ) → creator_of (origin h a) ≡ creator h a
+pub creator_of_origin : {V : Type 0} (h : History V) (a : ℕ) → origin_begun_by (origin h a) ≡ begun_by h a
 creator_of_origin (Opened n) a = refl
 creator_of_origin (Began from ▹ h) a =
     ⊎_elim
-    (λ e. ap (λ b. creator_of (cond b from (origin h a))) e ∙ sym (ap (λ b. cond b (creator_of from) (creator h a)) e))
-    (λ e. ap (λ b. creator_of (cond b from (origin h a))) e ∙ creator_of_origin h a
-    ∙ sym (ap (λ b. cond b (creator_of from) (creator h a)) e))
+    (λ e. ap (λ b. origin_begun_by (cond b from (origin h a))) e ∙ sym (ap (λ b. cond b (origin_begun_by from)
+    (begun_by h a)) e))
+    (λ e. ap (λ b. origin_begun_by (cond b from (origin h a))) e ∙ creator_of_origin h a
+    ∙ sym (ap (λ b. cond b (origin_begun_by from) (begun_by h a)) e))
     (cases_Bool (a == next_action h))
 creator_of_origin (Committed s ▹ h) a = creator_of_origin h a
 creator_of_origin (Aborted z ▹ h) a = creator_of_origin h a
@@ -286,11 +288,12 @@ begun_upto (Accessed a o v ▹ h) = begun_upto h
 under_listed : (n : ℕ) (rs : List Row) (f : ℕ → Row) (a : ℕ)
     → ((k : ℕ) → n < k → k < n + length rs + 1 → row_at n rs k ≡ Some (f k))
     → has_live_row rs a
-    ≡ list_any (λ k. is_live_status (f k).status && (parent_of (f k).origin == a || creator_of (f k).origin == a))
+    ≡ list_any (λ k. is_live_status (f k).status && (origin_parent (f k).origin == a || origin_begun_by (f k).origin
+    == a))
     (upto n (length rs))
 under_listed n [] f a each = refl
 under_listed n (r ∷ rs) f a each =
-    let t = λ (x : Row). is_live_status x.status && (parent_of x.origin == a || creator_of x.origin == a) in
+    let t = λ (x : Row). is_live_status x.status && (origin_parent x.origin == a || origin_begun_by x.origin == a) in
     let top = n + length rs + 1 in
     let first : r ≡ f top =
     unsome r (f top)
@@ -329,13 +332,15 @@ pub has_live_row_is : {V : Type 0} (h : History V) → Orderly h → (a : ℕ) �
 has_live_row_is h w a =
     under_listed (folded h) (rows h) (row_of h) a
     (λ k l m. row_is h w k (is_begun_from h k l (subst (λ u. k < u) (rows_length h) m)))
-    ∙ ap (list_any (λ k. is_live_status (status h k) && (parent_of (origin h k) == a || creator_of (origin h k) == a)))
+    ∙ ap (list_any (λ k. is_live_status (status h k) && (origin_parent (origin h k) == a || origin_begun_by (origin h k)
+    == a)))
     (sym (begun_upto h))
-    ∙ any_agree (λ k. is_live_status (status h k) && (parent_of (origin h k) == a || creator_of (origin h k) == a))
-    (λ k. is_live h k && (parent h k == a || creator h k == a)) (begun_actions h)
-    (λ k m. ap (λ b. b && (parent_of (origin h k) == a || creator_of (origin h k) == a)) (live_status_is h k)
+    ∙ any_agree (λ k. is_live_status (status h k) && (origin_parent (origin h k) == a || origin_begun_by (origin h k)
+    == a))
+    (λ k. is_live h k && (parent h k == a || begun_by h k == a)) (begun_actions h)
+    (λ k m. ap (λ b. b && (origin_parent (origin h k) == a || origin_begun_by (origin h k) == a)) (live_status_is h k)
     ∙ ap (λ b. is_live h k && b)
-    (ap (λ x. (x == a) || (creator_of (origin h k) == a)) (parent_of_origin h k)
+    (ap (λ x. (x == a) || (origin_begun_by (origin h k) == a)) (parent_of_origin h k)
     ∙ ap (λ x. (parent h k == a) || (x == a)) (creator_of_origin h k)))
 
 -- of a number with no row the rows say nothing
@@ -351,7 +356,7 @@ is_above_unbegun (Began from ▹ h) x y u =
     both_ways (is_begun (Began from ▹ h) y) u (is_begun_from (Began from ▹ h) y q.0 (omega (arith, q.1)))) in
     let top : y ≢ folded h + length (rows h) + 1 =
     λ e. both_ways (is_begun (Began from ▹ h) y) u (is_begun_from (Began from ▹ h) y (omega arith) (omega arith)) in
-    ap (λ b. cond b (x == y || is_above (folded h) (rows h) x (parent_of from)) (is_above (folded h) (rows h) x y))
+    ap (λ b. cond b (x == y || is_above (folded h) (rows h) x (origin_parent from)) (is_above (folded h) (rows h) x y))
     (ne_eqb y (folded h + length (rows h) + 1) top)
     ∙ is_above_unbegun h x y old
 is_above_unbegun (Committed s ▹ h) x y u =
@@ -365,10 +370,10 @@ is_above_unbegun (Accessed a o v ▹ h) x y u = is_above_unbegun h x y u
 pub is_above_zero : (n : ℕ) (rs : List Row) (y : ℕ) → is_above n rs 0 y ≡ false
 is_above_zero n [] y = refl
 is_above_zero n (r ∷ rs) y =
-    let below = is_above n rs 0 (parent_of r.origin) in
+    let below = is_above n rs 0 (origin_parent r.origin) in
     ⊎_elim
     (λ e. ap (λ b. cond b (0 == y || below) (is_above n rs 0 y)) (eq-eqb y (n + length rs + 1) e)
-    ∙ ap (λ b. b || below) (ne_eqb 0 y (λ k. omega arith)) ∙ is_above_zero n rs (parent_of r.origin))
+    ∙ ap (λ b. b || below) (ne_eqb 0 y (λ k. omega arith)) ∙ is_above_zero n rs (origin_parent r.origin))
     (λ e. ap (λ b. cond b (0 == y || below) (is_above n rs 0 y)) (ne_eqb y (n + length rs + 1) e)
     ∙ is_above_zero n rs y)
     (cases_eq y (n + length rs + 1))

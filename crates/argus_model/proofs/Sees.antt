@@ -5,7 +5,7 @@ use Rattle.std.proofs.lemmas.Bool.{and_from, and_parts, and_right, cases_Bool, c
 use Rattle.argus_model.specs.Ancestors.{is_ancestor}
 use Rattle.argus_model.specs.Contents.{base, replay, sees}
 use Rattle.argus_model.specs.Event.{Aborted, Accessed, Began, Committed}
-use Rattle.argus_model.specs.History.{History, Opened, Opening, ◌▹◌}
+use Rattle.argus_model.specs.History.{History, Opened, HistoryOpening, ◌▹◌}
 use Rattle.argus_model.specs.HolderSteps.{has_used}
 use Rattle.argus_model.specs.Holders.{writers}
 use Rattle.argus_model.specs.Meaning.{Meaning}
@@ -22,7 +22,7 @@ use Rattle.argus_model.proofs.Owner.{base_above, counts_for_is, is_base_is, owne
 use Rattle.argus_model.proofs.Standing.{Orderly, some_at}
 use Rattle.argus_model.proofs.Work.{has_used_more}
 
-module _ {V C A : Type 0} (meaning : Meaning V C A) (opening : Opening C) where
+module _ {V C A : Type 0} (meaning : Meaning V C A) (opening : HistoryOpening C) where
   replay_is : (kept t : ℕ → Bool) (o : ℕ) (k : History V)
       → ((a : ℕ) → has_used meaning.writes k a o false ≡ true → kept a ≡ t a)
       → replay meaning kept o (opening.contents o) k ≡ content_after meaning opening.contents o (accesses_by t k)

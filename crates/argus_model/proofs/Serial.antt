@@ -5,12 +5,12 @@ use Rattle.std.specs.Prelude.{◌==◌, ◌||◌}
 use Rattle.std.proofs.lemmas.Bool.{both_ways, cases_Bool, cases_eq, eq-eqb, false_from_ne_true, false≢true, ne_eqb}
 use Rattle.std.proofs.lemmas.Bool.Decides.{nat_tests}
 use Rattle.argus_model.specs.Ancestors.{is_ancestor, is_under, lineage, parent}
-use Rattle.argus_model.specs.Event.{Aborted, Accessed, Began, Committed, Origin, parent_of}
+use Rattle.argus_model.specs.Event.{Aborted, Accessed, Began, Committed, Origin, origin_parent}
 use Rattle.argus_model.specs.History.{History, Opened, next_action, ◌▹◌}
 use Rattle.argus_model.specs.HolderSteps.{has_used}
 use Rattle.argus_model.specs.Meaning.{Fits, Meaning}
 use Rattle.argus_model.specs.Numbers.{contains}
-use Rattle.argus_model.specs.OwnerSteps.{StandsAlone, handed_up, owner_by_steps, stands, unless_lost}
+use Rattle.argus_model.specs.OwnerSteps.{StandsAlone, owner_inherited, owner_by_steps, stands, unless_lost}
 use Rattle.argus_model.specs.Work.{Access, all_of, content_after, serial_order_to, work}
 use Rattle.argus_model.specs.WorkSteps.{LawfulAccess, LawfulSteps, Replays, accesses_by, owner_passes}
 use Rattle.argus_model.specs.WorkSteps.{visible_accesses}
@@ -85,7 +85,7 @@ owner_passes_agree t u None a = refl
 owner_passes_agree t u (Some x) a = a x refl
 
 owner_passes_handed : (t u : ℕ → Bool) (s p : ℕ) (o : Option ℕ) → (o ≡ Some s → t s ≡ u p)
-    → ((x : ℕ) → o ≡ Some x → x ≢ s → t x ≡ u x) → owner_passes t o ≡ owner_passes u (handed_up s p o)
+    → ((x : ℕ) → o ≡ Some x → x ≢ s → t x ≡ u x) → owner_passes t o ≡ owner_passes u (owner_inherited s p o)
 owner_passes_handed t u s p None a b = refl
 owner_passes_handed t u s p (Some x) a b =
     ⊎_elim
@@ -164,19 +164,20 @@ module _ {V C A : Type 0} (meaning : Meaning V C A) (contents : ℕ → C) where
 
   -- a new action sees what its parent sees
   pub seen_begin_new : (h : History V) (from : Origin) (y o : ℕ) → Orderly h → y ≡ next_action h
-      → content_after meaning contents o (visible_accesses h (parent_of from))
+      → content_after meaning contents o (visible_accesses h (origin_parent from))
       ≡ content_after meaning contents o (visible_accesses (Began from ▹ h) y)
   seen_begin_new h from y o w k =
       let g = Began from ▹ h in
-      let t : lineage g y ≡ y ∷ lineage h (parent_of from) =
+      let t : lineage g y ≡ y ∷ lineage h (origin_parent from) =
       ⊎_elim (λ q. q.1) (λ q. absurd (q.0 k)) (lineage_cases h from y) in
       accesses_by_agree meaning contents o
-      (λ a. owner_passes (λ x. is_ancestor h x (parent_of from)) (owner_by_steps h a))
+      (λ a. owner_passes (λ x. is_ancestor h x (origin_parent from)) (owner_by_steps h a))
       (λ a. owner_passes (λ x. is_ancestor g x y) (owner_by_steps g a)) h
-      (λ a u. owner_passes_agree (λ x. is_ancestor h x (parent_of from)) (λ x. is_ancestor g x y) (owner_by_steps h a)
+      (λ a u. owner_passes_agree (λ x. is_ancestor h x (origin_parent from)) (λ x. is_ancestor g x y)
+      (owner_by_steps h a)
       (λ x e. let xl = owner_begun h a x (parents_are_older h w) e in
       let ne : x == y ≡ false = ne_eqb x y (λ q. omega arith) in
-      sym (ap (λ t. contains t x) t ∙ ap (λ b. b || contains (lineage h (parent_of from)) x) ne))
+      sym (ap (λ t. contains t x) t ∙ ap (λ b. b || contains (lineage h (origin_parent from)) x) ne))
       ∙ ap (owner_passes (λ x. is_ancestor g x y)) (has_used_owner h from a o w u))
 
   -- a begin leaves what every other sees
@@ -191,15 +192,15 @@ module _ {V C A : Type 0} (meaning : Meaning V C A) (contents : ℕ → C) where
       (λ x e. sym (ap (λ t. contains t x) (lineage_old h from y k)))
       ∙ ap (owner_passes (λ x. is_ancestor g x y)) (has_used_owner h from a o w u))
 
-  after_begin : (h : History V) (from : Origin) → Orderly h → stands h (parent_of from) ≡ true → Serials h
+  after_begin : (h : History V) (from : Origin) → Orderly h → stands h (origin_parent from) ≡ true → Serials h
       → Serials (Began from ▹ h)
   after_begin h from w lp ih y l =
       let g = Began from ▹ h in
       ⊎_elim
-      (λ k. carried h g (parent_of from) y
+      (λ k. carried h g (origin_parent from) y
       (ap (all_of (work h)) k.1
-      ∙ ap (λ es. es ++ serial_order_to h (parent_of from)) (no_work h w y (omega (arith, k.0))))
-      (λ o. seen_begin_new h from y o w k.0) (ih (parent_of from) lp))
+      ∙ ap (λ es. es ++ serial_order_to h (origin_parent from)) (no_work h w y (omega (arith, k.0))))
+      (λ o. seen_begin_new h from y o w k.0) (ih (origin_parent from) lp))
       (λ k. carried h g y y (ap (all_of (work h)) k.1) (λ o. seen_begin_old h from y o w k.0)
       (ih y (sym (stands_old h from y k.0) ∙ l)))
       (lineage_cases h from y)
@@ -359,7 +360,7 @@ module _ {V C A : Type 0} (meaning : Meaning V C A) (contents : ℕ → C) where
           ≡ content_after meaning contents o (visible_accesses (Committed s ▹ h) y)
       seen_same o none =
           accesses_by_agree meaning contents o (λ a. owner_passes (λ x. is_ancestor h x y) (owner_by_steps h a))
-          (λ a. owner_passes (λ x. is_ancestor h x y) (handed_up s (parent h s) (owner_by_steps h a))) h
+          (λ a. owner_passes (λ x. is_ancestor h x y) (owner_inherited s (parent h s) (owner_by_steps h a))) h
           (λ a u. owner_passes_handed (λ x. is_ancestor h x y) (λ x. is_ancestor h x y) s (parent h s)
           (owner_by_steps h a) (λ e. absurd (none a u e)) (λ x e k. refl))
 
@@ -370,7 +371,7 @@ module _ {V C A : Type 0} (meaning : Meaning V C A) (contents : ℕ → C) where
       seen_as_s o a ua ea =
           let f = parents_are_older h w in let p = parent h s in let yl = stands_begun h y ly in
           accesses_by_agree meaning contents o (λ b. owner_passes (λ x. is_ancestor h x s) (owner_by_steps h b))
-          (λ b. owner_passes (λ x. is_ancestor h x y) (handed_up s p (owner_by_steps h b))) h
+          (λ b. owner_passes (λ x. is_ancestor h x y) (owner_inherited s p (owner_by_steps h b))) h
           (λ b u. owner_passes_handed (λ x. is_ancestor h x s) (λ x. is_ancestor h x y) s p (owner_by_steps h b)
           (λ e. ancestor_self h s ∙ sym above)
           (λ x e k. same_bool (is_ancestor h x s) (is_ancestor h x y)
@@ -402,7 +403,7 @@ module _ {V C A : Type 0} (meaning : Meaning V C A) (contents : ℕ → C) where
         ≡ content_after meaning contents o (visible_accesses (Committed s ▹ h) y)
     seen_aside off o =
         accesses_by_agree meaning contents o (λ a. owner_passes (λ x. is_ancestor h x y) (owner_by_steps h a))
-        (λ a. owner_passes (λ x. is_ancestor h x y) (handed_up s (parent h s) (owner_by_steps h a))) h
+        (λ a. owner_passes (λ x. is_ancestor h x y) (owner_inherited s (parent h s) (owner_by_steps h a))) h
         (λ a u. owner_passes_handed (λ x. is_ancestor h x y) (λ x. is_ancestor h x y) s (parent h s)
         (owner_by_steps h a) (λ e. false_from_ne_true (is_ancestor h s y) not_below ∙ sym off) (λ x e k. refl))
 

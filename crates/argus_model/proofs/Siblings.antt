@@ -5,9 +5,9 @@ use Rattle.std.specs.List.Sorted.{IsStrictlyIncreasing}
 use Rattle.std.specs.Prelude.{not, ◌&&◌, ◌==◌}
 use Rattle.std.proofs.lemmas.Bool.{and_from, and_parts, both_ways, cases_eq, eq-eqb, eqb-true, ne_eqb, not-true}
 use Rattle.std.proofs.lemmas.Bool.{or_cases}
-use Rattle.argus_model.specs.Ancestors.{creator, is_ancestor, is_under, lineage}
-use Rattle.argus_model.specs.Event.{Aborted, Accessed, Began, Committed, creator_of}
-use Rattle.argus_model.specs.History.{History, Opened, Opening, begun_actions, next_action, ◌▹◌}
+use Rattle.argus_model.specs.Ancestors.{begun_by, is_ancestor, is_under, lineage}
+use Rattle.argus_model.specs.Event.{Aborted, Accessed, Began, Committed, origin_begun_by}
+use Rattle.argus_model.specs.History.{History, Opened, HistoryOpening, begun_actions, next_action, ◌▹◌}
 use Rattle.argus_model.specs.Lawful.{Lawful}
 use Rattle.argus_model.specs.Meaning.{Meaning}
 use Rattle.argus_model.specs.Status.{has_committed, is_begun, is_doomed, is_live, is_sibling, live_siblings}
@@ -27,20 +27,20 @@ siblings_increase h a =
     increasing (live_siblings h a)
     (rising_filter (λ x. is_live h x && is_sibling h a x) (begun_actions h) (begun_rising h))
 
-module _ {V C A : Type 0} (meaning : Meaning V C A) (opening : Opening C) where
+module _ {V C A : Type 0} (meaning : Meaning V C A) (opening : HistoryOpening C) where
   -- a creator is older than what it began
-  pub creator_older : (h : History V) (a : ℕ) → Lawful meaning opening h → is_begun h a ≡ true → creator h a < a
+  pub creator_older : (h : History V) (a : ℕ) → Lawful meaning opening h → is_begun h a ≡ true → begun_by h a < a
   creator_older (Opened n) a l k = let q = is_begun_parts {V = V} (Opened n) a k in omega (arith, q.0)
   creator_older (Began from ▹ h) a l k =
       let q = is_begun_parts (Began from ▹ h) a k in
       ⊎_elim
-      (λ e. let before : creator_of from < next_action h =
-      ⊎_elim (λ z. let c = eqb-true (creator_of from) 0 z in let n = next_pos h in omega arith)
-      (λ z. (is_begun_parts h (creator_of from) (live_begun h (creator_of from) z)).1)
-      (or_cases (creator_of from == 0) (is_live h (creator_of from)) l.0) in
-      subst (λ b. cond b (creator_of from) (creator h a) < a) (sym (eq-eqb a (next_action h) e))
+      (λ e. let before : origin_begun_by from < next_action h =
+      ⊎_elim (λ z. let c = eqb-true (origin_begun_by from) 0 z in let n = next_pos h in omega arith)
+      (λ z. (is_begun_parts h (origin_begun_by from) (live_begun h (origin_begun_by from) z)).1)
+      (or_cases (origin_begun_by from == 0) (is_live h (origin_begun_by from)) l.0) in
+      subst (λ b. cond b (origin_begun_by from) (begun_by h a) < a) (sym (eq-eqb a (next_action h) e))
       (omega (arith, before)))
-      (λ n. subst (λ b. cond b (creator_of from) (creator h a) < a) (sym (ne_eqb a (next_action h) n))
+      (λ n. subst (λ b. cond b (origin_begun_by from) (begun_by h a) < a) (sym (ne_eqb a (next_action h) n))
       (creator_older h a l.1 (is_begun_from h a q.0 (let u = q.1 in omega arith))))
       (cases_eq a (next_action h))
   creator_older (Committed s ▹ h) a l k = creator_older h a l.1 k
@@ -56,7 +56,7 @@ module _ {V C A : Type 0} (meaning : Meaning V C A) (opening : Opening C) where
       any_from (is_sibling h a) (lineage h x) q.0 q.2
       (and_parts (is_live h q.0) (is_sibling h a q.0) (sym (contains_siblings h a q.0) ∙ q.1)).1)
       (λ m. let q = any_found (is_sibling h a) (lineage h x) m in
-      let s = and_parts (not (q.0 == 0)) (not (q.0 == a) && creator h q.0 == creator h a) q.2 in
+      let s = and_parts (not (q.0 == 0)) (not (q.0 == a) && begun_by h q.0 == begun_by h a) q.2 in
       let n : q.0 ≢ 0 = λ e. absurd (both_ways (q.0 == 0) (not-true (q.0 == 0) s.0) (eq-eqb q.0 0 e)) in
       any_from (λ z. is_ancestor h z x) (live_siblings h a) q.0
       (contains_siblings h a q.0

@@ -6,10 +6,11 @@ use Rattle.std.proofs.lemmas.Bool.{and_from, both_ways, cases_Bool, cases_eq, eq
 use Rattle.std.proofs.lemmas.Bool.{or_right}
 use Rattle.std.proofs.lemmas.Bool.Decides.{nat_tests}
 use Rattle.argus_model.specs.Ancestors.{is_ancestor, is_under, lineage, parent}
-use Rattle.argus_model.specs.Event.{Aborted, Accessed, Began, Committed, Origin, creator_of, parent_of}
+use Rattle.argus_model.specs.Event.{Aborted, Accessed, Began, Committed, Origin, origin_begun_by, origin_parent}
 use Rattle.argus_model.specs.History.{History, Opened, folded, next_action, ◌▹◌}
 use Rattle.argus_model.specs.Numbers.{contains}
-use Rattle.argus_model.specs.OwnerSteps.{AllStand, StandsAlone, handed_up, is_exactly, owner_by_steps, standing_child}
+use Rattle.argus_model.specs.OwnerSteps.{AllStand, StandsAlone, owner_inherited, is_exactly, owner_by_steps}
+use Rattle.argus_model.specs.OwnerSteps.{standing_child}
 use Rattle.argus_model.specs.OwnerSteps.{stands, unless_lost}
 use Rattle.argus_model.proofs.Ancestors.{ParentsAreOlder, ancestor_new_is, ancestor_old_is, ancestor_self}
 use Rattle.argus_model.proofs.Ancestors.{child_on_path, folded_next, parent_cases, parent_older, under_below}
@@ -17,7 +18,7 @@ use Rattle.argus_model.proofs.Ancestors.{child_on_path, folded_next, parent_case
 -- what the laws need of each step, but for what is read and written
 abbrev pub Orderly : {V : Type 0} → History V → Type 0
 Orderly (Opened n) = Unit {0}
-Orderly (Began from ▹ older) = (stands older (parent_of from) ≡ true) × Orderly older
+Orderly (Began from ▹ older) = (stands older (origin_parent from) ≡ true) × Orderly older
 Orderly (Committed s ▹ older) = StandsAlone older s × Orderly older
 Orderly (Aborted zs ▹ older) = AllStand older zs × Orderly older
 Orderly (Accessed a o v ▹ older) = StandsAlone older a × Orderly older
@@ -32,7 +33,7 @@ pub some_at : (o : Option ℕ) (y : ℕ) → o ≡ Some y → is_exactly o y ≡
 some_at o y e = rw e (eq-eqb y y refl)
 
 -- after s hands up to p, an owner is p in the place of s, or another that it was before
-pub handed_cases : (s p : ℕ) (o : Option ℕ) (x : ℕ) → handed_up s p o ≡ Some x
+pub handed_cases : (s p : ℕ) (o : Option ℕ) (x : ℕ) → owner_inherited s p o ≡ Some x
     → ((o ≡ Some s) × (x ≡ p)) ⊎ ((o ≡ Some x) × (x ≢ s))
 handed_cases s p None x e = grind arith
 handed_cases s p (Some y) x e =
@@ -40,11 +41,11 @@ handed_cases s p (Some y) x e =
     (λ k. inr (grind (arith, nat_tests), grind (arith, nat_tests))) (cases_eq y s)
 
 -- after s hands up to p, what s answered for is p's
-pub handed_from : (s p : ℕ) (o : Option ℕ) → o ≡ Some s → handed_up s p o ≡ Some p
+pub handed_from : (s p : ℕ) (o : Option ℕ) → o ≡ Some s → owner_inherited s p o ≡ Some p
 handed_from s p o e = grind (arith, nat_tests)
 
 -- after s hands up to p, what another answered for is still that one's
-pub handed_stays : (s p : ℕ) (o : Option ℕ) (x : ℕ) → o ≡ Some x → x ≢ s → handed_up s p o ≡ Some x
+pub handed_stays : (s p : ℕ) (o : Option ℕ) (x : ℕ) → o ≡ Some x → x ≢ s → owner_inherited s p o ≡ Some x
 handed_stays s p o x e ne = grind (arith, nat_tests)
 
 -- an owner that is left was the owner before, and is not lost
@@ -99,7 +100,7 @@ stands_begun h y e = owned_begun h y y (at_some (owner_by_steps h y) y e)
 -- in an orderly history parents are older
 pub parents_are_older : {V : Type 0} (h : History V) → Orderly h → ParentsAreOlder h
 parents_are_older (Opened n) w = tt
-parents_are_older (Began from ▹ h) w = (stands_begun h (parent_of from) w.0, parents_are_older h w.1)
+parents_are_older (Began from ▹ h) w = (stands_begun h (origin_parent from) w.0, parents_are_older h w.1)
 parents_are_older (Committed s ▹ h) w = parents_are_older h w.1
 parents_are_older (Aborted zs ▹ h) w = parents_are_older h w.1
 parents_are_older (Accessed a o v ▹ h) w = parents_are_older h w.1
@@ -134,12 +135,13 @@ pub child_found : {V : Type 0} (h k : History V) (x y : ℕ) → folded k < y �
 child_found h (Opened m) x y y0 l e n = absurd (omega arith)
 child_found h (Began from ▹ k) x y y0 l e n =
     ⊎_elim
-    (λ w. let q : (parent_of from) ≡ x = sym w.1 ∙ e in let m : stands h (next_action k) ≡ true =
+    (λ w. let q : (origin_parent from) ≡ x = sym w.1 ∙ e in let m : stands h (next_action k) ≡ true =
     subst (λ u. stands h u ≡ true) w.0 n in
-    or_left (((parent_of from) == x || (creator_of from) == x) && stands h (next_action k)) (standing_child h x k)
-    (and_from ((parent_of from) == x || (creator_of from) == x) (stands h (next_action k))
-    (or_left ((parent_of from) == x) ((creator_of from) == x) (eq-eqb (parent_of from) x q)) m))
-    (λ w. or_right (((parent_of from) == x || (creator_of from) == x) && stands h (next_action k))
+    or_left (((origin_parent from) == x || (origin_begun_by from) == x) && stands h (next_action k))
+    (standing_child h x k)
+    (and_from ((origin_parent from) == x || (origin_begun_by from) == x) (stands h (next_action k))
+    (or_left ((origin_parent from) == x) ((origin_begun_by from) == x) (eq-eqb (origin_parent from) x q)) m))
+    (λ w. or_right (((origin_parent from) == x || (origin_begun_by from) == x) && stands h (next_action k))
     (standing_child h x k) (child_found h k x y y0 (omega (arith, w.0)) (sym w.1 ∙ e) n))
     (parent_cases k from y)
 child_found h (Committed s ▹ k) x y y0 l e n = child_found h k x y y0 l e n
@@ -212,7 +214,7 @@ stands_upward (Began from ▹ h) w x y l a =
     ⊎_elim
     (λ e. stands_new h from x e)
     (λ ne. stands_old h from x ne ∙ ⊎_elim
-    (λ e. stands_upward h w.1 x (parent_of from) w.0 (ancestor_new_is h from x y e (λ k. ne (k ∙ e)) a))
+    (λ e. stands_upward h w.1 x (origin_parent from) w.0 (ancestor_new_is h from x y e (λ k. ne (k ∙ e)) a))
     (λ k. stands_upward h w.1 x y (sym (stands_old h from y k) ∙ l) (ancestor_old_is h from x y k a))
     (cases_eq y (next_action h)))
     (cases_eq x (next_action h))

@@ -6,7 +6,7 @@ use Rattle.std.proofs.lemmas.Bool.{or_cases}
 use Rattle.argus_model.specs.Ancestors.{is_ancestor, lineage}
 use Rattle.argus_model.specs.Contents.{base, sees}
 use Rattle.argus_model.specs.Effects.{effects, table}
-use Rattle.argus_model.specs.History.{History, Opening, begun_actions}
+use Rattle.argus_model.specs.History.{History, HistoryOpening, begun_actions}
 use Rattle.argus_model.specs.Holders.{is_holder, readers, writers}
 use Rattle.argus_model.specs.Lawful.{Lawful}
 use Rattle.argus_model.specs.Meaning.{Fits, Meaning}
@@ -30,7 +30,7 @@ use Rattle.argus_model.proofs.Standing.{alone, parents_are_older, stands_begun, 
 use Rattle.argus_model.proofs.Topactions.{serial_tops}
 use Rattle.argus_model.proofs.Work.{all_of-append}
 
-module _ {V C A : Type 0} (meaning : Meaning V C A) (opening : Opening C) where
+module _ {V C A : Type 0} (meaning : Meaning V C A) (opening : HistoryOpening C) where
   -- of a writer and any other holder of an object, one is an ancestor of the other
   pub one_above_the_other : (h : History V) (o x y : ℕ) → Lawful meaning opening h
       → contains (writers meaning h o) x ≡ true → contains (readers meaning h o ++ writers meaning h o) y ≡ true

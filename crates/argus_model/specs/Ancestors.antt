@@ -1,25 +1,28 @@
 -- Parents, creators and ancestors (Argus Reference Manual 1987, actions; Moss 1981).
 use Rattle.std.specs.List.{list_any}
 use Rattle.std.specs.Prelude.{Bool, List, [], if◌then◌else◌, ℕ, ◌==◌, ◌∷◌}
-use Rattle.argus_model.specs.Event.{Aborted, Accessed, Began, Committed, creator_of, parent_of}
+use Rattle.argus_model.specs.Event.{Aborted, Accessed, Began, Committed, origin_begun_by}
+use Rattle.argus_model.specs.Event.{origin_parent}
 use Rattle.argus_model.specs.History.{History, Opened, next_action, ◌▹◌}
 use Rattle.argus_model.specs.Numbers.{contains}
 
 -- the parent of an action; a topaction, nested or not, has the base
 abbrev pub parent : {V : Type 0} → History V → ℕ → ℕ
 parent (Opened n) a = 0
-parent (Began from ▹ older) a = if a == next_action older then parent_of from else parent older a
+parent (Began from ▹ older) a = if a == next_action older then origin_parent from else parent older
+    a
 parent (Committed b ▹ older) a = parent older a
 parent (Aborted bs ▹ older) a = parent older a
 parent (Accessed b o v ▹ older) a = parent older a
 
 -- who began an action; a topaction that no action began has the base
-abbrev pub creator : {V : Type 0} → History V → ℕ → ℕ
-creator (Opened n) a = 0
-creator (Began from ▹ older) a = if a == next_action older then creator_of from else creator older a
-creator (Committed b ▹ older) a = creator older a
-creator (Aborted bs ▹ older) a = creator older a
-creator (Accessed b o v ▹ older) a = creator older a
+abbrev pub begun_by : {V : Type 0} → History V → ℕ → ℕ
+begun_by (Opened n) a = 0
+begun_by (Began from ▹ older) a = if a == next_action older then origin_begun_by from else begun_by
+    older a
+begun_by (Committed b ▹ older) a = begun_by older a
+begun_by (Aborted bs ▹ older) a = begun_by older a
+begun_by (Accessed b o v ▹ older) a = begun_by older a
 
 -- an action and the base
 abbrev pub to_base : ℕ → List ℕ
@@ -29,7 +32,7 @@ to_base a = if a == 0 then 0 ∷ [] else a ∷ 0 ∷ []
 abbrev pub lineage : {V : Type 0} → History V → ℕ → List ℕ
 lineage (Opened n) a = to_base a
 lineage (Began from ▹ older) a =
-    if a == next_action older then a ∷ lineage older (parent_of from) else lineage older a
+    if a == next_action older then a ∷ lineage older (origin_parent from) else lineage older a
 lineage (Committed b ▹ older) a = lineage older a
 lineage (Aborted bs ▹ older) a = lineage older a
 lineage (Accessed b o v ▹ older) a = lineage older a

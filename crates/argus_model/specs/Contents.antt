@@ -1,7 +1,7 @@
 -- What an object holds for an action, and for good.
 use Rattle.std.specs.Prelude.{Bool, if◌then◌else◌, ℕ, ◌&&◌, ◌==◌}
 use Rattle.argus_model.specs.Event.{Aborted, Accessed, Began, Committed}
-use Rattle.argus_model.specs.History.{History, Opened, Opening, ◌▹◌}
+use Rattle.argus_model.specs.History.{History, Opened, HistoryOpening, ◌▹◌}
 use Rattle.argus_model.specs.Meaning.{Meaning}
 use Rattle.argus_model.specs.Owner.{counts_for, is_base, owner}
 
@@ -19,9 +19,9 @@ module _ {V C A : Type 0} (meaning : Meaning V C A) where
 
   -- what a sees in the object: what was written for good, and by those whose owner is an ancestor
   -- of a
-  abbrev pub sees : Opening C → History V → ℕ → ℕ → C
+  abbrev pub sees : HistoryOpening C → History V → ℕ → ℕ → C
   sees opening h a o = replay (λ b. counts_for h a (owner h b)) o (opening.contents o) h
 
   -- what is in the object for good
-  abbrev pub base : Opening C → History V → ℕ → C
+  abbrev pub base : HistoryOpening C → History V → ℕ → C
   base opening h o = replay (λ b. is_base (owner h b)) o (opening.contents o) h

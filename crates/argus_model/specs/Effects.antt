@@ -3,7 +3,7 @@ use Rattle.std.specs.Prelude.{List, [], if◌then◌else◌, map, reverse, ℕ, 
 use Rattle.argus_model.specs.Ancestors.{parent}
 use Rattle.argus_model.specs.Contents.{sees}
 use Rattle.argus_model.specs.Event.{Aborted, Accessed, Began, Committed, Event}
-use Rattle.argus_model.specs.History.{History, Opening}
+use Rattle.argus_model.specs.History.{History, HistoryOpening}
 use Rattle.argus_model.specs.Meaning.{Meaning}
 use Rattle.argus_model.specs.Numbers.{insert}
 use Rattle.argus_model.specs.Work.{Access, all_of, committed_topactions, content_after, work}
@@ -39,12 +39,12 @@ module _ {V C A : Type 0} (meaning : Meaning V C A) where
       effect_of contents (done a) (all_of done older) ∷ effects_of contents done older
 
   -- one effect for each committed topaction, in the order of their commits
-  abbrev pub effects : Opening C → History V → List (List (ℕ × C))
+  abbrev pub effects : HistoryOpening C → History V → List (List (ℕ × C))
   effects opening h = reverse (effects_of opening.contents (work h) (committed_topactions h))
 
   -- what one more event adds to them: the commit of a topaction its effect, which is what the
   -- topaction sees in each object that it has written, and every other event none
-  abbrev pub added_effects : Opening C → History V → Event V → List (List (ℕ × C))
+  abbrev pub added_effects : HistoryOpening C → History V → Event V → List (List (ℕ × C))
   added_effects opening h (Committed a) =
       if parent h a == 0 then map (λ o. (o, sees meaning opening h a o))
       (written_objects (work h a)) ∷ [] else []

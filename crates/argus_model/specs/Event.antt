@@ -13,17 +13,17 @@ pub data Origin : Type 0 where
   Nested : (creator : ℕ) → Origin
 
 -- the parent of an action of this origin: of a topaction, nested or not, it is the base
-abbrev pub parent_of : Origin → ℕ
-parent_of Top = 0
-parent_of (Sub parent) = parent
-parent_of (Nested creator) = 0
+abbrev pub origin_parent : Origin → ℕ
+origin_parent Top = 0
+origin_parent (Sub parent) = parent
+origin_parent (Nested creator) = 0
 
 -- who began an action of this origin: a subaction's parent, a nested topaction's creator, and
 -- otherwise the base
-abbrev pub creator_of : Origin → ℕ
-creator_of Top = 0
-creator_of (Sub parent) = parent
-creator_of (Nested creator) = creator
+abbrev pub origin_begun_by : Origin → ℕ
+origin_begun_by Top = 0
+origin_begun_by (Sub parent) = parent
+origin_begun_by (Nested creator) = creator
 
 -- V is what an access does to its object, with the answer that was given
 pub data Event (V : Type 0) : Type 0 where

@@ -1,13 +1,13 @@
 -- A checkpoint: the past of a history, folded into an opening.
 use Rattle.std.specs.Prelude.{ℕ, ◌-◌}
 use Rattle.argus_model.specs.Contents.{base}
-use Rattle.argus_model.specs.History.{History, Opening, next_action}
+use Rattle.argus_model.specs.History.{History, HistoryOpening, next_action}
 use Rattle.argus_model.specs.Meaning.{Meaning}
 
 module _ {V C A : Type 0} (meaning : Meaning V C A) where
   -- the opening that goes on where the history ends, when so many entries were journalled: what was
   -- there for good, and the next numbers
-  abbrev pub fold : Opening C → History V → ℕ → Opening C
+  abbrev pub fold : HistoryOpening C → History V → ℕ → HistoryOpening C
   fold opening h entries =
       record {
         contents = base meaning opening h;

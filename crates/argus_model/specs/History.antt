@@ -4,7 +4,7 @@ use Rattle.argus_model.specs.Event.{Aborted, Accessed, Began, Committed, Event}
 
 -- Where a history begins. What went before is folded into it: the contents stay, the actions are
 -- over and forgotten.
-pub record Opening (C : Type 0) : Type 0 where
+pub record HistoryOpening (C : Type 0) : Type 0 where
   -- what each object holds
   pub contents : ℕ → C
   -- how many actions are folded, which are those of the numbers 1 to first_action

@@ -2,8 +2,8 @@
 use Rattle.std.specs.List.{list_all}
 use Rattle.std.specs.Prelude.{Bool, false, if◌then◌else◌, true, ℕ, ◌==◌, ◌||◌, ◌≡◌}
 use Rattle.argus_model.specs.Contents.{sees}
-use Rattle.argus_model.specs.Event.{Aborted, Accessed, Began, Committed, Event, creator_of}
-use Rattle.argus_model.specs.History.{History, Opened, Opening, ◌▹◌}
+use Rattle.argus_model.specs.Event.{Aborted, Accessed, Began, Committed, Event, origin_begun_by}
+use Rattle.argus_model.specs.History.{History, Opened, HistoryOpening, ◌▹◌}
 use Rattle.argus_model.specs.Holders.{may_read, may_write}
 use Rattle.argus_model.specs.Meaning.{Fits, Meaning}
 use Rattle.argus_model.specs.Status.{has_live_child, is_live}
@@ -15,7 +15,8 @@ module _ {V C A : Type 0} (meaning : Meaning V C A) where
 
   -- an access may come next: who makes it is live and has no live child, its lock is free, and its
   -- answer is by what the action sees
-  pub record AllowedAccess (opening : Opening C) (h : History V) (a o : ℕ) (v : V) : Type 0 where
+  pub record AllowedAccess (opening : HistoryOpening C) (h : History V) (a o : ℕ)
+      (v : V) : Type 0 where
     pub live : is_live h a ≡ true
     pub childless : has_live_child h a ≡ false
     pub lock : may_access h a o v ≡ true
@@ -23,13 +24,14 @@ module _ {V C A : Type 0} (meaning : Meaning V C A) where
 
   -- The event may come next. Who begins, commits or is aborted is live, and who commits has no live
   -- child.
-  abbrev pub Allowed : Opening C → History V → Event V → Type 0
-  Allowed opening h (Began from) = (creator_of from == 0 || is_live h (creator_of from)) ≡ true
+  abbrev pub Allowed : HistoryOpening C → History V → Event V → Type 0
+  Allowed opening h (Began from) = (origin_begun_by from == 0 || is_live h (origin_begun_by from))
+      ≡ true
   Allowed opening h (Committed a) = (is_live h a ≡ true) × (has_live_child h a ≡ false)
   Allowed opening h (Aborted actions) = list_all (is_live h) actions ≡ true
   Allowed opening h (Accessed a o v) = AllowedAccess opening h a o v
 
   -- the history goes on from this opening, and each of its events was allowed
-  abbrev pub Lawful : Opening C → History V → Type 0
+  abbrev pub Lawful : HistoryOpening C → History V → Type 0
   Lawful opening (Opened n) = n ≡ opening.first_action
   Lawful opening (e ▹ older) = Allowed opening older e × Lawful opening older

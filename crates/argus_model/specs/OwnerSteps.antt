@@ -2,15 +2,16 @@
 use Rattle.std.specs.Prelude.{Bool, List, None, Option, Some, false, if◌then◌else◌, true, ℕ, ◌&&◌}
 use Rattle.std.specs.Prelude.{◌==◌, ◌||◌, ◌≡◌, ◌≢◌}
 use Rattle.argus_model.specs.Ancestors.{is_under, parent}
-use Rattle.argus_model.specs.Event.{Aborted, Accessed, Began, Committed, creator_of, parent_of}
+use Rattle.argus_model.specs.Event.{Aborted, Accessed, Began, Committed, origin_begun_by}
+use Rattle.argus_model.specs.Event.{origin_parent}
 use Rattle.argus_model.specs.History.{History, Opened, next_action, ◌▹◌}
 use Rattle.argus_model.specs.Numbers.{contains}
 use Rattle.argus_model.specs.Owner.{Base, Gone, Held, Owner}
 
 -- the owner, after a has handed what it answers for to p
-abbrev pub handed_up : ℕ → ℕ → Option ℕ → Option ℕ
-handed_up a p None = None
-handed_up a p (Some x) = if x == a then Some p else Some x
+abbrev pub owner_inherited : ℕ → ℕ → Option ℕ → Option ℕ
+owner_inherited a p None = None
+owner_inherited a p (Some x) = if x == a then Some p else Some x
 
 -- the owner, unless it is lost
 abbrev pub unless_lost : (ℕ → Bool) → Option ℕ → Option ℕ
@@ -23,7 +24,7 @@ abbrev pub owner_by_steps : {V : Type 0} → History V → ℕ → Option ℕ
 owner_by_steps (Opened n) a = if a == 0 then Some 0 else None
 owner_by_steps (Began from ▹ older) a =
     if a == next_action older then Some a else owner_by_steps older a
-owner_by_steps (Committed b ▹ older) a = handed_up b (parent older b) (owner_by_steps older a)
+owner_by_steps (Committed b ▹ older) a = owner_inherited b (parent older b) (owner_by_steps older a)
 owner_by_steps (Aborted bs ▹ older) a = unless_lost (is_under older bs) (owner_by_steps older a)
 owner_by_steps (Accessed b o v ▹ older) a = owner_by_steps older a
 
@@ -49,7 +50,7 @@ AllStand h actions = (a : ℕ) → contains actions a ≡ true → (a ≢ 0) × 
 abbrev pub standing_child : {V : Type 0} → History V → ℕ → History V → Bool
 standing_child h a (Opened n) = false
 standing_child h a (Began from ▹ k) =
-    ((parent_of from == a || creator_of from == a) && stands h (next_action k))
+    ((origin_parent from == a || origin_begun_by from == a) && stands h (next_action k))
     || standing_child h a k
 standing_child h a (Committed b ▹ k) = standing_child h a k
 standing_child h a (Aborted bs ▹ k) = standing_child h a k

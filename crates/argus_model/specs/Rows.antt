@@ -2,8 +2,9 @@
 use Rattle.std.specs.List.{list_any}
 use Rattle.std.specs.Prelude.{Bool, List, None, Option, Some, [], false, if◌then◌else◌, length}
 use Rattle.std.specs.Prelude.{true, ℕ, ◌&&◌, ◌+◌, ◌==◌, ◌||◌, ◌∷◌}
-use Rattle.argus_model.specs.Event.{Aborted, Accessed, Began, Committed, Origin, Top, creator_of}
-use Rattle.argus_model.specs.Event.{parent_of}
+use Rattle.argus_model.specs.Event.{Aborted, Accessed, Began, Committed, Origin, Top}
+use Rattle.argus_model.specs.Event.{origin_begun_by}
+use Rattle.argus_model.specs.Event.{origin_parent}
 use Rattle.argus_model.specs.History.{History, Opened, folded, next_action, ◌▹◌}
 use Rattle.argus_model.specs.Status.{IsAborted, IsCommitted, IsFolded, IsLive, Status, status}
 
@@ -43,14 +44,14 @@ mark n test s (row ∷ older) =
 abbrev pub is_above : ℕ → List Row → ℕ → ℕ → Bool
 is_above n [] x y = false
 is_above n (row ∷ older) x y =
-    if y == n + length older + 1 then (x == y || is_above n older x (parent_of row.origin)) else
+    if y == n + length older + 1 then (x == y || is_above n older x (origin_parent row.origin)) else
     is_above n older x y
 
 -- how many actions it takes from a number up to its topaction, both counted; 0 where it has no row
 abbrev pub depth_at : ℕ → List Row → ℕ → ℕ
 depth_at n [] a = 0
 depth_at n (row ∷ older) a =
-    if a == n + length older + 1 then depth_at n older (parent_of row.origin) + 1 else
+    if a == n + length older + 1 then depth_at n older (origin_parent row.origin) + 1 else
     depth_at n older a
 
 -- the rows after each event: a commit marks one, an abort all that stand under those it names
@@ -74,5 +75,6 @@ is_live_status IsFolded = false
 abbrev pub has_live_row : List Row → ℕ → Bool
 has_live_row [] a = false
 has_live_row (row ∷ older) a =
-    (is_live_status row.status && (parent_of row.origin == a || creator_of row.origin == a))
+    (is_live_status row.status && (origin_parent row.origin == a || origin_begun_by row.origin
+    == a))
     || has_live_row older a

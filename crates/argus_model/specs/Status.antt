@@ -2,7 +2,7 @@
 use Rattle.std.specs.List.{list_any}
 use Rattle.std.specs.Prelude.{Bool, List, false, filter, if◌then◌else◌, nat_lt, not, ℕ, ◌&&◌, ◌==◌}
 use Rattle.std.specs.Prelude.{◌||◌}
-use Rattle.argus_model.specs.Ancestors.{creator, is_ancestor, parent}
+use Rattle.argus_model.specs.Ancestors.{begun_by, is_ancestor, parent}
 use Rattle.argus_model.specs.Event.{Aborted, Accessed, Began, Committed}
 use Rattle.argus_model.specs.History.{History, Opened, begun_actions, folded, next_action, ◌▹◌}
 
@@ -37,11 +37,11 @@ is_live h a = is_begun h a && (not (has_committed h a) && not (is_doomed h a))
 -- a live action has it as parent or as creator
 abbrev pub has_live_child : {V : Type 0} → History V → ℕ → Bool
 has_live_child h a =
-    list_any (λ x. is_live h x && (parent h x == a || creator h x == a)) (begun_actions h)
+    list_any (λ x. is_live h x && (parent h x == a || begun_by h x == a)) (begun_actions h)
 
 -- another action of the same creator; the base is none
 abbrev pub is_sibling : {V : Type 0} → History V → ℕ → ℕ → Bool
-is_sibling h a x = not (x == 0) && (not (x == a) && creator h x == creator h a)
+is_sibling h a x = not (x == 0) && (not (x == a) && begun_by h x == begun_by h a)
 
 -- its live siblings, in increasing number
 abbrev pub live_siblings : {V : Type 0} → History V → ℕ → List ℕ

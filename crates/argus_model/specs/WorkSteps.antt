@@ -3,7 +3,7 @@
 use Rattle.std.specs.Prelude.{Bool, List, None, Option, Some, [], false, if◌then◌else◌, true, ℕ}
 use Rattle.std.specs.Prelude.{◌∷◌, ◌≡◌}
 use Rattle.argus_model.specs.Ancestors.{is_ancestor}
-use Rattle.argus_model.specs.Event.{Aborted, Accessed, Began, Committed, parent_of}
+use Rattle.argus_model.specs.Event.{Aborted, Accessed, Began, Committed, origin_parent}
 use Rattle.argus_model.specs.History.{History, Opened, ◌▹◌}
 use Rattle.argus_model.specs.HolderSteps.{may_by_steps}
 use Rattle.argus_model.specs.Meaning.{Fits, Meaning}
@@ -46,7 +46,7 @@ module _ {V C A : Type 0} (meaning : Meaning V C A) (contents : ℕ → C) where
   -- each event was allowed by those before it
   abbrev pub LawfulSteps : History V → Type 0
   LawfulSteps (Opened n) = Unit {0}
-  LawfulSteps (Began from ▹ older) = (stands older (parent_of from) ≡ true) × LawfulSteps older
+  LawfulSteps (Began from ▹ older) = (stands older (origin_parent from) ≡ true) × LawfulSteps older
   LawfulSteps (Committed a ▹ older) = StandsAlone older a × LawfulSteps older
   LawfulSteps (Aborted actions ▹ older) = AllStand older actions × LawfulSteps older
   LawfulSteps (Accessed a o v ▹ older) = LawfulAccess older a o v × LawfulSteps older

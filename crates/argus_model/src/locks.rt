@@ -1,7 +1,7 @@
 //! Who may hold an object together.
 ghost use Rattle.std.specs.Prelude.{◌≡◌, ◌<◌, ℕ, true, ◌||◌, ◌++◌, ◌↔◌};
 ghost use Rattle.std.specs.List.Sorted.{IsStrictlyIncreasing};
-ghost use Rattle.argus_model.specs.History.{Opening, History};
+ghost use Rattle.argus_model.specs.History.{HistoryOpening, History};
 ghost use Rattle.argus_model.specs.Numbers.{contains};
 ghost use Rattle.argus_model.specs.Ancestors.{is_ancestor};
 ghost use Rattle.argus_model.specs.Status.{is_live};
@@ -14,12 +14,14 @@ ghost use Rattle.argus_model.specs.Lawful.{Lawful};
 /// other (Moss 1981, locking rules). So the writers, which are listed in increasing number, are
 /// listed from ancestor to descendant.
 pub fn exclusion<V, C, A>()
-    ensures related { (meaning : Meaning V C A) (opening : Opening C) (h : History V) (o x y : ℕ)
+    ensures related { (meaning : Meaning V C A) (opening : HistoryOpening C) (h : History V)
+        (o x y : ℕ)
         → Lawful meaning opening h
         → contains (writers meaning h o) x ≡ true
         → contains (readers meaning h o ++ writers meaning h o) y ≡ true
         → (is_ancestor h x y || is_ancestor h y x) ≡ true }
-    ensures chain { (meaning : Meaning V C A) (opening : Opening C) (h : History V) (o x y : ℕ)
+    ensures chain { (meaning : Meaning V C A) (opening : HistoryOpening C) (h : History V)
+        (o x y : ℕ)
         → Lawful meaning opening h
         → contains (writers meaning h o) x ≡ true → contains (writers meaning h o) y ≡ true
         → x < y → is_ancestor h x y ≡ true }
@@ -27,7 +29,7 @@ pub fn exclusion<V, C, A>()
 
 /// Who holds an object is live, and is listed once, in increasing number.
 pub fn holders<V, C, A>()
-    ensures live { (meaning : Meaning V C A) (opening : Opening C) (h : History V) (o x : ℕ)
+    ensures live { (meaning : Meaning V C A) (opening : HistoryOpening C) (h : History V) (o x : ℕ)
         → Lawful meaning opening h
         → contains (readers meaning h o ++ writers meaning h o) x ≡ true
         → is_live h x ≡ true }
@@ -52,7 +54,7 @@ pub fn lock_rules<V, C, A>()
 /// What two actions see in an object is the same where the same of its writers are ancestors of
 /// both.
 pub fn views<V, C, A>()
-    ensures { (meaning : Meaning V C A) (opening : Opening C) (h : History V) (x y o : ℕ)
+    ensures { (meaning : Meaning V C A) (opening : HistoryOpening C) (h : History V) (x y o : ℕ)
         → Lawful meaning opening h
         → ((z : ℕ) → contains (writers meaning h o) z ≡ true
         → is_ancestor h z x ≡ is_ancestor h z y)

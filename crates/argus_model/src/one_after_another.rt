@@ -1,7 +1,7 @@
 //! Committed work can't be told from work that was done one action after another.
 ghost use Rattle.std.specs.Prelude.{◌≡◌, ℕ, true, false, List, ◌∷◌, ◌++◌, reverse};
 ghost use Rattle.argus_model.specs.Event.{Event};
-ghost use Rattle.argus_model.specs.History.{Opening, History, ◌▹◌};
+ghost use Rattle.argus_model.specs.History.{HistoryOpening, History, ◌▹◌};
 ghost use Rattle.argus_model.specs.Status.{is_begun, is_live};
 ghost use Rattle.argus_model.specs.Meaning.{Meaning, Fits};
 ghost use Rattle.argus_model.specs.Contents.{sees, base};
@@ -12,7 +12,7 @@ ghost use Rattle.argus_model.specs.Lawful.{Lawful};
 
 /// What is in an object for good is what the serial order leaves in it.
 pub fn base_is_serial<V, C, A>()
-    ensures { (meaning : Meaning V C A) (opening : Opening C) (h : History V) (o : ℕ)
+    ensures { (meaning : Meaning V C A) (opening : HistoryOpening C) (h : History V) (o : ℕ)
         → Lawful meaning opening h
         → content_after meaning opening.contents o (serial_order h) ≡ base meaning opening h o }
 {}
@@ -22,17 +22,17 @@ pub fn base_is_serial<V, C, A>()
 /// answer again, each access by what its object holds just before it, and leave in each object what
 /// is there for good. Each access of that run is one that the history has on record, at its object.
 pub fn committed_work_runs_again<V, C, A>()
-    ensures answers { (meaning : Meaning V C A) (opening : Opening C) (h : History V)
+    ensures answers { (meaning : Meaning V C A) (opening : HistoryOpening C) (h : History V)
         → Lawful meaning opening h
         → AnswersAgain meaning opening.contents (reverse (serial_order h)) }
-    ensures each { (meaning : Meaning V C A) (opening : Opening C) (h : History V)
+    ensures each { (meaning : Meaning V C A) (opening : HistoryOpening C) (h : History V)
         (later : List (Access V)) (e : Access V) (earlier : List (Access V))
         → Lawful meaning opening h → serial_order h ≡ later ++ e ∷ earlier
         → Fits meaning e.what (content_before meaning opening.contents e earlier) }
     ensures recorded { (h : History V) (later : List (Access V)) (e : Access V)
         (earlier : List (Access V)) → serial_order h ≡ later ++ e ∷ earlier
         → IsOnRecord h e }
-    ensures leaves { (meaning : Meaning V C A) (opening : Opening C) (h : History V) (o : ℕ)
+    ensures leaves { (meaning : Meaning V C A) (opening : HistoryOpening C) (h : History V) (o : ℕ)
         → Lawful meaning opening h
         → run meaning opening.contents (reverse (serial_order h)) o ≡ base meaning opening h o }
 {}
@@ -41,10 +41,10 @@ pub fn committed_work_runs_again<V, C, A>()
 /// own; it begins with the serial run of the committed topactions, and leaves in each object what
 /// the action sees.
 pub fn live_work_runs_again<V, C, A>()
-    ensures answers { (meaning : Meaning V C A) (opening : Opening C) (h : History V) (a : ℕ)
+    ensures answers { (meaning : Meaning V C A) (opening : HistoryOpening C) (h : History V) (a : ℕ)
         → Lawful meaning opening h → is_live h a ≡ true
         → AnswersAgain meaning opening.contents (reverse (serial_order_to h a)) }
-    ensures each { (meaning : Meaning V C A) (opening : Opening C) (h : History V) (a : ℕ)
+    ensures each { (meaning : Meaning V C A) (opening : HistoryOpening C) (h : History V) (a : ℕ)
         (later : List (Access V)) (e : Access V) (earlier : List (Access V))
         → Lawful meaning opening h → is_live h a ≡ true
         → serial_order_to h a ≡ later ++ e ∷ earlier
@@ -52,10 +52,11 @@ pub fn live_work_runs_again<V, C, A>()
     ensures recorded { (h : History V) (a : ℕ) (later : List (Access V)) (e : Access V)
         (earlier : List (Access V)) → serial_order_to h a ≡ later ++ e ∷ earlier
         → IsOnRecord h e }
-    ensures begins { (meaning : Meaning V C A) (opening : Opening C) (h : History V) (a : ℕ)
+    ensures begins { (meaning : Meaning V C A) (opening : HistoryOpening C) (h : History V) (a : ℕ)
         → Lawful meaning opening h → is_live h a ≡ true
         → (more : List (Access V)) × (serial_order_to h a ≡ more ++ serial_order h) }
-    ensures leaves { (meaning : Meaning V C A) (opening : Opening C) (h : History V) (a o : ℕ)
+    ensures leaves { (meaning : Meaning V C A) (opening : HistoryOpening C) (h : History V)
+        (a o : ℕ)
         → Lawful meaning opening h → is_live h a ≡ true
         → run meaning opening.contents (reverse (serial_order_to h a)) o
         ≡ sees meaning opening h a o }
@@ -63,7 +64,8 @@ pub fn live_work_runs_again<V, C, A>()
 
 /// The work of an action that is over stays as it is.
 pub fn work_is_final<V, C, A>()
-    ensures { (meaning : Meaning V C A) (opening : Opening C) (h : History V) (e : Event V) (a : ℕ)
+    ensures { (meaning : Meaning V C A) (opening : HistoryOpening C) (h : History V) (e : Event V)
+        (a : ℕ)
         → Lawful meaning opening (e ▹ h) → is_begun h a ≡ true → is_live h a ≡ false
         → work (e ▹ h) a ≡ work h a }
 {}

@@ -2,7 +2,7 @@
 ghost use Rattle.std.specs.Prelude.{◌≡◌, ℕ, true, List, ◌++◌, ◌-◌};
 ghost use Rattle.std.specs.List.Sorted.{IsStrictlyIncreasing};
 ghost use Rattle.argus_model.specs.Event.{Event};
-ghost use Rattle.argus_model.specs.History.{Opening, History, Opened, ◌▹◌, next_action};
+ghost use Rattle.argus_model.specs.History.{HistoryOpening, History, Opened, ◌▹◌, next_action};
 ghost use Rattle.argus_model.specs.Numbers.{contains};
 ghost use Rattle.argus_model.specs.Status.{is_live};
 ghost use Rattle.argus_model.specs.Meaning.{Meaning};
@@ -17,14 +17,15 @@ ghost use Rattle.argus_model.specs.Fold.{fold};
 /// it is the commit of a topaction, and none otherwise. What comes later goes on from what is there
 /// for good.
 pub fn table_of_effects<V, C, A>()
-    ensures base { (meaning : Meaning V C A) (opening : Opening C) (h : History V) (o : ℕ)
+    ensures base { (meaning : Meaning V C A) (opening : HistoryOpening C) (h : History V) (o : ℕ)
         → Lawful meaning opening h
         → table opening.contents (effects meaning opening h) o ≡ base meaning opening h o }
-    ensures grows { (meaning : Meaning V C A) (opening : Opening C) (h : History V) (e : Event V)
+    ensures grows { (meaning : Meaning V C A) (opening : HistoryOpening C) (h : History V)
+        (e : Event V)
         → Lawful meaning opening (e ▹ h)
         → effects meaning opening (e ▹ h)
         ≡ effects meaning opening h ++ added_effects meaning opening h e }
-    ensures goes_on { (meaning : Meaning V C A) (opening : Opening C) (h : History V)
+    ensures goes_on { (meaning : Meaning V C A) (opening : HistoryOpening C) (h : History V)
         (later : List (List (ℕ × C))) (o : ℕ) → Lawful meaning opening h
         → table opening.contents (effects meaning opening h ++ later) o
         ≡ table (base meaning opening h) later o }
@@ -33,7 +34,8 @@ pub fn table_of_effects<V, C, A>()
 /// An effect names each object that the topaction holds for writing, in increasing number: a live
 /// action has written what it holds for writing, and nothing else.
 pub fn effect_of_commit<V, C, A>()
-    ensures written { (meaning : Meaning V C A) (opening : Opening C) (h : History V) (a o : ℕ)
+    ensures written { (meaning : Meaning V C A) (opening : HistoryOpening C) (h : History V)
+        (a o : ℕ)
         → Lawful meaning opening h → is_live h a ≡ true
         → contains (written_objects meaning (work h a)) o ≡ contains (writers meaning h o) a }
     ensures in_order { (meaning : Meaning V C A) (done : List (Access V))
@@ -43,15 +45,18 @@ pub fn effect_of_commit<V, C, A>()
 /// A history may go on from its own fold, with the contents that were there for good; the effects
 /// before the fold, followed by those after it, make the table of what is there for good.
 pub fn checkpoint<V, C, A>()
-    ensures lawful { (meaning : Meaning V C A) (opening : Opening C) (h : History V) (entries : ℕ)
+    ensures lawful { (meaning : Meaning V C A) (opening : HistoryOpening C) (h : History V)
+        (entries : ℕ)
         → Lawful meaning (fold meaning opening h entries) (Opened (next_action h - 1)) }
-    ensures base { (meaning : Meaning V C A) (opening : Opening C) (h : History V) (entries o : ℕ)
+    ensures base { (meaning : Meaning V C A) (opening : HistoryOpening C) (h : History V)
+        (entries o : ℕ)
         → base meaning (fold meaning opening h entries) (Opened (next_action h - 1)) o
         ≡ base meaning opening h o }
-    ensures numbers { (meaning : Meaning V C A) (opening : Opening C) (h : History V)
+    ensures numbers { (meaning : Meaning V C A) (opening : HistoryOpening C) (h : History V)
         → Lawful meaning opening h
         → next_action {V = V} (Opened (next_action h - 1)) ≡ next_action h }
-    ensures table { (meaning : Meaning V C A) (opening : Opening C) (h : History V) (entries : ℕ)
+    ensures table { (meaning : Meaning V C A) (opening : HistoryOpening C) (h : History V)
+        (entries : ℕ)
         (later : History V) (o : ℕ)
         → Lawful meaning opening h → Lawful meaning (fold meaning opening h entries) later
         → table opening.contents (effects meaning opening h

@@ -3,10 +3,11 @@ ghost use Rattle.std.specs.Prelude.{◌≡◌, ◌≢◌, ◌<◌, ◌≤◌, �
 ghost use Rattle.std.specs.Prelude.{length, Some};
 ghost use Rattle.std.specs.List.{list_any};
 ghost use Rattle.std.specs.List.Sorted.{IsStrictlyIncreasing};
-ghost use Rattle.argus_model.specs.Event.{Aborted, parent_of, creator_of};
-ghost use Rattle.argus_model.specs.History.{Opening, History, begun_actions, folded, next_action};
+ghost use Rattle.argus_model.specs.Event.{Aborted, origin_parent, origin_begun_by};
+ghost use Rattle.argus_model.specs.History.{HistoryOpening, History, begun_actions, folded};
+ghost use Rattle.argus_model.specs.History.{next_action};
 ghost use Rattle.argus_model.specs.Numbers.{contains};
-ghost use Rattle.argus_model.specs.Ancestors.{parent, creator, lineage, is_ancestor, is_under};
+ghost use Rattle.argus_model.specs.Ancestors.{parent, begun_by, lineage, is_ancestor, is_under};
 ghost use Rattle.argus_model.specs.Status.{is_begun, is_live, has_live_child, is_sibling};
 ghost use Rattle.argus_model.specs.Status.{live_siblings};
 ghost use Rattle.argus_model.specs.Meaning.{Meaning};
@@ -20,19 +21,20 @@ ghost use Rattle.argus_model.specs.Rows.{has_live_row};
 pub fn ancestors<V, C, A>()
     ensures own { (h : History V) (a : ℕ) → is_ancestor h a a ≡ true }
     ensures base { (h : History V) (a : ℕ) → is_ancestor h 0 a ≡ true }
-    ensures above { (meaning : Meaning V C A) (opening : Opening C) (h : History V) (x y a : ℕ)
+    ensures above { (meaning : Meaning V C A) (opening : HistoryOpening C) (h : History V)
+        (x y a : ℕ)
         → Lawful meaning opening h → is_begun h a ≡ true
         → is_ancestor h x y ≡ true → is_ancestor h y a ≡ true
         → is_ancestor h x a ≡ true }
-    ensures older { (meaning : Meaning V C A) (opening : Opening C) (h : History V) (x a : ℕ)
+    ensures older { (meaning : Meaning V C A) (opening : HistoryOpening C) (h : History V) (x a : ℕ)
         → Lawful meaning opening h → is_begun h a ≡ true → is_ancestor h x a ≡ true
         → x ≤ a }
-    ensures live { (meaning : Meaning V C A) (opening : Opening C) (h : History V) (x a : ℕ)
+    ensures live { (meaning : Meaning V C A) (opening : HistoryOpening C) (h : History V) (x a : ℕ)
         → Lawful meaning opening h → is_live h a ≡ true → is_ancestor h x a ≡ true → x ≢ 0
         → is_live h x ≡ true }
-    ensures creator { (meaning : Meaning V C A) (opening : Opening C) (h : History V) (a : ℕ)
-        → Lawful meaning opening h → is_begun h a ≡ true → creator h a < a }
-    ensures alone { (meaning : Meaning V C A) (opening : Opening C) (h : History V) (x a : ℕ)
+    ensures creator { (meaning : Meaning V C A) (opening : HistoryOpening C) (h : History V) (a : ℕ)
+        → Lawful meaning opening h → is_begun h a ≡ true → begun_by h a < a }
+    ensures alone { (meaning : Meaning V C A) (opening : HistoryOpening C) (h : History V) (x a : ℕ)
         → Lawful meaning opening h → is_live h a ≡ true → is_ancestor h x a ≡ true
         → has_live_child h x ≡ false
         → x ≡ a }
@@ -47,26 +49,27 @@ pub fn begun<V>()
 /// The rows, changed by each event in turn, say of each action what the history says: its origin
 /// and its status. There is one for each action that began since the opening.
 pub fn rows_say_what_happened<V, C, A>()
-    ensures row { (meaning : Meaning V C A) (opening : Opening C) (h : History V) (a : ℕ)
+    ensures row { (meaning : Meaning V C A) (opening : HistoryOpening C) (h : History V) (a : ℕ)
         → Lawful meaning opening h → is_begun h a ≡ true
         → row_at (folded h) (rows h) a ≡ Some (row_of h a) }
     ensures count { (h : History V) → folded h + length (rows h) + 1 ≡ next_action h }
-    ensures parent { (h : History V) (a : ℕ) → parent_of (origin h a) ≡ parent h a }
-    ensures creator { (h : History V) (a : ℕ) → creator_of (origin h a) ≡ creator h a }
+    ensures parent { (h : History V) (a : ℕ) → origin_parent (origin h a) ≡ parent h a }
+    ensures creator { (h : History V) (a : ℕ) → origin_begun_by (origin h a) ≡ begun_by h a }
 {}
 
 /// The ancestors that are read off the rows are those of the history, for actions that have begun,
 /// and no others; so are the live children. The depth of an action is how many its lineage has, the
 /// base not counted.
 pub fn rows_tell_ancestors_and_children<V, C, A>()
-    ensures ancestor { (meaning : Meaning V C A) (opening : Opening C) (h : History V) (x a : ℕ)
+    ensures ancestor { (meaning : Meaning V C A) (opening : HistoryOpening C) (h : History V)
+        (x a : ℕ)
         → Lawful meaning opening h
         → is_above (folded h) (rows h) x a
         ≡ ((is_begun h x && is_begun h a) && is_ancestor h x a) }
-    ensures child { (meaning : Meaning V C A) (opening : Opening C) (h : History V) (a : ℕ)
+    ensures child { (meaning : Meaning V C A) (opening : HistoryOpening C) (h : History V) (a : ℕ)
         → Lawful meaning opening h
         → has_live_row (rows h) a ≡ has_live_child h a }
-    ensures depth { (meaning : Meaning V C A) (opening : Opening C) (h : History V) (a : ℕ)
+    ensures depth { (meaning : Meaning V C A) (opening : HistoryOpening C) (h : History V) (a : ℕ)
         → Lawful meaning opening h → is_begun h a ≡ true
         → depth_at (folded h) (rows h) a ≡ length (lineage h a) - 1 }
 {}
@@ -75,12 +78,12 @@ pub fn rows_tell_ancestors_and_children<V, C, A>()
 /// aborted in one step. A live action stands under one of them exactly where a sibling is in its
 /// lineage.
 pub fn siblings<V, C, A>()
-    ensures who { (meaning : Meaning V C A) (opening : Opening C) (h : History V) (a x : ℕ)
+    ensures who { (meaning : Meaning V C A) (opening : HistoryOpening C) (h : History V) (a x : ℕ)
         → contains (live_siblings h a) x ≡ (is_live h x && is_sibling h a x) }
-    ensures may_be_aborted { (meaning : Meaning V C A) (opening : Opening C) (h : History V)
+    ensures may_be_aborted { (meaning : Meaning V C A) (opening : HistoryOpening C) (h : History V)
         (a : ℕ) → Allowed meaning opening h (Aborted (live_siblings h a)) }
     ensures in_order { (h : History V) (a : ℕ) → IsStrictlyIncreasing (live_siblings h a) }
-    ensures under { (meaning : Meaning V C A) (opening : Opening C) (h : History V) (a x : ℕ)
+    ensures under { (meaning : Meaning V C A) (opening : HistoryOpening C) (h : History V) (a x : ℕ)
         → Lawful meaning opening h → is_live h x ≡ true
         → is_under h (live_siblings h a) x ≡ list_any (is_sibling h a) (lineage h x) }
 {}

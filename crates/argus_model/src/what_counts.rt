@@ -2,7 +2,7 @@
 ghost use Rattle.std.specs.Prelude.{◌≡◌, ◌≢◌, ℕ, true, false, ◌&&◌, ◌==◌};
 ghost use Rattle.std.specs.List.{IsDistinct};
 ghost use Rattle.argus_model.specs.Event.{Event};
-ghost use Rattle.argus_model.specs.History.{Opening, History, ◌▹◌};
+ghost use Rattle.argus_model.specs.History.{HistoryOpening, History, ◌▹◌};
 ghost use Rattle.argus_model.specs.Numbers.{contains};
 ghost use Rattle.argus_model.specs.Ancestors.{parent, is_ancestor};
 ghost use Rattle.argus_model.specs.Status.{is_begun, has_committed, is_doomed, is_live};
@@ -15,17 +15,19 @@ ghost use Rattle.argus_model.specs.Lawful.{Lawful};
 /// commits, and then for whoever answers for its parent; the work of a committed topaction is there
 /// for good (Moss 1981, inheritance of locks).
 pub fn owners<V, C, A>()
-    ensures doomed { (meaning : Meaning V C A) (opening : Opening C) (h : History V) (a : ℕ)
+    ensures doomed { (meaning : Meaning V C A) (opening : HistoryOpening C) (h : History V) (a : ℕ)
         → Lawful meaning opening h → is_begun h a ≡ true → is_doomed h a ≡ true
         → owner h a ≡ Gone }
-    ensures live { (meaning : Meaning V C A) (opening : Opening C) (h : History V) (a : ℕ)
+    ensures live { (meaning : Meaning V C A) (opening : HistoryOpening C) (h : History V) (a : ℕ)
         → Lawful meaning opening h → is_live h a ≡ true
         → owner h a ≡ Held a }
-    ensures subaction { (meaning : Meaning V C A) (opening : Opening C) (h : History V) (a : ℕ)
+    ensures subaction { (meaning : Meaning V C A) (opening : HistoryOpening C) (h : History V)
+        (a : ℕ)
         → Lawful meaning opening h → is_begun h a ≡ true → has_committed h a ≡ true
         → parent h a ≢ 0
         → owner h a ≡ owner h (parent h a) }
-    ensures topaction { (meaning : Meaning V C A) (opening : Opening C) (h : History V) (a : ℕ)
+    ensures topaction { (meaning : Meaning V C A) (opening : HistoryOpening C) (h : History V)
+        (a : ℕ)
         → Lawful meaning opening h → is_begun h a ≡ true → has_committed h a ≡ true
         → parent h a ≡ 0
         → owner h a ≡ Base }
@@ -33,10 +35,10 @@ pub fn owners<V, C, A>()
 
 /// Who answers for an action is live, and is the action or an ancestor of it.
 pub fn owners_are_live<V, C, A>()
-    ensures live { (meaning : Meaning V C A) (opening : Opening C) (h : History V) (a x : ℕ)
+    ensures live { (meaning : Meaning V C A) (opening : HistoryOpening C) (h : History V) (a x : ℕ)
         → Lawful meaning opening h → is_begun h a ≡ true → owner h a ≡ Held x
         → is_live h x ≡ true }
-    ensures above { (meaning : Meaning V C A) (opening : Opening C) (h : History V) (a x : ℕ)
+    ensures above { (meaning : Meaning V C A) (opening : HistoryOpening C) (h : History V) (a x : ℕ)
         → Lawful meaning opening h → is_begun h a ≡ true → owner h a ≡ Held x
         → is_ancestor h x a ≡ true }
 {}
@@ -44,13 +46,16 @@ pub fn owners_are_live<V, C, A>()
 /// What is undone stays undone, what is there for good stays there, and what is over is never live
 /// again.
 pub fn nothing_comes_back<V, C, A>()
-    ensures undone { (meaning : Meaning V C A) (opening : Opening C) (h : History V) (e : Event V)
+    ensures undone { (meaning : Meaning V C A) (opening : HistoryOpening C) (h : History V)
+        (e : Event V)
         (a : ℕ) → Lawful meaning opening (e ▹ h) → is_begun h a ≡ true → owner h a ≡ Gone
         → owner (e ▹ h) a ≡ Gone }
-    ensures for_good { (meaning : Meaning V C A) (opening : Opening C) (h : History V) (e : Event V)
+    ensures for_good { (meaning : Meaning V C A) (opening : HistoryOpening C) (h : History V)
+        (e : Event V)
         (a : ℕ) → Lawful meaning opening (e ▹ h) → is_begun h a ≡ true → owner h a ≡ Base
         → owner (e ▹ h) a ≡ Base }
-    ensures over { (meaning : Meaning V C A) (opening : Opening C) (h : History V) (e : Event V)
+    ensures over { (meaning : Meaning V C A) (opening : HistoryOpening C) (h : History V)
+        (e : Event V)
         (a : ℕ) → Lawful meaning opening (e ▹ h) → is_begun h a ≡ true → is_live h a ≡ false
         → is_live (e ▹ h) a ≡ false }
 {}
@@ -58,12 +63,13 @@ pub fn nothing_comes_back<V, C, A>()
 /// The serial order has just the topactions that committed, each once, and what each of them did is
 /// there for good.
 pub fn committed_topactions_stay<V, C, A>()
-    ensures who { (meaning : Meaning V C A) (opening : Opening C) (h : History V) (a : ℕ)
+    ensures who { (meaning : Meaning V C A) (opening : HistoryOpening C) (h : History V) (a : ℕ)
         → Lawful meaning opening h
         → contains (committed_topactions h) a ≡ (has_committed h a && parent h a == 0) }
-    ensures once { (meaning : Meaning V C A) (opening : Opening C) (h : History V)
+    ensures once { (meaning : Meaning V C A) (opening : HistoryOpening C) (h : History V)
         → Lawful meaning opening h → IsDistinct ◌==◌ (committed_topactions h) }
-    ensures for_good { (meaning : Meaning V C A) (opening : Opening C) (h : History V) (a : ℕ)
+    ensures for_good { (meaning : Meaning V C A) (opening : HistoryOpening C) (h : History V)
+        (a : ℕ)
         → Lawful meaning opening h → contains (committed_topactions h) a ≡ true
         → owner h a ≡ Base }
 {}

@@ -8,7 +8,7 @@ use Rattle.std.proofs.lemmas.Bool.{cond-false, and_parts, and_from, false≢true
 use Rattle.std.proofs.lemmas.List.{take_more, drop_more, append_assoc}
 use Rattle.argus_actions.specs.declared.action_id.ActionId.{ActionId}
 use Rattle.argus_objects.specs.Rules.{is_ascending}
-use Rattle.argus_objects.specs.Moves.{is_reader, with_reader, without_reader, readers_inherited}
+use Rattle.argus_objects.specs.CellChanges.{is_reader, with_reader, without_reader, readers_inherited}
 use Rattle.argus_objects.proofs.Chains.{all_imp}
 use Rattle.argus_objects.proofs.Ascending.{lower_before, ascending_filter}
 

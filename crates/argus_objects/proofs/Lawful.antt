@@ -12,11 +12,12 @@ use Rattle.argus_memory.specs.declared.out_of_memory.OutOfMemory.{OutOfMemory}
 use Rattle.argus_contents.specs.declared.answer.Answer.{Answer}
 use Rattle.argus_contents.specs.Content.{PlainContent}
 use Rattle.argus_objects.specs.declared.version.Version.{Version}
-use Rattle.argus_objects.specs.Object.{PlainVersion, newest_first, holders, writers}
+use Rattle.argus_objects.specs.Object.{PlainVersion, versions_newest_first, holders, writers}
 use Rattle.argus_objects.specs.Rules.{all_above, are_related, is_ascending, is_chain, is_related, is_strictly_above}
 use Rattle.argus_objects.specs.Rules.{AreInOrder}
-use Rattle.argus_objects.specs.Moves.{is_reader, has_version, handed, with_reader, without_reader, readers_inherited}
-use Rattle.argus_objects.specs.Moves.{with_version, without_version, versions_inherited}
+use Rattle.argus_objects.specs.CellChanges.{is_reader, has_version, version_inherited, with_reader, without_reader}
+use Rattle.argus_objects.specs.CellChanges.{readers_inherited}
+use Rattle.argus_objects.specs.CellChanges.{with_version, without_version, versions_inherited}
 use Rattle.argus_objects.proofs.Chains.{IsParent, all_imp, all_moved, all_filter, all_filtered, chain_moved}
 use Rattle.argus_objects.proofs.Chains.{chain_filter, strictly_from, renamed, renamed_same, renamed_other}
 use Rattle.argus_objects.proofs.Chains.{renamed_strictly, renamed_related}
@@ -41,7 +42,7 @@ pub lawful_from : (t : Tree) (readers ids : List ActionId) → Lawful t readers 
 lawful_from t readers ids h = and_from (is_chain t ids) (list_all (is_related t ids) readers) h.chain h.related
 
 -- the holders of a lawful cell stand in increasing number
-pub writers_ascend : (t : Tree) (vs : List Version) → is_chain t (holders (newest_first vs)) ≡ true
+pub writers_ascend : (t : Tree) (vs : List Version) → is_chain t (holders (versions_newest_first vs)) ≡ true
     → is_ascending (writers vs) ≡ true
 writers_ascend t vs chain =
     ap is_ascending (sym (reverse-reverse (writers vs)))
@@ -179,7 +180,7 @@ pub holders_inherited : (s p : ActionId) (vs : List PlainVersion)
 holders_inherited s p vs = cases (has_version s vs) ∙ ap
     (λ b. cond b (map (renamed s p) (filter (λ x. not (eqb x.0 p.0)) (holders vs))) (holders vs)) (has_holder s vs)
   where
-    cases : (b : Bool) → holders (cond b (map (handed s p) (without_version p vs)) vs)
+    cases : (b : Bool) → holders (cond b (map (version_inherited s p) (without_version p vs)) vs)
         ≡ cond b (map (renamed s p) (filter (λ x. not (eqb x.0 p.0)) (holders vs))) (holders vs)
     cases true =
         holders_handed s p (without_version p vs) ∙ ap (map (renamed s p)) (holders_filter (λ x. not (eqb x.0 p.0)) vs)
@@ -187,68 +188,74 @@ holders_inherited s p vs = cases (has_version s vs) ∙ ap
 
 -- what a lawful cell's lists say of their order
 pub in_order : (t : Tree) (readers : List ActionId) (vs : List Version) → is_ascending readers ≡ true
-    → is_chain t (holders (newest_first vs)) ≡ true → AreInOrder readers vs
+    → is_chain t (holders (versions_newest_first vs)) ≡ true → AreInOrder readers vs
 in_order t readers vs asc chain = record { readers_ascend = asc; writers_ascend = writers_ascend t vs chain }
 
 -- the lists are in order and lawful
 pub record Kept (t : Tree) (readers : List ActionId) (vs : List Version) : Type 0 where
   pub order : AreInOrder readers vs
-  pub lawful : (is_chain t (holders (newest_first vs)) && list_all (is_related t (holders (newest_first vs))) readers)
+  pub lawful : (is_chain t (holders (versions_newest_first vs)) && list_all (is_related t (holders
+      (versions_newest_first vs))) readers)
       ≡ true
 
 kept_from : (t : Tree) (rs : List ActionId) (vs : List Version) → is_ascending rs ≡ true
-    → Lawful t rs (holders (newest_first vs)) → Kept t rs vs
+    → Lawful t rs (holders (versions_newest_first vs)) → Kept t rs vs
 kept_from t rs vs asc law =
-    record { order = in_order t rs vs asc law.chain; lawful = lawful_from t rs (holders (newest_first vs)) law }
+    record {
+      order = in_order t rs vs asc law.chain;
+      lawful = lawful_from t rs (holders
+          (versions_newest_first vs)) law;
+    }
 
 module _ (t : Tree) (rs rs' : List ActionId) (vs vs' : List Version) (asc : is_ascending rs ≡ true)
-    (law : (is_chain t (holders (newest_first vs)) && list_all (is_related t (holders (newest_first vs))) rs) ≡ true)
+    (law : (is_chain t (holders (versions_newest_first vs)) && list_all (is_related t (holders
+    (versions_newest_first vs))) rs) ≡ true)
   where
-    before : Lawful t rs (holders (newest_first vs))
-    before = lawful_parts t rs (holders (newest_first vs)) law
+    before : Lawful t rs (holders (versions_newest_first vs))
+    before = lawful_parts t rs (holders (versions_newest_first vs)) law
 
-    kept_by : (new : List ActionId) (ids : List ActionId) → rs' ≡ new → holders (newest_first vs') ≡ ids
+    kept_by : (new : List ActionId) (ids : List ActionId) → rs' ≡ new → holders (versions_newest_first vs') ≡ ids
         → is_ascending new ≡ true → Lawful t new ids → Kept t rs' vs'
     kept_by new ids e f asc' law' =
         kept_from t rs' vs' (ap is_ascending e ∙ asc')
-        (subst (λ (xs : List ActionId). Lawful t xs (holders (newest_first vs'))) (sym e)
+        (subst (λ (xs : List ActionId). Lawful t xs (holders (versions_newest_first vs'))) (sym e)
         (subst (λ (xs : List ActionId). Lawful t new xs) (sym f) law'))
 
-    pub kept_read : (a : ActionId) → all_above t a (holders (newest_first vs)) ≡ true → rs' ≡ with_reader a rs
+    pub kept_read : (a : ActionId) → all_above t a (holders (versions_newest_first vs)) ≡ true → rs' ≡ with_reader a rs
         → vs' ≡ vs
         → Kept t rs' vs'
-    kept_read a up e f = kept_by (with_reader a rs) (holders (newest_first vs)) e
-        (ap (λ ws. holders (newest_first ws)) f)
-        (ascending_with a rs asc) (lawful_read t a rs (holders (newest_first vs)) before up)
+    kept_read a up e f = kept_by (with_reader a rs) (holders (versions_newest_first vs)) e
+        (ap (λ ws. holders (versions_newest_first ws)) f)
+        (ascending_with a rs asc) (lawful_read t a rs (holders (versions_newest_first vs)) before up)
 
     pub kept_write : (a : ActionId) (content : Option PlainContent)
-        → (all_above t a (holders (newest_first vs)) && all_above t a rs) ≡ true → rs' ≡ rs
-        → newest_first vs' ≡ with_version a content (newest_first vs) → Kept t rs' vs'
+        → (all_above t a (holders (versions_newest_first vs)) && all_above t a rs) ≡ true → rs' ≡ rs
+        → versions_newest_first vs' ≡ with_version a content (versions_newest_first vs) → Kept t rs' vs'
     kept_write a content up e f =
-        let ups : (all_above t a (holders (newest_first vs)) ≡ true) × (all_above t a rs ≡ true) =
-        and_parts (all_above t a (holders (newest_first vs))) (all_above t a rs) up in
-        kept_by rs (a ∷ filter (λ x. not (eqb x.0 a.0)) (holders (newest_first vs))) e
-        (ap holders f ∙ ap (λ ids. a ∷ ids) (holders_filter (λ x. not (eqb x.0 a.0)) (newest_first vs))) asc
-        (lawful_write t a rs (holders (newest_first vs)) before ups.0 ups.1)
+        let ups : (all_above t a (holders (versions_newest_first vs)) ≡ true) × (all_above t a rs ≡ true) =
+        and_parts (all_above t a (holders (versions_newest_first vs))) (all_above t a rs) up in
+        kept_by rs (a ∷ filter (λ x. not (eqb x.0 a.0)) (holders (versions_newest_first vs))) e
+        (ap holders f ∙ ap (λ ids. a ∷ ids) (holders_filter (λ x. not (eqb x.0 a.0)) (versions_newest_first vs))) asc
+        (lawful_write t a rs (holders (versions_newest_first vs)) before ups.0 ups.1)
 
     pub kept_inherit : (s p : ActionId) → IsParent t p s → rs' ≡ readers_inherited s p rs
-        → newest_first vs' ≡ versions_inherited s p (newest_first vs) → Kept t rs' vs'
+        → versions_newest_first vs' ≡ versions_inherited s p (versions_newest_first vs) → Kept t rs' vs'
     kept_inherit s p is e f =
-        kept_by (readers_inherited s p rs) (ids_inherited s p (holders (newest_first vs))) e
-        (ap holders f ∙ holders_inherited s p (newest_first vs))
-        (ascending_inherited s p rs asc) (lawful_inherited t s p is (holders (newest_first vs)) rs before)
+        kept_by (readers_inherited s p rs) (ids_inherited s p (holders (versions_newest_first vs))) e
+        (ap holders f ∙ holders_inherited s p (versions_newest_first vs))
+        (ascending_inherited s p rs asc) (lawful_inherited t s p is (holders (versions_newest_first vs)) rs before)
 
     pub kept_less : (keep keep' : ActionId → Bool) → rs' ≡ filter keep rs
-        → newest_first vs' ≡ filter (λ v. keep' v.holder) (newest_first vs) → Kept t rs' vs'
+        → versions_newest_first vs' ≡ filter (λ v. keep' v.holder) (versions_newest_first vs) → Kept t rs' vs'
     kept_less keep keep' e f =
-        kept_by (filter keep rs) (filter keep' (holders (newest_first vs))) e
-        (ap holders f ∙ holders_filter keep' (newest_first vs))
-        (ascending_filter keep rs asc) (lawful_less t keep keep' rs (holders (newest_first vs)) before)
+        kept_by (filter keep rs) (filter keep' (holders (versions_newest_first vs))) e
+        (ap holders f ∙ holders_filter keep' (versions_newest_first vs))
+        (ascending_filter keep rs asc) (lawful_less t keep keep' rs (holders (versions_newest_first vs)) before)
 
     pub kept_change : (r : Result Answer OutOfMemory) (a : ActionId) (content : Option PlainContent)
-        → (all_above t a (holders (newest_first vs)) && all_above t a rs) ≡ true → rs' ≡ rs
-        → OnOk r (newest_first vs' ≡ with_version a content (newest_first vs))
-        → OnErr r (newest_first vs' ≡ newest_first vs) → Kept t rs' vs'
+        → (all_above t a (holders (versions_newest_first vs)) && all_above t a rs) ≡ true → rs' ≡ rs
+        → OnOk r (versions_newest_first vs' ≡ with_version a content (versions_newest_first vs))
+        → OnErr r (versions_newest_first vs' ≡ versions_newest_first vs) → Kept t rs' vs'
     kept_change (Ok answer) a content up e ok err = kept_write a content up e ok
-    kept_change (Err refused) a content up e ok err = kept_by rs (holders (newest_first vs)) e (ap holders err)
+    kept_change (Err refused) a content up e ok err = kept_by rs (holders (versions_newest_first vs)) e (ap holders err)
         asc before

@@ -6,8 +6,10 @@ use Rattle.std.proofs.Math.Bool.{and-false, or-false, or-true}
 use Rattle.std.proofs.lemmas.Bool.{eq-eqb, ne_eqb, eqb-true, cases_eq, cases_lt, cases_Bool, lt-ltb, le-ltb}
 use Rattle.argus_actions.specs.declared.action_id.ActionId.{ActionId}
 use Rattle.argus_objects.specs.Object.{PlainVersion}
-use Rattle.argus_objects.specs.Moves.{is_reader, has_version, version_of, with_reader, without_reader, without_version}
-use Rattle.argus_objects.specs.Moves.{handed, is_handed, readers_inherited, versions_inherited}
+use Rattle.argus_objects.specs.CellChanges.{is_reader, has_version, version_of, with_reader, without_reader}
+use Rattle.argus_objects.specs.CellChanges.{without_version}
+use Rattle.argus_objects.specs.CellChanges.{version_inherited, is_holder_inherited, readers_inherited}
+use Rattle.argus_objects.specs.CellChanges.{versions_inherited}
 
 -- a reader put in its place
 pub reader_with : (a x : ActionId) (xs : List ActionId)
@@ -87,7 +89,7 @@ lacking f x s fails =
     ]
 
 pub reader_handed : (s p x : ActionId) (xs : List ActionId)
-    → is_reader x (readers_inherited s p xs) ≡ is_handed s p x (is_reader x xs) (is_reader s xs)
+    → is_reader x (readers_inherited s p xs) ≡ is_holder_inherited s p x (is_reader x xs) (is_reader s xs)
 reader_handed s p x xs =
     elim (cases_Bool (is_reader s xs)) [
       | inl has ↦ ap (λ c. is_reader x (cond c (with_reader p (without_reader s xs)) xs)) has
@@ -109,18 +111,20 @@ or_assoc false b c = refl
 
 -- versions whose holder s is the parent now
 version_handed : (s p x : ActionId) → s.0 ≢ p.0 → (vs : List PlainVersion)
-    → has_version x (map (handed s p) vs) ≡ is_handed s p x (has_version x vs) (has_version s vs)
+    → has_version x (map (version_inherited s p) vs) ≡ is_holder_inherited s p x (has_version x vs) (has_version s vs)
 version_handed s p x other [] =
     sym (ap (λ b. b || (eqb x.0 p.0 && false)) (and-false (not (eqb x.0 s.0))) ∙ and-false (eqb x.0 p.0))
 version_handed s p x other (v ∷ vs) =
-    let rest : has_version x (map (handed s p) vs) ≡ is_handed s p x (has_version x vs) (has_version s vs) =
+    let rest : has_version x (map (version_inherited s p) vs) ≡ is_holder_inherited s p x (has_version x vs)
+    (has_version s vs) =
     version_handed s p x other vs in
     elim (cases_eq v.holder.0 s.0) [
       | inl e ↦ rw (eq-eqb v.holder.0 s.0 e) (ap (λ b. eqb p.0 x.0 || b) rest ∙ (elim (cases_eq x.0 p.0) [
-        | inl xp ↦ ap (λ b. b || is_handed s p x (has_version x vs) (has_version s vs)) (eq-eqb p.0 x.0 (sym xp))
+        | inl xp ↦ ap (λ b. b || is_holder_inherited s p x (has_version x vs) (has_version s vs)) (eq-eqb p.0 x.0
+            (sym xp))
             ∙ sym (ap (λ b. (not (eqb x.0 s.0) && (eqb v.holder.0 x.0 || has_version x vs)) || (b && true))
             (eq-eqb x.0 p.0 xp) ∙ or-true (not (eqb x.0 s.0) && (eqb v.holder.0 x.0 || has_version x vs)))
-        | inr xp ↦ ap (λ b. b || is_handed s p x (has_version x vs) (has_version s vs))
+        | inr xp ↦ ap (λ b. b || is_holder_inherited s p x (has_version x vs) (has_version s vs))
             (ne_eqb p.0 x.0 (λ e. xp (sym e)))
             ∙ ap (λ b. (not (eqb x.0 s.0) && has_version x vs) || (b && has_version s vs)) (ne_eqb x.0 p.0 xp)
             ∙ ap (λ b. b || false) (gone (eqb x.0 s.0) (eqb v.holder.0 x.0) (has_version x vs)
@@ -149,10 +153,10 @@ version_without p x (v ∷ vs) =
     ]
 
 pub versions_handed : (s p x : ActionId) → s.0 ≢ p.0 → (vs : List PlainVersion)
-    → has_version x (versions_inherited s p vs) ≡ is_handed s p x (has_version x vs) (has_version s vs)
+    → has_version x (versions_inherited s p vs) ≡ is_holder_inherited s p x (has_version x vs) (has_version s vs)
 versions_handed s p x other vs =
     elim (cases_Bool (has_version s vs)) [
-      | inl has ↦ ap (λ c. has_version x (cond c (map (handed s p) (without_version p vs)) vs)) has
+      | inl has ↦ ap (λ c. has_version x (cond c (map (version_inherited s p) (without_version p vs)) vs)) has
           ∙ version_handed s p x other (without_version p vs)
           ∙ ap (λ b. (not (eqb x.0 s.0) && has_version x (without_version p vs)) || (eqb x.0 p.0 && b))
           (version_without p s vs ∙ ap (λ b. not b && has_version s vs) (ne_eqb s.0 p.0 other))
@@ -162,7 +166,7 @@ versions_handed s p x other vs =
                 ∙ sym (or-true (not (eqb x.0 s.0) && has_version x vs)))
             | inr ne ↦ rw (ne_eqb x.0 p.0 ne) refl
           ])
-      | inr lacks ↦ ap (λ c. has_version x (cond c (map (handed s p) (without_version p vs)) vs)) lacks
+      | inr lacks ↦ ap (λ c. has_version x (cond c (map (version_inherited s p) (without_version p vs)) vs)) lacks
           ∙ lacking (λ n. list_any (λ (v : PlainVersion). eqb v.holder.0 n) vs) x.0 s.0 lacks
           ∙ sym (or-false (not (eqb x.0 s.0) && has_version x vs))
           ∙ ap (λ b. (not (eqb x.0 s.0) && has_version x vs) || b) (sym (and-false (eqb x.0 p.0)))
@@ -171,7 +175,7 @@ versions_handed s p x other vs =
 
 -- the parent's content is what s had
 handed_content : (s p : ActionId) → s.0 ≢ p.0 → (vs : List PlainVersion)
-    → version_of p (map (handed s p) (without_version p vs)) ≡ version_of s vs
+    → version_of p (map (version_inherited s p) (without_version p vs)) ≡ version_of s vs
 handed_content s p other [] = refl
 handed_content s p other (v ∷ vs) =
     elim (cases_eq v.holder.0 s.0) [
@@ -186,10 +190,11 @@ handed_content s p other (v ∷ vs) =
 pub content_handed : (s p : ActionId) → s.0 ≢ p.0 → (vs : List PlainVersion) → has_version s vs ≡ true
     → version_of p (versions_inherited s p vs) ≡ version_of s vs
 content_handed s p other vs has =
-    ap (λ c. version_of p (cond c (map (handed s p) (without_version p vs)) vs)) has ∙ handed_content s p other vs
+    ap (λ c. version_of p (cond c (map (version_inherited s p) (without_version p vs)) vs)) has
+    ∙ handed_content s p other vs
 
 other_handed : (s p x : ActionId) → x.0 ≢ s.0 → x.0 ≢ p.0 → (vs : List PlainVersion)
-    → version_of x (map (handed s p) (without_version p vs)) ≡ version_of x vs
+    → version_of x (map (version_inherited s p) (without_version p vs)) ≡ version_of x vs
 other_handed s p x xs xp [] = refl
 other_handed s p x xs xp (v ∷ vs) =
     elim (cases_eq v.holder.0 p.0) [
@@ -210,6 +215,7 @@ pub content_stays : (s p x : ActionId) → x.0 ≢ s.0 → x.0 ≢ p.0 → (vs :
     → version_of x (versions_inherited s p vs) ≡ version_of x vs
 content_stays s p x xs xp vs = by_case (has_version s vs)
   where
-    by_case : (b : Bool) → version_of x (cond b (map (handed s p) (without_version p vs)) vs) ≡ version_of x vs
+    by_case : (b : Bool) → version_of x (cond b (map (version_inherited s p) (without_version p vs)) vs)
+        ≡ version_of x vs
     by_case true = other_handed s p x xs xp vs
     by_case false = refl

@@ -17,13 +17,14 @@ use Rattle.argus_actions.specs.declared.action_id.ActionId.{ActionId}
 use Rattle.argus_actions.specs.Tree.{Tree}
 use Rattle.argus_contents.specs.Content.{PlainContent}
 use Rattle.argus_objects.specs.declared.version.Version.{Version}
-use Rattle.argus_objects.specs.Object.{PlainVersion, plain_version, newest_first, holders, writers}
+use Rattle.argus_objects.specs.Object.{PlainVersion, plain_version, versions_newest_first, holders, writers}
 use Rattle.argus_objects.specs.Rules.{are_related, are_up_to, is_ascending, is_chain, is_related, is_strictly_above}
-use Rattle.argus_objects.specs.Moves.{has_version, handed, version_of, with_version, without_version}
+use Rattle.argus_objects.specs.CellChanges.{has_version, version_inherited, version_of, with_version, without_version}
 use Rattle.argus_objects.proofs.Chains.{renamed, all_imp}
 use Rattle.argus_objects.proofs.Ascending.{list_all_reverse, lower_before}
 
-pub newest_push : (vs : List Version) (v : Version) → newest_first (vs ++ v ∷ []) ≡ plain_version v ∷ newest_first vs
+pub newest_push : (vs : List Version) (v : Version) → versions_newest_first (vs ++ v ∷ []) ≡ plain_version v
+    ∷ versions_newest_first vs
 newest_push vs v =
     ap reverse (map-append plain_version vs (v ∷ [])) ∙ reverse-append (map plain_version vs) (plain_version v ∷ [])
 
@@ -32,16 +33,16 @@ pub same_id : (x y : ActionId) → x.0 ≡ y.0 → x ≡ y
 same_id x y e = ap (λ n. let z : ActionId = record { 0 = n } in z) e
 
 -- the holders from descendant to ancestor are those from ancestor to descendant, turned round
-pub holders_newest : (vs : List Version) → holders (newest_first vs) ≡ reverse (writers vs)
+pub holders_newest : (vs : List Version) → holders (versions_newest_first vs) ≡ reverse (writers vs)
 holders_newest vs = map-reverse (λ (v : PlainVersion). v.holder) (map plain_version vs)
     ∙ ap reverse (map-map (λ (v : PlainVersion). v.holder) plain_version vs)
 
 pub all_holders : (p : ActionId → Bool) (vs : List Version)
-    → list_all p (holders (newest_first vs)) ≡ list_all p (writers vs)
+    → list_all p (holders (versions_newest_first vs)) ≡ list_all p (writers vs)
 all_holders p vs = ap (list_all p) (holders_newest vs) ∙ list_all_reverse p (writers vs)
 
 pub all_versions : (p : ActionId → Bool) (vs : List Version)
-    → list_all p (holders (newest_first vs)) ≡ list_all (λ (v : Version). p v.holder) vs
+    → list_all p (holders (versions_newest_first vs)) ≡ list_all (λ (v : Version). p v.holder) vs
 all_versions p vs = all_holders p vs ∙ list_all-map p (λ (v : Version). v.holder) vs
 
 filter_end : {X : Type 0} (b : Bool) (ys : List X) (x : X)
@@ -67,8 +68,8 @@ filter_map p f (x ∷ xs) = ap (λ ys. cond (p (f x)) (f x ∷ ys) ys) (filter_m
 
 -- a test of the holders filters the same versions
 pub newest_filter : (p : ActionId → Bool) (vs : List Version)
-    → filter (λ (v : PlainVersion). p v.holder) (newest_first vs)
-    ≡ newest_first (filter (λ (v : Version). p v.holder) vs)
+    → filter (λ (v : PlainVersion). p v.holder) (versions_newest_first vs)
+    ≡ versions_newest_first (filter (λ (v : Version). p v.holder) vs)
 newest_filter p vs = filter_reverse (λ (v : PlainVersion). p v.holder) (map plain_version vs)
     ∙ ap reverse (filter_map (λ (v : PlainVersion). p v.holder) plain_version vs)
 
@@ -77,9 +78,9 @@ pub holders_filter : (p : ActionId → Bool) (vs : List PlainVersion)
 holders_filter p vs = sym (filter_map p (λ (v : PlainVersion). v.holder) vs)
 
 pub holders_handed : (s parent : ActionId) (vs : List PlainVersion)
-    → holders (map (handed s parent) vs) ≡ map (renamed s parent) (holders vs)
+    → holders (map (version_inherited s parent) vs) ≡ map (renamed s parent) (holders vs)
 holders_handed s parent [] = refl
-holders_handed s parent (v ∷ vs) = ap (λ xs. (handed s parent v).holder ∷ xs) (holders_handed s parent vs)
+holders_handed s parent (v ∷ vs) = ap (λ xs. (version_inherited s parent v).holder ∷ xs) (holders_handed s parent vs)
     ∙ ap (λ x. x ∷ map (renamed s parent) (holders vs)) (one (eqb v.holder.0 s.0))
   where
     one : (b : Bool) → (cond b (let w : PlainVersion = record { holder = parent; content = v.content } in w) v).holder
@@ -99,7 +100,7 @@ any_reverse p (x ∷ xs) = ap (list_any p) (reverse_onto xs x [])
     or_comm false true = refl
     or_comm false false = refl
 
-pub has_newest : (a : ActionId) (vs : List Version) → has_version a (newest_first vs)
+pub has_newest : (a : ActionId) (vs : List Version) → has_version a (versions_newest_first vs)
     ≡ list_any (λ (v : Version). eqb v.holder.0 a.0) vs
 has_newest a vs = any_reverse (λ (v : PlainVersion). eqb v.holder.0 a.0) (map plain_version vs) ∙ any_map vs
   where
@@ -108,16 +109,18 @@ has_newest a vs = any_reverse (λ (v : PlainVersion). eqb v.holder.0 a.0) (map p
     any_map [] = refl
     any_map (w ∷ ws) = ap (λ b. eqb w.holder.0 a.0 || b) (any_map ws)
 
-pub newest_append : (xs ys : List Version) → newest_first (xs ++ ys) ≡ newest_first ys ++ newest_first xs
+pub newest_append : (xs ys : List Version) → versions_newest_first (xs ++ ys) ≡ versions_newest_first ys
+    ++ versions_newest_first xs
 newest_append xs ys =
     ap reverse (map-append plain_version xs ys) ∙ reverse-append (map plain_version xs) (map plain_version ys)
 
 pub newest_split : (vs : List Version) (k : ℕ) (d : Version) → k < length vs
-    → newest_first vs ≡ newest_first (drop (k + 1) vs) ++ plain_version (get_or vs k d) ∷ newest_first (take k vs)
+    → versions_newest_first vs ≡ versions_newest_first (drop (k + 1) vs) ++ plain_version (get_or vs k d)
+    ∷ versions_newest_first (take k vs)
 newest_split vs k d below =
-    ap newest_first (sym (take-append-drop (k + 1) vs))
+    ap versions_newest_first (sym (take-append-drop (k + 1) vs))
     ∙ (newest_append (take (k + 1) vs) (drop (k + 1) vs)
-    ∙ ap (λ ws. newest_first (drop (k + 1) vs) ++ ws) (ap newest_first (take_more vs k d below)
+    ∙ ap (λ ws. versions_newest_first (drop (k + 1) vs) ++ ws) (ap versions_newest_first (take_more vs k d below)
     ∙ newest_push (take k vs) (get_or vs k d)))
 
 pub version_of_none : (a : ActionId) (vs : List PlainVersion) → has_version a vs ≡ false → version_of a vs ≡ None
@@ -145,8 +148,8 @@ without_none a (v ∷ vs) lacks =
 
 -- one more from the top that is another's
 pub none_more : (a : ActionId) (vs : List Version) (k : ℕ) (d : Version) → k < length vs
-    → has_version a (newest_first (drop (k + 1) vs)) ≡ false → (get_or vs k d).holder.0 ≢ a.0
-    → has_version a (newest_first (drop k vs)) ≡ false
+    → has_version a (versions_newest_first (drop (k + 1) vs)) ≡ false → (get_or vs k d).holder.0 ≢ a.0
+    → has_version a (versions_newest_first (drop k vs)) ≡ false
 none_more a vs k d below lacks ne =
     has_newest a (drop k vs)
     ∙ (ap (list_any (λ (v : Version). eqb v.holder.0 a.0)) (drop_more vs k d below)
@@ -167,7 +170,7 @@ without_lower a (v ∷ vs) low =
 
 -- those below the place have lower holders
 pub lower_newest : (vs : List Version) (k : ℕ) (d : Version) → is_ascending (writers vs) ≡ true → k < length vs
-    → list_all (λ x. ltb x.0 (get_or vs k d).holder.0) (holders (newest_first (take k vs))) ≡ true
+    → list_all (λ x. ltb x.0 (get_or vs k d).holder.0) (holders (versions_newest_first (take k vs))) ≡ true
 lower_newest vs k d asc below =
     all_holders (λ x. ltb x.0 (get_or vs k d).holder.0) (take k vs)
     ∙ (ap (list_all (λ (x : ActionId). ltb x.0 (get_or vs k d).holder.0)) (take_map vs k)
@@ -186,38 +189,41 @@ lower_newest vs k d asc below =
 -- the version at a place is the action's, and none above it
 module _ (a : ActionId) (vs : List Version) (k : ℕ) (d : Version) (below : k < length vs)
     (asc : is_ascending (writers vs) ≡ true)
-    (above : has_version a (newest_first (drop (k + 1) vs)) ≡ false) (here : (get_or vs k d).holder.0 ≡ a.0) where
-  pub version_here : Some (plain_version (get_or vs k d)).content ≡ version_of a (newest_first vs)
+    (above : has_version a (versions_newest_first (drop (k + 1) vs)) ≡ false) (here : (get_or vs k d).holder.0
+    ≡ a.0) where
+  pub version_here : Some (plain_version (get_or vs k d)).content ≡ version_of a (versions_newest_first vs)
   version_here =
       sym (ap (version_of a) (newest_split vs k d below)
-      ∙ (version_of_past a (newest_first (drop (k + 1) vs)) (plain_version (get_or vs k d) ∷ newest_first (take k vs))
+      ∙ (version_of_past a (versions_newest_first (drop (k + 1) vs)) (plain_version (get_or vs k d)
+      ∷ versions_newest_first (take k vs))
       above
       ∙ cond-true _ _ _ (eq-eqb (get_or vs k d).holder.0 a.0 here)))
 
-  pub lower_here : without_version a (newest_first (take k vs)) ≡ newest_first (take k vs)
-  lower_here = without_lower a (newest_first (take k vs))
-      (subst (λ (n : ℕ). list_all (λ (x : ActionId). ltb x.0 n) (holders (newest_first (take k vs))) ≡ true) here
+  pub lower_here : without_version a (versions_newest_first (take k vs)) ≡ versions_newest_first (take k vs)
+  lower_here = without_lower a (versions_newest_first (take k vs))
+      (subst (λ (n : ℕ). list_all (λ (x : ActionId). ltb x.0 n) (holders (versions_newest_first (take k vs)))
+      ≡ true) here
       (lower_newest vs k d asc below))
 
-  pub removed_here : newest_first (take k vs ++ drop (k + 1) vs) ≡ without_version a (newest_first vs)
+  pub removed_here : versions_newest_first (take k vs ++ drop (k + 1) vs) ≡ without_version a (versions_newest_first vs)
   removed_here =
       newest_append (take k vs) (drop (k + 1) vs)
       ∙ sym (ap (without_version a) (newest_split vs k d below)
-      ∙ (filter-append (λ (v : PlainVersion). not (eqb v.holder.0 a.0)) (newest_first (drop (k + 1) vs))
-      (plain_version (get_or vs k d) ∷ newest_first (take k vs))
-      ∙ (ap (λ ws. ws ++ without_version a (plain_version (get_or vs k d) ∷ newest_first (take k vs)))
-      (without_none a (newest_first (drop (k + 1) vs)) above)
-      ∙ ap (λ ws. newest_first (drop (k + 1) vs) ++ ws)
-      (ap (λ b. cond (not b) (plain_version (get_or vs k d) ∷ without_version a (newest_first (take k vs)))
-      (without_version a (newest_first (take k vs)))) (eq-eqb (get_or vs k d).holder.0 a.0 here)
+      ∙ (filter-append (λ (v : PlainVersion). not (eqb v.holder.0 a.0)) (versions_newest_first (drop (k + 1) vs))
+      (plain_version (get_or vs k d) ∷ versions_newest_first (take k vs))
+      ∙ (ap (λ ws. ws ++ without_version a (plain_version (get_or vs k d) ∷ versions_newest_first (take k vs)))
+      (without_none a (versions_newest_first (drop (k + 1) vs)) above)
+      ∙ ap (λ ws. versions_newest_first (drop (k + 1) vs) ++ ws)
+      (ap (λ b. cond (not b) (plain_version (get_or vs k d) ∷ without_version a (versions_newest_first (take k vs)))
+      (without_version a (versions_newest_first (take k vs)))) (eq-eqb (get_or vs k d).holder.0 a.0 here)
       ∙ lower_here))))
 
 -- the newest version given a new content
 pub newest_set : (vs : List Version) (k : ℕ) (v : Version) → k + 1 ≡ length vs
-    → newest_first (set vs k v) ≡ plain_version v ∷ newest_first (take k vs)
+    → versions_newest_first (set vs k v) ≡ plain_version v ∷ versions_newest_first (take k vs)
 newest_set vs k v last =
     let below : k < length vs = omega arith in
-    ap newest_first (ap (λ ws. set ws k v) (sym (take-append-drop k vs)
+    ap versions_newest_first (ap (λ ws. set ws k v) (sym (take-append-drop k vs)
     ∙ ap (λ ws. take k vs ++ ws) (drop_more vs k v below))
     ∙ (set_at (take k vs) (get_or vs k v) (drop (k + 1) vs) v k (length-take-le k vs (omega arith))
     ∙ ap (λ ws. take k vs ++ v ∷ ws) (drop_all (k + 1) vs (omega arith))))
@@ -227,16 +233,16 @@ newest_set vs k v last =
 pub version_set : (a : ActionId) (content : Option PlainContent) (vs : List Version) (k : ℕ) (d v : Version)
     → k + 1 ≡ length vs → is_ascending (writers vs) ≡ true
     → (get_or vs k d).holder.0 ≡ a.0 → v.holder ≡ a → (plain_version v).content ≡ content
-    → newest_first (set vs k v) ≡ with_version a content (newest_first vs)
+    → versions_newest_first (set vs k v) ≡ with_version a content (versions_newest_first vs)
 version_set a content vs k d v last asc here holder_is content_is =
     let below : k < length vs = omega arith in
-    let none_above : has_version a (newest_first (drop (k + 1) vs)) ≡ false =
-    ap (λ ws. has_version a (newest_first ws)) (drop_all (k + 1) vs (omega arith)) in
+    let none_above : has_version a (versions_newest_first (drop (k + 1) vs)) ≡ false =
+    ap (λ ws. has_version a (versions_newest_first ws)) (drop_all (k + 1) vs (omega arith)) in
     newest_set vs k v last
-    ∙ (ap (λ (w : PlainVersion). w ∷ newest_first (take k vs)) (version_is v holder_is content_is)
+    ∙ (ap (λ (w : PlainVersion). w ∷ versions_newest_first (take k vs)) (version_is v holder_is content_is)
     ∙ ap (λ ws. (let w : PlainVersion = record { holder = a; content = content } in w) ∷ ws)
-    (sym (ap (λ ws. newest_first (take k vs ++ ws)) (drop_all (k + 1) vs (omega arith))
-    ∙ ap newest_first (append-nil (take k vs))) ∙ removed_here a vs k d below asc none_above here))
+    (sym (ap (λ ws. versions_newest_first (take k vs ++ ws)) (drop_all (k + 1) vs (omega arith))
+    ∙ ap versions_newest_first (append-nil (take k vs))) ∙ removed_here a vs k d below asc none_above here))
   where
     version_is : (w : Version) → w.holder ≡ a → (plain_version w).content ≡ content
         → plain_version w ≡ (let u : PlainVersion = record { holder = a; content = content } in u)
@@ -245,39 +251,40 @@ version_set a content vs k d v last asc here holder_is content_is =
         ∙ ap (λ k. (let u : PlainVersion = record { holder = a; content = k } in u)) f
 
 pub version_pushed : (a : ActionId) (vs : List Version) (v : Version) → v.holder ≡ a
-    → list_all (λ x. ltb x.0 a.0) (holders (newest_first vs)) ≡ true
-    → newest_first (vs ++ v ∷ []) ≡ with_version a (plain_version v).content (newest_first vs)
+    → list_all (λ x. ltb x.0 a.0) (holders (versions_newest_first vs)) ≡ true
+    → versions_newest_first (vs ++ v ∷ []) ≡ with_version a (plain_version v).content (versions_newest_first vs)
 version_pushed a vs v e low =
     newest_push vs v
-    ∙ (ap (λ ws. plain_version v ∷ ws) (sym (without_lower a (newest_first vs) low))
+    ∙ (ap (λ ws. plain_version v ∷ ws) (sym (without_lower a (versions_newest_first vs) low))
     ∙ ap (λ (x : ActionId). (let w : PlainVersion = record { holder = x; content = (plain_version v).content } in w)
-    ∷ without_version a (newest_first vs)) e)
+    ∷ without_version a (versions_newest_first vs)) e)
 
 -- if no holder is past the action and the newest isn't it, all are lower
 pub all_lower : (a : ActionId) (vs : List Version) (k : ℕ) (d : Version) → k + 1 ≡ length vs
     → is_ascending (writers vs) ≡ true → are_up_to a (writers vs) ≡ true → (get_or vs k d).holder.0 ≢ a.0
-    → list_all (λ x. ltb x.0 a.0) (holders (newest_first vs)) ≡ true
+    → list_all (λ x. ltb x.0 a.0) (holders (versions_newest_first vs)) ≡ true
 all_lower a vs k d last asc up other =
     let below : k < length vs = omega arith in
     let whole : take (k + 1) vs ≡ vs = take_all (k + 1) vs (omega arith) in
-    let top : list_all (λ x. leb x.0 a.0) (holders (newest_first (take (k + 1) vs))) ≡ true =
-    ap (λ ws. list_all (λ (x : ActionId). leb x.0 a.0) (holders (newest_first ws))) whole
+    let top : list_all (λ x. leb x.0 a.0) (holders (versions_newest_first (take (k + 1) vs))) ≡ true =
+    ap (λ ws. list_all (λ (x : ActionId). leb x.0 a.0) (holders (versions_newest_first ws))) whole
     ∙ (all_holders (λ x. leb x.0 a.0) vs ∙ up) in
-    let split : newest_first (take (k + 1) vs) ≡ plain_version (get_or vs k d) ∷ newest_first (take k vs) =
-    ap newest_first (take_more vs k d below) ∙ newest_push (take k vs) (get_or vs k d) in
+    let split : versions_newest_first (take (k + 1) vs) ≡ plain_version (get_or vs k d) ∷ versions_newest_first
+    (take k vs) =
+    ap versions_newest_first (take_more vs k d below) ∙ newest_push (take k vs) (get_or vs k d) in
     let le : leb (get_or vs k d).holder.0 a.0 ≡ true =
     (and_parts _ _ (ap (λ ws. list_all (λ (x : ActionId). leb x.0 a.0) (holders ws)) (sym split) ∙ top)).0 in
     let le' : (get_or vs k d).holder.0 ≤ a.0 = leb-true (get_or vs k d).holder.0 a.0 le in
     let lt : (get_or vs k d).holder.0 < a.0 = omega (arith, other) in
-    ap (λ ws. list_all (λ (x : ActionId). ltb x.0 a.0) (holders ws)) (ap newest_first (sym whole) ∙ split)
+    ap (λ ws. list_all (λ (x : ActionId). ltb x.0 a.0) (holders ws)) (ap versions_newest_first (sym whole) ∙ split)
     ∙ and_from _ _ (lt-ltb (get_or vs k d).holder.0 a.0 lt)
     (all_imp (λ x. ltb x.0 (get_or vs k d).holder.0) (λ x. ltb x.0 a.0)
     (λ x h. let lt' : x.0 < (get_or vs k d).holder.0 = ltb-true x.0 (get_or vs k d).holder.0 h in
-    lt-ltb x.0 a.0 (omega arith)) (holders (newest_first (take k vs))) (lower_newest vs k d asc below))
+    lt-ltb x.0 a.0 (omega arith)) (holders (versions_newest_first (take k vs))) (lower_newest vs k d asc below))
 
 -- versions handed over, from the front on
 abbrev pub handed_to : ActionId → ActionId → List PlainVersion → ℕ → List PlainVersion
-handed_to s p xs i = map (handed s p) (take i xs) ++ drop i xs
+handed_to s p xs i = map (version_inherited s p) (take i xs) ++ drop i xs
 
 map_set : (vs : List Version) (i : ℕ) (v : Version) → map plain_version (set vs i v)
     ≡ set (map plain_version vs) i (plain_version v)
@@ -287,11 +294,12 @@ map_set (w ∷ vs) (suc i) v = ap (λ ws. plain_version w ∷ ws) (map_set vs i 
 
 pub handed_more : (s p : ActionId) (xs : List PlainVersion) (now : List Version) (i : ℕ) (d v : Version) → i < length xs
     → length now ≡ length xs → map plain_version now ≡ handed_to s p xs i
-    → plain_version v ≡ handed s p (plain_version (get_or now i d))
+    → plain_version v ≡ version_inherited s p (plain_version (get_or now i d))
     → map plain_version (set now i v) ≡ handed_to s p xs (i + 1)
 handed_more s p xs now i d v below same so_far is =
-    let front : List PlainVersion = map (handed s p) (take i xs) in
-    let front_length : length front ≡ i = length-map (take i xs) (handed s p) ∙ length-take-le i xs (omega arith) in
+    let front : List PlainVersion = map (version_inherited s p) (take i xs) in
+    let front_length : length front ≡ i = length-map (take i xs) (version_inherited s p) ∙ length-take-le i xs
+    (omega arith) in
     let split : map plain_version now ≡ front ++ get_or xs i (plain_version d) ∷ drop (i + 1) xs =
     so_far ∙ ap (λ ys. front ++ ys) (drop_more xs i (plain_version d) below) in
     let here : plain_version (get_or now i d) ≡ get_or xs i (plain_version d) =
@@ -301,31 +309,34 @@ handed_more s p xs now i d v below same so_far is =
     map_set now i v
     ∙ (ap (λ ys. set ys i (plain_version v)) split
     ∙ (set_at front (get_or xs i (plain_version d)) (drop (i + 1) xs) (plain_version v) i front_length
-    ∙ (ap (λ w. front ++ w ∷ drop (i + 1) xs) (is ∙ ap (handed s p) here)
-    ∙ (sym (append_assoc front (handed s p (get_or xs i (plain_version d)) ∷ []) (drop (i + 1) xs))
-    ∙ ap (λ ys. ys ++ drop (i + 1) xs) (sym (map-append (handed s p) (take i xs) (get_or xs i (plain_version d) ∷ []))
-    ∙ ap (map (handed s p)) (sym (take_more xs i (plain_version d) below)))))))
+    ∙ (ap (λ w. front ++ w ∷ drop (i + 1) xs) (is ∙ ap (version_inherited s p) here)
+    ∙ (sym (append_assoc front (version_inherited s p (get_or xs i (plain_version d)) ∷ []) (drop (i + 1) xs))
+    ∙ ap (λ ys. ys ++ drop (i + 1) xs) (sym (map-append (version_inherited s p) (take i xs) (get_or xs i
+    (plain_version d) ∷ []))
+    ∙ ap (map (version_inherited s p)) (sym (take_more xs i (plain_version d) below)))))))
 
 pub none_lower : (a : ActionId) (vs : List Version) → length vs ≤ 0
-    → list_all (λ x. ltb x.0 a.0) (holders (newest_first vs)) ≡ true
+    → list_all (λ x. ltb x.0 a.0) (holders (versions_newest_first vs)) ≡ true
 none_lower a [] le = refl
 none_lower a (v ∷ vs) le = absurd (omega arith)
 
 -- a chain with one more on top
 pub chain_push : (t : Tree) (vs older : List Version) (v : Version) → vs ≡ older ++ v ∷ []
-    → is_chain t (holders (newest_first vs)) ≡ (list_all (λ (w : Version). is_strictly_above t w.holder v.holder) older
-    && is_chain t (holders (newest_first older)))
+    → is_chain t (holders (versions_newest_first vs)) ≡ (list_all (λ
+    (w : Version). is_strictly_above t w.holder v.holder) older
+    && is_chain t (holders (versions_newest_first older)))
 chain_push t vs older v e =
-    ap (λ ws. is_chain t (holders (newest_first ws))) e
+    ap (λ ws. is_chain t (holders (versions_newest_first ws))) e
     ∙ (ap (λ ws. is_chain t (holders ws)) (newest_push older v)
-    ∙ ap (λ b. b && is_chain t (holders (newest_first older)))
+    ∙ ap (λ b. b && is_chain t (holders (versions_newest_first older)))
     (all_versions (λ x. is_strictly_above t x v.holder) older))
 
 -- who is related to all holders, whatever their order
 pub related_versions : (t : Tree) (vs : List Version) (rs : List ActionId)
-    → list_all (is_related t (holders (newest_first vs))) rs
+    → list_all (is_related t (holders (versions_newest_first vs))) rs
     ≡ list_all (λ (x : ActionId). list_all (λ (v : Version). are_related t x v.holder) vs) rs
 related_versions t vs [] = refl
 related_versions t vs (r ∷ rs) =
-    ap (λ b. b && list_all (is_related t (holders (newest_first vs))) rs) (all_versions (λ y. are_related t r y) vs)
+    ap (λ b. b && list_all (is_related t (holders (versions_newest_first vs))) rs) (all_versions
+    (λ y. are_related t r y) vs)
     ∙ ap (λ b. list_all (λ (v : Version). are_related t r v.holder) vs && b) (related_versions t vs rs)

@@ -19,12 +19,12 @@ room_in None = 0
 room_in (Some set) = spare set
 
 -- the list of an action, empty where nothing was noted
-abbrev pub listed : Holdings → ActionId → List ObjId
-listed holdings a = keys_of (get nat_eq holdings.lists a.0)
+abbrev pub objects_held_by : Holdings → ActionId → List ObjId
+objects_held_by holdings a = keys_of (get nat_eq holdings.lists a.0)
 
 -- for how many more objects there is room in the action's list
-abbrev pub room_of : Holdings → ActionId → ℕ
-room_of holdings a = room_in (get nat_eq holdings.lists a.0)
+abbrev pub holdings_room_of : Holdings → ActionId → ℕ
+holdings_room_of holdings a = room_in (get nat_eq holdings.lists a.0)
 
 -- an object noted at the end of a list, unless it is there
 abbrev pub noted : ObjId → List ObjId → List ObjId
@@ -37,24 +37,25 @@ passed (o ∷ os) list = passed os (noted o list)
 
 -- the list of this action is another one, and all other lists stay
 abbrev pub Lists : Holdings → ActionId → List ObjId → Holdings → Type 0
-Lists old a list new = (x : ActionId) → listed new x ≡ (if x.0 == a.0 then list else listed old x)
+Lists old a list new = (x : ActionId) → objects_held_by new x ≡ (if x.0
+    == a.0 then list else objects_held_by old x)
 
 -- the parent's list takes up that of s, whose list is empty; all others stay
 abbrev pub PassedOn : Holdings → ActionId → ActionId → Holdings → Type 0
 PassedOn old s parent new =
-    (x : ActionId) → listed new x
-    ≡ (if x.0 == s.0 then [] else (if x.0 == parent.0 then passed (listed old s)
-    (listed old parent) else listed old x))
+    (x : ActionId) → objects_held_by new x
+    ≡ (if x.0 == s.0 then [] else (if x.0 == parent.0 then passed (objects_held_by old s)
+    (objects_held_by old parent) else objects_held_by old x))
 
 -- all lists stay
 abbrev pub SameLists : Holdings → Holdings → Type 0
-SameLists old new = (x : ActionId) → listed new x ≡ listed old x
+SameLists old new = (x : ActionId) → objects_held_by new x ≡ objects_held_by old x
 
 -- each list keeps at least the room that it had
 abbrev pub KeepsRooms : Holdings → Holdings → Type 0
-KeepsRooms old new = (x : ActionId) → room_of old x ≤ room_of new x
+KeepsRooms old new = (x : ActionId) → holdings_room_of old x ≤ holdings_room_of new x
 
 -- each list keeps its room but the one of this action, which may lose one place
 abbrev pub TakesOnePlace : Holdings → ActionId → Holdings → Type 0
 TakesOnePlace old a new =
-    (x : ActionId) → room_of old x ≤ room_of new x + (if x.0 == a.0 then 1 else 0)
+    (x : ActionId) → holdings_room_of old x ≤ holdings_room_of new x + (if x.0 == a.0 then 1 else 0)

@@ -1,4 +1,4 @@
 pub mod Object
 pub mod Rules
-pub mod Moves
+pub mod CellChanges
 pub mod Holdings

@@ -16,8 +16,8 @@ abbrev pub plain_version : Version → PlainVersion
 plain_version v = record { holder = v.holder; content = plain_option v.content }
 
 -- the versions of a stack, from descendant to ancestor; the program keeps the newest last
-abbrev pub newest_first : List Version → List PlainVersion
-newest_first versions = reverse (map plain_version versions)
+abbrev pub versions_newest_first : List Version → List PlainVersion
+versions_newest_first versions = reverse (map plain_version versions)
 
 -- the holders of a stack's versions, from ancestor to descendant
 abbrev pub writers : List Version → List ActionId

@@ -46,10 +46,11 @@ is_lawful tree object = is_chain tree (holders object.versions)
     && list_all (is_related tree (holders object.versions)) object.readers
 
 -- the content for an action: the version of its nearest ancestor that has one, else the base
-abbrev pub seen_by : Tree → ActionId → Option PlainContent → List PlainVersion → Option PlainContent
-seen_by tree a base [] = base
-seen_by tree a base (v ∷ older) =
-    if is_ancestor tree v.holder.0 a.0 then v.content else seen_by tree a base older
+abbrev pub visible_content : Tree → ActionId → Option PlainContent → List PlainVersion
+    → Option PlainContent
+visible_content tree a base [] = base
+visible_content tree a base (v ∷ older) =
+    if is_ancestor tree v.holder.0 a.0 then v.content else visible_content tree a base older
 
 -- each number is below all that follow
 abbrev pub is_ascending : List ActionId → Bool

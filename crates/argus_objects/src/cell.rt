@@ -7,13 +7,15 @@ ghost use Rattle.argus_actions.specs.Tree.{parent_of};
 ghost use Rattle.argus_contents.specs.Answer.{plain_answer};
 ghost use Rattle.argus_contents.specs.Change.{CreatesWithin, plain_change};
 ghost use Rattle.argus_contents.specs.Content.{KeepsLimits, plain_option};
-ghost use Rattle.argus_objects.specs.Object.{newest_first, SameLocks};
-ghost use Rattle.argus_objects.specs.Rules.{is_lawful, may_read, may_write, seen_by};
-ghost use Rattle.argus_objects.specs.Moves.{changed, newest_content, version_of};
-ghost use Rattle.argus_objects.specs.Moves.{readers_discarded, readers_inherited, with_reader};
-ghost use Rattle.argus_objects.specs.Moves.{without_reader};
-ghost use Rattle.argus_objects.specs.Moves.{versions_discarded, versions_inherited, with_version};
-ghost use Rattle.argus_objects.specs.Moves.{without_version};
+ghost use Rattle.argus_objects.specs.Object.{versions_newest_first, SameLocks};
+ghost use Rattle.argus_objects.specs.Rules.{is_lawful, may_read, may_write, visible_content};
+ghost use Rattle.argus_objects.specs.CellChanges.{changed, newest_content, version_of};
+ghost use Rattle.argus_objects.specs.CellChanges.{readers_discarded, readers_inherited};
+ghost use Rattle.argus_objects.specs.CellChanges.{with_reader};
+ghost use Rattle.argus_objects.specs.CellChanges.{without_reader};
+ghost use Rattle.argus_objects.specs.CellChanges.{versions_discarded, versions_inherited};
+ghost use Rattle.argus_objects.specs.CellChanges.{with_version};
+ghost use Rattle.argus_objects.specs.CellChanges.{without_version};
 
 use crate::changing::{change_version, content_on_top};
 use crate::readers::{add_reader, all_readers_above, discard_readers, drop_reader, inherit_reader};
@@ -52,7 +54,7 @@ impl Model for Cell {
     ghost use Rattle.std.specs.Prelude.{◌-◌, min, vec_len};
     ghost use Rattle.std.specs.Vec.{vec_capacity};
     ghost use Rattle.argus_contents.specs.Content.{plain_option};
-    ghost use Rattle.argus_objects.specs.Object.{Object, object_coded, newest_first};
+    ghost use Rattle.argus_objects.specs.Object.{Object, object_coded, versions_newest_first};
 
     ghost Value = { Object };
 
@@ -64,7 +66,7 @@ impl Model for Cell {
       base = plain_option c.base;
       readers = c.readers.items;
       versions =
-          newest_first c.versions.items;
+          versions_newest_first c.versions.items;
       room = min (vec_capacity c.readers - vec_len c.readers)
           (vec_capacity c.versions - vec_len c.versions);
     } };
@@ -103,7 +105,7 @@ impl Cell {
     /// The versions, from ancestor to descendant. Their holders are the actions that hold a write
     /// lock.
     pub fn versions(&self) -> &[Version]
-        ensures { newest_first result.now ≡ self.now.versions }
+        ensures { versions_newest_first result.now ≡ self.now.versions }
     {
         self.versions.as_slice()
     }
@@ -198,7 +200,7 @@ impl Cell {
         requires lawful { is_lawful tree.now self.old ≡ true }
         requires free { commit_refusal tree.now a.0 ≡ None }
         requires granted { may_write tree.now self.old a ≡ true }
-        requires limits { KeepsLimits (seen_by tree.now a self.old.base self.old.versions) }
+        requires limits { KeepsLimits (visible_content tree.now a self.old.base self.old.versions) }
         ensures base { self.new.base ≡ self.old.base }
         ensures readers { self.new.readers ≡ self.old.readers }
         ensures versions { OnOk result (self.new.versions
@@ -220,7 +222,7 @@ impl Cell {
     /// Condition: the read lock is free for `a`.
     pub fn visible(&self, tree: &ActionTree, a: ActionId) -> &Option<Content>
         requires { may_read tree.now self.now a ≡ true }
-        ensures nearest { plain_option result.now ≡ seen_by tree.now a self.now.base
+        ensures nearest { plain_option result.now ≡ visible_content tree.now a self.now.base
             self.now.versions }
         ensures newest { plain_option result.now ≡ newest_content self.now.base self.now.versions }
     {

@@ -4,9 +4,9 @@ ghost use Rattle.std.specs.Prelude.{◌≡◌, true, IfOk, OnErr, OnOk};
 ghost use Rattle.argus_contents.specs.Answer.{plain_answer};
 ghost use Rattle.argus_contents.specs.Change.{plain_change};
 ghost use Rattle.argus_contents.specs.Content.{KeepsLimits, plain_option};
-ghost use Rattle.argus_objects.specs.Object.{newest_first, writers};
+ghost use Rattle.argus_objects.specs.Object.{versions_newest_first, writers};
 ghost use Rattle.argus_objects.specs.Rules.{are_up_to, is_ascending};
-ghost use Rattle.argus_objects.specs.Moves.{changed_top, newest_content, with_version};
+ghost use Rattle.argus_objects.specs.CellChanges.{changed_top, newest_content, with_version};
 
 use crate::version::Version;
 use argus_actions::ActionId;
@@ -19,7 +19,7 @@ pub(crate) fn content_on_top<'a>(
     versions: &'a [Version],
 ) -> &'a Option<Content>
     ensures { plain_option result.now ≡ newest_content (plain_option base.now)
-        (newest_first versions.now) }
+        (versions_newest_first versions.now) }
 {
     match versions.last() {
         Some(newest) => &newest.content,
@@ -39,14 +39,15 @@ pub(crate) fn change_version(
     requires ascending { is_ascending (writers versions.old.items) ≡ true }
     requires newest { are_up_to a (writers versions.old.items) ≡ true }
     requires limits { KeepsLimits (newest_content (plain_option base.now)
-        (newest_first versions.old.items)) }
-    ensures versions { OnOk result (newest_first versions.new.items
+        (versions_newest_first versions.old.items)) }
+    ensures versions { OnOk result (versions_newest_first versions.new.items
         ≡ with_version a (changed_top (plain_change change) (plain_option base.now)
-        (newest_first versions.old.items)).0 (newest_first versions.old.items)) }
+        (versions_newest_first versions.old.items)).0 (versions_newest_first versions.old.items)) }
     ensures answer { IfOk result (λ answer. plain_answer answer
         ≡ (changed_top (plain_change change) (plain_option base.now)
-        (newest_first versions.old.items)).1) }
-    ensures err { OnErr result (newest_first versions.new.items ≡ newest_first versions.old.items) }
+        (versions_newest_first versions.old.items)).1) }
+    ensures err { OnErr result (versions_newest_first versions.new.items
+        ≡ versions_newest_first versions.old.items) }
 {
     let held = versions.len();
     if held > 0 && versions[held - 1].holder.0 == a.0 {

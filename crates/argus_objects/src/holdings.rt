@@ -3,8 +3,9 @@
 ghost use Rattle.std.specs.Prelude.{◌≡◌, ◌≢◌, ◌<◌, ◌≤◌, ◌==◌, [], length, OnOk};
 ghost use Rattle.std.specs.List.{IsDistinct};
 ghost use Rattle.indexmap.specs.IndexSet.{spare};
-ghost use Rattle.argus_objects.specs.Holdings.{KeepsRooms, listed, Lists, noted, passed, PassedOn};
-ghost use Rattle.argus_objects.specs.Holdings.{room_of, SameLists, TakesOnePlace};
+ghost use Rattle.argus_objects.specs.Holdings.{KeepsRooms, objects_held_by, Lists, noted, passed};
+ghost use Rattle.argus_objects.specs.Holdings.{PassedOn};
+ghost use Rattle.argus_objects.specs.Holdings.{holdings_room_of, SameLists, TakesOnePlace};
 
 use argus_actions::ActionId;
 use argus_contents::ObjId;
@@ -63,7 +64,7 @@ pub struct Holdings {
 impl Holdings {
     /// Holdings in which nothing was noted. It takes no memory.
     pub fn new(heap: Heap) -> Holdings
-        ensures { (x : ActionId) → listed result x ≡ [] }
+        ensures { (x : ActionId) → objects_held_by result x ≡ [] }
     {
         Holdings {
             heap,
@@ -73,7 +74,7 @@ impl Holdings {
 
     /// The objects of the action's list; none where nothing was noted.
     pub fn of(&self, a: ActionId) -> &[ObjId]
-        ensures list { result.now ≡ listed self.now a }
+        ensures list { result.now ≡ objects_held_by self.now a }
         ensures once { IsDistinct (λ x y. x.0 == y.0) result.now }
     {
         match self.lists.get(&a.0) {
@@ -86,7 +87,7 @@ impl Holdings {
     /// before, and all room that was there stays.
     pub fn reserve(&mut self, a: ActionId) -> Result<(), OutOfMemory>
         ensures same { SameLists self.old self.new }
-        ensures ok { OnOk result (0 < room_of self.new a) }
+        ensures ok { OnOk result (0 < holdings_room_of self.new a) }
         ensures rooms { KeepsRooms self.old self.new }
     {
         self.reserve_for(a, 1)
@@ -97,8 +98,8 @@ impl Holdings {
     ///
     /// Condition: the list has room, as `reserve` makes it.
     pub fn note(&mut self, a: ActionId, o: ObjId)
-        requires { 0 < room_of self.old a }
-        ensures list { Lists self.old a (noted o (listed self.old a)) self.new }
+        requires { 0 < holdings_room_of self.old a }
+        ensures list { Lists self.old a (noted o (objects_held_by self.old a)) self.new }
         ensures rooms { TakesOnePlace self.old a self.new }
     {
         if let Some(objects) = self.lists.get_mut(&a.0) {
@@ -110,7 +111,8 @@ impl Holdings {
     /// before, and all room that was there stays.
     pub fn reserve_pass(&mut self, s: ActionId, parent: ActionId) -> Result<(), OutOfMemory>
         ensures same { SameLists self.old self.new }
-        ensures ok { OnOk result (length (listed self.new s) ≤ room_of self.new parent) }
+        ensures ok { OnOk result (length (objects_held_by self.new s) ≤ holdings_room_of self.new
+            parent) }
         ensures rooms { KeepsRooms self.old self.new }
     {
         let count = self.of(s).len();
@@ -126,7 +128,7 @@ impl Holdings {
     /// Condition: the two are different actions, and the parent's list has room for all of them, as
     /// `reserve_pass` makes it.
     pub fn pass(&mut self, s: ActionId, parent: ActionId)
-        requires room { length (listed self.old s) ≤ room_of self.old parent }
+        requires room { length (objects_held_by self.old s) ≤ holdings_room_of self.old parent }
         requires other { s.0 ≢ parent.0 }
         ensures { PassedOn self.old s parent self.new }
     {
@@ -147,7 +149,7 @@ impl Holdings {
     // Makes room for so many more objects in the action's list.
     fn reserve_for(&mut self, a: ActionId, additional: usize) -> Result<(), OutOfMemory>
         ensures same { SameLists self.old self.new }
-        ensures ok { OnOk result (additional ≤ room_of self.new a) }
+        ensures ok { OnOk result (additional ≤ holdings_room_of self.new a) }
         ensures rooms { KeepsRooms self.old self.new }
     {
         if let Some(objects) = self.lists.get_mut(&a.0) {

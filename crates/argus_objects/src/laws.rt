@@ -8,10 +8,12 @@ ghost use Rattle.argus_actions.specs.Tree.{Tree, after_begin, after_commit, afte
 ghost use Rattle.argus_actions.specs.Tree.{after_abort_others};
 ghost use Rattle.argus_objects.specs.Object.{Object, PlainVersion};
 ghost use Rattle.argus_objects.specs.Rules.{is_lawful, may_read, may_write, KeepsAncestors};
-ghost use Rattle.argus_objects.specs.Moves.{is_reader, has_version, version_of, is_handed};
-ghost use Rattle.argus_objects.specs.Moves.{readers_inherited, versions_inherited};
-ghost use Rattle.argus_objects.specs.Moves.{readers_discarded, versions_discarded, readers_left};
-ghost use Rattle.argus_objects.specs.Moves.{versions_left};
+ghost use Rattle.argus_objects.specs.CellChanges.{is_reader, has_version, version_of};
+ghost use Rattle.argus_objects.specs.CellChanges.{is_holder_inherited};
+ghost use Rattle.argus_objects.specs.CellChanges.{readers_inherited, versions_inherited};
+ghost use Rattle.argus_objects.specs.CellChanges.{readers_discarded, versions_discarded};
+ghost use Rattle.argus_objects.specs.CellChanges.{readers_left};
+ghost use Rattle.argus_objects.specs.CellChanges.{versions_left};
 
 /// Who is an ancestor of whom stays so, whatever begins or ends.
 pub fn ancestors_stay()
@@ -37,10 +39,10 @@ pub fn lawful_stays()
 pub fn members_after_inherit()
     ensures readers { (s parent x : ActionId) (readers : List ActionId) → s.0 ≢ parent.0
         → is_reader x (readers_inherited s parent readers)
-        ≡ is_handed s parent x (is_reader x readers) (is_reader s readers) }
+        ≡ is_holder_inherited s parent x (is_reader x readers) (is_reader s readers) }
     ensures versions { (s parent x : ActionId) (versions : List PlainVersion) → s.0 ≢ parent.0
         → has_version x (versions_inherited s parent versions)
-        ≡ is_handed s parent x (has_version x versions) (has_version s versions) }
+        ≡ is_holder_inherited s parent x (has_version x versions) (has_version s versions) }
     ensures content { (s parent : ActionId) (versions : List PlainVersion) → s.0 ≢ parent.0
         → has_version s versions ≡ true
         → version_of parent (versions_inherited s parent versions) ≡ version_of s versions }

@@ -3,8 +3,8 @@
 ghost use Rattle.std.specs.Prelude.{◌≡◌, ◌<◌, true, vec_len};
 ghost use Rattle.std.specs.Vec.{vec_capacity};
 ghost use Rattle.argus_objects.specs.Rules.{all_above, is_ascending};
-ghost use Rattle.argus_objects.specs.Moves.{is_reader, with_reader, without_reader};
-ghost use Rattle.argus_objects.specs.Moves.{readers_inherited, readers_discarded};
+ghost use Rattle.argus_objects.specs.CellChanges.{is_reader, with_reader, without_reader};
+ghost use Rattle.argus_objects.specs.CellChanges.{readers_inherited, readers_discarded};
 
 use argus_actions::{ActionId, ActionTree};
 use argus_memory::Room;

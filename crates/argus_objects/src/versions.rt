@@ -5,11 +5,13 @@ ghost use Rattle.std.specs.List.{list_all, list_any};
 ghost use Rattle.std.specs.Option.{option_map, unwrap_or};
 ghost use Rattle.std.specs.Vec.{vec_capacity};
 ghost use Rattle.argus_contents.specs.Content.{plain_option};
-ghost use Rattle.argus_objects.specs.Object.{holders, newest_first, plain_version, writers};
+ghost use Rattle.argus_objects.specs.Object.{holders, versions_newest_first, plain_version};
+ghost use Rattle.argus_objects.specs.Object.{writers};
 ghost use Rattle.argus_objects.specs.Rules.{all_above, are_related, are_up_to, is_ascending};
 ghost use Rattle.argus_objects.specs.Rules.{is_chain, is_strictly_above};
-ghost use Rattle.argus_objects.specs.Moves.{handed, version_of, with_version, without_version};
-ghost use Rattle.argus_objects.specs.Moves.{versions_inherited, versions_discarded};
+ghost use Rattle.argus_objects.specs.CellChanges.{version_inherited, version_of, with_version};
+ghost use Rattle.argus_objects.specs.CellChanges.{without_version};
+ghost use Rattle.argus_objects.specs.CellChanges.{versions_inherited, versions_discarded};
 
 use crate::version::Version;
 use argus_actions::{ActionId, ActionTree};
@@ -26,7 +28,7 @@ pub(crate) fn has_version(versions: &[Version], a: ActionId) -> bool
 /// costs no more than the depth of `a`.
 pub(crate) fn all_writers_above(versions: &[Version], tree: &ActionTree, a: ActionId) -> bool
     requires { is_ascending (writers versions.now) ≡ true }
-    ensures { result ≡ all_above tree.now a (holders (newest_first versions.now)) }
+    ensures { result ≡ all_above tree.now a (holders (versions_newest_first versions.now)) }
 {
     let mut at = a;
     let mut left = versions.len();
@@ -50,7 +52,7 @@ fn is_below_all(versions: &[Version], tree: &ActionTree, a: ActionId) -> bool
 
 /// Whether each holder is another action than those before it, and below them all.
 pub(crate) fn are_chained(versions: &[Version], tree: &ActionTree) -> bool
-    ensures { result ≡ is_chain tree.now (holders (newest_first versions.now)) }
+    ensures { result ≡ is_chain tree.now (holders (versions_newest_first versions.now)) }
 {
     match versions.split_last() {
         None => true,
@@ -84,8 +86,8 @@ pub(crate) fn put_version(versions: &mut Vec<Version, Room>, a: ActionId, conten
     requires room { vec_len versions.old < vec_capacity versions.old }
     requires ascending { is_ascending (writers versions.old.items) ≡ true }
     requires newest { are_up_to a (writers versions.old.items) ≡ true }
-    ensures { newest_first versions.new.items ≡ with_version a (plain_option content)
-        (newest_first versions.old.items) }
+    ensures { versions_newest_first versions.new.items ≡ with_version a (plain_option content)
+        (versions_newest_first versions.old.items) }
 {
     let held = versions.len();
     if held > 0 && versions[held - 1].holder.0 == a.0 {
@@ -99,9 +101,9 @@ pub(crate) fn put_version(versions: &mut Vec<Version, Room>, a: ActionId, conten
 fn take_version(versions: &mut Vec<Version, Room>, t: ActionId) -> Option<Option<Content>>
     requires { is_ascending (writers versions.old.items) ≡ true }
     ensures content { option_map plain_option result
-        ≡ version_of t (newest_first versions.old.items) }
-    ensures versions { newest_first versions.new.items
-        ≡ without_version t (newest_first versions.old.items) }
+        ≡ version_of t (versions_newest_first versions.old.items) }
+    ensures versions { versions_newest_first versions.new.items
+        ≡ without_version t (versions_newest_first versions.old.items) }
 {
     let mut at = versions.len();
     while at > 0 {
@@ -121,9 +123,9 @@ pub(crate) fn settle_version(
 )
     requires { is_ascending (writers versions.old.items) ≡ true }
     ensures base { plain_option base.new ≡ unwrap_or
-        (version_of t (newest_first versions.old.items)) (plain_option base.old) }
-    ensures versions { newest_first versions.new.items
-        ≡ without_version t (newest_first versions.old.items) }
+        (version_of t (versions_newest_first versions.old.items)) (plain_option base.old) }
+    ensures versions { versions_newest_first versions.new.items
+        ≡ without_version t (versions_newest_first versions.old.items) }
 {
     if let Some(content) = take_version(versions, t) {
         *base = content;
@@ -131,15 +133,15 @@ pub(crate) fn settle_version(
 }
 
 fn drop_version(versions: &mut Vec<Version, Room>, a: ActionId)
-    ensures { newest_first versions.new.items ≡ without_version a
-        (newest_first versions.old.items) }
+    ensures { versions_newest_first versions.new.items ≡ without_version a
+        (versions_newest_first versions.old.items) }
 {
     versions.retain(|version| version.holder != a);
 }
 
 // Makes versions of `s` those of the parent.
-fn hand_over(versions: &mut [Version], s: ActionId, parent: ActionId)
-    ensures { map plain_version versions.new ≡ map (handed s parent)
+fn inherit_holder(versions: &mut [Version], s: ActionId, parent: ActionId)
+    ensures { map plain_version versions.new ≡ map (version_inherited s parent)
         (map plain_version versions.old) }
 {
     for version in versions.iter_mut() {
@@ -151,18 +153,18 @@ fn hand_over(versions: &mut [Version], s: ActionId, parent: ActionId)
 
 /// Makes the version of `s`, if it has one, the parent's only one.
 pub(crate) fn inherit_version(versions: &mut Vec<Version, Room>, s: ActionId, parent: ActionId)
-    ensures { newest_first versions.new.items ≡ versions_inherited s parent
-        (newest_first versions.old.items) }
+    ensures { versions_newest_first versions.new.items ≡ versions_inherited s parent
+        (versions_newest_first versions.old.items) }
 {
     if has_version(versions.as_slice(), s) {
         drop_version(versions, parent);
-        hand_over(versions.as_mut_slice(), s, parent);
+        inherit_holder(versions.as_mut_slice(), s, parent);
     }
 }
 
 pub(crate) fn discard_versions(versions: &mut Vec<Version, Room>, tree: &ActionTree, a: ActionId)
-    ensures { newest_first versions.new.items ≡ versions_discarded tree.now a
-        (newest_first versions.old.items) }
+    ensures { versions_newest_first versions.new.items ≡ versions_discarded tree.now a
+        (versions_newest_first versions.old.items) }
 {
     versions.retain(|version| !tree.is_ancestor(a, version.holder));
 }

@@ -2,14 +2,14 @@
 
 ghost use Rattle.std.specs.Prelude.{◌≡◌, false, true, IfErr};
 ghost use Rattle.argus_frame.specs.declared.draw_error.DrawError.TheVariants as DrawError;
-ghost use Rattle.argus_streams.specs.Watched.{has_failed};
+ghost use Rattle.argus_streams.specs.FailStop.{has_failed};
 
 use crate::limits::MAX_BYTES;
 use crate::picture_error::PictureError;
 use crate::picturing::picture;
 use argus_frame::DrawError;
 use argus_memory::Heap;
-use argus_streams::{InputError, Watched, read_up_to, write_whole};
+use argus_streams::{FailStop, InputError, read_up_to, write_whole};
 use std::io::{Read, Write};
 
 /// Reads a journal's listing, up to 67,108,865 bytes, and writes its picture whole.
@@ -17,12 +17,12 @@ use std::io::{Read, Write};
 /// [`DrawError`]'s table says which error comes when. A stream that failed isn't tried again.
 ///
 /// ```text
-/// draw(heap, &mut Watched::new(rt.stdin()), &mut Watched::new(rt.stdout()))?;
+/// draw(heap, &mut FailStop::new(rt.stdin()), &mut FailStop::new(rt.stdout()))?;
 /// ```
 pub fn draw<R: Read + Drop, W: Write + Drop>(
     heap: Heap,
-    reader: &mut Watched<R>,
-    writer: &mut Watched<W>,
+    reader: &mut FailStop<R>,
+    writer: &mut FailStop<W>,
 ) -> Result<(), DrawError>
     requires reader { has_failed reader.old ≡ false }
     requires writer { has_failed writer.old ≡ false }

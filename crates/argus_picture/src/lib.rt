@@ -12,7 +12,7 @@ mod change_reading;
 mod drawing;
 mod escaping;
 mod fate;
-mod hold;
+mod held_lock;
 mod legend;
 mod life;
 mod limits;
@@ -33,7 +33,8 @@ mod settling;
 mod taking;
 mod write;
 
-pub use argus_frame::{DrawError, FaultKind, ListingFault};
+pub use argus_frame::{DrawError, ListingFault, ListingFaultKind};
+pub use argus_streams::FailStop;
 pub use drawing::draw;
 pub use picture_error::PictureError;
 pub use picturing::picture;

@@ -1,6 +1,6 @@
 //! `LineError`: why a line was not taken.
 
-use argus_frame::FaultKind;
+use argus_frame::ListingFaultKind;
 use argus_memory::OutOfMemory;
 use argus_texts::ReadError;
 use std::alloc::{AllocError, AllocFailed};
@@ -9,11 +9,11 @@ use std::alloc::{AllocError, AllocFailed};
 #[derive(Clone, Copy)]
 pub(crate) enum LineError {
     OutOfMemory,
-    Fault(FaultKind),
+    Fault(ListingFaultKind),
 }
 
-impl From<FaultKind> for LineError {
-    fn from(kind: FaultKind) -> LineError {
+impl From<ListingFaultKind> for LineError {
+    fn from(kind: ListingFaultKind) -> LineError {
         LineError::Fault(kind)
     }
 }
@@ -33,7 +33,7 @@ impl From<AllocError> for LineError {
 impl From<ReadError> for LineError {
     fn from(error: ReadError) -> LineError {
         match error {
-            ReadError::Fault(_) => LineError::Fault(FaultKind::BadWord),
+            ReadError::Fault(_) => LineError::Fault(ListingFaultKind::BadWord),
             ReadError::Memory => LineError::OutOfMemory,
         }
     }

@@ -5,7 +5,7 @@ ghost use Rattle.argus_contents.specs.Content.{KeepsLimits, plain_option};
 
 use crate::line_error::LineError;
 use argus_contents::{Change, Content, Shape, alter_in_place, change_fits, fits};
-use argus_frame::FaultKind;
+use argus_frame::ListingFaultKind;
 use argus_memory::{Heap, Room};
 use argus_texts::{read_content, read_shape, write_content};
 
@@ -25,7 +25,7 @@ pub(crate) fn object_told<'a>(
     content: &str,
     line: &'a str,
 ) -> Result<Object<'a>, LineError> {
-    let shape = read_shape(heap, shape_text)?.ok_or(FaultKind::BadWord)?;
+    let shape = read_shape(heap, shape_text)?.ok_or(ListingFaultKind::BadWord)?;
     let base = if content == "absent" {
         None
     } else {
@@ -57,7 +57,7 @@ pub(crate) fn make_for_good(
     change: Change,
 ) -> Result<(), LineError> {
     if !change_fits(shape, declared, &change) || !base_fits(shape, base, declared) {
-        return Err(LineError::Fault(FaultKind::Unlawful));
+        return Err(LineError::Fault(ListingFaultKind::Unlawful));
     }
     alter_in_place(base, change)?;
     Ok(())

@@ -2,7 +2,7 @@
 
 use crate::action_drawing::room_for;
 use crate::escaping::{append_escaped, append_shortened, open_group};
-use crate::hold::Hold;
+use crate::held_lock::HeldLock;
 use crate::limits::{MAX_CONTENT_LETTERS, MAX_LANES, MAX_SHAPE_LETTERS, MAX_TITLE_LETTERS};
 use crate::object::Object;
 use crate::run::Run;
@@ -71,7 +71,7 @@ fn draw_holds(run: &Run<'_>, frame: &Frame, out: &mut String<Room>) -> Result<()
 
 fn draw_hold(
     frame: &Frame,
-    hold: &Hold<'_>,
+    hold: &HeldLock<'_>,
     y: u64,
     number: u64,
     out: &mut String<Room>,

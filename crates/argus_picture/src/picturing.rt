@@ -7,7 +7,7 @@ use crate::line_error::LineError;
 use crate::object_drawing::draw_objects;
 use crate::picture_error::PictureError;
 use crate::run::Run;
-use argus_frame::{FaultKind, Frame, ListingFault, Step, entry_left, height, width};
+use argus_frame::{EntrySpacing, Frame, ListingFault, ListingFaultKind, entry_left, height, width};
 use argus_memory::{Heap, OutOfMemory, Room};
 use std::fmt::Write;
 use std::str::from_utf8;
@@ -31,19 +31,19 @@ pub fn picture(heap: Heap, listing: &[u8]) -> Result<String<Room>, PictureError>
 // The listing as a text.
 fn text_of(listing: &[u8]) -> Result<&str, PictureError> {
     if listing.len() > MAX_BYTES {
-        return Err(fault_at(1, FaultKind::TooLong));
+        return Err(fault_at(1, ListingFaultKind::TooLong));
     }
     match from_utf8(listing) {
         Ok(text) => Ok(text),
         Err(error) => {
             let front = listing.get(..error.valid_up_to()).unwrap_or(b"");
             let feeds = front.iter().filter(|byte| **byte == b'\n').count() as u64;
-            Err(fault_at(feeds.saturating_add(1), FaultKind::BadWord))
+            Err(fault_at(feeds.saturating_add(1), ListingFaultKind::BadWord))
         }
     }
 }
 
-fn fault_at(line: u64, kind: FaultKind) -> PictureError {
+fn fault_at(line: u64, kind: ListingFaultKind) -> PictureError {
     PictureError::Fault(ListingFault { line, kind })
 }
 
@@ -96,7 +96,7 @@ fn frame_of(run: &Run<'_>) -> Frame {
         lanes = run.objects.len() as u32;
     }
     Frame {
-        step: Step::for_entries(run.entries),
+        step: EntrySpacing::for_entries(run.entries),
         entries: run.entries,
         rows,
         lanes,

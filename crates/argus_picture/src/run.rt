@@ -1,7 +1,7 @@
 //! `Run`: what a listing tells, as a picture shows it.
 
 use crate::action::Action;
-use crate::hold::Hold;
+use crate::held_lock::HeldLock;
 use crate::limits::{MAX_ROWS, MAX_STRIPS};
 use crate::object::Object;
 use crate::refused_call::RefusedCall;
@@ -18,7 +18,7 @@ pub(crate) struct Run<'a> {
     pub entries: u32,
     pub actions: Vec<Action<'a>, Room>,
     pub objects: Vec<Object<'a>, Room>,
-    pub holds: Vec<Hold<'a>, Room>,
+    pub holds: Vec<HeldLock<'a>, Room>,
     pub refused: Vec<RefusedCall<'a>, Room>,
     pub settlings: Vec<Settling<'a>, Room>,
     pub writes: Vec<Write, Room>,

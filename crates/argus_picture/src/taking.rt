@@ -3,7 +3,7 @@
 use crate::action::Action;
 use crate::call::Call;
 use crate::fate::Fate;
-use crate::hold::Hold;
+use crate::held_lock::HeldLock;
 use crate::limits::MAX_ENTRIES;
 use crate::line::Line;
 use crate::line_error::LineError;
@@ -13,14 +13,14 @@ use crate::origin::Origin;
 use crate::refused_call::RefusedCall;
 use crate::reply::Reply;
 use crate::run::Run;
-use argus_frame::FaultKind;
+use argus_frame::ListingFaultKind;
 use argus_memory::{Heap, Room};
 
 impl<'a> Run<'a> {
     /// One more line.
     pub(crate) fn take(&mut self, heap: Heap, line: &'a str) -> Result<(), LineError> {
         match read_line(line) {
-            None => Err(LineError::Fault(FaultKind::BadWord)),
+            None => Err(LineError::Fault(ListingFaultKind::BadWord)),
             Some(Line::Folded { entries, actions }) => self.take_folded(entries, actions),
             Some(
                 Line::Opened {
@@ -29,7 +29,7 @@ impl<'a> Run<'a> {
                     content,
                 },
             ) if self.entries == 0 => self.declare(heap, object, shape, content, line),
-            Some(Line::Opened { .. }) => Err(LineError::Fault(FaultKind::Misplaced)),
+            Some(Line::Opened { .. }) => Err(LineError::Fault(ListingFaultKind::Misplaced)),
             Some(
                 Line::Entry {
                     number,
@@ -42,7 +42,7 @@ impl<'a> Run<'a> {
 
     fn take_folded(&mut self, entries: u64, actions: u32) -> Result<(), LineError> {
         if self.entries != 0 || self.first_entry != 0 || !self.objects.is_empty() {
-            return Err(LineError::Fault(FaultKind::Misplaced));
+            return Err(LineError::Fault(ListingFaultKind::Misplaced));
         }
         self.first_entry = entries;
         self.first_action = actions;
@@ -58,10 +58,10 @@ impl<'a> Run<'a> {
         line: &'a str,
     ) -> Result<(), LineError> {
         if self.entries >= MAX_ENTRIES {
-            return Err(LineError::Fault(FaultKind::TooLong));
+            return Err(LineError::Fault(ListingFaultKind::TooLong));
         }
         if number.checked_sub(self.first_entry) != Some(u64::from(self.entries)) {
-            return Err(LineError::Fault(FaultKind::BadNumber));
+            return Err(LineError::Fault(ListingFaultKind::BadNumber));
         }
         match reply {
             Reply::Refused(why) => self.take_refused(call, why, line)?,
@@ -82,7 +82,7 @@ impl<'a> Run<'a> {
         let caller = self.caller_place(call)?;
         match (call, caller) {
             (Call::Declare(shape), _) => {
-                let object = object_in(answer).ok_or(FaultKind::BadWord)?;
+                let object = object_in(answer).ok_or(ListingFaultKind::BadWord)?;
                 self.declare(heap, object, shape, "absent", line)
             }
             (Call::BeginTop, _) => self.begin(Origin::Top, answer, line),
@@ -98,7 +98,7 @@ impl<'a> Run<'a> {
                     None => Ok(()),
                 }
             }
-            (_, None) => Err(LineError::Fault(FaultKind::Unlawful)),
+            (_, None) => Err(LineError::Fault(ListingFaultKind::Unlawful)),
         }
     }
 
@@ -108,7 +108,7 @@ impl<'a> Run<'a> {
             None => Ok(None),
             Some(number) => match self.live_place(number) {
                 Some(place) => Ok(Some(place)),
-                None => Err(LineError::Fault(FaultKind::Unlawful)),
+                None => Err(LineError::Fault(ListingFaultKind::Unlawful)),
             },
         }
     }
@@ -123,7 +123,7 @@ impl<'a> Run<'a> {
         line: &'a str,
     ) -> Result<(), LineError> {
         if object != self.objects.len() {
-            return Err(LineError::Fault(FaultKind::BadNumber));
+            return Err(LineError::Fault(ListingFaultKind::BadNumber));
         }
         self.objects.push(object_told(heap, shape, content, line)?)?;
         Ok(())
@@ -131,12 +131,12 @@ impl<'a> Run<'a> {
 
     // One more action, which has the next number, in the first row that is free below its creator.
     fn begin(&mut self, origin: Origin, answer: &str, line: &'a str) -> Result<(), LineError> {
-        let number = action_in(answer).ok_or(FaultKind::BadWord)?;
+        let number = action_in(answer).ok_or(ListingFaultKind::BadWord)?;
         let place = number
             .checked_sub(self.first_action)
-            .ok_or(FaultKind::BadNumber)?;
+            .ok_or(ListingFaultKind::BadNumber)?;
         if place as usize != self.actions.len() {
-            return Err(LineError::Fault(FaultKind::BadNumber));
+            return Err(LineError::Fault(ListingFaultKind::BadNumber));
         }
         let row = match origin.creator() {
             None => self.free_row(0),
@@ -166,13 +166,13 @@ impl<'a> Run<'a> {
         line: &'a str,
     ) -> Result<(), LineError> {
         if object >= self.objects.len() {
-            return Err(LineError::Fault(FaultKind::Unlawful));
+            return Err(LineError::Fault(ListingFaultKind::Unlawful));
         }
         if self.has_lock(place, object, writes) {
             return Ok(());
         }
         let strip = self.free_strip(object);
-        self.holds.push(Hold {
+        self.holds.push(HeldLock {
             action: place,
             object,
             writes,
@@ -214,7 +214,7 @@ impl<'a> Run<'a> {
     // The action commits: its parent gets its locks, and without one they are let go.
     fn commit(&mut self, heap: Heap, place: usize, line: &'a str) -> Result<(), LineError> {
         if self.has_live_child(place) {
-            return Err(LineError::Fault(FaultKind::Unlawful));
+            return Err(LineError::Fault(ListingFaultKind::Unlawful));
         }
         let parent = match self.action(Some(place)) {
             Some(action) => action.origin.parent(),

@@ -10,7 +10,7 @@ use Rattle.argus_entries.specs.Decided.{entry_decided}
 use Rattle.argus_entries.specs.Entry.{PlainEntry}
 use Rattle.argus_journal.specs.Journal.{entry_at}
 use Rattle.argus_journal.specs.Opening.{Opening}
-use Rattle.argus_receipts.specs.Checking.{AreApart, IsFault, Stands, first_fault, is_entry, receipt_fault}
+use Rattle.argus_receipts.specs.Checking.{AreApart, IsSettleAnswer, Stands, first_fault, is_entry, receipt_fault}
 use Rattle.argus_receipts.specs.Receipt.{PlainReceipt, plain_receipt}
 use Rattle.argus_receipts.specs.declared.receipt.Receipt.{Receipt}
 use Rattle.argus_receipts.specs.declared.settle_fault.SettleFault.{SettleFault}
@@ -85,8 +85,8 @@ pub fine_apart : (s : Opening) (j : List PlainEntry) (rs : List PlainReceipt)
 fine_apart s j rs e = (fine_new s j [] rs e).1
 
 -- a fault of one receipt is the first of the list that it heads
-pub fault_first : (found rest : Option SettleFault) (f : SettleFault) → IsFault found f
-    → IsFault (option_or found rest) f
+pub fault_first : (found rest : Option SettleFault) (f : SettleFault) → IsSettleAnswer found f
+    → IsSettleAnswer (option_or found rest) f
 fault_first found rest fault.OutOfMemory h = tt
 fault_first found rest (fault.NotThere at) h = ap (λ x. option_or x rest) h
 fault_first found rest (fault.Twice at) h = ap (λ x. option_or x rest) h
@@ -117,8 +117,8 @@ module _ (s : Opening) (j : List PlainEntry) (all : List Receipt) where
       ∙ ap (λ x. first_fault s j x (map plain_receipt (drop (suc i) all))) (sym n)
 
   pub fault_at : (earlier : List ℕ) (i : ℕ) (r : Receipt) (f : SettleFault) → i < length all → r ≡ get_or all i r
-      → FaultFrom earlier i → IsFault (receipt_fault s j earlier (plain_receipt r)) f
-      → IsFault (first_fault s j [] (map plain_receipt all)) f
+      → FaultFrom earlier i → IsSettleAnswer (receipt_fault s j earlier (plain_receipt r)) f
+      → IsSettleAnswer (first_fault s j [] (map plain_receipt all)) f
   fault_at earlier i r f b e h p = rw (first_at earlier i r b e h) (fault_first
       (receipt_fault s j earlier (plain_receipt r))
       (first_fault s j (earlier ++ r.at ∷ []) (map plain_receipt (drop (suc i) all))) f p)

@@ -56,6 +56,6 @@ settle_fault s j start made receipts =
     option_or (first_fault s j [] receipts) (count_fault (entries_since start s j) made)
 
 -- what is answered where this is the first fault: it, or want of memory
-abbrev pub IsFault : Option SettleFault → SettleFault → Type 0
-IsFault found fault.OutOfMemory = Unit {0}
-IsFault found f = found ≡ Some f
+abbrev pub IsSettleAnswer : Option SettleFault → SettleFault → Type 0
+IsSettleAnswer found fault.OutOfMemory = Unit {0}
+IsSettleAnswer found f = found ≡ Some f

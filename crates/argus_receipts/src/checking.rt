@@ -8,7 +8,7 @@ ghost use Rattle.argus_entries.specs.Reply.{plain_reply};
 ghost use Rattle.argus_entries.specs.Same.{same_call, same_entry, same_reply};
 ghost use Rattle.argus_journal.specs.Folding.{next_entry_number};
 ghost use Rattle.argus_journal.specs.Journal.{entries_of, entry_at, opening_of};
-ghost use Rattle.argus_receipts.specs.Checking.{AreApart, IsFault, Stands, entries_since};
+ghost use Rattle.argus_receipts.specs.Checking.{AreApart, IsSettleAnswer, Stands, entries_since};
 ghost use Rattle.argus_receipts.specs.Checking.{first_fault, is_entry, receipt_fault};
 ghost use Rattle.argus_receipts.specs.Checking.{settle_fault};
 ghost use Rattle.argus_receipts.specs.Receipt.{plain_receipt};
@@ -50,7 +50,7 @@ pub fn check(
     ensures apart { OnOk result (AreApart (map plain_receipt receipts.now)) }
     ensures count { OnOk result
         (entries_since start (opening_of journal.now) (entries_of journal.now) ≡ made) }
-    ensures fault { IfErr result (IsFault
+    ensures fault { IfErr result (IsSettleAnswer
         (settle_fault (opening_of journal.now) (entries_of journal.now) start made
         (map plain_receipt receipts.now))) }
 {
@@ -79,7 +79,7 @@ fn room_for(heap: Heap, count: usize) -> Result<Numbers, OutOfMemory>
 fn check_receipts(heap: Heap, journal: &Journal, receipts: &[Receipt]) -> Result<(), SettleFault>
     ensures ok { OnOk result (first_fault (opening_of journal.now) (entries_of journal.now) []
         (map plain_receipt receipts.now) ≡ None) }
-    ensures err { IfErr result (IsFault (first_fault (opening_of journal.now)
+    ensures err { IfErr result (IsSettleAnswer (first_fault (opening_of journal.now)
         (entries_of journal.now) [] (map plain_receipt receipts.now))) }
 {
     if receipts.is_empty() {
@@ -102,7 +102,7 @@ fn check_receipt(
         earlier.old.keys (plain_receipt receipt.now) ≡ None) }
     ensures added { OnOk result
         (earlier.new.keys ≡ earlier.old.keys ++ (plain_receipt receipt.now).at ∷ []) }
-    ensures err { IfErr result (IsFault (receipt_fault (opening_of journal.now)
+    ensures err { IfErr result (IsSettleAnswer (receipt_fault (opening_of journal.now)
         (entries_of journal.now) earlier.old.keys (plain_receipt receipt.now))) }
 {
     if receipt.at < journal.first_entry() {

@@ -8,7 +8,8 @@ use thiserror::Error;
 ///
 /// | Fault | When | Text |
 /// |---|---|---|
-/// | `NotThere` | the entry of this number isn't the receipt's | `entry 3 is not that of the receipt` |
+/// | `NotThere` | the entry of this number isn't the receipt's | `entry 3 is not that of the
+/// receipt` |
 /// | `Twice` | an earlier receipt has this number | `entry 3 has two receipts` |
 /// | `Count` | as many calls weren't made as entries came | `5 entries, and 4 calls of the seats` |
 /// | `Folded` | a checkpoint has forgotten the entry | `entry 3 was folded` |

@@ -1,15 +1,15 @@
 -- The line of the entry that was just made.
-use Rattle.std.proofs.Common.{List, None, Option, Some, [], ap, arith, false, get_or, length, nat_lt, slice_get, subst}
-use Rattle.std.proofs.Common.{sym}
-use Rattle.std.proofs.Common.{take, ℕ, ◌+◌, ◌-◌, ◌<◌, ◌∙◌, ◌∷◌, ◌≡◌}
+use Rattle.std.proofs.Common.{List, None, Option, Some, [], ap, arith, false, get_or, length}
+use Rattle.std.proofs.Common.{nat_lt, slice_get, subst, sym, take, ℕ, ◌+◌, ◌-◌, ◌<◌, ◌∙◌, ◌∷◌, ◌≡◌}
 use Rattle.std.proofs.lemmas.List.{append-nil, get_or-reverse, length-reverse}
 use Rattle.std.proofs.lemmas.Option.{slice_get-get_or}
 use Rattle.std.specs.Io.KnownBytes.{Appends}
 use Rattle.std.specs.Prelude.{if◌then◌else◌, reverse}
 use Rattle.argus_entries.specs.Call.{PlainCall}
 use Rattle.argus_entries.specs.Entry.{PlainEntry}
-use Rattle.argus_steps.specs.Step.{Said, after, entry_of}
-use Rattle.argus_runs.specs.Lines.{Lacking, Written, line_at, line_if, line_of, next_number}
+use Rattle.argus_journal.specs.JournalView.{JournalView, after, entry_of, next_entry}
+use Rattle.argus_runs.specs.Lines.{Lacking, Written, line_at, line_if}
+use Rattle.argus_entries.specs.EntrySpelling.{entry_line}
 
 newest : (e : PlainEntry) (older : List PlainEntry) → slice_get (reverse (e ∷ older)) (length older) ≡ Some e
 newest e older =
@@ -28,26 +28,27 @@ found first e older =
     let at : (first + length older) - first ≡ length older = omega arith in
     rw past (ap (λ k. slice_get (reverse (e ∷ older)) k) at ∙ newest e older)
 
-last-line : (j : Said) (c : PlainCall) → line_at (after j c) (next_number j) ≡ line_of (next_number j) (entry_of j c)
-last-line j c = ap (line_if (next_number j)) (found j.opening.first_entry (entry_of j c) j.entries)
+last-line : (j : JournalView) (c : PlainCall) → line_at (after j c) (next_entry j) ≡ entry_line (next_entry j)
+    (entry_of j c)
+last-line j c = ap (line_if (next_entry j)) (found j.opening.first_entry (entry_of j c) j.entries)
 
-line_made : (j k : Said) (c : PlainCall) (at : ℕ) → k ≡ after j c → at ≡ next_number j
-    → line_at k at ≡ line_of (next_number j) (entry_of j c)
+line_made : (j k : JournalView) (c : PlainCall) (at : ℕ) → k ≡ after j c → at ≡ next_entry j
+    → line_at k at ≡ entry_line (next_entry j) (entry_of j c)
 line_made j k c at e d = ap (λ x. line_at x at) e ∙ ap (λ x. line_at (after j c) x) d ∙ last-line j c
 
-pub written_one : (j k : Said) (c : PlainCall) (at : ℕ) (t u : Option (List ℕ)) → k ≡ after j c
-    → at ≡ next_number j → Appends t u (line_at k at) → Written j t k u
+pub written_one : (j k : JournalView) (c : PlainCall) (at : ℕ) (t u : Option (List ℕ)) → k ≡ after j c
+    → at ≡ next_entry j → Appends t u (line_at k at) → Written j t k u
 written_one j k c at t u e d p =
     let P : List ℕ → Type 0 = λ x. Appends t u x in (
       entry_of j c ∷ [],
       e,
-      subst P (line_made j k c at e d ∙ sym (append-nil (line_of (next_number j) (entry_of j c))))
+      subst P (line_made j k c at e d ∙ sym (append-nil (entry_line (next_entry j) (entry_of j c))))
           p,
     )
 
-pub lacking_one : (j k : Said) (c : PlainCall) (at n : ℕ) (t u : Option (List ℕ)) → k ≡ after j c
-    → at ≡ next_number j → Appends t u (take n (line_at k at)) → Lacking j t k u
+pub lacking_one : (j k : JournalView) (c : PlainCall) (at n : ℕ) (t u : Option (List ℕ)) → k ≡ after j c
+    → at ≡ next_entry j → Appends t u (take n (line_at k at)) → Lacking j t k u
 lacking_one j k c at n t u e d p =
     let P : List ℕ → Type 0 = λ x. Appends t u (take n x) in
-    let z : next_number j ≡ next_number j + 0 = omega arith in
-    ([], entry_of j c, n, e, subst P (line_made j k c at e d ∙ ap (λ m. line_of m (entry_of j c)) z) p)
+    let z : next_entry j ≡ next_entry j + 0 = omega arith in
+    ([], entry_of j c, n, e, subst P (line_made j k c at e d ∙ ap (λ m. entry_line m (entry_of j c)) z) p)

@@ -1,4 +1,4 @@
-pub mod Early
+pub mod StoppedRuns
 pub mod Growth
 pub mod LastLine
 pub mod Plays

@@ -1,9 +1,9 @@
 pub mod Adding
-pub mod Comes
+pub mod RunOutcome
 pub mod Laws
 pub mod Lines
 pub mod Played
 pub mod Replies
 pub mod Running
 pub mod Texts
-pub mod Within
+pub mod RunPrefix

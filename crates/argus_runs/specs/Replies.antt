@@ -1,10 +1,10 @@
 -- What follows from a reply.
 use Rattle.std.specs.Prelude.{Bool, List, None, Option, Some, false, get_or, true, ℕ}
 use Rattle.argus_actions.specs.declared.action_id.ActionId.{ActionId}
-use Rattle.argus_commands.specs.declared.action_kind.ActionKind.{ActionKind}
-use Rattle.argus_commands.specs.declared.action_kind.ActionKind.TheVariants as kind
-use Rattle.argus_commands.specs.declared.lock.Lock.{Lock}
-use Rattle.argus_commands.specs.declared.lock.Lock.TheVariants as lock
+use Rattle.argus_language.specs.declared.action_kind.ActionKind.{ActionKind}
+use Rattle.argus_language.specs.declared.action_kind.ActionKind.TheVariants as kind
+use Rattle.argus_language.specs.declared.lock.Lock.{Lock}
+use Rattle.argus_language.specs.declared.lock.Lock.TheVariants as lock
 use Rattle.argus_contents.specs.declared.limits.TheConstants.{MAX_OBJECTS}
 use Rattle.argus_contents.specs.declared.obj_id.ObjId.{ObjId}
 use Rattle.argus_entries.specs.Call.{PlainCall, begin_nested, begin_sub, begin_top, test_read}
@@ -27,8 +27,8 @@ object_of (answered x) = undeclared
 object_of (refused r) = undeclared
 
 -- the number of the object that the script numbers x, where its names stand for these
-abbrev pub named : List ObjId → ℕ → ℕ
-named numbers x = (get_or numbers x undeclared).0
+abbrev pub object_number_at : List ObjId → ℕ → ℕ
+object_number_at numbers x = (get_or numbers x undeclared).0
 
 -- the action that was begun, if it was
 abbrev pub begun_by : PlainReply → Option ActionId

@@ -1,24 +1,24 @@
 //! Accesses and tests: their calls, and how a block goes on after their replies.
 
-ghost use Rattle.std.specs.Prelude.{IfOk, None, OnErr, Some, true, ◌≡◌};
-ghost use Rattle.argus_commands.specs.Part.{alter, ask};
+ghost use Rattle.std.specs.Prelude.{None, Some, ◌≡◌};
+ghost use Rattle.argus_language.specs.PlainStep.{alter, ask};
 ghost use Rattle.argus_contents.specs.Change.{plain_change};
 ghost use Rattle.argus_entries.specs.Call.{plain_call};
 ghost use Rattle.argus_entries.specs.Reply.{plain_reply};
 ghost use Rattle.argus_journal.specs.Events.{says_yes};
-ghost use Rattle.argus_runs.specs.Comes.{comes};
+ghost use Rattle.argus_runs.specs.RunOutcome.{Finishes};
 ghost use Rattle.argus_runs.specs.Replies.{flow_after, test_call};
 ghost use Rattle.argus_runs.specs.Running.{access, run_deed};
-ghost use Rattle.argus_runs.specs.Within.{Within};
+ghost use Rattle.argus_runs.specs.RunPrefix.{StopsEarly};
 
 use crate::caller::Caller;
 use crate::flow::Flow;
 use crate::numbers::object_at;
 use crate::stopped::Stopped;
 use argus_actions::ActionId;
-use argus_commands::Lock;
 use argus_contents::{Answer, Change, ObjId, Query};
 use argus_entries::{Call, Reply};
+use argus_language::Lock;
 use argus_memory::Heap;
 
 pub(crate) fn run_ask<C: Caller>(
@@ -30,12 +30,13 @@ pub(crate) fn run_ask<C: Caller>(
 ) -> Result<Flow, Stopped>
     requires ready { C.ready caller.old }
     ensures ready { C.ready caller.new }
-    ensures kept { C.keeps caller.old caller.new }
-    ensures told { IfOk result (λ f. C.known ≡ true → run_deed C.State C.reply C.hand numbers.now
-        (ask x query) within (C.state caller.old) ≡ comes f (C.state caller.new)) }
-    ensures early { OnErr result (C.known ≡ true → C.adds ≡ true → Within C.begins
-        (C.state caller.new) (run_deed C.State C.reply C.hand numbers.now (ask x query) within
-        (C.state caller.old))) }
+    ensures kept { C.preserved caller.old caller.new }
+    ensures told { Finishes C.is_determined result (λ f. f)
+        (run_deed C.State C.reply C.arm_runner numbers.now (ask x query) within
+        (C.state caller.old)) (C.state caller.new) }
+    ensures early { StopsEarly C.is_determined C.calls_extend C.is_prefix result
+        (run_deed C.State C.reply C.arm_runner numbers.now (ask x query) within
+        (C.state caller.old)) (C.state caller.new) }
 {
     match within {
         None => Ok(Flow::On),
@@ -53,13 +54,13 @@ pub(crate) fn run_alter<C: Caller>(
 ) -> Result<Flow, Stopped>
     requires ready { C.ready caller.old }
     ensures ready { C.ready caller.new }
-    ensures kept { C.keeps caller.old caller.new }
-    ensures told { IfOk result (λ f. C.known ≡ true → run_deed C.State C.reply C.hand numbers.now
-        (alter x (plain_change change.now)) within (C.state caller.old)
-        ≡ comes f (C.state caller.new)) }
-    ensures early { OnErr result (C.known ≡ true → C.adds ≡ true → Within C.begins
-        (C.state caller.new) (run_deed C.State C.reply C.hand numbers.now
-        (alter x (plain_change change.now)) within (C.state caller.old))) }
+    ensures kept { C.preserved caller.old caller.new }
+    ensures told { Finishes C.is_determined result (λ f. f)
+        (run_deed C.State C.reply C.arm_runner numbers.now (alter x
+        (plain_change change.now)) within (C.state caller.old)) (C.state caller.new) }
+    ensures early { StopsEarly C.is_determined C.calls_extend C.is_prefix result
+        (run_deed C.State C.reply C.arm_runner numbers.now (alter x
+        (plain_change change.now)) within (C.state caller.old)) (C.state caller.new) }
 {
     match within {
         None => Ok(Flow::On),
@@ -74,12 +75,12 @@ pub(crate) fn run_alter<C: Caller>(
 fn make<C: Caller>(caller: &mut C, call: Call) -> Result<Flow, Stopped>
     requires ready { C.ready caller.old }
     ensures ready { C.ready caller.new }
-    ensures kept { C.keeps caller.old caller.new }
-    ensures told { IfOk result (λ f. C.known ≡ true → access C.State C.reply C.hand
-        (plain_call call) (C.state caller.old) ≡ comes f (C.state caller.new)) }
-    ensures early { OnErr result (C.known ≡ true → C.adds ≡ true → Within C.begins
-        (C.state caller.new) (access C.State C.reply C.hand (plain_call call)
-        (C.state caller.old))) }
+    ensures kept { C.preserved caller.old caller.new }
+    ensures told { Finishes C.is_determined result (λ f. f) (access C.State C.reply C.arm_runner
+        (plain_call call) (C.state caller.old)) (C.state caller.new) }
+    ensures early { StopsEarly C.is_determined C.calls_extend C.is_prefix result
+        (access C.State C.reply C.arm_runner (plain_call call) (C.state caller.old))
+        (C.state caller.new) }
 {
     let reply = caller.call(call)?;
     Ok(flow_of(&reply))

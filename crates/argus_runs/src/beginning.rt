@@ -1,18 +1,18 @@
 //! How blocks and arms begin.
 
-ghost use Rattle.std.specs.Prelude.{IfOk, OnErr, length, true, ◌≡◌};
-ghost use Rattle.argus_commands.specs.Part.{plain_step, plain_steps};
+ghost use Rattle.std.specs.Prelude.{IfOk, length, ◌≡◌};
+ghost use Rattle.argus_language.specs.PlainStep.{plain_step, plain_steps};
 ghost use Rattle.argus_entries.specs.Call.{plain_call};
-ghost use Rattle.argus_runs.specs.Comes.{comes};
+ghost use Rattle.argus_runs.specs.RunOutcome.{Finishes};
 ghost use Rattle.argus_runs.specs.Replies.{begin_call};
 ghost use Rattle.argus_runs.specs.Running.{begin_all, begin_arm, begin_one};
-ghost use Rattle.argus_runs.specs.Within.{Within};
+ghost use Rattle.argus_runs.specs.RunPrefix.{StopsEarly};
 
 use crate::caller::Caller;
 use crate::stopped::Stopped;
 use argus_actions::ActionId;
-use argus_commands::{ActionKind, Opening, Step};
 use argus_entries::{Call, Reply};
+use argus_language::{ActionKind, BlockKind, Step};
 use argus_memory::{Heap, Room};
 
 /// Begins a block or an arm: its action, if it was begun.
@@ -25,11 +25,13 @@ pub fn begin<C: Caller>(
 ) -> Result<Option<ActionId>, Stopped>
     requires ready { C.ready caller.old }
     ensures ready { C.ready caller.new }
-    ensures kept { C.keeps caller.old caller.new }
-    ensures told { IfOk result (λ b. C.known ≡ true → begin_one C.State C.reply C.hand kind within
-        (C.state caller.old) ≡ comes b (C.state caller.new)) }
-    ensures early { OnErr result (C.known ≡ true → C.adds ≡ true → Within C.begins
-        (C.state caller.new) (begin_one C.State C.reply C.hand kind within (C.state caller.old))) }
+    ensures kept { C.preserved caller.old caller.new }
+    ensures told { Finishes C.is_determined result (λ b. b)
+        (begin_one C.State C.reply C.arm_runner kind within (C.state caller.old))
+        (C.state caller.new) }
+    ensures early { StopsEarly C.is_determined C.calls_extend C.is_prefix result
+        (begin_one C.State C.reply C.arm_runner kind within (C.state caller.old))
+        (C.state caller.new) }
 {
     match caller.call(call_to_begin(kind, within))? {
         Reply::Begun(action) => Ok(Some(action)),
@@ -54,18 +56,18 @@ fn begin_arm<C: Caller>(
 ) -> Result<Option<ActionId>, Stopped>
     requires ready { C.ready caller.old }
     ensures ready { C.ready caller.new }
-    ensures kept { C.keeps caller.old caller.new }
-    ensures told { IfOk result (λ b. C.known ≡ true → begin_arm C.State C.reply C.hand
-        (plain_step arm.now) within (C.state caller.old) ≡ comes b (C.state caller.new)) }
-    ensures early { OnErr result (C.known ≡ true → C.adds ≡ true → Within C.begins
-        (C.state caller.new) (begin_arm C.State C.reply C.hand (plain_step arm.now) within
-        (C.state caller.old))) }
+    ensures kept { C.preserved caller.old caller.new }
+    ensures told { Finishes C.is_determined result (λ b. b) (begin_arm C.State C.reply C.arm_runner
+        (plain_step arm.now) within (C.state caller.old)) (C.state caller.new) }
+    ensures early { StopsEarly C.is_determined C.calls_extend C.is_prefix result
+        (begin_arm C.State C.reply C.arm_runner (plain_step arm.now) within (C.state caller.old))
+        (C.state caller.new) }
 {
     match arm {
-        Step::Block(Opening::Arm(kind), _) => begin(caller, *kind, within),
-        Step::Block(Opening::Enter(_), _)
-        | Step::Block(Opening::If(_, _), _)
-        | Step::Block(Opening::Coenter, _)
+        Step::Block(BlockKind::Arm(kind), _) => begin(caller, *kind, within),
+        Step::Block(BlockKind::Enter(_), _)
+        | Step::Block(BlockKind::If(_, _), _)
+        | Step::Block(BlockKind::Coenter, _)
         | Step::Declare
         | Step::Ask(_, _)
         | Step::Alter(_, _)
@@ -87,12 +89,13 @@ pub fn begin_arms<C: Caller>(
 ) -> Result<Vec<Option<ActionId>, Room>, Stopped>
     requires ready { C.ready caller.old }
     ensures ready { C.ready caller.new }
-    ensures kept { C.keeps caller.old caller.new }
-    ensures begun { IfOk result (λ v. C.known ≡ true → begin_all C.State C.reply C.hand
-        (plain_steps arms.now) within (C.state caller.old) ≡ comes v.items (C.state caller.new)) }
-    ensures early { OnErr result (C.known ≡ true → C.adds ≡ true → Within C.begins
-        (C.state caller.new) (begin_all C.State C.reply C.hand (plain_steps arms.now) within
-        (C.state caller.old))) }
+    ensures kept { C.preserved caller.old caller.new }
+    ensures begun { Finishes C.is_determined result (λ v. v.items)
+        (begin_all C.State C.reply C.arm_runner (plain_steps arms.now) within (C.state caller.old))
+        (C.state caller.new) }
+    ensures early { StopsEarly C.is_determined C.calls_extend C.is_prefix result
+        (begin_all C.State C.reply C.arm_runner (plain_steps arms.now) within (C.state caller.old))
+        (C.state caller.new) }
     ensures len { IfOk result (λ v. length v.items ≡ length arms.now) }
 {
     let mut begun = Vec::new(heap.room());

@@ -1,11 +1,11 @@
 //! How a block or an arm ends.
 
-ghost use Rattle.std.specs.Prelude.{IfOk, OnErr, true, ◌≡◌};
+ghost use Rattle.std.specs.Prelude.{true, ◌≡◌};
 ghost use Rattle.argus_entries.specs.Call.{abort};
-ghost use Rattle.argus_runs.specs.Comes.{comes};
+ghost use Rattle.argus_runs.specs.RunOutcome.{Finishes};
 ghost use Rattle.argus_runs.specs.Replies.{is_over};
 ghost use Rattle.argus_runs.specs.Running.{commit_block, finish, give_up, then_on};
-ghost use Rattle.argus_runs.specs.Within.{Within};
+ghost use Rattle.argus_runs.specs.RunPrefix.{StopsEarly};
 ghost use Rattle.argus_runs.specs.declared.flow.Flow.TheVariants.{LeaveAll};
 
 use crate::caller::Caller;
@@ -24,11 +24,13 @@ pub fn finish_block<C: Caller>(
 ) -> Result<Flow, Stopped>
     requires ready { C.ready caller.old }
     ensures ready { C.ready caller.new }
-    ensures kept { C.keeps caller.old caller.new }
-    ensures told { IfOk result (λ f. C.known ≡ true → finish C.State C.reply C.hand action flow
-        (C.state caller.old) ≡ comes f (C.state caller.new)) }
-    ensures early { OnErr result (C.known ≡ true → C.adds ≡ true → Within C.begins
-        (C.state caller.new) (finish C.State C.reply C.hand action flow (C.state caller.old))) }
+    ensures kept { C.preserved caller.old caller.new }
+    ensures told { Finishes C.is_determined result (λ f. f)
+        (finish C.State C.reply C.arm_runner action flow (C.state caller.old))
+        (C.state caller.new) }
+    ensures early { StopsEarly C.is_determined C.calls_extend C.is_prefix result
+        (finish C.State C.reply C.arm_runner action flow (C.state caller.old))
+        (C.state caller.new) }
 {
     match flow {
         Flow::On | Flow::Leave => end_by_commit(caller, action),
@@ -41,12 +43,12 @@ pub fn finish_block<C: Caller>(
 fn end_by_abort<C: Caller>(caller: &mut C, action: ActionId) -> Result<Flow, Stopped>
     requires ready { C.ready caller.old }
     ensures ready { C.ready caller.new }
-    ensures kept { C.keeps caller.old caller.new }
-    ensures told { IfOk result (λ f. C.known ≡ true → then_on C.State C.reply C.hand
-        (abort action.0) (C.state caller.old) ≡ comes f (C.state caller.new)) }
-    ensures early { OnErr result (C.known ≡ true → C.adds ≡ true → Within C.begins
-        (C.state caller.new) (then_on C.State C.reply C.hand (abort action.0)
-        (C.state caller.old))) }
+    ensures kept { C.preserved caller.old caller.new }
+    ensures told { Finishes C.is_determined result (λ f. f) (then_on C.State C.reply C.arm_runner
+        (abort action.0) (C.state caller.old)) (C.state caller.new) }
+    ensures early { StopsEarly C.is_determined C.calls_extend C.is_prefix result
+        (then_on C.State C.reply C.arm_runner (abort action.0) (C.state caller.old))
+        (C.state caller.new) }
 {
     caller.call(Call::Abort(action))?;
     Ok(Flow::On)
@@ -56,11 +58,13 @@ fn end_by_abort<C: Caller>(caller: &mut C, action: ActionId) -> Result<Flow, Sto
 fn end_refused<C: Caller>(caller: &mut C, action: ActionId, why: Refusal) -> Result<Flow, Stopped>
     requires ready { C.ready caller.old }
     ensures ready { C.ready caller.new }
-    ensures kept { C.keeps caller.old caller.new }
-    ensures told { IfOk result (λ f. C.known ≡ true → give_up C.State C.reply C.hand action why
-        (C.state caller.old) ≡ comes f (C.state caller.new)) }
-    ensures early { OnErr result (C.known ≡ true → C.adds ≡ true → Within C.begins
-        (C.state caller.new) (give_up C.State C.reply C.hand action why (C.state caller.old))) }
+    ensures kept { C.preserved caller.old caller.new }
+    ensures told { Finishes C.is_determined result (λ f. f)
+        (give_up C.State C.reply C.arm_runner action why (C.state caller.old))
+        (C.state caller.new) }
+    ensures early { StopsEarly C.is_determined C.calls_extend C.is_prefix result
+        (give_up C.State C.reply C.arm_runner action why (C.state caller.old))
+        (C.state caller.new) }
 {
     if is_over(why) {
         return Ok(Flow::On);
@@ -71,11 +75,13 @@ fn end_refused<C: Caller>(caller: &mut C, action: ActionId, why: Refusal) -> Res
 fn end_by_commit<C: Caller>(caller: &mut C, action: ActionId) -> Result<Flow, Stopped>
     requires ready { C.ready caller.old }
     ensures ready { C.ready caller.new }
-    ensures kept { C.keeps caller.old caller.new }
-    ensures told { IfOk result (λ f. C.known ≡ true → commit_block C.State C.reply C.hand action
-        (C.state caller.old) ≡ comes f (C.state caller.new)) }
-    ensures early { OnErr result (C.known ≡ true → C.adds ≡ true → Within C.begins
-        (C.state caller.new) (commit_block C.State C.reply C.hand action (C.state caller.old))) }
+    ensures kept { C.preserved caller.old caller.new }
+    ensures told { Finishes C.is_determined result (λ f. f)
+        (commit_block C.State C.reply C.arm_runner action (C.state caller.old))
+        (C.state caller.new) }
+    ensures early { StopsEarly C.is_determined C.calls_extend C.is_prefix result
+        (commit_block C.State C.reply C.arm_runner action (C.state caller.old))
+        (C.state caller.new) }
 {
     match caller.call(Call::Commit(action))? {
         Reply::Refused(why) => end_refused(caller, action, why),
@@ -87,12 +93,13 @@ fn end_by_commit<C: Caller>(caller: &mut C, action: ActionId) -> Result<Flow, St
 fn end_with_others<C: Caller>(caller: &mut C, action: ActionId) -> Result<Flow, Stopped>
     requires ready { C.ready caller.old }
     ensures ready { C.ready caller.new }
-    ensures kept { C.keeps caller.old caller.new }
-    ensures told { IfOk result (λ f. C.known ≡ true → finish C.State C.reply C.hand action LeaveAll
-        (C.state caller.old) ≡ comes f (C.state caller.new)) }
-    ensures early { OnErr result (C.known ≡ true → C.adds ≡ true → Within C.begins
-        (C.state caller.new) (finish C.State C.reply C.hand action LeaveAll
-        (C.state caller.old))) }
+    ensures kept { C.preserved caller.old caller.new }
+    ensures told { Finishes C.is_determined result (λ f. f)
+        (finish C.State C.reply C.arm_runner action LeaveAll (C.state caller.old))
+        (C.state caller.new) }
+    ensures early { StopsEarly C.is_determined C.calls_extend C.is_prefix result
+        (finish C.State C.reply C.arm_runner action LeaveAll (C.state caller.old))
+        (C.state caller.new) }
 {
     match caller.call(Call::AbortOthers(action))? {
         Reply::Refused(why) => end_refused(caller, action, why),

@@ -6,16 +6,16 @@ mod beginning;
 mod caller;
 mod ending;
 mod flow;
-mod given;
 mod laws;
 mod numbers;
 mod run_fault;
 mod running;
 mod running_serially;
-mod serial;
+mod running_without_output;
+mod sources;
 mod stepping;
 mod stopped;
-mod unwritten;
+mod writing_guardian;
 
 pub use caller::Caller;
 pub use flow::Flow;
@@ -23,9 +23,9 @@ pub use laws::{plays_tell, runs_end};
 pub use run_fault::RunFault;
 pub use running::run_script;
 pub use running_serially::run_serial;
+pub use running_without_output::run_without_output;
 pub use stepping::run_steps;
 pub use stopped::Stopped;
-pub use unwritten::run_unwritten;
 
 /// The pieces of a run, for who runs the arms of coenters in another way.
 pub mod pieces {

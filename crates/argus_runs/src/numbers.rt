@@ -2,7 +2,7 @@
 
 ghost use Rattle.std.specs.Prelude.{◌≡◌};
 ghost use Rattle.argus_entries.specs.Reply.{plain_reply};
-ghost use Rattle.argus_runs.specs.Replies.{named, object_of};
+ghost use Rattle.argus_runs.specs.Replies.{object_number_at, object_of};
 
 use argus_contents::ObjId;
 use argus_contents::limits::MAX_OBJECTS;
@@ -13,7 +13,7 @@ const UNDECLARED: ObjId = ObjId(MAX_OBJECTS);
 
 /// The object that the script numbers x, where its names stand for these numbers.
 pub fn object_at(numbers: &[ObjId], x: u32) -> ObjId
-    ensures { result.0 ≡ named numbers.now x }
+    ensures { result.0 ≡ object_number_at numbers.now x }
 {
     match numbers.get(x as usize) {
         Some(number) => *number,

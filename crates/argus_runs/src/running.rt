@@ -1,19 +1,18 @@
 //! The run of a whole script.
 
-ghost use Rattle.std.specs.Prelude.{IfOk, OnErr, true, ◌≡◌};
-ghost use Rattle.argus_commands.specs.Part.{plain_step};
-ghost use Rattle.argus_commands.specs.Script.{plain_script};
-ghost use Rattle.argus_runs.specs.Comes.{comes};
+ghost use Rattle.argus_language.specs.PlainStep.{plain_step};
+ghost use Rattle.argus_language.specs.Script.{plain_script};
+ghost use Rattle.argus_runs.specs.RunOutcome.{Finishes};
 ghost use Rattle.argus_runs.specs.Running.{declare_next, run_script, run_top};
-ghost use Rattle.argus_runs.specs.Within.{Within};
+ghost use Rattle.argus_runs.specs.RunPrefix.{StopsEarly};
 
 use crate::caller::Caller;
 use crate::numbers::object_of;
 use crate::stepping::run_step;
 use crate::stopped::Stopped;
-use argus_commands::{Script, Step};
 use argus_contents::{ObjId, Shape};
 use argus_entries::Call;
+use argus_language::{Script, Step};
 use argus_memory::{Heap, Room};
 
 /// Runs a whole script, and answers for which numbers of objects its names stand, in the order of
@@ -28,13 +27,13 @@ pub fn run_script<C: Caller>(
 ) -> Result<Vec<ObjId, Room>, Stopped>
     requires ready { C.ready caller.old }
     ensures ready { C.ready caller.new }
-    ensures kept { C.keeps caller.old caller.new }
-    ensures told { IfOk result (λ numbers. C.known ≡ true → run_script C.State C.reply C.hand
-        (plain_script script.now) (C.state caller.old)
-        ≡ comes numbers.items (C.state caller.new)) }
-    ensures early { OnErr result (C.known ≡ true → C.adds ≡ true → Within C.begins
-        (C.state caller.new) (run_script C.State C.reply C.hand (plain_script script.now)
-        (C.state caller.old))) }
+    ensures kept { C.preserved caller.old caller.new }
+    ensures told { Finishes C.is_determined result (λ numbers. numbers.items)
+        (run_script C.State C.reply C.arm_runner (plain_script script.now) (C.state caller.old))
+        (C.state caller.new) }
+    ensures early { StopsEarly C.is_determined C.calls_extend C.is_prefix result
+        (run_script C.State C.reply C.arm_runner (plain_script script.now) (C.state caller.old))
+        (C.state caller.new) }
 {
     let mut numbers = Vec::new(heap.room());
     for step in script.steps() {
@@ -52,13 +51,13 @@ fn run_at_top<C: Caller>(
 ) -> Result<(), Stopped>
     requires ready { C.ready caller.old }
     ensures ready { C.ready caller.new }
-    ensures kept { C.keeps caller.old caller.new }
-    ensures told { IfOk result (λ _. C.known ≡ true → run_top C.State C.reply C.hand shapes.now
-        numbers.old.items (plain_step step.now) (C.state caller.old)
-        ≡ comes numbers.new.items (C.state caller.new)) }
-    ensures early { OnErr result (C.known ≡ true → C.adds ≡ true → Within C.begins
-        (C.state caller.new) (run_top C.State C.reply C.hand shapes.now numbers.old.items
-        (plain_step step.now) (C.state caller.old))) }
+    ensures kept { C.preserved caller.old caller.new }
+    ensures told { Finishes C.is_determined result (λ _. numbers.new.items)
+        (run_top C.State C.reply C.arm_runner shapes.now numbers.old.items (plain_step step.now)
+        (C.state caller.old)) (C.state caller.new) }
+    ensures early { StopsEarly C.is_determined C.calls_extend C.is_prefix result
+        (run_top C.State C.reply C.arm_runner shapes.now numbers.old.items (plain_step step.now)
+        (C.state caller.old)) (C.state caller.new) }
 {
     match step {
         Step::Declare => declare(heap, caller, shapes, numbers),
@@ -85,13 +84,13 @@ pub fn declare<C: Caller>(
 ) -> Result<(), Stopped>
     requires ready { C.ready caller.old }
     ensures ready { C.ready caller.new }
-    ensures kept { C.keeps caller.old caller.new }
-    ensures told { IfOk result (λ _. C.known ≡ true → declare_next C.State C.reply C.hand shapes.now
-        numbers.old.items (C.state caller.old)
-        ≡ comes numbers.new.items (C.state caller.new)) }
-    ensures early { OnErr result (C.known ≡ true → C.adds ≡ true → Within C.begins
-        (C.state caller.new) (declare_next C.State C.reply C.hand shapes.now numbers.old.items
-        (C.state caller.old))) }
+    ensures kept { C.preserved caller.old caller.new }
+    ensures told { Finishes C.is_determined result (λ _. numbers.new.items)
+        (declare_next C.State C.reply C.arm_runner shapes.now numbers.old.items
+        (C.state caller.old)) (C.state caller.new) }
+    ensures early { StopsEarly C.is_determined C.calls_extend C.is_prefix result
+        (declare_next C.State C.reply C.arm_runner shapes.now numbers.old.items
+        (C.state caller.old)) (C.state caller.new) }
 {
     let Some(shape) = shapes.get(numbers.len()) else {
         return Ok(());

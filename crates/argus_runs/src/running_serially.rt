@@ -1,20 +1,20 @@
 //! `run_serial`: a script, run on a guardian, with the line of each call written.
 
 ghost use Rattle.std.specs.Prelude.{IfErr, OnErr, OnOk, false, true, ◌≡◌};
-ghost use Rattle.argus_commands.specs.Script.{plain_script};
+ghost use Rattle.argus_language.specs.Script.{plain_script};
 ghost use Rattle.argus_runs.specs.Lines.{Written, WrittenAlmost};
 ghost use Rattle.argus_runs.specs.Played.{IsPlay, play};
-ghost use Rattle.argus_runs.specs.Within.{Begins, Within};
+ghost use Rattle.argus_runs.specs.RunPrefix.{IsJournalPrefix, IsRunPrefix};
 ghost use Rattle.argus_runs.specs.declared.run_fault.RunFault.TheVariants.{Write};
-ghost use Rattle.argus_streams.specs.Watched.{has_failed, inner_of};
+ghost use Rattle.argus_streams.specs.FailStop.{has_failed, inner_of};
 
-use crate::given::run_given;
 use crate::run_fault::RunFault;
-use crate::serial::Serial;
-use argus_commands::Script;
-use argus_guardian::Guardian;
+use crate::sources::run_from_sources;
+use crate::writing_guardian::WritingGuardian;
+use argus_core::Guardian;
+use argus_language::Script;
 use argus_memory::Heap;
-use argus_streams::Watched;
+use argus_streams::FailStop;
 use core::mem::{replace, replace_with};
 use std::io::Write;
 
@@ -36,7 +36,7 @@ use std::io::Write;
 /// ```text
 /// let script = parse(heap, b"declare x atomic_record[n:int]\n")?;
 /// let mut guardian = Guardian::new(heap);
-/// let mut writer = Watched::new(rt.stdout());
+/// let mut writer = FailStop::new(rt.stdout());
 /// run_serial(heap, &mut guardian, &script, &mut writer)?;
 /// // 0 declare atomic_record[n:int] -> o0
 /// ```
@@ -44,13 +44,13 @@ pub fn run_serial<W: Write + Drop>(
     heap: Heap,
     guardian: &mut Guardian,
     script: &Script,
-    writer: &mut Watched<W>,
+    writer: &mut FailStop<W>,
 ) -> Result<(), RunFault>
     requires { has_failed writer.old ≡ false }
     ensures played { OnOk result (IsPlay guardian.old (plain_script script.now) guardian.new) }
     ensures written { OnOk result (Written guardian.old (W.contents (inner_of writer.old))
         guardian.new (W.contents (inner_of writer.new))) }
-    ensures early { OnErr result (Within Begins guardian.new
+    ensures early { OnErr result (IsRunPrefix IsJournalPrefix guardian.new
         (play (plain_script script.now) guardian.old)) }
     ensures cut { OnErr result (WrittenAlmost guardian.old (W.contents (inner_of writer.old))
         guardian.new (W.contents (inner_of writer.new))) }
@@ -67,13 +67,13 @@ fn run_lent<W: Write + Drop>(
     heap: Heap,
     guardian: Guardian,
     script: &Script,
-    writer: &mut Watched<W>,
+    writer: &mut FailStop<W>,
 ) -> (Guardian, Result<(), RunFault>)
     requires { has_failed writer.old ≡ false }
     ensures played { OnOk result.1 (IsPlay guardian (plain_script script.now) result.0) }
     ensures written { OnOk result.1 (Written guardian (W.contents (inner_of writer.old))
         result.0 (W.contents (inner_of writer.new))) }
-    ensures early { OnErr result.1 (Within Begins result.0
+    ensures early { OnErr result.1 (IsRunPrefix IsJournalPrefix result.0
         (play (plain_script script.now) guardian)) }
     ensures cut { OnErr result.1 (WrittenAlmost guardian (W.contents (inner_of writer.old))
         result.0 (W.contents (inner_of writer.new))) }
@@ -97,26 +97,26 @@ fn run_owned<W: Write + Drop>(
     heap: Heap,
     guardian: Guardian,
     script: &Script,
-    writer: Watched<W>,
-) -> (Guardian, (Watched<W>, Result<(), RunFault>))
+    writer: FailStop<W>,
+) -> (Guardian, (FailStop<W>, Result<(), RunFault>))
     requires { has_failed writer ≡ false }
     ensures played { OnOk result.1.1 (IsPlay guardian (plain_script script.now) result.0) }
     ensures written { OnOk result.1.1 (Written guardian (W.contents (inner_of writer))
         result.0 (W.contents (inner_of result.1.0))) }
-    ensures early { OnErr result.1.1 (Within Begins result.0
+    ensures early { OnErr result.1.1 (IsRunPrefix IsJournalPrefix result.0
         (play (plain_script script.now) guardian)) }
     ensures cut { OnErr result.1.1 (WrittenAlmost guardian (W.contents (inner_of writer))
         result.0 (W.contents (inner_of result.1.0))) }
     ensures failed { IfErr result.1.1 (λ e. e ≡ Write → has_failed result.1.0 ≡ true) }
 {
-    let mut serial = Serial {
+    let mut serial = WritingGuardian {
         guardian,
         writer,
         line: String::new(heap.room()),
         cut: false,
     };
     let result = run_whole(heap, &mut serial, script);
-    let Serial {
+    let WritingGuardian {
         guardian,
         writer,
         line: _,
@@ -127,7 +127,7 @@ fn run_owned<W: Write + Drop>(
 
 fn run_whole<W: Write + Drop>(
     heap: Heap,
-    serial: &mut Serial<W>,
+    serial: &mut WritingGuardian<W>,
     script: &Script,
 ) -> Result<(), RunFault>
     requires fine { has_failed serial.old.writer ≡ false }
@@ -137,14 +137,14 @@ fn run_whole<W: Write + Drop>(
     ensures written { OnOk result (Written serial.old.guardian
         (W.contents (inner_of serial.old.writer)) serial.new.guardian
         (W.contents (inner_of serial.new.writer))) }
-    ensures early { OnErr result (Within Begins serial.new.guardian
+    ensures early { OnErr result (IsRunPrefix IsJournalPrefix serial.new.guardian
         (play (plain_script script.now) serial.old.guardian)) }
     ensures cut { OnErr result (WrittenAlmost serial.old.guardian
         (W.contents (inner_of serial.old.writer)) serial.new.guardian
         (W.contents (inner_of serial.new.writer))) }
     ensures failed { IfErr result (λ e. e ≡ Write → has_failed serial.new.writer ≡ true) }
 {
-    match run_given(serial, script, &heap) {
+    match run_from_sources(serial, script, &heap) {
         Err(_) => Err(fault_of(&serial.writer)),
         Ok(_) => {
             if serial.cut {
@@ -157,7 +157,7 @@ fn run_whole<W: Write + Drop>(
 }
 
 // Why a run with this writer came to a stop.
-fn fault_of<W: Write + Drop>(writer: &Watched<W>) -> RunFault
+fn fault_of<W: Write + Drop>(writer: &FailStop<W>) -> RunFault
     ensures { result ≡ Write → has_failed writer.now ≡ true }
 {
     if writer.has_failed() {

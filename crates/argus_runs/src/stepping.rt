@@ -1,11 +1,11 @@
 //! The run of steps, one after another, and of the blocks among them.
 
-ghost use Rattle.std.specs.Prelude.{IfOk, OnErr, Some, length, true, ◌≡◌};
-ghost use Rattle.argus_commands.specs.Part.{block, plain_step, plain_steps};
-ghost use Rattle.argus_commands.specs.declared.opening.Opening.TheVariants as opening;
-ghost use Rattle.argus_runs.specs.Comes.{comes};
-ghost use Rattle.argus_runs.specs.Running.{run_arm, run_arms, run_body, run_part, run_parts};
-ghost use Rattle.argus_runs.specs.Within.{Within};
+ghost use Rattle.std.specs.Prelude.{Some, length, ◌≡◌};
+ghost use Rattle.argus_language.specs.PlainStep.{block, plain_step, plain_steps};
+ghost use Rattle.argus_language.specs.declared.block_kind.BlockKind.TheVariants as opening;
+ghost use Rattle.argus_runs.specs.RunOutcome.{Finishes};
+ghost use Rattle.argus_runs.specs.Running.{run_arm, run_arms, run_body, run_step, run_steps};
+ghost use Rattle.argus_runs.specs.RunPrefix.{StopsEarly};
 
 use crate::accessing::{call_to_test, flow_of, is_yes, run_alter, run_ask};
 use crate::beginning::{begin, begin_arms};
@@ -15,8 +15,8 @@ use crate::flow::Flow;
 use crate::numbers::object_at;
 use crate::stopped::Stopped;
 use argus_actions::ActionId;
-use argus_commands::{ActionKind, Lock, Opening, Step};
 use argus_contents::ObjId;
+use argus_language::{ActionKind, BlockKind, Lock, Step};
 use argus_memory::Heap;
 
 /// Runs steps of an action, or at top level, until one ends the block. `numbers` are the objects
@@ -38,12 +38,13 @@ pub fn run_steps<C: Caller>(
 ) -> Result<Flow, Stopped>
     requires ready { C.ready caller.old }
     ensures ready { C.ready caller.new }
-    ensures kept { C.keeps caller.old caller.new }
-    ensures told { IfOk result (λ f. C.known ≡ true → run_parts C.State C.reply C.hand numbers.now
-        (plain_steps steps.now) within (C.state caller.old) ≡ comes f (C.state caller.new)) }
-    ensures early { OnErr result (C.known ≡ true → C.adds ≡ true → Within C.begins
-        (C.state caller.new) (run_parts C.State C.reply C.hand numbers.now (plain_steps steps.now)
-        within (C.state caller.old))) }
+    ensures kept { C.preserved caller.old caller.new }
+    ensures told { Finishes C.is_determined result (λ f. f)
+        (run_steps C.State C.reply C.arm_runner numbers.now (plain_steps steps.now) within
+        (C.state caller.old)) (C.state caller.new) }
+    ensures early { StopsEarly C.is_determined C.calls_extend C.is_prefix result
+        (run_steps C.State C.reply C.arm_runner numbers.now (plain_steps steps.now) within
+        (C.state caller.old)) (C.state caller.new) }
 {
     for step in steps {
         let flow = run_step(heap, caller, numbers, step, within)?;
@@ -64,12 +65,13 @@ pub(crate) fn run_step<C: Caller>(
 ) -> Result<Flow, Stopped>
     requires ready { C.ready caller.old }
     ensures ready { C.ready caller.new }
-    ensures kept { C.keeps caller.old caller.new }
-    ensures told { IfOk result (λ f. C.known ≡ true → run_part C.State C.reply C.hand numbers.now
-        (plain_step step.now) within (C.state caller.old) ≡ comes f (C.state caller.new)) }
-    ensures early { OnErr result (C.known ≡ true → C.adds ≡ true → Within C.begins
-        (C.state caller.new) (run_part C.State C.reply C.hand numbers.now (plain_step step.now)
-        within (C.state caller.old))) }
+    ensures kept { C.preserved caller.old caller.new }
+    ensures told { Finishes C.is_determined result (λ f. f)
+        (run_step C.State C.reply C.arm_runner numbers.now (plain_step step.now) within
+        (C.state caller.old)) (C.state caller.new) }
+    ensures early { StopsEarly C.is_determined C.calls_extend C.is_prefix result
+        (run_step C.State C.reply C.arm_runner numbers.now (plain_step step.now) within
+        (C.state caller.old)) (C.state caller.new) }
 {
     match step {
         Step::Declare => Ok(Flow::On),
@@ -87,28 +89,28 @@ fn run_block<C: Caller>(
     heap: Heap,
     caller: &mut C,
     numbers: &[ObjId],
-    opening: Opening,
+    opening: BlockKind,
     body: &[Step],
     within: Option<ActionId>,
 ) -> Result<Flow, Stopped>
     requires ready { C.ready caller.old }
     ensures ready { C.ready caller.new }
-    ensures kept { C.keeps caller.old caller.new }
-    ensures told { IfOk result (λ f. C.known ≡ true → run_part C.State C.reply C.hand numbers.now
-        (block opening (plain_steps body.now)) within (C.state caller.old)
-        ≡ comes f (C.state caller.new)) }
-    ensures early { OnErr result (C.known ≡ true → C.adds ≡ true → Within C.begins
-        (C.state caller.new) (run_part C.State C.reply C.hand numbers.now
-        (block opening (plain_steps body.now)) within (C.state caller.old))) }
+    ensures kept { C.preserved caller.old caller.new }
+    ensures told { Finishes C.is_determined result (λ f. f)
+        (run_step C.State C.reply C.arm_runner numbers.now (block opening
+        (plain_steps body.now)) within (C.state caller.old)) (C.state caller.new) }
+    ensures early { StopsEarly C.is_determined C.calls_extend C.is_prefix result
+        (run_step C.State C.reply C.arm_runner numbers.now (block opening
+        (plain_steps body.now)) within (C.state caller.old)) (C.state caller.new) }
 {
     match opening {
-        Opening::Enter(kind) => run_entered(heap, caller, numbers, kind, body, within),
-        Opening::If(lock, x) => match within {
+        BlockKind::Enter(kind) => run_entered(heap, caller, numbers, kind, body, within),
+        BlockKind::If(lock, x) => match within {
             None => Ok(Flow::On),
             Some(action) => run_if(heap, caller, numbers, lock, x, body, action),
         },
-        Opening::Coenter => run_coenter(heap, caller, numbers, body, within),
-        Opening::Arm(_) => match within {
+        BlockKind::Coenter => run_coenter(heap, caller, numbers, body, within),
+        BlockKind::Arm(_) => match within {
             None => Ok(Flow::On),
             Some(action) => run_body(heap, caller, numbers, body, action),
         },
@@ -126,13 +128,13 @@ fn run_entered<C: Caller>(
 ) -> Result<Flow, Stopped>
     requires ready { C.ready caller.old }
     ensures ready { C.ready caller.new }
-    ensures kept { C.keeps caller.old caller.new }
-    ensures told { IfOk result (λ f. C.known ≡ true → run_part C.State C.reply C.hand numbers.now
-        (block (opening.Enter kind) (plain_steps body.now)) within (C.state caller.old)
-        ≡ comes f (C.state caller.new)) }
-    ensures early { OnErr result (C.known ≡ true → C.adds ≡ true → Within C.begins
-        (C.state caller.new) (run_part C.State C.reply C.hand numbers.now
-        (block (opening.Enter kind) (plain_steps body.now)) within (C.state caller.old))) }
+    ensures kept { C.preserved caller.old caller.new }
+    ensures told { Finishes C.is_determined result (λ f. f)
+        (run_step C.State C.reply C.arm_runner numbers.now (block (opening.Enter kind)
+        (plain_steps body.now)) within (C.state caller.old)) (C.state caller.new) }
+    ensures early { StopsEarly C.is_determined C.calls_extend C.is_prefix result
+        (run_step C.State C.reply C.arm_runner numbers.now (block (opening.Enter kind)
+        (plain_steps body.now)) within (C.state caller.old)) (C.state caller.new) }
 {
     match begin(caller, kind, within)? {
         None => Ok(Flow::On),
@@ -151,12 +153,13 @@ fn run_body<C: Caller>(
 ) -> Result<Flow, Stopped>
     requires ready { C.ready caller.old }
     ensures ready { C.ready caller.new }
-    ensures kept { C.keeps caller.old caller.new }
-    ensures told { IfOk result (λ f. C.known ≡ true → run_body C.State C.reply C.hand numbers.now
-        (plain_steps body.now) action (C.state caller.old) ≡ comes f (C.state caller.new)) }
-    ensures early { OnErr result (C.known ≡ true → C.adds ≡ true → Within C.begins
-        (C.state caller.new) (run_body C.State C.reply C.hand numbers.now (plain_steps body.now)
-        action (C.state caller.old))) }
+    ensures kept { C.preserved caller.old caller.new }
+    ensures told { Finishes C.is_determined result (λ f. f)
+        (run_body C.State C.reply C.arm_runner numbers.now (plain_steps body.now) action
+        (C.state caller.old)) (C.state caller.new) }
+    ensures early { StopsEarly C.is_determined C.calls_extend C.is_prefix result
+        (run_body C.State C.reply C.arm_runner numbers.now (plain_steps body.now) action
+        (C.state caller.old)) (C.state caller.new) }
 {
     let flow = run_steps(heap, caller, numbers, body, Some(action))?;
     finish_block(caller, action, flow)
@@ -174,14 +177,13 @@ fn run_if<C: Caller>(
 ) -> Result<Flow, Stopped>
     requires ready { C.ready caller.old }
     ensures ready { C.ready caller.new }
-    ensures kept { C.keeps caller.old caller.new }
-    ensures told { IfOk result (λ f. C.known ≡ true → run_part C.State C.reply C.hand numbers.now
-        (block (opening.If lock x) (plain_steps body.now)) (Some action) (C.state caller.old)
-        ≡ comes f (C.state caller.new)) }
-    ensures early { OnErr result (C.known ≡ true → C.adds ≡ true → Within C.begins
-        (C.state caller.new) (run_part C.State C.reply C.hand numbers.now
-        (block (opening.If lock x) (plain_steps body.now)) (Some action)
-        (C.state caller.old))) }
+    ensures kept { C.preserved caller.old caller.new }
+    ensures told { Finishes C.is_determined result (λ f. f)
+        (run_step C.State C.reply C.arm_runner numbers.now (block (opening.If lock x)
+        (plain_steps body.now)) (Some action) (C.state caller.old)) (C.state caller.new) }
+    ensures early { StopsEarly C.is_determined C.calls_extend C.is_prefix result
+        (run_step C.State C.reply C.arm_runner numbers.now (block (opening.If lock x)
+        (plain_steps body.now)) (Some action) (C.state caller.old)) (C.state caller.new) }
 {
     let reply = caller.call(call_to_test(lock, action, object_at(numbers, x)))?;
     if is_yes(&reply) {
@@ -200,13 +202,13 @@ fn run_coenter<C: Caller>(
 ) -> Result<Flow, Stopped>
     requires ready { C.ready caller.old }
     ensures ready { C.ready caller.new }
-    ensures kept { C.keeps caller.old caller.new }
-    ensures told { IfOk result (λ f. C.known ≡ true → run_part C.State C.reply C.hand numbers.now
-        (block opening.Coenter (plain_steps arms.now)) within (C.state caller.old)
-        ≡ comes f (C.state caller.new)) }
-    ensures early { OnErr result (C.known ≡ true → C.adds ≡ true → Within C.begins
-        (C.state caller.new) (run_part C.State C.reply C.hand numbers.now
-        (block opening.Coenter (plain_steps arms.now)) within (C.state caller.old))) }
+    ensures kept { C.preserved caller.old caller.new }
+    ensures told { Finishes C.is_determined result (λ f. f)
+        (run_step C.State C.reply C.arm_runner numbers.now (block opening.Coenter
+        (plain_steps arms.now)) within (C.state caller.old)) (C.state caller.new) }
+    ensures early { StopsEarly C.is_determined C.calls_extend C.is_prefix result
+        (run_step C.State C.reply C.arm_runner numbers.now (block opening.Coenter
+        (plain_steps arms.now)) within (C.state caller.old)) (C.state caller.new) }
 {
     let begun = begin_arms(heap, caller, arms, within)?;
     if caller.arms(heap, numbers, arms, begun.as_slice())? {
@@ -227,12 +229,13 @@ fn run_begun<C: Caller>(
     requires len { length begun.now ≡ length arms.now }
     requires ready { C.ready caller.old }
     ensures ready { C.ready caller.new }
-    ensures kept { C.keeps caller.old caller.new }
-    ensures told { IfOk result (λ f. C.known ≡ true → run_arms C.State C.reply C.hand numbers.now
-        (plain_steps arms.now) begun.now (C.state caller.old) ≡ comes f (C.state caller.new)) }
-    ensures early { OnErr result (C.known ≡ true → C.adds ≡ true → Within C.begins
-        (C.state caller.new) (run_arms C.State C.reply C.hand numbers.now (plain_steps arms.now)
-        begun.now (C.state caller.old))) }
+    ensures kept { C.preserved caller.old caller.new }
+    ensures told { Finishes C.is_determined result (λ f. f)
+        (run_arms C.State C.reply C.arm_runner numbers.now (plain_steps arms.now) begun.now
+        (C.state caller.old)) (C.state caller.new) }
+    ensures early { StopsEarly C.is_determined C.calls_extend C.is_prefix result
+        (run_arms C.State C.reply C.arm_runner numbers.now (plain_steps arms.now) begun.now
+        (C.state caller.old)) (C.state caller.new) }
 {
     for i in 0..arms.len() {
         run_if_begun(heap, caller, numbers, &arms[i], begun[i])?;
@@ -250,12 +253,13 @@ fn run_if_begun<C: Caller>(
 ) -> Result<Flow, Stopped>
     requires ready { C.ready caller.old }
     ensures ready { C.ready caller.new }
-    ensures kept { C.keeps caller.old caller.new }
-    ensures told { IfOk result (λ f. C.known ≡ true → run_arm C.State C.reply C.hand numbers.now
-        (plain_step arm.now) begun (C.state caller.old) ≡ comes f (C.state caller.new)) }
-    ensures early { OnErr result (C.known ≡ true → C.adds ≡ true → Within C.begins
-        (C.state caller.new) (run_arm C.State C.reply C.hand numbers.now (plain_step arm.now)
-        begun (C.state caller.old))) }
+    ensures kept { C.preserved caller.old caller.new }
+    ensures told { Finishes C.is_determined result (λ f. f)
+        (run_arm C.State C.reply C.arm_runner numbers.now (plain_step arm.now) begun
+        (C.state caller.old)) (C.state caller.new) }
+    ensures early { StopsEarly C.is_determined C.calls_extend C.is_prefix result
+        (run_arm C.State C.reply C.arm_runner numbers.now (plain_step arm.now) begun
+        (C.state caller.old)) (C.state caller.new) }
 {
     match begun {
         None => Ok(Flow::On),

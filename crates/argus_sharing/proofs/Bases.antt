@@ -1,12 +1,14 @@
 -- What is in the objects for good, as a list.
-use Rattle.std.proofs.Common.{List, None, Option, Some, [], ap, arith, inl, inr, length, map, refl, sym, true, ℕ}
-use Rattle.std.proofs.Common.{◌+◌, ◌++◌, ◌≤◌, ◌∙◌, ◌∷◌, ◌≡◌}
+use Rattle.std.proofs.Common.{List, None, Option, Some, [], ap, arith, inl, inr, length, map, refl}
+use Rattle.std.proofs.Common.{sym, true, ℕ, ◌++◌, ◌+◌, ◌∙◌, ◌∷◌, ◌≡◌, ◌≤◌}
 use Rattle.std.specs.List.{range_with_len}
 use Rattle.std.proofs.lemmas.Bool.{cases_lt}
 use Rattle.std.proofs.lemmas.List.{get_or_past, map-append}
-use Rattle.std.proofs.lemmas.List.FromFn.{get_or-map-range_with_len, length-map-range_with_len, map-range_with_len_more}
+use Rattle.std.proofs.lemmas.List.FromFn.{get_or-map-range_with_len, length-map-range_with_len}
+use Rattle.std.proofs.lemmas.List.FromFn.{map-range_with_len_more}
 use Rattle.std.proofs.lemmas.Option.{slice_get_past}
-use Rattle.argus_board.specs.Effects.{Effect, Leads, content_at, plain_contents}
+use Rattle.argus_board.specs.Effects.{IsTableOf, content_of_object, plain_contents}
+use Rattle.argus_contents.specs.Effect.{Effect}
 use Rattle.argus_contents.specs.Content.{PlainContent, plain_option}
 use Rattle.argus_contents.specs.Shape.{PlainShape}
 use Rattle.argus_contents.specs.declared.content.Content.{Content}
@@ -16,12 +18,12 @@ use Rattle.argus_journal.specs.Entries.{entries}
 use Rattle.argus_journal.specs.Events.{history}
 use Rattle.argus_journal.specs.Legal.{Legal}
 use Rattle.argus_journal.specs.Objects.{declared, shape_of, shapes}
-use Rattle.argus_journal.specs.Opening.{content_in, fits_shape, opened}
-use Rattle.argus_journal.specs.Words.{base_of}
+use Rattle.argus_journal.specs.Opening.{content_in, fits_shape, model_opening}
+use Rattle.argus_journal.specs.JournalFacts.{base_of}
 use Rattle.argus_model.proofs.Theorems.{table_is_base}
 use Rattle.argus_model.specs.Effects.{table}
-use Rattle.argus_sharing.specs.Following.{bases_told, effects_told}
-use Rattle.argus_steps.specs.Step.{Said}
+use Rattle.argus_sharing.specs.Following.{journal_bases, journal_effects}
+use Rattle.argus_journal.specs.JournalView.{JournalView}
 
 -- no content fits where there is no shape
 unfit : (shape : Option PlainShape) (n : ℕ) (content : Option PlainContent) → shape ≡ None
@@ -38,14 +40,14 @@ one_more f xs ys x n is last more =
     ap plain_contents more ∙ map-append plain_option xs (x ∷ []) ∙ ap (λ z. z ++ plain_option x ∷ []) is
     ∙ ap (λ c. map f (range_with_len 0 n) ++ c ∷ []) last ∙ sym (map-range_with_len_more f 0 n n (omega arith))
 
-module _ (said : Said)
-    (fits : (o : ℕ) → fits_shape (shape_of said.opening said.entries o) (declared said.opening said.entries)
-    (base_of said.opening said.entries o) ≡ true) where
+module _ (journal : JournalView)
+    (fits : (o : ℕ) → fits_shape (shape_of journal.opening journal.entries o) (declared journal.opening journal.entries)
+    (base_of journal.opening journal.entries o) ≡ true) where
   -- each object has its own, and none is there where no object is
-  base_at : (o : ℕ) → content_at (bases_told said) o ≡ base_of said.opening said.entries o
+  base_at : (o : ℕ) → content_of_object (journal_bases journal) o ≡ base_of journal.opening journal.entries o
   base_at o =
-      let s = said.opening in
-      let j = said.entries in
+      let s = journal.opening in
+      let j = journal.entries in
       let n = declared s j in
       let f = base_of s j in
       elim (cases_lt o n) [
@@ -58,10 +60,11 @@ module _ (said : Said)
 
   -- they are what the effects of the journal leave
   pub bases_lead : (opening : ℕ → Option PlainContent) (before : List Effect) (first : List (Option PlainContent))
-      → Legal said.opening said.entries → opening ≡ content_in said.opening.objects → before ≡ effects_told said
-      → first ≡ bases_told said → Leads opening before first
+      → Legal journal.opening journal.entries → opening ≡ content_in journal.opening.objects → before
+      ≡ journal_effects journal
+      → first ≡ journal_bases journal → IsTableOf opening before first
   bases_lead opening before first legal is told bases o =
-      ap (λ z. content_at z o) bases ∙ base_at o
-      ∙ sym (table_is_base entries (opened said.opening) (history said.opening said.entries) o
-      (lawful said.opening said.entries legal))
-      ∙ sym (ap (λ f. table f before o) is ∙ ap (λ l. table (content_in said.opening.objects) l o) told)
+      ap (λ z. content_of_object z o) bases ∙ base_at o
+      ∙ sym (table_is_base entries (model_opening journal.opening) (history journal.opening journal.entries) o
+      (lawful journal.opening journal.entries legal))
+      ∙ sym (ap (λ f. table f before o) is ∙ ap (λ l. table (content_in journal.opening.objects) l o) told)

@@ -6,7 +6,7 @@ use denote.Param.Send.{IsSend, IsSync, recorded_send, sendable, struct_send, vie
 use Rattle.argus_board.proofs.Crossing as board
 use Rattle.argus_board.specs.declared.board.Board.{Ghosts}
 use Rattle.argus_entries.proofs.Crossing as entries
-use Rattle.argus_guardian.proofs.Crossing.{guardian_sends}
+use Rattle.argus_core.proofs.Crossing.{guardian_sends}
 use Rattle.argus_memory.proofs.Crossing as memory
 use Rattle.argus_memory.proofs.heap.Heap.TheSendSync.{the_field_send as heap_field_sends}
 use Rattle.argus_receipts.specs.contracts.receipt.Receipt.{the_row as receipt_row}
@@ -14,7 +14,8 @@ use Rattle.argus_sharing.specs.contracts.locked.Locked.TheInside.{the_type as in
 use Rattle.argus_sharing.specs.contracts.locked.Locked.{the_row as locked_row}
 use Rattle.argus_sharing.specs.contracts.seat.Seat.{the_row as seat_row}
 use Rattle.argus_sharing.specs.contracts.shared.Shared.{the_row as shared_row}
-use Rattle.argus_sharing.specs.contracts.shown_guardian.ShownGuardian.{the_field as shown_field, the_type as shown_type}
+use Rattle.argus_sharing.specs.contracts.publishing_guardian.PublishingGuardian.{the_field as publishing_field}
+use Rattle.argus_sharing.specs.contracts.publishing_guardian.PublishingGuardian.{the_type as publishing_type}
 use Rattle.argus_sharing.specs.declared.sharing.Sharing.{Ghosts as Named}
 use Rattle.core.proofs.ledger.Book.TheSendSync.{the_send as book_sends}
 use Rattle.core.proofs.ledger.Share.TheSendSync.{the_send as share_sends}
@@ -22,15 +23,18 @@ use Rattle.core.specs.declared.ledger.Ledger.{Ghosts as Ledgered}
 use Rattle.std.proofs.Crossing.{crosses as std_crosses}
 
 -- a guardian with its board
-shown_field_sends : (N R : RattleType) (g : Ghosts N.Denot) → IsSend R → IsSend (shown_field N R g).row
-shown_field_sends N R g s = struct_send (shape (shown_type N R g)) (guardian_sends, (board.writer_sends N R g s, tt))
+publishing_field_sends : (N R : RattleType) (g : Ghosts N.Denot) → IsSend R → IsSend (publishing_field N R g).row
+publishing_field_sends N R g s = struct_send (shape (publishing_type N R g)) (
+  guardian_sends,
+  (board.writer_sends N R g s, tt),
+)
 
 module _ (N R : RattleType) (a : Named N.Denot) (l : Ledgered N.Denot) (g : Ghosts N.Denot) (s : IsSend R) where
   locked_inside_sends : IsSend (declared_row (inside N R a l g))
   locked_inside_sends = let t = inside N R a l g in
       recorded_send _ t.D t.to t.to_one (struct_send (shape t) (
         heap_field_sends,
-        (shown_field_sends N R g s, (book_sends N l, (search sendable, tt))),
+        (publishing_field_sends N R g s, (book_sends N l, (search sendable, tt))),
       ))
 
   pub locked_sends : IsSend (locked_row N R a l g)

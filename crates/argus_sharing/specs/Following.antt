@@ -1,33 +1,33 @@
 -- How the effects on a board stand to a journal.
 use Rattle.std.specs.List.{range_with_len}
 use Rattle.std.specs.Prelude.{List, Option, map, ℕ, ◌++◌, ◌≡◌}
-use Rattle.argus_board.specs.Effects.{Effect}
+use Rattle.argus_contents.specs.Effect.{Effect}
 use Rattle.argus_contents.specs.Content.{PlainContent}
 use Rattle.argus_entries.specs.Call.{PlainCall, abort, abort_others, alter, ask, begin_nested}
 use Rattle.argus_entries.specs.Call.{begin_sub, begin_top, commit, declare, test_read, test_write}
 use Rattle.argus_journal.specs.Legal.{Legal}
 use Rattle.argus_journal.specs.Objects.{declared}
 use Rattle.argus_journal.specs.Opening.{content_in}
-use Rattle.argus_journal.specs.Words.{base_of, effects_of}
+use Rattle.argus_journal.specs.JournalFacts.{base_of, effects_of}
 use Rattle.argus_model.specs.Effects.{table}
-use Rattle.argus_sharing.specs.Locked.{State}
-use Rattle.argus_steps.specs.Step.{Said}
+use Rattle.argus_sharing.specs.Locked.{LockedState}
+use Rattle.argus_journal.specs.JournalView.{JournalView}
 
 -- the effects of the journal's entries
-abbrev pub effects_told : Said → List Effect
-effects_told said = effects_of said.opening said.entries
+abbrev pub journal_effects : JournalView → List Effect
+journal_effects journal = effects_of journal.opening journal.entries
 
 -- the effects are some that leave the contents of the journal's opening, and then those of its
 -- entries
-abbrev pub Follows : (ℕ → Option PlainContent) → Said → List Effect → Type 0
-Follows opening said effects = (earlier : List Effect)
-    × ((o : ℕ) → table opening earlier o ≡ content_in said.opening.objects o)
-    × (effects ≡ earlier ++ effects_told said)
+abbrev pub FollowsJournal : (ℕ → Option PlainContent) → JournalView → List Effect → Type 0
+FollowsJournal opening journal effects = (earlier : List Effect)
+    × ((o : ℕ) → table opening earlier o ≡ content_in journal.opening.objects o)
+    × (effects ≡ earlier ++ journal_effects journal)
 
 -- the journal is legal, and the board follows it
-abbrev pub IsFollowed : (ℕ → Option PlainContent) → State → Type 0
+abbrev pub IsFollowed : (ℕ → Option PlainContent) → LockedState → Type 0
 IsFollowed opening state = Legal state.journal.opening state.journal.entries
-    × Follows opening state.journal (state.board.published ++ state.board.pending)
+    × FollowsJournal opening state.journal (state.board.published ++ state.board.pending)
 
 -- the call is no commit
 abbrev pub IsNoCommit : PlainCall → Type 0
@@ -44,7 +44,7 @@ IsNoCommit (test_read a o) = Unit {0}
 IsNoCommit (test_write a o) = Unit {0}
 
 -- what is in the declared objects for good, in the order of their numbers
-abbrev pub bases_told : Said → List (Option PlainContent)
-bases_told said =
-    map (base_of said.opening said.entries)
-    (range_with_len 0 (declared said.opening said.entries))
+abbrev pub journal_bases : JournalView → List (Option PlainContent)
+journal_bases journal =
+    map (base_of journal.opening journal.entries)
+    (range_with_len 0 (declared journal.opening journal.entries))

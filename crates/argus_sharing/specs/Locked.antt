@@ -1,21 +1,17 @@
 -- What lies under the lock, as contracts see it.
 use Rattle.std.specs.Coded.{Coded, code_by, coded×}
-use Rattle.std.specs.Prelude.{refl, ℕ}
-use Rattle.argus_board.specs.Board.{Shown, shown_coded}
-use Rattle.argus_journal.specs.Folding.{next_entry_number}
-use Rattle.argus_steps.specs.Step.{Said, said_coded}
+use Rattle.std.specs.Prelude.{refl}
+use Rattle.argus_board.specs.BoardView.{BoardView, board_view_coded}
+use Rattle.argus_journal.specs.JournalView.{JournalView, journal_view_coded}
 
 -- the guardian's journal, and the board's effects: published and pending
-pub record State : Type 0 where
-  pub journal : Said
-  pub board : Shown
-
--- the number that the next entry gets
-abbrev pub next_number : Said → ℕ
-next_number said = next_entry_number said.opening said.entries
+pub record LockedState : Type 0 where
+  pub journal : JournalView
+  pub board : BoardView
 
 -- both are stored
-abbrev pub state_coded : Coded State
-state_coded =
-    code_by (Said × Shown) (coded× said_coded shown_coded) (λ s. (s.journal, s.board))
+abbrev pub locked_state_coded : Coded LockedState
+locked_state_coded =
+    code_by (JournalView × BoardView) (coded× journal_view_coded board_view_coded) (λ s.
+    (s.journal, s.board))
     (λ p. record { journal = p.0; board = p.1 }) (λ _. refl)

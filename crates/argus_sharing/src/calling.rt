@@ -1,19 +1,18 @@
 //! Calls under the lock.
 
-ghost use Rattle.std.specs.Prelude.{◌++◌, ◌+◌, ◌≡◌, IfOk, MatchOption, OnErr, OnOk};
+ghost use Rattle.std.specs.Prelude.{IfOk, MatchOption, OnErr, OnOk, ◌++◌, ◌+◌, ◌≡◌};
 ghost use Rattle.argus_entries.specs.Call.{commit, plain_call};
 ghost use Rattle.argus_entries.specs.Reply.{plain_reply};
 ghost use Rattle.argus_journal.specs.Legal.{Legal};
-ghost use Rattle.argus_sharing.specs.Following.{Follows, IsNoCommit};
-ghost use Rattle.argus_sharing.specs.Locked.{next_number};
-ghost use Rattle.argus_steps.specs.Step.{after, reply_to};
+ghost use Rattle.argus_sharing.specs.Following.{FollowsJournal, IsNoCommit};
+ghost use Rattle.argus_journal.specs.JournalView.{after, next_entry, reply_to};
 
 use crate::locked::Locked;
 use crate::seat::Seat;
 use crate::sharing::Sharing;
 use argus_actions::ActionId;
+use argus_core::Guardian;
 use argus_entries::Call;
-use argus_guardian::Guardian;
 use argus_memory::OutOfMemory;
 use argus_receipts::Receipt;
 use std::sync::Wait;
@@ -27,7 +26,7 @@ impl<N: Sharing, R: Wait + Drop> Locked<N, R> {
     ///
     /// It may wait for lookers that are inside.
     pub fn call(&mut self, seat: &mut Seat<N>, call: Call) -> Result<Receipt, OutOfMemory>
-        ensures at { IfOk result (λ receipt. receipt.at ≡ next_number self.old.journal) }
+        ensures at { IfOk result (λ receipt. receipt.at ≡ next_entry self.old.journal) }
         ensures call { IfOk result (λ receipt. plain_call receipt.call ≡ plain_call call) }
         ensures reply { IfOk result (λ receipt. plain_reply receipt.reply
             ≡ reply_to self.old.journal (plain_call call)) }
@@ -36,7 +35,7 @@ impl<N: Sharing, R: Wait + Drop> Locked<N, R> {
         ensures made { OnOk result (seat.new.made ≡ seat.old.made + 1) }
         ensures err { OnErr result ((self.new ≡ self.old) × (seat.new.made ≡ seat.old.made)) }
         ensures legal { Legal self.old.journal.opening self.old.journal.entries }
-        ensures board { Follows N.opening self.new.journal
+        ensures board { FollowsJournal N.opening_contents self.new.journal
             (self.new.board.published ++ self.new.board.pending) }
     {
         match commit_of(&call) {
@@ -48,7 +47,7 @@ impl<N: Sharing, R: Wait + Drop> Locked<N, R> {
     /// A call that is no commit.
     fn call_in_one_go(&mut self, seat: &mut Seat<N>, call: Call) -> Result<Receipt, OutOfMemory>
         requires { IsNoCommit (plain_call call) }
-        ensures at { IfOk result (λ receipt. receipt.at ≡ next_number self.old.journal) }
+        ensures at { IfOk result (λ receipt. receipt.at ≡ next_entry self.old.journal) }
         ensures call { IfOk result (λ receipt. plain_call receipt.call ≡ plain_call call) }
         ensures reply { IfOk result (λ receipt. plain_reply receipt.reply
             ≡ reply_to self.old.journal (plain_call call)) }
@@ -57,19 +56,19 @@ impl<N: Sharing, R: Wait + Drop> Locked<N, R> {
         ensures made { OnOk result (seat.new.made ≡ seat.old.made + 1) }
         ensures err { OnErr result ((self.new ≡ self.old) × (seat.new.made ≡ seat.old.made)) }
         ensures legal { Legal self.old.journal.opening self.old.journal.entries }
-        ensures board { Follows N.opening self.new.journal
+        ensures board { FollowsJournal N.opening_contents self.new.journal
             (self.new.board.published ++ self.new.board.pending) }
     {
         let Locked {
             heap,
-            shown,
+            publishing,
             book,
             ..
         } = self;
-        shown.guardian.journal_is_legal();
+        publishing.guardian.journal_is_legal();
         let copy = call.duplicate(*heap)?;
-        let reply = shown.guardian.call(call)?;
-        let at = counted(&shown.guardian, book, seat);
+        let reply = publishing.guardian.call(call)?;
+        let at = counted(&publishing.guardian, book, seat);
         Ok(Receipt {
             at,
             call: copy,
@@ -79,7 +78,7 @@ impl<N: Sharing, R: Wait + Drop> Locked<N, R> {
 
     /// A commit.
     fn commit(&mut self, seat: &mut Seat<N>, a: ActionId) -> Result<Receipt, OutOfMemory>
-        ensures at { IfOk result (λ receipt. receipt.at ≡ next_number self.old.journal) }
+        ensures at { IfOk result (λ receipt. receipt.at ≡ next_entry self.old.journal) }
         ensures call { IfOk result (λ receipt. plain_call receipt.call ≡ commit a.0) }
         ensures reply { IfOk result (λ receipt. plain_reply receipt.reply
             ≡ reply_to self.old.journal (commit a.0)) }
@@ -87,15 +86,19 @@ impl<N: Sharing, R: Wait + Drop> Locked<N, R> {
         ensures made { OnOk result (seat.new.made ≡ seat.old.made + 1) }
         ensures err { OnErr result ((self.new ≡ self.old) × (seat.new.made ≡ seat.old.made)) }
         ensures legal { Legal self.old.journal.opening self.old.journal.entries }
-        ensures board { Follows N.opening self.new.journal
+        ensures board { FollowsJournal N.opening_contents self.new.journal
             (self.new.board.published ++ self.new.board.pending) }
     {
-        let Locked { shown, book, .. } = self;
-        shown.guardian.journal_is_legal();
-        let reply = shown.commit(a)?;
-        let at = counted(&shown.guardian, book, seat);
+        let Locked {
+            publishing,
+            book,
+            ..
+        } = self;
+        publishing.guardian.journal_is_legal();
+        let reply = publishing.commit(a)?;
+        let at = counted(&publishing.guardian, book, seat);
         // Where it finds no memory, the effect stays pending.
-        let _shown = shown.board.publish();
+        let _published = publishing.board.publish();
         Ok(Receipt {
             at,
             call: Call::Commit(a),
@@ -106,8 +109,8 @@ impl<N: Sharing, R: Wait + Drop> Locked<N, R> {
 
 /// Counts the call that the guardian has just made, as the seat's; the number of its entry.
 fn counted<N: Sharing>(guardian: &Guardian, book: &mut Book<N>, seat: &mut Seat<N>) -> u64
-    requires { next_number guardian.now ≡ N.start + book.old.total + 1 }
-    ensures at { result + 1 ≡ next_number guardian.now }
+    requires { next_entry guardian.now ≡ N.start + book.old.total + 1 }
+    ensures at { result + 1 ≡ next_entry guardian.now }
     ensures total { book.new.total ≡ book.old.total + 1 }
     ensures made { seat.new.made ≡ seat.old.made + 1 }
 {

@@ -1,7 +1,7 @@
 //! Receipts and seats against the journal.
 
 ghost use Rattle.std.specs.Prelude.{◌<◌, ◌^◌, ◌≡◌, All, IfErr, OnOk, length, map, sum_by};
-ghost use Rattle.argus_receipts.specs.Checking.{AreApart, IsFault, Stands, entries_since};
+ghost use Rattle.argus_receipts.specs.Checking.{AreApart, IsSettleAnswer, Stands, entries_since};
 ghost use Rattle.argus_receipts.specs.Checking.{settle_fault};
 ghost use Rattle.argus_receipts.specs.Receipt.{plain_receipt};
 
@@ -24,17 +24,17 @@ impl<N: Sharing, R: Wait + Drop> Locked<N, R> {
         ensures count { OnOk result
             (entries_since N.start self.now.journal.opening self.now.journal.entries
             ≡ sum_by (λ seat. seat.made) seats.now) }
-        ensures fault { IfErr result (IsFault
+        ensures fault { IfErr result (IsSettleAnswer
             (settle_fault self.now.journal.opening self.now.journal.entries N.start
             (sum_by (λ seat. seat.made) seats.now) (map plain_receipt receipts.now))) }
     {
         let Locked {
             heap,
-            shown,
+            publishing,
             start,
             ..
         } = self;
-        let journal = shown.guardian.journal().journal();
+        let journal = publishing.guardian.journal().journal();
         check(*heap, journal, *start, sum_of(seats), receipts)
     }
 }

@@ -6,12 +6,12 @@ mod checking;
 mod locked;
 mod looking;
 mod not_shared;
-mod opening;
 mod parts;
+mod publishing_guardian;
 mod seat;
 mod shared;
 mod sharing;
-mod shown_guardian;
+mod sharing_start;
 mod unsettled;
 
 pub use argus_receipts::{Receipt, SettleFault};

@@ -3,13 +3,13 @@
 ghost use Rattle.std.specs.Prelude.{◌++◌, ◌≡◌};
 ghost use Rattle.argus_journal.specs.LegalJournal.{entries_in, opening_in};
 ghost use Rattle.argus_journal.specs.Legal.{Legal};
-ghost use Rattle.argus_sharing.specs.Following.{Follows};
-ghost use Rattle.argus_sharing.specs.Locked.{next_number};
+ghost use Rattle.argus_sharing.specs.Following.{FollowsJournal};
+ghost use Rattle.argus_journal.specs.JournalView.{next_entry};
 
+use crate::publishing_guardian::PublishingGuardian;
 use crate::sharing::Sharing;
-use crate::shown_guardian::ShownGuardian;
 use argus_board::BoardWriter;
-use argus_guardian::Guardian;
+use argus_core::Guardian;
 use argus_journal::LegalJournal;
 use argus_memory::Heap;
 use std::marker::Model;
@@ -29,26 +29,27 @@ use std::sync::ledger::Book;
 #[derive(Drop)]
 pub struct Locked<N: Sharing, R: Wait + Drop> {
     pub(crate) heap: Heap,
-    pub(crate) shown: ShownGuardian<N, R>,
+    pub(crate) publishing: PublishingGuardian<N, R>,
     pub(crate) book: Book<N>,
     pub(crate) start: u64,
 }
 
 impl<N: Sharing, R: Wait + Drop> Model for Locked<N, R> {
-    ghost use Rattle.std.specs.Prelude.{◌+◌, ◌++◌, ◌≡◌};
-    ghost use Rattle.argus_sharing.specs.Following.{Follows};
-    ghost use Rattle.argus_sharing.specs.Locked.{State, next_number, state_coded};
+    ghost use Rattle.std.specs.Prelude.{◌++◌, ◌+◌, ◌≡◌};
+    ghost use Rattle.argus_sharing.specs.Following.{FollowsJournal};
+    ghost use Rattle.argus_sharing.specs.Locked.{LockedState, locked_state_coded};
+    ghost use Rattle.argus_journal.specs.JournalView.{next_entry};
 
-    ghost Value = { State };
+    ghost Value = { LockedState };
 
-    ghost coded = { state_coded };
+    ghost coded = { locked_state_coded };
 
-    ghost view = { λ s. record { journal = s.shown.guardian; board = s.shown.board } };
+    ghost view = { λ s. record { journal = s.publishing.guardian; board = s.publishing.board } };
 
     ghost invariant = { λ s. (s.start ≡ N.start)
-        × (next_number s.shown.guardian ≡ N.start + s.book.total)
-        × Follows N.opening s.shown.guardian
-        (s.shown.board.published ++ s.shown.board.pending) };
+        × (next_entry s.publishing.guardian ≡ N.start + s.book.total)
+        × FollowsJournal N.opening_contents s.publishing.guardian
+        (s.publishing.board.published ++ s.publishing.board.pending) };
 }
 
 impl<N: Sharing, R: Wait + Drop> Locked<N, R> {
@@ -60,15 +61,16 @@ impl<N: Sharing, R: Wait + Drop> Locked<N, R> {
         board: BoardWriter<N, R>,
     ) -> Locked<N, R>
         requires book { book.total ≡ 0 }
-        requires start { next_number guardian ≡ N.start }
-        requires follows { Follows N.opening guardian (board.published ++ board.pending) }
+        requires start { next_entry guardian ≡ N.start }
+        requires follows { FollowsJournal N.opening_contents guardian (board.published
+            ++ board.pending) }
         ensures journal { result.journal ≡ guardian }
         ensures board { result.board ≡ board }
     {
         let start = guardian.journal().journal().len();
         Locked {
             heap,
-            shown: ShownGuardian { guardian, board },
+            publishing: PublishingGuardian { guardian, board },
             book,
             start,
         }
@@ -80,11 +82,11 @@ impl<N: Sharing, R: Wait + Drop> Locked<N, R> {
     {
         let Locked {
             heap: _,
-            shown,
+            publishing,
             book: _,
             start: _,
         } = self;
-        let ShownGuardian { guardian, board } = shown;
+        let PublishingGuardian { guardian, board } = publishing;
         board.end();
         guardian
     }
@@ -96,10 +98,10 @@ impl<N: Sharing, R: Wait + Drop> Locked<N, R> {
         ensures opening { opening_in result.now ≡ self.now.journal.opening }
         ensures entries { entries_in result.now ≡ self.now.journal.entries }
         ensures legal { Legal self.now.journal.opening self.now.journal.entries }
-        ensures board { Follows N.opening self.now.journal
+        ensures board { FollowsJournal N.opening_contents self.now.journal
             (self.now.board.published ++ self.now.board.pending) }
     {
-        self.shown.guardian.journal_is_legal();
-        self.shown.guardian.journal()
+        self.publishing.guardian.journal_is_legal();
+        self.publishing.guardian.journal()
     }
 }

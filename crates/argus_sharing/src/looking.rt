@@ -1,24 +1,24 @@
 //! What lookers get under the lock.
 
-ghost use Rattle.std.specs.Prelude.{◌++◌, ◌<◌, ◌≡◌, ◌≢◌, ◌↔◌, [], OnErr, OnOk, Some, false};
-ghost use Rattle.std.specs.Prelude.{true, ℕ};
+ghost use Rattle.std.specs.Prelude.{OnErr, OnOk, Some, [], false, true, ℕ, ◌++◌, ◌<◌, ◌↔◌, ◌≡◌};
+ghost use Rattle.std.specs.Prelude.{◌≢◌};
 ghost use mathlib.Core.List.{IsPrefix};
 ghost use Rattle.std.specs.Result.{result_err};
-ghost use Rattle.argus_guardian.specs.Checkpoint.{after_checkpoint, is_quiet};
-ghost use Rattle.argus_guardian.specs.declared.checkpoint_error.CheckpointError.TheVariants.{Busy};
-ghost use Rattle.argus_guardian.specs.declared.checkpoint_error.CheckpointError.TheVariants.{Full};
+ghost use Rattle.argus_core.specs.Checkpoint.{after_checkpoint, is_quiet};
+ghost use Rattle.argus_core.specs.declared.checkpoint_error.CheckpointError.TheVariants.{Busy};
+ghost use Rattle.argus_core.specs.declared.checkpoint_error.CheckpointError.TheVariants.{Full};
 ghost use Rattle.argus_journal.specs.Legal.{Legal};
 ghost use Rattle.argus_journal.specs.Objects.{shapes};
-ghost use Rattle.argus_journal.specs.Words.{base_of};
+ghost use Rattle.argus_journal.specs.JournalFacts.{base_of};
 ghost use Rattle.argus_journal.specs.declared.limits.TheConstants.{MAX_FIRST_ENTRY};
-ghost use Rattle.argus_sharing.specs.Following.{Follows};
-ghost use Rattle.argus_sharing.specs.Locked.{next_number};
+ghost use Rattle.argus_sharing.specs.Following.{FollowsJournal};
+ghost use Rattle.argus_journal.specs.JournalView.{next_entry};
 
 use crate::locked::Locked;
 use crate::sharing::Sharing;
 use argus_board::Looker;
+use argus_core::CheckpointError;
 use argus_entries::{Call, Refusal};
-use argus_guardian::CheckpointError;
 use std::sync::Wait;
 
 impl<N: Sharing, R: Wait + Drop> Locked<N, R> {
@@ -29,7 +29,7 @@ impl<N: Sharing, R: Wait + Drop> Locked<N, R> {
     /// It may wait for lookers that are inside. The looker came with the same sharing.
     pub fn brief(&mut self, looker: &mut Looker<N>) -> bool
         ensures journal { self.new.journal ≡ self.old.journal }
-        ensures board { Follows N.opening self.new.journal
+        ensures board { FollowsJournal N.opening_contents self.new.journal
             (self.new.board.published ++ self.new.board.pending) }
         ensures legal { Legal self.new.journal.opening self.new.journal.entries }
         ensures former { IsPrefix looker.old
@@ -39,9 +39,9 @@ impl<N: Sharing, R: Wait + Drop> Locked<N, R> {
         ensures rest { result ≡ false → (self.new ≡ self.old) × (looker.new ≡ looker.old)
             × (self.old.board.pending ≢ []) }
     {
-        let Locked { shown, .. } = self;
-        shown.guardian.journal_is_legal();
-        shown.board.brief(looker).is_ok()
+        let Locked { publishing, .. } = self;
+        publishing.guardian.journal_is_legal();
+        publishing.board.brief(looker).is_ok()
     }
 
     /// Publishes what is pending. False: a publish found no memory, and all is as before.
@@ -49,15 +49,15 @@ impl<N: Sharing, R: Wait + Drop> Locked<N, R> {
     /// It may wait for lookers that are inside.
     pub fn refresh(&mut self) -> bool
         ensures journal { self.new.journal ≡ self.old.journal }
-        ensures board { Follows N.opening self.new.journal
+        ensures board { FollowsJournal N.opening_contents self.new.journal
             (self.new.board.published ++ self.new.board.pending) }
         ensures legal { Legal self.new.journal.opening self.new.journal.entries }
         ensures all { result ≡ true → self.new.board.pending ≡ [] }
         ensures rest { result ≡ false → (self.new ≡ self.old) × (self.old.board.pending ≢ []) }
     {
-        let Locked { shown, .. } = self;
-        shown.guardian.journal_is_legal();
-        shown.board.publish().is_ok()
+        let Locked { publishing, .. } = self;
+        publishing.guardian.journal_is_legal();
+        publishing.board.publish().is_ok()
     }
 
     /// Folds the journal's past into its opening, as `Guardian::checkpoint` does: nothing is lost
@@ -68,26 +68,26 @@ impl<N: Sharing, R: Wait + Drop> Locked<N, R> {
         ensures ok { OnOk result (self.new.journal ≡ after_checkpoint self.old.journal) }
         ensures busy { (result_err result ≡ Some Busy) ↔ (is_quiet self.old.journal ≡ false) }
         ensures full { (result_err result ≡ Some Full) ↔ ((is_quiet self.old.journal ≡ true)
-            × (MAX_FIRST_ENTRY < next_number self.old.journal)) }
+            × (MAX_FIRST_ENTRY < next_entry self.old.journal)) }
         ensures err { OnErr result (self.new ≡ self.old) }
         ensures shapes { shapes self.new.journal.opening self.new.journal.entries
             ≡ shapes self.old.journal.opening self.old.journal.entries }
         ensures bases { (o : ℕ) → base_of self.new.journal.opening self.new.journal.entries o
             ≡ base_of self.old.journal.opening self.old.journal.entries o }
         ensures stays { self.new.board ≡ self.old.board }
-        ensures board { Follows N.opening self.new.journal
+        ensures board { FollowsJournal N.opening_contents self.new.journal
             (self.new.board.published ++ self.new.board.pending) }
         ensures legal { Legal self.old.journal.opening self.old.journal.entries }
-        ensures former { Follows N.opening self.old.journal
+        ensures former { FollowsJournal N.opening_contents self.old.journal
             (self.old.board.published ++ self.old.board.pending) }
     {
-        let Locked { shown, .. } = self;
-        shown.guardian.journal_is_legal();
-        shown.guardian.checkpoint()
+        let Locked { publishing, .. } = self;
+        publishing.guardian.journal_is_legal();
+        publishing.guardian.checkpoint()
     }
 
     /// Whether the call would be refused `Conflict` now.
     pub(crate) fn would_conflict(&self, call: &Call) -> bool {
-        self.shown.guardian.access_refusal(call) == Some(Refusal::Conflict)
+        self.publishing.guardian.access_refusal(call) == Some(Refusal::Conflict)
     }
 }

@@ -1,6 +1,6 @@
 //! `NotShared`: a guardian that couldn't be shared.
 
-use argus_guardian::Guardian;
+use argus_core::Guardian;
 
 /// There was no memory to share the guardian, which is as it was.
 ///

@@ -1,32 +1,33 @@
 //! `Shared`: a guardian that threads share.
 
-ghost use Rattle.std.specs.Prelude.{◌+◌, ◌<◌, ◌≡◌, ◌≢◌, [], All, IfErr, IfOk, OnErr, OnOk, false, length};
-ghost use Rattle.std.specs.Prelude.{map, sum_by, true};
+ghost use Rattle.std.specs.Prelude.{All, IfErr, IfOk, OnErr, OnOk, [], false, length, map, sum_by};
+ghost use Rattle.std.specs.Prelude.{true, ◌+◌, ◌<◌, ◌≡◌, ◌≢◌};
 ghost use Rattle.std.specs.Result.{result_err};
 ghost use mathlib.Core.List.{IsPrefix};
-ghost use Rattle.argus_board.specs.Keeper.{Opens};
+ghost use Rattle.argus_board.specs.Keeper.{StartsHistory};
 ghost use Rattle.argus_entries.specs.Call.{plain_call};
 ghost use Rattle.argus_entries.specs.Reply.{plain_reply};
 ghost use Rattle.argus_journal.specs.Legal.{Legal};
 ghost use Rattle.argus_journal.specs.Opening.{content_in};
 ghost use Rattle.argus_receipts.specs.Checking.{AreApart, Stands, entries_since};
 ghost use Rattle.argus_receipts.specs.Receipt.{plain_receipt};
-ghost use Rattle.argus_sharing.specs.Checkpoint.{TellsCheckpoint};
-ghost use Rattle.argus_sharing.specs.Following.{Follows, IsFollowed, bases_told, effects_told};
-ghost use Rattle.argus_sharing.specs.Locked.{State, next_number};
+ghost use Rattle.argus_sharing.specs.Checkpoint.{IsCheckpointAnswer};
+ghost use Rattle.argus_sharing.specs.Following.{FollowsJournal, IsFollowed, journal_bases};
+ghost use Rattle.argus_sharing.specs.Following.{journal_effects};
+ghost use Rattle.argus_sharing.specs.Locked.{LockedState};
+ghost use Rattle.argus_journal.specs.JournalView.{JournalView, next_entry, reply_to};
 ghost use Rattle.argus_sharing.specs.Waking.{has_ended};
-ghost use Rattle.argus_steps.specs.Step.{Said, reply_to};
 
 use crate::locked::Locked;
 use crate::not_shared::NotShared;
-use crate::opening::{board_of, lookers_at, seats_over};
 use crate::parts::Parts;
 use crate::seat::Seat;
 use crate::sharing::Sharing;
+use crate::sharing_start::{board_of, lookers_at, seats_over};
 use crate::unsettled::Unsettled;
 use argus_board::{Keeper, Looker};
+use argus_core::{CheckpointError, Guardian};
 use argus_entries::{Call, Reply};
-use argus_guardian::{CheckpointError, Guardian};
 use argus_memory::{Heap, OutOfMemory, Room};
 use argus_receipts::Receipt;
 use std::sync::ledger::Blank;
@@ -73,14 +74,14 @@ impl<N: Sharing, R: Wait + Drop> Shared<N, R> {
         requires lookers { lookers < 4294967295 }
         requires name { blank.name ≡ N.name }
         requires parts { (blank.parts ≡ N.parts) × (blank.parts ≡ seats) }
-        requires keeper { Opens N.history N.root keeper }
-        requires start { N.start ≡ next_number guardian }
-        requires before { N.before ≡ effects_told guardian }
-        requires opening { N.opening ≡ content_in guardian.opening.objects }
-        requires first { N.first ≡ bases_told guardian }
+        requires keeper { StartsHistory N.history N.root keeper }
+        requires start { N.start ≡ next_entry guardian }
+        requires before { N.before ≡ journal_effects guardian }
+        requires opening { N.opening_contents ≡ content_in guardian.opening.objects }
+        requires first { N.first ≡ journal_bases guardian }
         ensures seats { IfOk result (λ p. All (λ seat. seat.made ≡ 0) p.seats.items
             × (length p.seats.items ≡ seats)) }
-        ensures lookers { IfOk result (λ p. All (λ looker. looker ≡ effects_told guardian)
+        ensures lookers { IfOk result (λ p. All (λ looker. looker ≡ journal_effects guardian)
             p.lookers.items × (length p.lookers.items ≡ lookers)) }
         ensures back { IfErr result (λ e. e.guardian ≡ guardian) }
     {
@@ -116,9 +117,10 @@ impl<N: Sharing, R: Wait + Drop> Shared<N, R> {
         call: Call,
     ) -> Result<Receipt, OutOfMemory>
         ensures call { IfOk result (λ receipt. plain_call receipt.call ≡ plain_call call) }
-        ensures reply { IfOk result (λ receipt. (said : Said) × Legal said.opening said.entries
-            × (receipt.at ≡ next_number said)
-            × (plain_reply receipt.reply ≡ reply_to said (plain_call call))) }
+        ensures reply { IfOk result (λ receipt. (journal : JournalView)
+            × Legal journal.opening journal.entries
+            × (receipt.at ≡ next_entry journal)
+            × (plain_reply receipt.reply ≡ reply_to journal (plain_call call))) }
         ensures made { OnOk result (seat.new.made ≡ seat.old.made + 1) }
         ensures err { OnErr result (seat.new.made ≡ seat.old.made) }
     {
@@ -140,9 +142,10 @@ impl<N: Sharing, R: Wait + Drop> Shared<N, R> {
         patience: u32,
     ) -> Result<Receipt, OutOfMemory>
         ensures call { IfOk result (λ receipt. plain_call receipt.call ≡ plain_call call) }
-        ensures reply { IfOk result (λ receipt. (said : Said) × Legal said.opening said.entries
-            × (receipt.at ≡ next_number said)
-            × (plain_reply receipt.reply ≡ reply_to said (plain_call call))) }
+        ensures reply { IfOk result (λ receipt. (journal : JournalView)
+            × Legal journal.opening journal.entries
+            × (receipt.at ≡ next_entry journal)
+            × (plain_reply receipt.reply ≡ reply_to journal (plain_call call))) }
         ensures made { OnOk result (seat.new.made ≡ seat.old.made + 1) }
         ensures err { OnErr result (seat.new.made ≡ seat.old.made) }
     {
@@ -167,8 +170,9 @@ impl<N: Sharing, R: Wait + Drop> Shared<N, R> {
     /// It may wait for other threads. The looker came with the same sharing.
     pub fn brief(&self, rt: &impl Wait, looker: &mut Looker<N>) -> bool
         ensures later { IsPrefix looker.old looker.new }
-        ensures all { result ≡ true → (said : Said) × Legal said.opening said.entries
-            × Follows N.opening said looker.new }
+        ensures all { result ≡ true → (journal : JournalView)
+            × Legal journal.opening journal.entries
+            × FollowsJournal N.opening_contents journal looker.new }
         ensures rest { result ≡ false → looker.new ≡ looker.old }
     {
         self.locked.lock(rt).brief(looker)
@@ -178,9 +182,9 @@ impl<N: Sharing, R: Wait + Drop> Shared<N, R> {
     ///
     /// It may wait for other threads.
     pub fn refresh(&self, rt: &impl Wait) -> bool
-        ensures all { result ≡ true → (state : State) × IsFollowed N.opening state
+        ensures all { result ≡ true → (state : LockedState) × IsFollowed N.opening_contents state
             × (state.board.pending ≡ []) }
-        ensures rest { result ≡ false → (state : State) × IsFollowed N.opening state
+        ensures rest { result ≡ false → (state : LockedState) × IsFollowed N.opening_contents state
             × (state.board.pending ≢ []) }
     {
         self.locked.lock(rt).refresh()
@@ -192,8 +196,8 @@ impl<N: Sharing, R: Wait + Drop> Shared<N, R> {
     ///
     /// It may wait for other threads.
     pub fn checkpoint(&self, rt: &impl Wait) -> Result<(), CheckpointError>
-        ensures error { (state : State) × IsFollowed N.opening state
-            × TellsCheckpoint state.journal (result_err result) }
+        ensures error { (state : LockedState) × IsFollowed N.opening_contents state
+            × IsCheckpointAnswer state.journal (result_err result) }
     {
         self.locked.lock(rt).checkpoint()
     }

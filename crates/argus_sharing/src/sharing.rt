@@ -18,9 +18,9 @@ use std::sync::ledger::Ledger;
 ///     requires name { blank.name ≡ N.name }
 ///     requires parts { (blank.parts ≡ N.parts) × (blank.parts ≡ 2) }
 ///     requires keeper { Opens N.history N.root keeper }
-///     requires start { N.start ≡ next_number guardian }
+///     requires start { N.start ≡ next_entry guardian }
 ///     requires before { N.before ≡ effects_told guardian }
-///     requires opening { N.opening ≡ content_in guardian.opening.objects }
+///     requires opening { N.opening_contents ≡ content_in guardian.opening.objects }
 ///     requires first { N.first ≡ bases_told guardian }
 /// {
 ///     let parts = Shared::<N, R>::new(rt, heap, guardian, 2, 0, blank, keeper)?;

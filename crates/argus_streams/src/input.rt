@@ -2,11 +2,11 @@
 
 ghost use Rattle.std.specs.Prelude.{◌≡◌, true, false, IfOk, IfErr};
 ghost use Rattle.argus_streams.specs.Input.{ReadUpTo};
-ghost use Rattle.argus_streams.specs.Watched.{has_failed, inner_of};
+ghost use Rattle.argus_streams.specs.FailStop.{has_failed, inner_of};
 ghost use Rattle.argus_streams.specs.declared.input_error.InputError.TheVariants as InputError;
 
+use crate::fail_stop::FailStop;
 use crate::input_error::InputError;
-use crate::watched::Watched;
 use argus_memory::{Heap, Room};
 use std::io::Read;
 
@@ -19,12 +19,12 @@ const CHUNK: usize = 16_384;
 /// is lost.
 ///
 /// ```text
-/// let mut reader = Watched::new(rt.stdin());
+/// let mut reader = FailStop::new(rt.stdin());
 /// let bytes = read_up_to(heap, &mut reader, 4_096)?;
 /// ```
 pub fn read_up_to<R: Read + Drop>(
     heap: Heap,
-    reader: &mut Watched<R>,
+    reader: &mut FailStop<R>,
     limit: usize,
 ) -> Result<Vec<u8, Room>, InputError>
     requires { has_failed reader.old ≡ false }

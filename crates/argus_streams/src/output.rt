@@ -2,9 +2,9 @@
 
 ghost use Rattle.std.specs.Prelude.{◌≡◌, ◌≤◌, ℕ, length, take, true, false, OnOk, OnErr};
 ghost use Rattle.std.specs.Io.KnownBytes.{Appends};
-ghost use Rattle.argus_streams.specs.Watched.{has_failed, inner_of};
+ghost use Rattle.argus_streams.specs.FailStop.{has_failed, inner_of};
 
-use crate::watched::Watched;
+use crate::fail_stop::FailStop;
 use std::io::Write;
 
 /// The writer failed.
@@ -20,7 +20,10 @@ pub struct NotWritten;
 /// Writes all the bytes. A write that fails or takes nothing isn't tried again.
 ///
 /// `NotWritten` comes where one did, and only then; what was written is a front of the bytes.
-pub fn write_whole<W: Write + Drop>(writer: &mut Watched<W>, bytes: &[u8]) -> Result<(), NotWritten>
+pub fn write_whole<W: Write + Drop>(
+    writer: &mut FailStop<W>,
+    bytes: &[u8],
+) -> Result<(), NotWritten>
     requires { has_failed writer.old ≡ false }
     ensures ok { OnOk result (Appends (W.contents (inner_of writer.old))
         (W.contents (inner_of writer.new)) bytes.now) }

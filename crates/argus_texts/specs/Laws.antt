@@ -16,8 +16,8 @@ ValuesAreReadBack = (v : PlainValue) → Within MAX_VALUE_DEPTH v
     × ((w : PlainValue) → Within MAX_VALUE_DEPTH w → spelling v ≡ spelling w → w ≡ v)
 
 -- values of whatever depth with one written form are the same
-abbrev pub EachValueIsTold : Type 0
-EachValueIsTold =
+abbrev pub ValueTextsAreUnambiguous : Type 0
+ValueTextsAreUnambiguous =
     (k : ℕ) (v w : PlainValue) → Within k v → Within k w → spelling v ≡ spelling w → v ≡ w
 
 -- the written form of a content has no fault, and is that of no other content
@@ -29,8 +29,8 @@ ContentsAreReadBack =
     → d ≡ c)
 
 -- contents of whatever depth with one written form are the same
-abbrev pub EachContentIsTold : Type 0
-EachContentIsTold =
+abbrev pub ContentTextsAreUnambiguous : Type 0
+ContentTextsAreUnambiguous =
     (k : ℕ) (c d : PlainContent) → PartsWithin k c → PartsWithin k d
     → content_spelling c ≡ content_spelling d → c ≡ d
 
@@ -42,6 +42,6 @@ ShapesAreReadBack =
     → shape_spelling s ≡ shape_spelling t → t ≡ s)
 
 -- shapes of whatever depth and length with one written form are the same
-abbrev pub EachShapeIsTold : Type 0
-EachShapeIsTold =
+abbrev pub ShapeTextsAreUnambiguous : Type 0
+ShapeTextsAreUnambiguous =
     (s t : PlainShape) → HasNames s → HasNames t → shape_spelling s ≡ shape_spelling t → s ≡ t

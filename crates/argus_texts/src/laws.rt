@@ -1,7 +1,9 @@
 //! The laws of the written forms. Each function does nothing: its contract is the law.
 
-ghost use Rattle.argus_texts.specs.Laws.{ContentsAreReadBack, EachContentIsTold, EachShapeIsTold};
-ghost use Rattle.argus_texts.specs.Laws.{EachValueIsTold, ShapesAreReadBack, ValuesAreReadBack};
+ghost use Rattle.argus_texts.specs.Laws.{ContentsAreReadBack, ContentTextsAreUnambiguous};
+ghost use Rattle.argus_texts.specs.Laws.{ShapeTextsAreUnambiguous};
+ghost use Rattle.argus_texts.specs.Laws.{ValueTextsAreUnambiguous, ShapesAreReadBack};
+ghost use Rattle.argus_texts.specs.Laws.{ValuesAreReadBack};
 
 /// The written form of a value of depth at most 16 has no fault, and is the form of no other value:
 /// so what [`write_value`](crate::write_value) wrote, [`read_value`](crate::read_value) reads back,
@@ -11,8 +13,8 @@ pub fn values_are_read_back()
 {}
 
 /// Two values with one written form are the same value.
-pub fn each_value_is_told()
-    ensures { EachValueIsTold }
+pub fn value_texts_are_unambiguous()
+    ensures { ValueTextsAreUnambiguous }
 {}
 
 /// The same of contents as of values: what [`write_content`](crate::write_content) wrote,
@@ -22,8 +24,8 @@ pub fn contents_are_read_back()
 {}
 
 /// Two contents with one written form are the same content.
-pub fn each_content_is_told()
-    ensures { EachContentIsTold }
+pub fn content_texts_are_unambiguous()
+    ensures { ContentTextsAreUnambiguous }
 {}
 
 /// The written form of a shape that can be made is accepted, and is the form of no other: so what
@@ -33,6 +35,6 @@ pub fn shapes_are_read_back()
 {}
 
 /// Two shapes with one written form are the same shape.
-pub fn each_shape_is_told()
-    ensures { EachShapeIsTold }
+pub fn shape_texts_are_unambiguous()
+    ensures { ShapeTextsAreUnambiguous }
 {}

@@ -1,6 +1,7 @@
 pub use Rattle.argus_contents.specs.Answer
 pub use Rattle.argus_contents.specs.Change
 pub use Rattle.argus_contents.specs.Content
+pub use Rattle.argus_contents.specs.Effect
 pub use Rattle.argus_contents.specs.Fitting
 pub use Rattle.argus_contents.specs.Name
 pub use Rattle.argus_contents.specs.Place
@@ -15,3 +16,6 @@ pub use Rattle.argus_texts.specs.Fault
 pub use Rattle.argus_texts.specs.Laws
 pub use Rattle.argus_texts.specs.ShapeSpelling
 pub use Rattle.argus_texts.specs.Spelling
+pub use Rattle.argus_contents.specs.declared as contents_declared
+pub use Rattle.argus_memory.specs.declared as memory_declared
+pub use Rattle.argus_texts.specs.declared as texts_declared

@@ -6,8 +6,8 @@ use denote.Struct.Declared.{shape}
 use denote.Param.Send.{IsSend, IsSync, recorded_sync, sendable, struct_sync}
 use Rattle.argus_actions.specs.contracts.action_id.ActionId.{the_row as action_row}
 use Rattle.argus_board.specs.declared.board.Board.{Ghosts}
-use Rattle.argus_commands.proofs.step.Step.TheLaws.TheKnot.{sync-Step}
-use Rattle.argus_commands.specs.contracts.step.Step.{the_field as step_field, the_row as step_row}
+use Rattle.argus_language.proofs.step.Step.TheLaws.TheKnot.{sync-Step}
+use Rattle.argus_language.specs.contracts.step.Step.{the_field as step_field, the_row as step_row}
 use Rattle.argus_contents.proofs.Crossing as contents
 use Rattle.argus_contents.specs.contracts.obj_id.ObjId.{the_row as object_row}
 use Rattle.argus_memory.proofs.Crossing as memory
@@ -16,7 +16,7 @@ use Rattle.argus_receipts.specs.contracts.receipt.Receipt.{the_row as receipt_ro
 use Rattle.argus_runs.specs.contracts.stopped.Stopped.{the_row as stopped_row}
 use Rattle.argus_sharing.proofs.Crossing as sharing
 use Rattle.argus_sharing.specs.declared.sharing.Sharing.{Ghosts as Named}
-use Rattle.argus_workers.specs.contracts.handing_out.Handed.{the_row as handed_row, the_type as handed_type}
+use Rattle.argus_workers.specs.contracts.handing_out.ArmContext.{the_row as handed_row, the_type as handed_type}
 use Rattle.core.specs.declared.ledger.Ledger.{Ghosts as Ledgered}
 use Rattle.std.specs.contracts.option.Option.{the_row as option_row}
 use Rattle.std.specs.contracts.result.Result.{the_row as result_row}
@@ -49,8 +49,8 @@ pub begun_syncs : IsSync (option_row action_row)
 begun_syncs = search sendable depth 40
 
 module _ (t : NamedLft) (N R G : RattleType) (a : Named N.Denot) (l : Ledgered N.Denot) (b : Ghosts N.Denot) where
-  pub handed_syncs : IsSend R → IsSync R → IsSync G → IsSync (handed_row t N R G a l b)
-  handed_syncs send_r sync_r sync_g = let handed = handed_type t N R G a l b in
+  pub arm_context_syncs : IsSend R → IsSync R → IsSync G → IsSync (handed_row t N R G a l b)
+  arm_context_syncs send_r sync_r sync_g = let handed = handed_type t N R G a l b in
       recorded_sync _ handed.D handed.to handed.to_one (struct_sync (shape handed) (
         search (sendable, sync_r) depth 40,
         (

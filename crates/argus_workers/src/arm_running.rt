@@ -2,8 +2,8 @@
 
 use crate::gate::Gate;
 use argus_actions::ActionId;
-use argus_commands::Step;
 use argus_contents::ObjId;
+use argus_language::Step;
 use argus_memory::Heap;
 use argus_runs::pieces::finish_block;
 use argus_runs::{Caller, Flow, Stopped, run_steps};

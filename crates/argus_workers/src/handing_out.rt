@@ -6,9 +6,9 @@ use crate::gate::Gate;
 use crate::team::Team;
 use crate::worker::Worker;
 use argus_actions::ActionId;
-use argus_commands::{Opening, Step};
 use argus_contents::ObjId;
 use argus_entries::Call;
+use argus_language::{BlockKind, Step};
 use argus_memory::{Heap, Room};
 use argus_receipts::Receipt;
 use argus_runs::{Caller, Stopped};
@@ -31,7 +31,7 @@ struct Job<'a, N: Sharing> {
 // What all workers are given: what the team has in common, the arms' steps, the actions that were
 // begun for them, the numbers of the script's objects, and how many workers there are.
 #[derive(Drop)]
-struct Handed<'a, N: Sharing, R: Wait + Drop, G: Gate> {
+struct ArmContext<'a, N: Sharing, R: Wait + Drop, G: Gate> {
     rt: &'a R,
     heap: Heap,
     shared: &'a Shared<N, R>,
@@ -57,7 +57,7 @@ pub(crate) fn hand_out<
     arms: &[Step],
     begun: &[Option<ActionId>],
 ) -> Result<Vec<Receipt, Room>, Stopped> {
-    let handed = Handed {
+    let handed = ArmContext {
         rt: team.rt,
         heap: team.heap,
         shared: team.shared,
@@ -90,7 +90,7 @@ fn rooms_for(
 // Runs each worker's arms on a thread of its own. What is left of the arms of a worker for which no
 // thread can be made stays empty.
 fn run_all<N: Sharing + Send + Sync, R: Threads + Wait + Drop + Send + Sync, G: Gate + Sync>(
-    handed: &Handed<N, R, G>,
+    handed: &ArmContext<N, R, G>,
     seats: &mut [Seat<N>],
     left: &mut [Vec<Left, Room>],
 ) -> Result<(), AllocError> {
@@ -102,7 +102,7 @@ fn run_all<N: Sharing + Send + Sync, R: Threads + Wait + Drop + Send + Sync, G: 
     Ok(())
 }
 
-impl<'a, N: Sharing, R: Wait + Drop, G: Gate> Crew<Job<'a, N>> for Handed<'_, N, R, G> {
+impl<'a, N: Sharing, R: Wait + Drop, G: Gate> Crew<Job<'a, N>> for ArmContext<'_, N, R, G> {
     // Runs one worker's arms, and notes what each left.
     fn work(&self, job: Job<'a, N>) {
         let Job { number, seat, left } = job;
@@ -119,7 +119,7 @@ impl<'a, N: Sharing, R: Wait + Drop, G: Gate> Crew<Job<'a, N>> for Handed<'_, N,
 
 // Aborts the actions of the arms that no worker ran, since others may wait for what they hold up.
 fn abort_unrun<N: Sharing, R: Wait + Drop, G: Gate>(
-    handed: &Handed<N, R, G>,
+    handed: &ArmContext<N, R, G>,
     seats: &mut [Seat<N>],
     left: &[Vec<Left, Room>],
 ) {
@@ -132,7 +132,7 @@ fn abort_unrun<N: Sharing, R: Wait + Drop, G: Gate>(
 
 // Aborts the actions of one worker's arms.
 fn abort_arms<N: Sharing, R: Wait + Drop, G: Gate>(
-    handed: &Handed<N, R, G>,
+    handed: &ArmContext<N, R, G>,
     seat: &mut Seat<N>,
     number: usize,
 ) {
@@ -149,7 +149,7 @@ fn abort_arms<N: Sharing, R: Wait + Drop, G: Gate>(
 }
 
 fn worker_at<'b, N: Sharing, R: Wait + Drop, G: Gate>(
-    handed: &'b Handed<'_, N, R, G>,
+    handed: &'b ArmContext<'_, N, R, G>,
     seat: &'b mut Seat<N>,
 ) -> Worker<'b, N, R> {
     Worker {
@@ -164,7 +164,7 @@ fn worker_at<'b, N: Sharing, R: Wait + Drop, G: Gate>(
 
 // The receipts of an arm, if it was begun.
 fn run_one<N: Sharing, R: Wait + Drop, G: Gate>(
-    handed: &Handed<N, R, G>,
+    handed: &ArmContext<N, R, G>,
     seat: &mut Seat<N>,
     arm: &Step,
     action: Option<ActionId>,
@@ -172,7 +172,7 @@ fn run_one<N: Sharing, R: Wait + Drop, G: Gate>(
 ) -> Left {
     let heap = handed.heap;
     let mut worker = worker_at(handed, seat);
-    if let (Step::Block(Opening::Arm(_), body), Some(action), Ok(arm)) = (
+    if let (Step::Block(BlockKind::Arm(_), body), Some(action), Ok(arm)) = (
         arm,
         action,
         u32::try_from(k),

@@ -11,8 +11,8 @@ mod team;
 mod walking;
 mod worker;
 
+pub use argus_run_check::{ArmOutcome, Ended, RunReport};
 pub use argus_runs::RunFault;
-pub use argus_shown::{ArmOutcome, Ended, RunReport};
 pub use gate::Gate;
 pub use no_gate::NoGate;
 pub use running_shared::run_shared;

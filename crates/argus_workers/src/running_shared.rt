@@ -2,19 +2,19 @@
 
 ghost use Rattle.std.specs.Prelude.{IfErr, IfOk, IfSome, length, map, sum_by, ◌+◌, ◌≡◌};
 ghost use Rattle.std.specs.Prelude.{◌≤◌};
-ghost use Rattle.argus_commands.specs.Script.{plain_script};
+ghost use Rattle.argus_language.specs.Script.{plain_script};
 ghost use Rattle.argus_receipts.specs.Receipt.{plain_receipt};
 ghost use Rattle.argus_runs.specs.declared.run_fault.RunFault.TheVariants.{Memory};
-ghost use Rattle.argus_shown.specs.Shown.{IsShown};
+ghost use Rattle.argus_run_check.specs.RunCheck.{IsCheckedRun};
 
 use crate::gate::Gate;
 use crate::team::Team;
 use crate::walking::walk;
-use argus_commands::Script;
+use argus_language::Script;
 use argus_memory::{Heap, OutOfMemory};
+use argus_run_check::{RunReport, has_risen, report_of};
 use argus_runs::RunFault;
 use argus_sharing::{Seat, Shared, Sharing};
-use argus_shown::{RunReport, has_risen, report_of};
 use std::sync::Wait;
 use std::thread::Threads;
 
@@ -56,7 +56,7 @@ pub fn run_shared<N: Sharing + Send + Sync, R: Threads + Wait + Drop + Send + Sy
 ) -> Result<RunReport, RunFault>
     requires workers { 1 ≤ workers }
     requires seats { length seats.old ≡ workers + 1 }
-    ensures shown { IfOk result (λ report. IsShown (plain_script script.now)
+    ensures checked { IfOk result (λ report. IsCheckedRun (plain_script script.now)
         (map plain_receipt report.receipts.items) report.outcomes.items) }
     ensures made { IfOk result (λ report. sum_by (λ seat. seat.made) seats.new
         ≡ sum_by (λ seat. seat.made) seats.old + length report.receipts.items) }

@@ -2,15 +2,15 @@
 //!
 //! It is a walk of its own, of the runner's pieces, since no method of a trait may start threads
 //! over a trait of one's own: so it can't be a `Caller`. The arms are run by the runner, and the
-//! receipts are held against the definition of a run afterwards.
+//! receipts are checked against the definition of a run afterwards.
 
 use crate::gate::Gate;
 use crate::handing_out::hand_out;
 use crate::team::Team;
 use crate::worker::Worker;
 use argus_actions::ActionId;
-use argus_commands::{Lock, Opening, Script, Step};
 use argus_contents::ObjId;
+use argus_language::{BlockKind, Lock, Script, Step};
 use argus_memory::Room;
 use argus_receipts::Receipt;
 use argus_runs::pieces::{
@@ -83,27 +83,27 @@ fn walk_step<N: Sharing + Send + Sync, R: Threads + Wait + Drop + Send + Sync, G
     within: Option<ActionId>,
 ) -> Result<Flow, Stopped> {
     match (step, within) {
-        (Step::Block(Opening::Enter(kind), body), _) => match begin(first, *kind, within)? {
+        (Step::Block(BlockKind::Enter(kind), body), _) => match begin(first, *kind, within)? {
             None => Ok(Flow::On),
             Some(action) => {
                 let flow = walk_steps(team, first, others, numbers, body, Some(action))?;
                 finish_block(first, action, flow)
             }
         },
-        (Step::Block(Opening::If(lock, x), body), Some(action)) => {
+        (Step::Block(BlockKind::If(lock, x), body), Some(action)) => {
             match tested(first, *lock, object_at(numbers, *x), action)? {
                 None => walk_steps(team, first, others, numbers, body, within),
                 Some(flow) => Ok(flow),
             }
         }
-        (Step::Block(Opening::Coenter, arms), _) => {
+        (Step::Block(BlockKind::Coenter, arms), _) => {
             let begun = begin_arms(team.heap, first, arms, within)?;
             let mut more = hand_out(team, others, numbers, arms, begun.as_slice())?;
             first.receipts.append(&mut more)?;
             Ok(Flow::On)
         }
-        (Step::Block(Opening::If(_, _), _), None)
-        | (Step::Block(Opening::Arm(_), _), _)
+        (Step::Block(BlockKind::If(_, _), _), None)
+        | (Step::Block(BlockKind::Arm(_), _), _)
         | (Step::Declare, _)
         | (Step::Ask(_, _), _)
         | (Step::Alter(_, _), _)

@@ -1,9 +1,9 @@
 //! `Worker`: makes calls by one seat.
 
 use argus_actions::ActionId;
-use argus_commands::Step;
 use argus_contents::ObjId;
 use argus_entries::{Call, Reply};
+use argus_language::Step;
 use argus_memory::{Heap, Room};
 use argus_receipts::Receipt;
 use argus_runs::{Caller, Stopped};
@@ -27,35 +27,35 @@ pub(crate) struct Worker<'a, N: Sharing, R: Wait + Drop> {
 impl<N: Sharing, R: Wait + Drop> Caller for Worker<'_, N, R> {
     ghost use Rattle.std.specs.Prelude.{None, false, ⊤};
     ghost use Rattle.std.proofs.Common.{rules};
-    ghost use Rattle.argus_runs.specs.Comes.{stops};
+    ghost use Rattle.argus_runs.specs.RunOutcome.{mismatched};
 
     ghost State = { ⊤ };
 
     ghost state = { λ _. tt };
 
-    ghost reply = { λ _ _. stops };
+    ghost reply = { λ _ _. mismatched };
 
-    ghost hand = { None };
+    ghost arm_runner = { None };
 
-    ghost keeps = { λ _ _. ⊤ };
+    ghost preserved = { λ _ _. ⊤ };
 
-    ghost known = { false };
+    ghost is_determined = { false };
 
-    ghost begins = { λ _ _. ⊤ };
+    ghost is_prefix = { λ _ _. ⊤ };
 
-    ghost adds = { false };
+    ghost calls_extend = { false };
 
-    ghost plain = { Prim.search rules };
+    ghost no_arm_runner = { Prim.search rules };
 
-    ghost begins_same = { Prim.search rules };
+    ghost prefix_refl = { Prim.search rules };
 
-    ghost begins_on = { Prim.search rules };
+    ghost prefix_trans = { Prim.search rules };
 
-    ghost grows = { Prim.search rules };
+    ghost call_extends = { Prim.search rules };
 
-    ghost keeps_same = { Prim.search rules };
+    ghost preserved_refl = { Prim.search rules };
 
-    ghost keeps_on = { Prim.search rules };
+    ghost preserved_trans = { Prim.search rules };
 
     fn call(&mut self, call: Call) -> Result<Reply, Stopped> {
         self.receipts.reserve(1)?;

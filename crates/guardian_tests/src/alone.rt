@@ -4,10 +4,9 @@ use crate::answering::tell_answer;
 use crate::listing::{names_in, tell_listing};
 use crate::row::Row;
 use crate::row_reading::row_of;
-use argus_entries::{Call, Entry, Reply, write_entry};
 use argus_guardian::{CheckpointError, Guardian};
-use argus_journal::Journal;
-use argus_memory::{OutOfMemory, Room};
+use argus_journal::{Call, Entry, Journal, Reply, write_entry};
+use argus_values::{OutOfMemory, Room};
 use test_rows::{RowFault, Setting, tell_word};
 
 /// What the row is answered, where no allocation is refused.
@@ -90,6 +89,6 @@ pub(crate) fn tell_checkpoint(
         Ok(()) => tell_word("done", out),
         Err(CheckpointError::Busy) => tell_word("Busy", out),
         Err(CheckpointError::Full) => tell_word("Full", out),
-        Err(CheckpointError::OutOfMemory) => Err(OutOfMemory),
+        Err(CheckpointError::Memory) => Err(OutOfMemory),
     }
 }

@@ -3,11 +3,9 @@
 use crate::object_telling::{tell_base, tell_readers, tell_shape, tell_versions};
 use crate::question::Question;
 use argus_actions::ActionId;
-use argus_contents::{Content, ObjId};
-use argus_entries::write_entry;
 use argus_guardian::Guardian;
-use argus_journal::{Owner, owner_of, replay_base, replay_for};
-use argus_memory::{Heap, OutOfMemory, Room};
+use argus_journal::{Owner, owner_of, replay_base, replay_for, write_entry};
+use argus_values::{Content, Heap, ObjId, OutOfMemory, Room};
 use test_rows::{tell_action, tell_content, tell_flag, tell_number, tell_object, tell_word};
 
 /// Adds what the guardian answers, in the heap that may be refused memory.

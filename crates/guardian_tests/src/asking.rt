@@ -2,7 +2,7 @@
 
 use crate::question::Question;
 use argus_actions::ActionId;
-use argus_contents::ObjId;
+use argus_values::ObjId;
 use test_rows::{RowFault, action, object, pair};
 
 /// The question that begins with this word and goes on so; None where none begins with it.

@@ -2,10 +2,9 @@
 //! receipt is kept.
 
 use argus_actions::ActionId;
-use argus_contents::{Answer, Change, Content, ObjId, Query, Value};
-use argus_entries::{Call, Reply};
-use argus_memory::{Heap, OutOfMemory, Room};
-use argus_sharing::{Receipt, Seat, Shared, Sharing};
+use argus_guardian::{Receipt, Seat, Shared, Sharing};
+use argus_journal::{Call, Reply};
+use argus_values::{Answer, Change, Content, Heap, ObjId, OutOfMemory, Query, Room, Value};
 use std::sync::Wait;
 
 /// How many accounts there are, with the numbers from 0 on.

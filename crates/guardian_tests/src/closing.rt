@@ -5,11 +5,8 @@ use crate::sharing::share;
 use crate::task::Task;
 use anyhow::{Result, ensure};
 use argus_actions::ActionId;
-use argus_board::{LookFault, Looker};
-use argus_contents::{Content, ObjId, Value};
-use argus_guardian::Guardian;
-use argus_memory::{Heap, Room};
-use argus_sharing::{Parts, Sharing};
+use argus_guardian::{Guardian, LookFault, Looker, Parts, Sharing};
+use argus_values::{Content, Heap, ObjId, Room, Value};
 use std::alloc::AllocError;
 use std::io::Print;
 use std::sync::Wait;
@@ -22,7 +19,8 @@ const LOOKERS: u8 = 4;
 // The objects that are looked at, with a 0 in each.
 const LOOKED_AT: [ObjId; 2] = [ObjId(0), ObjId(1)];
 
-/// Lookers look, each in a thread of its own, while the sharing is dropped in this one: up to the drop
+/// Lookers look, each in a thread of its own, while the sharing is dropped in this one: up to the
+/// drop
 /// each look shows what was there, and from then on that the board has ended.
 pub(crate) fn drop_beside_lookers<R: Threads + Wait + Print + Copy + Drop + Send + Sync>(
     rt: R,

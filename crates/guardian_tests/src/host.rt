@@ -2,7 +2,7 @@
 
 use crate::request_reading::{question_of, request_of};
 use argus_embed::{EmbedError, Embedded, Outcome};
-use argus_memory::{Heap, OutOfMemory, Room};
+use argus_values::{Heap, OutOfMemory, Room};
 use std::fmt::Write;
 use std::str::from_utf8;
 use test_rows::{RowFault, Setting, Subject, first_word, tell_word};
@@ -40,7 +40,7 @@ impl Subject for Host {
             "tell" => match question_of(rest)? {
                 Some(question) => {
                     setting.limit();
-                    self.bank.tell(question)
+                    self.bank.answer_question(question)
                 }
                 None => Err(EmbedError::BadKind),
             },

@@ -1,10 +1,7 @@
 //! Listings, as text: a bar stands for each line's end.
 
-use argus_contents::{Name, NameError};
-use argus_guardian::Guardian;
-use argus_listings::{ListError, Listing, list};
-use argus_memory::{Heap, OutOfMemory, Room};
-use argus_streams::Watched;
+use argus_guardian::{FailStop, Guardian, ListError, Listing, write_listing};
+use argus_values::{Heap, Name, NameError, OutOfMemory, Room};
 use std::str::from_utf8;
 use test_rows::{Full, RowFault, tell_word};
 
@@ -41,8 +38,8 @@ pub(crate) fn tell_listing(
     listing: Listing,
     out: &mut String<Room>,
 ) -> Result<(), OutOfMemory> {
-    let mut writer = Watched::new(Vec::new(texts.room()));
-    match list(heap, guardian, names, listing, &mut writer) {
+    let mut writer = FailStop::new(Vec::new(texts.room()));
+    match write_listing(heap, guardian, names, listing, &mut writer) {
         Ok(()) => {}
         Err(ListError::OutOfMemory) => return Err(OutOfMemory),
         Err(ListError::Write) => return tell_word("write fault", out),
@@ -65,13 +62,13 @@ fn is_cut_at(
     written: &[u8],
     room: usize,
 ) -> bool {
-    let mut writer = Watched::new(Full {
+    let mut writer = FailStop::new(Full {
         taken: Vec::new(texts.room()),
         room,
         fails: room % 2 == 0,
         writes_behind: 0,
     });
-    let fault = list(texts, guardian, names, listing, &mut writer).err();
+    let fault = write_listing(texts, guardian, names, listing, &mut writer).err();
     let full = writer.get_ref();
     let is_front = full.taken.len() == room && written.starts_with(full.taken.as_slice());
     fault == Some(ListError::Write) && is_front && full.writes_behind == 1

@@ -10,9 +10,9 @@ mod caller;
 mod closing;
 mod crowd;
 mod host;
-mod hundred;
 mod listing;
 mod making;
+mod memory_refusing;
 mod object_telling;
 mod picture;
 mod playing;
@@ -107,7 +107,7 @@ fn test_shared<R: Threads + Wait + Files + Print + AllocGlobal + Copy + Drop + S
         let text = fs::read_to_string(&rt, name)?;
         shared_testing::run_text(rt, setting, text.as_str(), &mut tally)?;
     }
-    hundred::commit_within_budgets(rt, setting)?;
+    memory_refusing::commit_within_budgets(rt, setting)?;
     rt.println("commits_of_a_hundred_objects_are_refused_memory")?;
     crowd::work(rt, setting)?;
     rt.println("eight_seats_and_four_lookers")?;

@@ -3,7 +3,7 @@
 use anyhow::bail;
 use argus_actions::ActionId;
 use argus_guardian::Guardian;
-use argus_memory::Heap;
+use argus_values::Heap;
 use test_rows::{RowFault, call_of};
 
 /// Makes the call that the text spells, whatever the reply.

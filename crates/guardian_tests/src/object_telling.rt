@@ -1,11 +1,9 @@
 //! What a guardian tells of its objects, as text: each item with a space before it.
 
 use argus_actions::ActionId;
-use argus_contents::ObjId;
 use argus_guardian::Guardian;
-use argus_memory::{OutOfMemory, Room};
 use argus_objects::Version;
-use argus_texts::write_shape;
+use argus_values::{ObjId, OutOfMemory, Room, write_shape};
 use test_rows::{tell_action, tell_content, tell_word};
 
 pub(crate) fn tell_shape(

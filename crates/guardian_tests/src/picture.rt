@@ -2,9 +2,8 @@
 
 use crate::answering::tell_entry;
 use crate::object_telling::{tell_base, tell_readers, tell_shape, tell_versions};
-use argus_contents::ObjId;
 use argus_guardian::Guardian;
-use argus_memory::{Heap, OutOfMemory, Room};
+use argus_values::{Heap, ObjId, OutOfMemory, Room};
 use test_rows::tell_number;
 
 /// What the guardian tells of its journal and of each object. Two that are the same stand for the

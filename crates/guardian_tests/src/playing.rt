@@ -7,16 +7,15 @@ use crate::shared_telling::tell_look;
 use crate::sharing::budgets;
 use crate::tally::Tally;
 use anyhow::{Result, bail};
-use argus_board::Looker;
-use argus_guardian::Guardian;
-use argus_memory::Room;
-use argus_sharing::{Parts, Sharing};
+use argus_guardian::{Guardian, Looker, Parts, Sharing};
+use argus_values::Room;
 use std::io::Print;
 use std::sync::Wait;
 use std::thread::Threads;
 use test_rows::{RowFault, Setting};
 
-/// The rows between a sharing and its settlement, which the last one has to be; or up to its drop, and
+/// The rows between a sharing and its settlement, which the last one has to be; or up to its drop,
+/// and
 /// the looks behind that. Each allocation of each row is refused in turn, where that is asked for.
 ///
 /// ```text
@@ -31,7 +30,8 @@ pub(crate) struct Play<'a> {
     pub(crate) tally: Tally,
 }
 
-/// Tells the rows to the shared guardian, the last of which has to be a settlement. Where it is dropped
+/// Tells the rows to the shared guardian, the last of which has to be a settlement. Where it is
+/// dropped
 /// in place of that, a new guardian is given back.
 pub(crate) fn play_rows<
     N: Sharing + Send + Sync,
@@ -94,7 +94,8 @@ fn look_on<N: Sharing>(
     Ok(())
 }
 
-// Nothing is copied out of a board that has ended, so no allocation is allowed where they are refused.
+// Nothing is copied out of a board that has ended, so no allocation is allowed where they are
+// refused.
 fn look<N: Sharing>(
     setting: Setting,
     is_tight: bool,

@@ -1,7 +1,7 @@
 //! `Question`: what a guardian, or its journal, is asked without an entry.
 
 use argus_actions::ActionId;
-use argus_contents::ObjId;
+use argus_values::ObjId;
 
 /// What a guardian, or its journal, is asked without an entry.
 ///

@@ -1,8 +1,8 @@
 //! `Row`: what a row of a test asks for.
 
 use crate::question::Question;
-use argus_entries::Call;
-use argus_listings::Listing;
+use argus_guardian::Listing;
+use argus_journal::Call;
 
 /// What a row asks for, before its arrow.
 ///

@@ -3,7 +3,7 @@
 use crate::asking::question_of;
 use crate::listing::listing_of;
 use crate::row::Row;
-use argus_memory::Heap;
+use argus_values::Heap;
 use test_rows::{RowFault, call_of, first_word};
 
 /// What the text before a row's arrow asks for.

@@ -7,12 +7,11 @@ use crate::shared_row::SharedRow;
 use crate::shared_telling::{tell_fault, tell_last, tell_look, tell_shown};
 use crate::sharing::budgets;
 use crate::waiting::{Meanwhile, wait_meanwhile};
-use argus_board::Looker;
-use argus_contents::ObjId;
-use argus_entries::{Call, Reply};
-use argus_guardian::Guardian;
-use argus_memory::{Heap, OutOfMemory, Room};
-use argus_sharing::{Parts, Receipt, Seat, SettleFault, Shared, Sharing, Unsettled};
+use argus_guardian::{
+    Guardian, Looker, Parts, Receipt, Seat, SettleFault, Shared, Sharing, Unsettled,
+};
+use argus_journal::{Call, Reply};
+use argus_values::{Heap, ObjId, OutOfMemory, Room};
 use std::sync::Wait;
 use std::thread::Threads;
 use test_rows::{RowFault, Setting, first_word, tell_number, tell_word};

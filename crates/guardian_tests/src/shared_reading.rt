@@ -2,9 +2,8 @@
 
 use crate::shared_row::SharedRow;
 use crate::waiting::WAITING;
-use argus_contents::ObjId;
-use argus_entries::Call;
-use argus_memory::{Heap, Room};
+use argus_journal::Call;
+use argus_values::{Heap, ObjId, Room};
 use test_rows::{RowFault, Setting, call_of, first_word, object, reply_of};
 
 /// What the text before a row's arrow asks for.

@@ -1,8 +1,7 @@
 //! `SharedRow`: what a row of a shared guardian asks for.
 
-use argus_contents::ObjId;
-use argus_entries::{Call, Reply};
-use argus_memory::Room;
+use argus_journal::{Call, Reply};
+use argus_values::{ObjId, Room};
 
 /// What a row asks for, before its arrow. Seats, lookers and receipts have numbers from 0 on.
 ///

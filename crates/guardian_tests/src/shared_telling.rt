@@ -1,10 +1,8 @@
 //! What a shared guardian answers, as text.
 
-use argus_board::{Board, LookFault, Looker};
-use argus_contents::{Content, ObjId};
-use argus_entries::{Entry, write_entry};
-use argus_memory::{Heap, OutOfMemory, Room};
-use argus_sharing::{Receipt, SettleFault};
+use argus_guardian::{Board, LookFault, Looker, Receipt, SettleFault};
+use argus_journal::{Entry, write_entry};
+use argus_values::{Content, Heap, ObjId, OutOfMemory, Room};
 use std::fmt::Write;
 use test_rows::{RowFault, tell_content, tell_word};
 

@@ -1,16 +1,14 @@
 //! Sharing a guardian for a task.
 
 ghost use Rattle.std.specs.Prelude.{◌≡◌};
-ghost use Rattle.argus_board.specs.Keeper.{Opens};
+ghost use Rattle.argus_guardian.specs.Keeper.{StartsHistory};
 ghost use Rattle.argus_journal.specs.Opening.{content_in};
-ghost use Rattle.argus_sharing.specs.Following.{bases_told, effects_told};
-ghost use Rattle.argus_sharing.specs.Locked.{next_number};
+ghost use Rattle.argus_guardian.specs.Following.{journal_bases, journal_effects};
+ghost use Rattle.argus_journal.specs.JournalView.{next_entry};
 
 use crate::task::{Task, perform};
 use anyhow::{Result, bail};
-use argus_board::Keeper;
-use argus_guardian::Guardian;
-use argus_sharing::{NotShared, Shared, Sharing};
+use argus_guardian::{Guardian, Keeper, NotShared, Shared, Sharing};
 use std::io::Print;
 use std::marker::Brand;
 use std::ops::Range;
@@ -77,11 +75,11 @@ fn share_as<N: Sharing + Send + Sync, R: Threads + Wait + Print + Copy + Drop + 
 ) -> Result<Result<Guardian, NotShared>>
     requires name { blank.name ≡ N.name }
     requires parts { (blank.parts ≡ N.parts) × (blank.parts ≡ seats) }
-    requires keeper { Opens N.history N.root keeper }
-    requires start { N.start ≡ next_number guardian }
-    requires before { N.before ≡ effects_told guardian }
-    requires opening { N.opening ≡ content_in guardian.opening.objects }
-    requires first { N.first ≡ bases_told guardian }
+    requires keeper { StartsHistory N.history N.root keeper }
+    requires start { N.start ≡ next_entry guardian }
+    requires before { N.before ≡ journal_effects guardian }
+    requires opening { N.opening_contents ≡ content_in guardian.opening.objects }
+    requires first { N.first ≡ journal_bases guardian }
 {
     let (seats, lookers) = (u32::from(seats), u32::from(lookers));
     setting.limit();

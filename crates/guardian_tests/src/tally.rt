@@ -1,6 +1,6 @@
 //! `Tally`: how many tests there were, and how many wrong answers.
 
-use argus_memory::Room;
+use argus_values::Room;
 use std::io;
 use std::io::Print;
 use test_rows::RowFault;

@@ -2,13 +2,12 @@
 
 use crate::closing::close;
 use crate::crowd::have_all_work;
-use crate::hundred::{OneCommit, commit_once};
+use crate::memory_refusing::{OneCommit, commit_once};
 use crate::playing::{Play, play_rows};
 use crate::repeating::{Repetition, repeat_once};
 use anyhow::Result;
-use argus_guardian::Guardian;
-use argus_memory::Heap;
-use argus_sharing::{Parts, Sharing};
+use argus_guardian::{Guardian, Parts, Sharing};
+use argus_values::Heap;
 use std::io::Print;
 use std::sync::Wait;
 use std::thread::Threads;

@@ -4,7 +4,7 @@ use crate::alone::tell_row;
 use crate::picture::picture;
 use crate::row_reading::row_of;
 use argus_guardian::Guardian;
-use argus_memory::{Heap, OutOfMemory, Room};
+use argus_values::{Heap, OutOfMemory, Room};
 use test_rows::{RowFault, Setting, Subject};
 
 /// A guardian that rows are told to.

@@ -2,10 +2,9 @@
 
 use crate::caller::{begun_in, make_kept};
 use argus_actions::ActionId;
-use argus_contents::{Change, ObjId, Value};
-use argus_entries::Call;
-use argus_memory::{OutOfMemory, Room};
-use argus_sharing::{Receipt, Seat, Shared, Sharing};
+use argus_guardian::{Receipt, Seat, Shared, Sharing};
+use argus_journal::Call;
+use argus_values::{Change, ObjId, OutOfMemory, Room, Value};
 use std::sync::Wait;
 use std::sync::atomic::{AtomicU64, Ordering};
 use std::thread::{Threads, join, yield_now};

@@ -1,9 +1,7 @@
 //! What lookers see while seats work.
 
-use argus_board::Looker;
-use argus_contents::{Content, ObjId, Value};
-use argus_memory::Heap;
-use argus_sharing::Sharing;
+use argus_guardian::{Looker, Sharing};
+use argus_values::{Content, Heap, ObjId, Value};
 use std::sync::Wait;
 use std::sync::atomic::{AtomicU64, Ordering};
 

@@ -1,14 +1,15 @@
-//! Contents and texts: asks and changes contents, makes names and shapes, copies and compares all of
+//! Contents and texts: asks and changes contents, makes names and shapes, copies and compares all
+//! of
 //! them; reads texts, and writes what was read. It calls each law of `argus_texts`.
 
 mod appending;
+mod array_limits;
 mod asking;
 mod changing;
 mod comparing;
 mod content_calls;
 mod copying;
 mod fitting;
-mod kept;
 mod lists;
 mod making;
 mod naming;
@@ -19,8 +20,8 @@ mod text_calls;
 use crate::row_files::run_files;
 use anyhow::Result;
 use argus_texts::{
-    contents_are_read_back, each_content_is_told, each_shape_is_told, each_value_is_told,
-    shapes_are_read_back, values_are_read_back,
+    content_texts_are_unambiguous, contents_are_read_back, shape_texts_are_unambiguous,
+    shapes_are_read_back, value_texts_are_unambiguous, values_are_read_back,
 };
 use content_calls::ContentCalls;
 use text_calls::TextCalls;
@@ -56,7 +57,7 @@ fn call_laws() {
     values_are_read_back();
     contents_are_read_back();
     shapes_are_read_back();
-    each_value_is_told();
-    each_content_is_told();
-    each_shape_is_told();
+    value_texts_are_unambiguous();
+    content_texts_are_unambiguous();
+    shape_texts_are_unambiguous();
 }

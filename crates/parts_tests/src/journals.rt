@@ -7,7 +7,7 @@ mod comparing;
 mod copying;
 mod entry_reading;
 mod journal_making;
-mod kept;
+mod legal_journals;
 mod openings;
 mod questions;
 mod receipts;

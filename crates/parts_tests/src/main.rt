@@ -1,5 +1,6 @@
 //! The parts of a guardian worked out: contents and texts, trees of actions and locks, entries,
-//! journals and receipts, by the rows in data/. A row that isn't answered as it says is told, and the
+//! journals and receipts, by the rows in data/. A row that isn't answered as it says is told, and
+//! the
 //! status is then 1, once all rows are through.
 #![tactic(auto)]
 

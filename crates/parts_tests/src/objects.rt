@@ -1,5 +1,7 @@
-//! Actions and locks: begins and ends actions, and asks what has become of them; grants, hands on and
-//! drops the locks of a cell, and keeps lists of locks. It calls each law of `argus_objects`; those of
+//! Actions and locks: begins and ends actions, and asks what has become of them; grants, hands on
+//! and
+//! drops the locks of a cell, and keeps lists of locks. It calls each law of `argus_objects`; those
+//! of
 //! a tree are called by its rows.
 
 mod beginning;
@@ -8,8 +10,8 @@ mod ending;
 mod granting;
 mod listing;
 mod moving;
-mod parts;
 mod picture;
+mod tested_objects;
 mod tree_asking;
 mod tree_laws;
 mod tree_telling;
@@ -18,7 +20,7 @@ mod trees;
 use crate::row_files::run_files;
 use anyhow::Result;
 use argus_objects::laws::{ancestors_stay, discards_in_turn, lawful_stays, members_after_inherit};
-use parts::Parts;
+use tested_objects::TestedObjects;
 use trees::Trees;
 
 // The files in data/ whose rows are told to a tree of actions.
@@ -37,7 +39,7 @@ const LOCK_ROWS: [&str; 2] = ["cells.rows", "lists.rows"];
 pub(crate) fn run_rows(rt: HostRuntime) -> Result<bool> {
     call_laws();
     let are_trees_right = run_files::<Trees>(rt, &TREE_ROWS)?;
-    let are_locks_right = run_files::<Parts>(rt, &LOCK_ROWS)?;
+    let are_locks_right = run_files::<TestedObjects>(rt, &LOCK_ROWS)?;
     Ok(are_trees_right && are_locks_right)
 }
 

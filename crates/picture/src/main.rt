@@ -8,17 +8,16 @@
 //! | 5 | a read or a write failed | `read fault` or `write fault` |
 #![tactic(auto)]
 
-use argus_memory::Heap;
-use argus_picture::{DrawError, draw};
-use argus_streams::Watched;
+use argus_picture::{DrawError, FailStop, draw};
+use argus_values::Heap;
 use std::process::ExitCode;
 
 fn main(rt: HostRuntime) -> ExitCode {
     let Ok(heap) = Heap::new(rt.alloc()) else {
         return end_with_error(&rt, DrawError::OutOfMemory);
     };
-    let mut reader = Watched::new(rt.stdin());
-    match draw(heap, &mut reader, &mut Watched::new(rt.stdout())) {
+    let mut reader = FailStop::new(rt.stdin());
+    match draw(heap, &mut reader, &mut FailStop::new(rt.stdout())) {
         Ok(()) => ExitCode::SUCCESS,
         Err(error) => end_with_error(&rt, error),
     }

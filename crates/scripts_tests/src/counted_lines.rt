@@ -1,6 +1,6 @@
 //! Lines of a row of which one may stand for many: `from 1 to 256: #`.
 
-use argus_memory::{Heap, Room};
+use argus_values::{Heap, Room};
 use test_rows::{Counted, RowFault, counted_of, spell_line};
 
 /// Adds the lines that this line of a row stands for, and tells how many they are.

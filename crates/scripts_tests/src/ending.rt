@@ -3,7 +3,8 @@
 use anyhow::Result;
 use std::io::Print;
 
-/// Tells what is wrong with the row at which a part ended, behind that row's name. Answers whether the
+/// Tells what is wrong with the row at which a part ended, behind that row's name. Answers whether
+/// the
 /// part went through.
 pub(crate) fn tell_end(rt: &impl Print, part: Result<()>) -> Result<bool> {
     match part {

@@ -1,6 +1,8 @@
 //! Scripts worked out, by the rows in data/: parsed, run on a guardian, run by the program from its
-//! command line to the picture, and run by workers; receipts, held against scripts; and the example
-//! scripts. What isn't answered as its row says is told, and the status is then 1, once all parts are
+//! command line to the picture, and run by workers; receipts, checked against scripts; and the
+//! example
+//! scripts. What isn't answered as its row says is told, and the status is then 1, once all parts
+//! are
 //! through.
 #![tactic(auto)]
 

@@ -1,5 +1,6 @@
 //! The program's parts, from the command line to the picture: scripts with what is listed, command
-//! lines, and listings with what comes of their pictures; and the example scripts, as their comments
+//! lines, and listings with what comes of their pictures; and the example scripts, as their
+//! comments
 //! say.
 
 mod command_lines;

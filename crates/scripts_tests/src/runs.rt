@@ -1,4 +1,6 @@
-//! Scripts, parsed and run on a guardian, and receipts, held against scripts: what a script says, the
+//! Scripts, parsed and run on a guardian, and receipts, checked against scripts: what a script
+//! says,
+//! the
 //! lines that a run writes, and what receipts show, are compared, with ample memory and with each
 //! allocation refused in turn.
 
@@ -19,7 +21,7 @@ mod trial;
 
 use crate::ending::tell_end;
 use anyhow::Result;
-use argus_shown::what_is_shown_is_told;
+use argus_commands::checked_runs_are_runs;
 use std::alloc::Global;
 use std::fs;
 use std::io::Print;
@@ -44,7 +46,7 @@ pub(crate) fn check_rows<T: Files + Print + Alloc>(
     alloc: Global,
     setting: Setting,
 ) -> Result<bool> {
-    what_is_shown_is_told();
+    checked_runs_are_runs();
     let is_parsed = check_parsed(rt, alloc)?;
     let is_run = tell_end(rt, check_run(rt, setting))?;
     let is_shown = tell_end(rt, check_shown(rt, setting))?;

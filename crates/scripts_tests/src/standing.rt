@@ -2,7 +2,7 @@
 
 use anyhow::{Result, bail, ensure};
 use argus_guardian::Guardian;
-use argus_memory::Heap;
+use argus_values::Heap;
 use test_rows::{Counted, RowFault, call_of, counted_of, reply_of};
 
 /// A guardian on which these calls were made, each of which has to be answered as its row says:

@@ -1,5 +1,7 @@
-//! Scripts, run by workers: each is run by each number of workers that its row names, under the gate
-//! that the row describes, what is reported is compared, and all is settled; then it is run without a
+//! Scripts, run by workers: each is run by each number of workers that its row names, under the
+//! gate
+//! that the row describes, what is reported is compared, and all is settled; then it is run without
+//! a
 //! gate, with each allocation refused in turn.
 
 mod checking;

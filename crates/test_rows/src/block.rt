@@ -3,7 +3,8 @@
 /// A test among rows, or lines that are none. Blocks are parted by one empty line.
 ///
 /// ```text
-/// let block = block_of("test begins\nname acct -> good");     // Block::Test { name: "begins", .. }
+/// let block = block_of("test begins\nname acct -> good");     // Block::Test { name: "begins", ..
+/// }
 /// ```
 #[derive(Clone, Copy)]
 pub enum Block<'a> {

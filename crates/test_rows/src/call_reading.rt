@@ -2,10 +2,11 @@
 //! comes where there is no memory for a value or a shape of it.
 
 use crate::operation_reading::{change_of, query_of};
+use crate::row_fault::RowFault;
+use crate::word_reading::{action, first_word, object};
 use argus_entries::Call;
 use argus_memory::Heap;
 use argus_texts::read_shape;
-use row_words::{RowFault, action, first_word, object};
 
 /// The call that is spelled, as `alter a0 o0 addh 5`.
 pub fn call_of(heap: Heap, text: &str) -> Result<Call, RowFault> {

@@ -8,12 +8,14 @@ mod failing;
 mod full;
 mod operation_reading;
 mod reply_reading;
+mod row_fault;
 mod setting;
 mod spelling;
 mod subject;
 mod telling;
 mod tester;
 mod tight_answer;
+mod word_reading;
 
 pub use block::{Block, block_of};
 pub use call_reading::call_of;
@@ -22,7 +24,7 @@ pub use failing::Failing;
 pub use full::Full;
 pub use operation_reading::{change_of, query_of};
 pub use reply_reading::{answer_of, reply_of};
-pub use row_words::{RowFault, action, first_word, object, pair, part, place};
+pub use row_fault::RowFault;
 pub use setting::Setting;
 pub use spelling::{spell, spell_line, spelled_row};
 pub use subject::Subject;
@@ -32,3 +34,4 @@ pub use telling::{
 };
 pub use tester::Tester;
 pub use tight_answer::TightAnswer;
+pub use word_reading::{action, first_word, object, pair, part, place};

@@ -1,10 +1,11 @@
 //! Operations, as a journal's lines spell them. A text that spells none is `NotSpelled`;
 //! `OutOfMemory` comes where there is no memory for a value of it.
 
+use crate::row_fault::RowFault;
+use crate::word_reading::{first_word, part, place};
 use argus_contents::{Change, Query};
 use argus_memory::Heap;
 use argus_texts::{read_content, read_value};
-use row_words::{RowFault, first_word, part, place};
 
 /// The query that is spelled, as `fetch 3`.
 pub fn query_of(text: &str) -> Result<Query, RowFault> {

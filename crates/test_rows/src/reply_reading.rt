@@ -1,11 +1,12 @@
 //! Replies, as a journal's lines spell them. A text that spells none is `NotSpelled`; `OutOfMemory`
 //! comes where there is no memory for a value of it.
 
+use crate::row_fault::RowFault;
+use crate::word_reading::{action, first_word, object, place};
 use argus_contents::{Answer, Signal};
 use argus_entries::{Refusal, Reply};
 use argus_memory::Heap;
 use argus_texts::{read_content, read_value};
-use row_words::{RowFault, action, first_word, object, place};
 
 /// The reply that is spelled: a number as `o0` or `a0`, `refused Over`, or an answer.
 pub fn reply_of(heap: Heap, text: &str) -> Result<Reply, RowFault> {

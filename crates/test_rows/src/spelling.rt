@@ -2,8 +2,8 @@
 //! `NotSpelled`; after that and after `OutOfMemory` some of the bytes may have been added.
 
 use crate::counting::{Counted, counted_of};
+use crate::row_fault::RowFault;
 use argus_memory::{Heap, Room};
-use row_words::RowFault;
 use std::str::from_utf8;
 
 /// The row that the text stands for.

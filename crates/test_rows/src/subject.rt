@@ -1,8 +1,8 @@
 //! `Subject`: what rows are told to.
 
+use crate::row_fault::RowFault;
 use crate::setting::Setting;
 use argus_memory::Room;
-use row_words::RowFault;
 
 /// What the rows of one test are told to, one after another.
 ///

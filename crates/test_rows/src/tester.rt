@@ -2,14 +2,15 @@
 
 use crate::block::{Block, block_of};
 use crate::counting::{Counted, counted_of};
+use crate::row_fault::RowFault;
 use crate::setting::Setting;
 use crate::spelling::spelled_row;
 use crate::subject::Subject;
 use crate::telling::tell_marked;
 use crate::tight_answer::TightAnswer;
+use crate::word_reading::first_word;
 use anyhow::Result;
 use argus_memory::{OutOfMemory, Room};
-use row_words::{RowFault, first_word};
 use std::alloc::{AllocError, Global};
 use std::collections::BTreeSet;
 use std::io::Print;
@@ -17,7 +18,8 @@ use std::io::Print;
 // No row takes so many allocations.
 const MOST: u64 = 10_000;
 
-/// Runs the tests of texts, and keeps count. Each test has two subjects of its own. Each row is told
+/// Runs the tests of texts, and keeps count. Each test has two subjects of its own. Each row is
+/// told
 /// to one with ample memory; then, but in large tests, to the other one with each allocation
 /// refused in turn.
 ///

@@ -1,8 +1,8 @@
 //! One thread publishes, and another looks.
 
 ghost use Rattle.std.specs.Prelude.{[], None, ◌≡◌};
-ghost use Rattle.argus_board.specs.Effects.{Leads};
-ghost use Rattle.argus_board.specs.Keeper.{Opens};
+ghost use Rattle.argus_board.specs.Effects.{IsTableOf};
+ghost use Rattle.argus_board.specs.Keeper.{StartsHistory};
 
 use crate::effects::{effect, number_at};
 use argus_board::{Board, BoardWriter, Keeper, LookFault, Looker};
@@ -27,9 +27,9 @@ fn publish_and_look<N: Board + Send + Sync, R: Threads + Wait + Abort + Copy + D
     heap: Heap,
     keeper: Keeper,
 ) -> Result<(), Fail>
-    requires keeper { Opens N.history N.root keeper }
+    requires keeper { StartsHistory N.history N.root keeper }
     requires first { N.first ≡ [] }
-    requires leads { Leads N.opening N.before N.first }
+    requires leads { IsTableOf N.opening_contents N.before N.first }
 {
     let board = BoardWriter::<N, R>::new(rt, heap, Vec::new(heap.room()), keeper, 1)?;
     let looker = board.looker()?;

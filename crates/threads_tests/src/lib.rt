@@ -1,5 +1,7 @@
-//! Tests with handles: what goes to another thread and comes back (contents, shapes, changes, entries,
-//! journals, trees of actions, cells and lists of locks), a board on which one thread publishes while
+//! Tests with handles: what goes to another thread and comes back (contents, shapes, changes,
+//! entries,
+//! journals, trees of actions, cells and lists of locks), a board on which one thread publishes
+//! while
 //! another looks, and a heap whose budget is used up.
 #![tactic(auto)]
 

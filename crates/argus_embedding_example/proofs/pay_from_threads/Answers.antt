@@ -1,6 +1,6 @@
 -- Seats, receipts and what is shared may cross to another thread.
 use denote.Param.Send.{sendable}
-use Rattle.argus_sharing.proofs.Crossing.{crosses}
+use Rattle.argus_guardian.proofs.Crossing.{crosses}
 use Rattle.argus_embedding_example.proofs.pay_from_threads.Goals as goal
 
 pub join-one-requires-send-F : goal.join-one-requires-send-F

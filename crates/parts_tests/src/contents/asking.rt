@@ -1,6 +1,6 @@
 //! What queries answer.
 
-use crate::contents::kept::kept_of;
+use crate::contents::array_limits::kept_of;
 use argus_contents::ask;
 use argus_memory::Room;
 use test_rows::{RowFault, Setting, first_word, query_of, tell_answer};

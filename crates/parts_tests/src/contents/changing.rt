@@ -2,7 +2,7 @@
 
 ghost use Rattle.argus_contents.specs.Content.{KeepsLimits, plain_option};
 
-use crate::contents::kept::kept_of;
+use crate::contents::array_limits::kept_of;
 use argus_contents::{Answer, Change, Content, alter, alter_copy, alter_in_place, change_answer};
 use argus_memory::{Heap, OutOfMemory, Room};
 use test_rows::{RowFault, Setting, change_of, first_word, tell_answer, tell_content, tell_word};

@@ -12,7 +12,7 @@ use argus_journal::next_entry::{a_begin, a_commit, an_abort, an_access, nothing_
 use argus_journal::worked::{
     a_nested_topaction_outlives_its_creator, a_reference_waits_for_its_object,
     a_signal_keeps_its_lock, a_subaction_aborts, a_subaction_commits, all_others_wait,
-    limits_are_kept, readers_are_handed_up, refusals_come_in_order, tests_take_locks,
+    limits_are_kept, readers_are_inherited, refusals_come_in_order, tests_take_locks,
     turns_are_taken, what_suits_no_shape_is_refused,
 };
 use argus_journal::worked_openings::the_past_is_folded;
@@ -67,7 +67,7 @@ fn of_one_more_entry() {
 fn of_journals_worked_out() {
     a_subaction_aborts();
     a_subaction_commits();
-    readers_are_handed_up();
+    readers_are_inherited();
     a_nested_topaction_outlives_its_creator();
     refusals_come_in_order();
     a_signal_keeps_its_lock();

@@ -6,7 +6,7 @@ ghost use Rattle.argus_contents.specs.Value.{int};
 ghost use Rattle.argus_journal.specs.Opening.{plain_object};
 ghost use Rattle.parts_tests.specs.Account.{account};
 
-use crate::journals::kept::say;
+use crate::journals::legal_journals::say;
 use crate::journals::questions::answer_question;
 use argus_actions::ActionId;
 use argus_contents::{Content, Name, Shape, Ty, Value};

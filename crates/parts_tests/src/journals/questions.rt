@@ -1,6 +1,6 @@
 //! What a legal journal is asked.
 
-use crate::journals::kept::owner_in;
+use crate::journals::legal_journals::owner_in;
 use argus_contents::{Content, Shape};
 use argus_entries::write_entry;
 use argus_journal::{LegalJournal, Owner, replay_base, replay_for};

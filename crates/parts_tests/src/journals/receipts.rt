@@ -1,4 +1,4 @@
-//! Receipts held against a journal.
+//! Receipts checked against a journal.
 
 use argus_actions::ActionId;
 use argus_contents::OutOfMemory;

@@ -2,7 +2,7 @@
 
 use anyhow::{Result, ensure};
 use argus_cli::{Listing, NoOptions, Options, options};
-use argus_memory::OutOfMemory;
+use argus_values::OutOfMemory;
 use std::alloc::Global;
 use std::fmt::Write;
 
@@ -41,7 +41,7 @@ fn check_row(alloc: Global, words: &str, wanted: &str) -> Result<()> {
             ensure!(!text.is_empty(), "a usage without a text");
             ensure!(text.as_str().starts_with(line), "another text");
         }
-        Err(NoOptions::OutOfMemory) => Err(OutOfMemory)?,
+        Err(NoOptions::Memory) => Err(OutOfMemory)?,
     }
     Ok(())
 }

@@ -1,12 +1,12 @@
 //! `draw` on a row's listing: with each read, each write and each allocation failing in turn.
 
-ghost use Rattle.argus_streams.specs.Watched.{has_failed};
+ghost use Rattle.argus_commands.specs.FailStop.{has_failed};
 
 use crate::program::heaps::Heaps;
 use anyhow::{Result, bail, ensure};
-use argus_memory::{Heap, Room};
+use argus_commands::FailStop;
 use argus_picture::{DrawError, PictureError, draw, picture};
-use argus_streams::Watched;
+use argus_values::{Heap, Room};
 use test_rows::{Failing, Full};
 
 // More allocations, and more reads, than `draw` makes for any row.
@@ -34,12 +34,12 @@ pub(crate) fn check_draw(heaps: Heaps, listing: &[u8]) -> Result<()> {
 // Each read fails in turn: nothing is written, and none is tried again.
 fn check_reader(heap: Heap, listing: &[u8], wanted: &Picture) -> Result<()> {
     for reads in 0..MANY {
-        let mut reader = Watched::new(Failing {
+        let mut reader = FailStop::new(Failing {
             rest: listing,
             reads_left: reads,
             reads_behind: 0,
         });
-        let mut writer = Watched::new(Vec::new(heap.room()));
+        let mut writer = FailStop::new(Vec::new(heap.room()));
         let result = draw(heap, &mut reader, &mut writer);
         if !reader.has_failed() {
             return check_drawn(result, writer.get_ref().as_slice(), wanted);
@@ -57,8 +57,8 @@ fn check_reader(heap: Heap, listing: &[u8], wanted: &Picture) -> Result<()> {
 // Each allocation is refused in turn: nothing is written.
 fn check_memory(heaps: Heaps, listing: &[u8], wanted: &Picture) -> Result<()> {
     for allowed in 0..MANY {
-        let mut reader = Watched::new(listing);
-        let mut writer = Watched::new(Vec::new(heaps.texts.room()));
+        let mut reader = FailStop::new(listing);
+        let mut writer = FailStop::new(Vec::new(heaps.texts.room()));
         heaps.allow(allowed);
         let result = draw(heaps.counted, &mut reader, &mut writer);
         heaps.lift();
@@ -74,8 +74,8 @@ fn check_memory(heaps: Heaps, listing: &[u8], wanted: &Picture) -> Result<()> {
 // tried again.
 fn check_writer(heap: Heap, listing: &[u8], text: &[u8]) -> Result<()> {
     for room in (0..text.len()).step_by(STEP) {
-        let mut reader = Watched::new(listing);
-        let mut writer = Watched::new(Full {
+        let mut reader = FailStop::new(listing);
+        let mut writer = FailStop::new(Full {
             taken: Vec::new(heap.room()),
             room,
             fails: room % 2 == 0,

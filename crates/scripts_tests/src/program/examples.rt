@@ -1,18 +1,20 @@
-//! The example scripts, run as their own comments say: what each lists is told, and with which status
+//! The example scripts, run as their own comments say: what each lists is told, and with which
+//! status
 //! the program ends.
 //!
-//! The scripts lie in data/examples/, which `examples` at the top of the repository leads to. A comment
+//! The scripts lie in data/examples/, which `examples` at the top of the repository leads to. A
+//! comment
 //! that begins with `# ./argus` is a command line, and is carried out. One that goes on to
-//! `./picture` draws the run, and the picture is held against the one that is stored.
+//! `./picture` draws the run, and the picture is checked against the one that is stored.
 
 ghost use Rattle.argus_cli.specs.Ranges.{KeepsRanges};
 
 use crate::program::command_lines::words_of;
 use anyhow::Result;
 use argus_cli::{Listing, NoOptions, Options, options, run};
-use argus_memory::{Heap, OutOfMemory};
+use argus_commands::FailStop;
 use argus_picture::picture;
-use argus_streams::Watched;
+use argus_values::{Heap, OutOfMemory};
 use std::alloc::Global;
 use std::fs;
 use std::io::Read;
@@ -68,7 +70,8 @@ fn tell_example<T: Threads + Wait + Files + Print + Alloc + Copy + Drop + Send +
     Ok(())
 }
 
-// Draws the journal of the script's run, and tells whether this is the picture that is stored. If it
+// Draws the journal of the script's run, and tells whether this is the picture that is stored. If
+// it
 // is another, that one is told whole.
 fn tell_picture<T: Threads + Wait + Files + Print + Alloc + Copy + Drop + Send + Sync>(
     rt: &T,
@@ -83,11 +86,11 @@ fn tell_picture<T: Threads + Wait + Files + Print + Alloc + Copy + Drop + Send +
         listing: Listing::Journal,
         checkpoint: false,
     };
-    let mut writer = Watched::new(Vec::new(heap.room()));
+    let mut writer = FailStop::new(Vec::new(heap.room()));
     run(
         rt,
         heap,
-        &mut Watched::new(script.as_bytes()),
+        &mut FailStop::new(script.as_bytes()),
         &mut writer,
         asked,
     )?;
@@ -121,7 +124,7 @@ fn tell_command<T: Threads + Wait + Print + Copy + Drop + Send + Sync, R: Read +
             rt.println(format_args!("status {status}"))?;
             Ok(())
         }
-        Err(NoOptions::OutOfMemory) => Err(OutOfMemory)?,
+        Err(NoOptions::Memory) => Err(OutOfMemory)?,
     }
 }
 
@@ -134,8 +137,8 @@ fn tell_run<T: Threads + Wait + Print + Copy + Drop + Send + Sync, R: Read + Dro
 ) -> Result<()>
     requires { KeepsRanges asked }
 {
-    let mut writer = Watched::new(Vec::new(heap.room()));
-    let result = run(rt, heap, &mut Watched::new(reader), &mut writer, asked);
+    let mut writer = FailStop::new(Vec::new(heap.room()));
+    let result = run(rt, heap, &mut FailStop::new(reader), &mut writer, asked);
     rt.print(from_utf8(writer.get_ref())?)?;
     match result {
         Ok(()) => rt.println("status 0")?,

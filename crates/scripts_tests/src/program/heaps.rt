@@ -1,6 +1,6 @@
 //! `Heaps`: the memory of a test.
 
-use argus_memory::{Budget, Heap};
+use argus_values::{Budget, Heap};
 use std::alloc::{AllocError, Global};
 
 // Memory for what is read and compared, and memory of which so many allocations may be made.

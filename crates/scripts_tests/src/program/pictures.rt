@@ -4,8 +4,8 @@
 use crate::program::drawing::check_draw;
 use crate::program::heaps::Heaps;
 use anyhow::{Result, bail, ensure};
-use argus_memory::{Heap, Room};
 use argus_picture::{DrawError, PictureError, picture};
+use argus_values::{Heap, Room};
 
 // More allocations than a picture of any row takes.
 const MANY: u64 = 10_000;

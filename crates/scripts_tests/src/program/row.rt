@@ -2,7 +2,7 @@
 
 use crate::counted_lines::spell_lines;
 use crate::heading::{Heading, heading_of};
-use argus_memory::{Heap, Room};
+use argus_values::{Heap, Room};
 use test_rows::{RowFault, spell_line};
 
 // A script, the words with which the program is called, and what comes of it: its listing, with the

@@ -1,4 +1,5 @@
-//! Scripts, run and listed: for each test of the files what a run answers and writes is compared; then
+//! Scripts, run and listed: for each test of the files what a run answers and writes is compared;
+//! then
 //! each allocation, each read and each write fails in turn.
 
 ghost use Rattle.std.specs.Prelude.{IfOk};
@@ -10,7 +11,7 @@ use crate::program::row::Row;
 use crate::program::trial::{check_listing, check_memory, check_reader, check_writer};
 use anyhow::{Result, bail, ensure};
 use argus_cli::{Options, options};
-use argus_memory::OutOfMemory;
+use argus_values::OutOfMemory;
 use std::alloc::Global;
 use std::fs;
 use std::rt::Files;
@@ -40,7 +41,8 @@ pub(crate) fn check_scripts<T: Threads + Wait + Files + Print + Alloc + Copy + D
     Ok(())
 }
 
-// Runs the scripts of a text. Each row's name is told ahead, so that what is wrong stands behind it.
+// Runs the scripts of a text. Each row's name is told ahead, so that what is wrong stands behind
+// it.
 // Answers how many allocations were refused.
 fn check_text<T: Threads + Wait + Print + Copy + Drop + Send + Sync>(
     rt: &T,

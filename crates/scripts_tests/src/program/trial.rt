@@ -2,14 +2,14 @@
 
 ghost use Rattle.std.specs.Prelude.{false};
 ghost use Rattle.argus_cli.specs.Ranges.{KeepsRanges};
-ghost use Rattle.argus_streams.specs.Watched.{has_failed};
+ghost use Rattle.argus_commands.specs.FailStop.{has_failed};
 
 use crate::program::heaps::Heaps;
 use crate::program::row::Row;
 use anyhow::{Result, ensure};
 use argus_cli::{CliFault, Options, run};
-use argus_memory::Heap;
-use argus_streams::Watched;
+use argus_commands::FailStop;
+use argus_values::Heap;
 use std::alloc::Global;
 use std::sync::Wait;
 use std::thread::Threads;
@@ -28,8 +28,8 @@ pub(crate) fn check_listing<T: Threads + Wait + Copy + Drop + Send + Sync>(
 ) -> Result<()>
     requires { KeepsRanges asked }
 {
-    let mut reader = Watched::new(row.script.as_slice());
-    let mut writer = Watched::new(Vec::new(heap.room()));
+    let mut reader = FailStop::new(row.script.as_slice());
+    let mut writer = FailStop::new(Vec::new(heap.room()));
     match run(rt, heap, &mut reader, &mut writer, asked) {
         Ok(()) => ensure!(row.fault.is_empty(), "a fault is lacking"),
         Err(fault) => {
@@ -57,12 +57,12 @@ pub(crate) fn check_reader<T: Threads + Wait + Copy + Drop + Send + Sync>(
     requires { KeepsRanges asked }
 {
     for reads in 0..MANY {
-        let mut reader = Watched::new(Failing {
+        let mut reader = FailStop::new(Failing {
             rest: row.script.as_slice(),
             reads_left: reads,
             reads_behind: 0,
         });
-        let mut writer = Watched::new(Vec::new(heap.room()));
+        let mut writer = FailStop::new(Vec::new(heap.room()));
         let result = run(rt, heap, &mut reader, &mut writer, asked);
         if !reader.has_failed() {
             ensure!(
@@ -93,8 +93,8 @@ pub(crate) fn check_writer<T: Threads + Wait + Copy + Drop + Send + Sync>(
     requires { KeepsRanges asked }
 {
     for room in 0..row.listing.len() {
-        let mut reader = Watched::new(row.script.as_slice());
-        let mut writer = Watched::new(Full {
+        let mut reader = FailStop::new(row.script.as_slice());
+        let mut writer = FailStop::new(Full {
             taken: Vec::new(heap.room()),
             room,
             fails: room % 2 == 0,
@@ -130,8 +130,8 @@ pub(crate) fn check_memory<T: Threads + Wait + Copy + Drop + Send + Sync>(
     requires { KeepsRanges asked }
 {
     for n in 0..MANY {
-        let mut reader = Watched::new(row.script.as_slice());
-        let mut writer = Watched::new(Vec::new(heaps.texts.room()));
+        let mut reader = FailStop::new(row.script.as_slice());
+        let mut writer = FailStop::new(Vec::new(heaps.texts.room()));
         heaps.allow(n);
         let result = run(rt, heaps.counted, &mut reader, &mut writer, asked);
         let is_spent = heaps.lift();

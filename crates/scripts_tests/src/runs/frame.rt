@@ -2,7 +2,7 @@
 
 use crate::counted_lines::spell_lines;
 use crate::runs::line_row::LineRow;
-use argus_memory::{Heap, Room};
+use argus_values::{Heap, Room};
 use test_rows::{RowFault, spell, spell_line};
 
 // Said of a script, or of a line, that has no step.

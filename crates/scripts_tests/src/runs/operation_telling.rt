@@ -1,8 +1,6 @@
 //! What an operation says, as text. Fields and tags are told by their numbers.
 
-use argus_contents::{Change, Content, Query, Value};
-use argus_memory::{OutOfMemory, Room};
-use argus_texts::{write_content, write_value};
+use argus_values::{Change, Content, OutOfMemory, Query, Room, Value, write_content, write_value};
 use std::fmt::Write;
 
 /// Adds the query.

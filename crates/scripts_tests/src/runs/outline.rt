@@ -1,6 +1,6 @@
 //! `Outline`: the lines that tell a script.
 
-use argus_memory::{Heap, OutOfMemory, Room};
+use argus_values::{Heap, OutOfMemory, Room};
 
 /// The lines that tell a script, so far.
 ///

@@ -1,7 +1,7 @@
 //! Receipts, as a journal's lines spell them.
 
-use argus_memory::{Heap, Room};
-use argus_receipts::Receipt;
+use argus_guardian::Receipt;
+use argus_values::{Heap, Room};
 use test_rows::{RowFault, call_of, first_word, reply_of};
 
 /// The receipts that are spelled, one a line.

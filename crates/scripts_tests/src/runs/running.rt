@@ -1,22 +1,22 @@
-//! Scripts, run: the lines that a run writes are compared; then each of its allocations is refused in
+//! Scripts, run: the lines that a run writes are compared; then each of its allocations is refused
+//! in
 //! turn, and it writes to a writer that is full after each byte.
 
-ghost use Rattle.std.specs.Prelude.{◌≡◌, false};
-ghost use Rattle.argus_streams.specs.Watched.{has_failed};
+ghost use Rattle.std.specs.Prelude.{false, ◌≡◌};
+ghost use Rattle.argus_commands.specs.FailStop.{has_failed};
 
 use crate::runs::run_row::RunRow;
 use crate::standing::guardian_after;
 use anyhow::{Result, ensure};
-use argus_commands::parse;
-use argus_runs::{RunFault, run_serial};
-use argus_streams::Watched;
+use argus_commands::{FailStop, RunFault, parse, run_serial};
 use std::io::{Print, Write};
 use test_rows::{Full, Setting};
 
 // More allocations than any run here makes.
 const MANY: u64 = 2_000;
 
-// Runs the scripts of a text. Each row's name is told ahead, so that what is wrong stands behind it.
+// Runs the scripts of a text. Each row's name is told ahead, so that what is wrong stands behind
+// it.
 pub(crate) fn check_text<T: Print>(rt: &T, setting: Setting, text: &str) -> Result<()> {
     for block in text.split("\n\n") {
         if let Some(row) = RunRow::of_block(block) {
@@ -37,7 +37,7 @@ pub(crate) fn check_text<T: Print>(rt: &T, setting: Setting, text: &str) -> Resu
 fn run_row<W: Write + Drop>(
     setting: Setting,
     row: RunRow<'_>,
-    writer: &mut Watched<W>,
+    writer: &mut FailStop<W>,
 ) -> Result<Option<RunFault>>
     requires { has_failed writer.old ≡ false }
 {
@@ -50,7 +50,7 @@ fn run_row<W: Write + Drop>(
 }
 
 fn check_lines(setting: Setting, row: RunRow<'_>) -> Result<()> {
-    let mut writer = Watched::new(Vec::new(setting.texts.room()));
+    let mut writer = FailStop::new(Vec::new(setting.texts.room()));
     let fault = run_row(setting, row, &mut writer)?;
     ensure!(fault.is_none(), "a run failed");
     ensure!(
@@ -65,7 +65,7 @@ fn check_lines(setting: Setting, row: RunRow<'_>) -> Result<()> {
 // How many allocations were refused in turn.
 fn check_memory(setting: Setting, row: RunRow<'_>) -> Result<u64> {
     for n in 0..MANY {
-        let mut writer = Watched::new(Vec::new(setting.texts.room()));
+        let mut writer = FailStop::new(Vec::new(setting.texts.room()));
         let fault = run_row(setting.allowing(n), row, &mut writer)?;
         ensure!(
             is_front(writer.get_ref().as_slice(), row.lines),
@@ -82,7 +82,7 @@ fn check_memory(setting: Setting, row: RunRow<'_>) -> Result<u64> {
 
 fn check_writer(setting: Setting, row: RunRow<'_>) -> Result<()> {
     for room in 0..row.lines.len() {
-        let mut writer = Watched::new(Full {
+        let mut writer = FailStop::new(Full {
             taken: Vec::new(setting.texts.room()),
             room,
             fails: room % 2 == 0,

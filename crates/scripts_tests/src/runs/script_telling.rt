@@ -2,9 +2,8 @@
 
 use crate::runs::operation_telling::{tell_change, tell_query};
 use crate::runs::outline::Outline;
-use argus_commands::{ActionKind, Lock, Opening, ParseError, Script, Step};
-use argus_memory::{Heap, OutOfMemory, Room};
-use argus_texts::write_shape;
+use argus_commands::{ActionKind, BlockKind, Lock, ParseError, Script, Step};
+use argus_values::{Heap, OutOfMemory, Room, write_shape};
 use std::fmt::Write;
 
 /// What `parse` has answered. A fault is told as the line that it prints.
@@ -100,18 +99,18 @@ fn tell_work(step: &Step, out: &mut String<Room>) -> Result<(), OutOfMemory> {
     }
 }
 
-fn tell_opening(opening: Opening, out: &mut String<Room>) -> Result<(), OutOfMemory> {
+fn tell_opening(opening: BlockKind, out: &mut String<Room>) -> Result<(), OutOfMemory> {
     match opening {
-        Opening::Enter(kind) => {
+        BlockKind::Enter(kind) => {
             add("enter ", out)?;
             add(kind_text(kind), out)
         }
-        Opening::If(lock, object) => {
+        BlockKind::If(lock, object) => {
             write!(out, "if {} o{object}", test_text(lock))?;
             Ok(())
         }
-        Opening::Coenter => add("coenter", out),
-        Opening::Arm(kind) => add(kind_text(kind), out),
+        BlockKind::Coenter => add("coenter", out),
+        BlockKind::Arm(kind) => add(kind_text(kind), out),
     }
 }
 

@@ -1,19 +1,20 @@
-//! Receipts written by hand, held against scripts: what they show is compared, with ample memory and
+//! Receipts written by hand, checked against scripts: what they show is compared, with ample memory
+//! and
 //! with each allocation refused in turn.
 
 use crate::runs::receipt_reading::receipts_of;
 use crate::runs::shown_row::ShownRow;
 use anyhow::{Result, ensure};
-use argus_commands::parse;
-use argus_memory::{Heap, Room};
-use argus_shown::{ArmOutcome, shown};
+use argus_commands::{ArmOutcome, check_run, parse};
+use argus_values::{Heap, Room};
 use std::io::Print;
 use test_rows::Setting;
 
 // More allocations than any test here makes.
 const MANY: u64 = 1_000;
 
-// Holds the receipts of a text against its scripts. Each row's name is told ahead, so that what is wrong
+// Holds the receipts of a text against its scripts. Each row's name is told ahead, so that what is
+// wrong
 // stands behind it.
 pub(crate) fn check_text<T: Print>(rt: &T, setting: Setting, text: &str) -> Result<()> {
     for block in text.split("\n\n") {
@@ -36,7 +37,7 @@ fn check_row(setting: Setting, row: ShownRow<'_>) -> Result<&'static str> {
     };
     for n in 0..MANY {
         setting.allowing(n).limit();
-        let answer = shown(setting.heap, &script, receipts.as_slice());
+        let answer = check_run(setting.heap, &script, receipts.as_slice());
         setting.lift();
         if let Ok(found) = answer {
             let told = outcomes_told(heap, found)?;

@@ -2,7 +2,7 @@
 
 use crate::runs::script_telling::tell_answer;
 use argus_commands::{ParseError, Script, parse};
-use argus_memory::{Heap, OutOfMemory, Room};
+use argus_values::{Heap, OutOfMemory, Room};
 
 /// `parse` over a heap. What it answers is written in another heap, which always has memory.
 ///

@@ -5,7 +5,7 @@ use crate::runs::line_row::{no_row, row_of};
 use crate::runs::subject::Subject;
 use crate::runs::tight_subject::TightSubject;
 use crate::runs::trial::Trial;
-use argus_memory::{Budget, Heap};
+use argus_values::{Budget, Heap};
 use std::alloc::{AllocError, Global};
 use std::io;
 use std::io::Print;

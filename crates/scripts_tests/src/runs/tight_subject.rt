@@ -2,7 +2,7 @@
 
 use crate::runs::subject::Subject;
 use argus_commands::ParseError;
-use argus_memory::Budget;
+use argus_values::Budget;
 use test_rows::{RowFault, TightAnswer};
 
 // No script takes so many allocations.

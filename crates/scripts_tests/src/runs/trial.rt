@@ -4,7 +4,7 @@ use crate::runs::frame::Frame;
 use crate::runs::line_row::LineRow;
 use crate::runs::subject::Subject;
 use crate::runs::tight_subject::TightSubject;
-use argus_memory::Heap;
+use argus_values::Heap;
 use std::io;
 use std::io::Print;
 use std::str::from_utf8;

@@ -1,8 +1,8 @@
 //! `Done`: a run that isn't settled yet.
 
-use argus_memory::Room;
-use argus_sharing::{Seat, Sharing};
-use argus_workers::{RunFault, RunReport};
+use argus_commands::{RunFault, RunReport};
+use argus_guardian::{Seat, Sharing};
+use argus_values::Room;
 
 /// What a run leaves: its seats, what was reported, and whether no allocation was left.
 ///

@@ -1,8 +1,8 @@
 //! `Ran`: a run that is settled.
 
+use argus_commands::{RunFault, RunReport};
 use argus_guardian::Guardian;
-use argus_memory::Room;
-use argus_workers::{RunFault, RunReport};
+use argus_values::Room;
 
 /// What came of a run: the guardian once it is settled, what was reported, how many calls each seat
 /// made, and whether no allocation was left.

@@ -3,7 +3,7 @@
 use crate::heading::{Heading, heading_of};
 use crate::workers::hold::Hold;
 use crate::workers::team::Team;
-use argus_memory::{Heap, Room};
+use argus_values::{Heap, Room};
 use test_rows::{Counted, RowFault, counted_of, first_word, spell_line, spelled_row};
 
 /// A script, how it is run, and what comes of it.

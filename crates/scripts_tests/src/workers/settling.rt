@@ -2,11 +2,9 @@
 
 use crate::workers::plan::Plan;
 use anyhow::{Result, anyhow, bail, ensure};
-use argus_contents::ObjId;
-use argus_entries::Reply;
-use argus_guardian::Guardian;
-use argus_memory::{Heap, OutOfMemory, Room};
-use argus_sharing::{Receipt, Seat, Shared, Sharing, Unsettled};
+use argus_guardian::{Guardian, Receipt, Seat, Shared, Sharing, Unsettled};
+use argus_journal::Reply;
+use argus_values::{Heap, ObjId, OutOfMemory, Room};
 use std::sync::Wait;
 
 /// A shared guardian with its seats.

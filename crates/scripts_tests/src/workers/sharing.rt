@@ -1,20 +1,18 @@
 //! Sharing a guardian for a run.
 
 ghost use Rattle.std.specs.Prelude.{◌+◌, ◌≡◌};
-ghost use Rattle.argus_board.specs.Keeper.{Opens};
+ghost use Rattle.argus_guardian.specs.Keeper.{StartsHistory};
 ghost use Rattle.argus_journal.specs.Opening.{content_in};
-ghost use Rattle.argus_sharing.specs.Following.{bases_told, effects_told};
-ghost use Rattle.argus_sharing.specs.Locked.{next_number};
+ghost use Rattle.argus_guardian.specs.Following.{journal_bases, journal_effects};
+ghost use Rattle.argus_journal.specs.JournalView.{next_entry};
 
 use crate::standing::guardian_after;
 use crate::workers::performing::perform;
 use crate::workers::plan::Plan;
 use crate::workers::ran::Ran;
 use anyhow::{Result, bail};
-use argus_board::Keeper;
-use argus_guardian::Guardian;
-use argus_sharing::{Shared, Sharing};
-use argus_workers::Gate;
+use argus_commands::Gate;
+use argus_guardian::{Guardian, Keeper, Shared, Sharing};
 use std::marker::Brand;
 use std::sync::Wait;
 use std::sync::ledger::Blank;
@@ -38,11 +36,11 @@ fn share_as<
 >(rt: R, plan: Plan<'_>, gate: &G, guardian: Guardian, blank: Blank, keeper: Keeper) -> Result<Ran>
     requires name { blank.name ≡ N.name }
     requires parts { (blank.parts ≡ N.parts) × (blank.parts ≡ plan.workers + 1) }
-    requires keeper { Opens N.history N.root keeper }
-    requires start { N.start ≡ next_number guardian }
-    requires before { N.before ≡ effects_told guardian }
-    requires opening { N.opening ≡ content_in guardian.opening.objects }
-    requires first { N.first ≡ bases_told guardian }
+    requires keeper { StartsHistory N.history N.root keeper }
+    requires start { N.start ≡ next_entry guardian }
+    requires before { N.before ≡ journal_effects guardian }
+    requires opening { N.opening_contents ≡ content_in guardian.opening.objects }
+    requires first { N.first ≡ journal_bases guardian }
 {
     let (seats, lookers) = (u32::from(plan.workers) + 1, u32::from(plan.lookers));
     let heap = plan.setting.heap;

@@ -1,11 +1,9 @@
 //! What comes of a run, as a row tells it.
 
-use argus_contents::ObjId;
-use argus_entries::{Entry, write_entry};
-use argus_guardian::Guardian;
-use argus_memory::{Heap, OutOfMemory, Room};
-use argus_sharing::{Receipt, Seat, Sharing};
-use argus_workers::{ArmOutcome, RunReport};
+use argus_commands::{ArmOutcome, RunReport};
+use argus_guardian::{Guardian, Receipt, Seat, Sharing};
+use argus_journal::{Entry, write_entry};
+use argus_values::{Heap, ObjId, OutOfMemory, Room};
 use std::fmt::Write;
 use test_rows::{first_word, tell_action, tell_content, tell_number, tell_word};
 

@@ -2,8 +2,8 @@
 
 use crate::workers::hold::Hold;
 use crate::workers::place::Place;
-use argus_memory::{Heap, OutOfMemory, Room};
-use argus_workers::Gate;
+use argus_commands::Gate;
+use argus_values::{Heap, OutOfMemory, Room};
 use std::sync::atomic::{AtomicU64, Ordering};
 use std::thread::yield_now;
 use test_rows::Setting;

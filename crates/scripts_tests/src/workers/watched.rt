@@ -1,7 +1,6 @@
 //! `Watched`: a looker that looked while a script was run.
 
-use argus_board::Looker;
-use argus_sharing::Sharing;
+use argus_guardian::{Looker, Sharing};
 
 /// A looker, and whether each of its looks found the same in both objects.
 ///

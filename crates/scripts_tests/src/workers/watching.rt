@@ -3,11 +3,8 @@
 use crate::workers::telling::told_bases;
 use crate::workers::watched::Watched;
 use anyhow::{Result, ensure};
-use argus_board::{LookFault, Looker};
-use argus_contents::{Content, ObjId};
-use argus_guardian::Guardian;
-use argus_memory::{Heap, OutOfMemory, Room};
-use argus_sharing::{Shared, Sharing};
+use argus_guardian::{Guardian, LookFault, Looker, Shared, Sharing};
+use argus_values::{Content, Heap, ObjId, OutOfMemory, Room};
 use std::alloc::AllocError;
 use std::sync::Wait;
 use std::thread::{Threads, map_vec};

@@ -5,7 +5,7 @@ use Rattle.argus_contents.specs.declared.limits.TheConstants.{MAX_ACTIONS, MAX_A
 use Rattle.argus_actions.specs.declared.node.Node.{Node}
 use Rattle.argus_actions.specs.Row.{at_parent}
 use Rattle.argus_actions.specs.Rows.{depth_at}
-use Rattle.argus_actions.specs.Nodes.{rows_of, ComesBetween, adopted, fresh, older_sub_link, older_child_link}
+use Rattle.argus_actions.specs.Nodes.{rows_of, IsBegunBetween, adopted, fresh, older_sub_link, older_child_link}
 use Rattle.argus_actions.proofs.Begun.{begun_rows, begun_nodes}
 use Rattle.argus_actions.proofs.walk.push_begun.Goals as goal
 
@@ -35,8 +35,8 @@ returns c =
     let items_is : c.push_reserved.new.self.items ≡ c.adopt.new.nodes ++ fresh c.args.origin older child depth ∷ []
     = c.push_reserved.ensures.items ∙ ap (λ xs. xs ++ c.begun_node-node.result ∷ [])
     (with_items_is c.args.nodes.now c.adopt.new.nodes fits) ∙ ap (λ node. c.adopt.new.nodes ++ node ∷ []) node_is in
-    let between : ComesBetween c.args.first (c.args.first + c.len.result) c.args.origin = let P : ℕ → Type 0 =
-    λ high. ComesBetween c.args.first high c.args.origin in subst P (omega (arith, next)) c.requires.between in
+    let between : IsBegunBetween c.args.first (c.args.first + c.len.result) c.args.origin = let P : ℕ → Type 0 =
+    λ high. IsBegunBetween c.args.first high c.args.origin in subst P (omega (arith, next)) c.requires.between in
     let shallow : depth ≤ MAX_ACTION_DEPTH = omega (arith, c.requires.shallow) in
     record {
       number = omega arith;

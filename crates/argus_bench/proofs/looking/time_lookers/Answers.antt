@@ -1,7 +1,7 @@
 -- Lookers may go to another thread.
 use denote.Param.Send.{sendable}
 use Rattle.argus_bench.proofs.looking.time_lookers.Goals as goal
-use Rattle.argus_sharing.proofs.Crossing.{crosses}
+use Rattle.argus_guardian.proofs.Crossing.{crosses}
 use Rattle.std.proofs.Crossing.{crosses as std_crosses}
 
 pub join-looked-requires-send-F : goal.join-looked-requires-send-F

@@ -1,8 +1,15 @@
 -- Which board this is.
 use Rattle.argus_bench.proofs.publishing.run.Given as goal
-use Rattle.argus_board.specs.Keeper.{history_of, root_of}
+use Rattle.argus_guardian.specs.Keeper.{history_of, next_right_of}
 use Rattle.std.specs.Prelude.{None, []}
 
 abbrev pub ghosts-time_publishes : goal.ghosts-time_publishes
 ghosts-time_publishes g a =
-    record { history = history_of a.keeper; root = root_of a.keeper; opening = λ o. None; before = []; first = [] }
+    record {
+      history = history_of a.keeper;
+      root = next_right_of a.keeper;
+      opening_contents = λ o. None;
+      before
+          = [];
+      first = [];
+    }

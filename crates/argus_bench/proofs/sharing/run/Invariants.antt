@@ -1,9 +1,9 @@
 -- Which sharing this is.
 use Rattle.argus_bench.proofs.sharing.run.Given as goal
-use Rattle.argus_board.specs.Keeper.{history_of, root_of}
+use Rattle.argus_guardian.specs.Keeper.{history_of, next_right_of}
 use Rattle.argus_journal.specs.Opening.{content_in}
-use Rattle.argus_sharing.specs.Following.{bases_told, effects_told}
-use Rattle.argus_sharing.specs.Locked.{next_number}
+use Rattle.argus_guardian.specs.Following.{journal_bases, journal_effects}
+use Rattle.argus_journal.specs.JournalView.{next_entry}
 
 abbrev pub ghosts-time_shared-N-Ledger : goal.ghosts-time_shared-N-Ledger
 ghosts-time_shared-N-Ledger g a = record { name = a.blank.name; parts = a.blank.parts }
@@ -11,11 +11,11 @@ ghosts-time_shared-N-Ledger g a = record { name = a.blank.name; parts = a.blank.
 abbrev pub ghosts-time_shared-N-Board : goal.ghosts-time_shared-N-Board
 ghosts-time_shared-N-Board g a = record {
   history = history_of a.keeper;
-  root = root_of a.keeper;
-  opening = content_in a.guardian.opening.objects;
-  before = effects_told a.guardian;
-  first = bases_told a.guardian;
+  root = next_right_of a.keeper;
+  opening_contents = content_in a.guardian.opening.objects;
+  before = journal_effects a.guardian;
+  first = journal_bases a.guardian;
 }
 
 abbrev pub ghosts-time_shared-N-Sharing : goal.ghosts-time_shared-N-Sharing
-ghosts-time_shared-N-Sharing g a = record { start = next_number a.guardian }
+ghosts-time_shared-N-Sharing g a = record { start = next_entry a.guardian }

@@ -1,6 +1,7 @@
 -- What is left of the effect, written into the contents, leaves what the whole effect leaves.
 use Rattle.std.proofs.Common.{length, ◌≡◌, ◌≤◌}
-use Rattle.argus_board.specs.Effects.{needed, plain_contents, plain_effect, written}
+use Rattle.argus_board.specs.Effects.{needed, plain_contents, written}
+use Rattle.argus_contents.specs.Effect.{plain_effect}
 use Rattle.argus_board.proofs.writing.write.Given as goal
 
 abbrev pub invariant-loop-object : goal.invariant-loop-object

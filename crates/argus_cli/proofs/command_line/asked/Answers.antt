@@ -1,16 +1,15 @@
-use Rattle.std.proofs.Common.{rules, ◌≡◌, ◌∙◌, ◌∷◌, ap, ap₂, codes, map, string_bytes}
-use Rattle.std.proofs.Common.{subst, inl, inr, ◌⊎◌}
-use Rattle.clap.specs.Words.{HasKind, fault_of, is_simple_and_free, kind_of}
+use Rattle.std.proofs.Common.{ap, ap₂, arith, codes, inl, inr, map, option_map, rules, string_bytes}
+use Rattle.std.proofs.Common.{subst, sym, ◌∙◌, ◌∷◌, ◌≡◌, ◌⊎◌}
+use Rattle.clap.specs.Words.{HasKind, Text, fault_of, first_of, found_of, is_simple}
+use Rattle.clap.specs.Words.{is_simple_and_free, kind_of, matches_of, one_of, one_text, rows_of}
 use Rattle.clap.specs.declared.error.kind.ErrorKind.TheVariants as kind
-use Rattle.argus_cli.specs.CommandLine.{IsRefused, faults_of_words, is_given, listing_by, listing_named, number_or}
-use Rattle.argus_cli.specs.CommandLine.{rows_of_words}
+use Rattle.argus_cli.specs.CommandLine.{IsRefused, faults_of_words, is_given, listing_named}
+use Rattle.argus_cli.specs.CommandLine.{listing_or_bases, number_or, rows_of_words}
 use Rattle.argus_cli.proofs.Program.{program_is_free, program_is_simple}
-use Rattle.argus_cli.proofs.Accepted.{IsWithin, flag_read, listing_or, number_read, patience_accepted}
-use Rattle.argus_cli.proofs.Accepted.{workers_accepted}
-use Rattle.clap.specs.Words.{Text, first_of, found_of, is_simple, matches_of, one_of, one_text, rows_of}
+use Rattle.argus_cli.proofs.Accepted.{IsWithin, flag_read, listing_or, number_read}
+use Rattle.argus_cli.proofs.Accepted.{patience_accepted, workers_accepted}
 use Rattle.clap.proofs.WalkLemmas.{first_value-rows, one_text-rows}
-use Rattle.std.proofs.Common.{arith, option_map, sym}
-use Rattle.std.specs.Str.Parse.{ParsesUnsigned, ExplainsUnsignedError, HasUnsignedDigitsIfOk}
+use Rattle.std.specs.Str.Parse.{ExplainsUnsignedError, HasUnsignedDigitsIfOk, ParsesUnsigned}
 use Rattle.argus_cli.specs.declared.limits.TheConstants.{MAX_PATIENCE, MAX_WORKERS}
 use Rattle.argus_cli.proofs.command_line.asked.Goals as goal
 
@@ -72,8 +71,8 @@ returns-clause-asked c =
           ∙ program_is_free p.listings);
       workers = (workers c).is ∙ ap (number_or 1) (text (codes "workers"));
       patience = (patience c).is ∙ ap (number_or 0) (text (codes "patience"));
-      listing = c.listing_named.ensures ∙ ap (λ s. listing_by s.now) c.unwrap_or-3.ensures
-          ∙ listing_or c.get_str.result _ (search rules) ∙ ap listing_named name;
+      listing = c.listing_named.ensures ∙ ap (λ s. listing_named s.now) c.unwrap_or-3.ensures
+          ∙ listing_or c.get_str.result _ (search rules) ∙ ap listing_or_bases name;
       checkpoint = flag_read _ (one_text (found_of m) (codes "checkpoint")) c.get_one-3.result c.unwrap_or-4.result
           c.get_one-3.ensures.none c.get_one-3.ensures.value c.unwrap_or-4.ensures
           ∙ ap is_given (text (codes "checkpoint"));

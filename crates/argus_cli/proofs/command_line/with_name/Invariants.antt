@@ -1,4 +1,4 @@
-use Rattle.std.specs.Prelude.{◌≡◌, ◌∷◌, codes, map, string_bytes, take}
+use Rattle.std.specs.Prelude.{codes, map, string_bytes, take, ◌∷◌, ◌≡◌}
 use Rattle.argus_cli.proofs.command_line.with_name.Given as goal
 
 abbrev pub invariant-loop-word : goal.invariant-loop-word

@@ -5,15 +5,15 @@ use Rattle.argus_cli.specs.ByWorkers.{IsLeftByWorkers}
 use Rattle.argus_cli.specs.Ran.{new_journal}
 use Rattle.argus_cli.proofs.Runs.{is_new}
 use Rattle.argus_commands.specs.Script.{plain_script}
-use Rattle.argus_runs.specs.Played.{IsPlay}
-use Rattle.argus_steps.specs.Step.{Said}
+use Rattle.argus_commands.specs.Played.{IsPlay}
+use Rattle.argus_journal.specs.JournalView.{JournalView}
 use Rattle.argus_cli.proofs.running.run_script.Goals as goal
 
 pub returns-clause-alone : goal.returns-clause-alone
 returns-clause-alone g c =
-    let P : Said → Type 0 = λ j. IsPlay j (plain_script c.args.script.now) c.run_unwritten.new.guardian in
+    let P : JournalView → Type 0 = λ j. IsPlay j (plain_script c.args.script.now) c.run_without_output.new.guardian in
     λ one. subst P (is_new c.new-guardian.result c.new-guardian.ensures.opening c.new-guardian.ensures.entries)
-    c.in_ok-run_unwritten.ensures.played
+    c.in_ok-run_without_output.ensures.played
 
 pub returns-then-workers-gt1-clause-alone : goal.returns-then-workers-gt1-clause-alone
 returns-then-workers-gt1-clause-alone g c =

@@ -5,12 +5,12 @@ use Rattle.argus_cli.proofs.running_by_workers.is_from_start.Goals as goal
 
 pub returns : goal.returns
 returns c = λ none.
-    let said = c.args.guardian.now in
+    let journal = c.args.guardian.now in
     let same = c.journal-journal.ensures.opening ∙ c.journal.ensures.opening in
-    let entry : said.opening.first_entry ≡ 0 =
+    let entry : journal.opening.first_entry ≡ 0 =
     ap (λ s. s.first_entry) (sym same) ∙ sym c.first_entry.ensures.first ∙ (omega arith) in
-    let action : said.opening.first_action ≡ 0 =
+    let action : journal.opening.first_action ≡ 0 =
     ap (λ s. s.first_action) (sym same) ∙ sym c.first_action.ensures.first ∙ (omega arith) in
-    is_empty said.opening entry action
+    is_empty journal.opening entry action
     (ap (λ s. slice_get s.objects 0) (sym same) ∙ sym c.opening.ensures.object
     ∙ unopened c.opening.result c.is_none.result c.is_none.ensures none)

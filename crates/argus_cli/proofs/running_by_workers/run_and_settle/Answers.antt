@@ -3,7 +3,7 @@ use Rattle.std.proofs.Common.{All, ap, arith, length, map, sum_by, ◌∙◌, �
 use Rattle.std.proofs.lemmas.List.{length-map}
 use Rattle.argus_cli.proofs.Settled.{as_many, front_of, none_in_all}
 use Rattle.argus_commands.specs.Script.{plain_script}
-use Rattle.argus_receipts.specs.Receipt.{plain_receipt}
+use Rattle.argus_guardian.specs.Receipt.{plain_receipt}
 use Rattle.argus_cli.proofs.running_by_workers.run_and_settle.Goals as goal
 
 pub returns-then-is_from_start : goal.returns-then-is_from_start
@@ -23,9 +23,9 @@ returns-then-is_from_start g c =
       fresh = fresh;
       legal = c.journal_is_legal.ensures.legal;
       receipts = receipts;
-      told = c.what_is_shown_is_told.ensures script receipts report.outcomes.items c.in-Ok.ensures.shown;
+      told = c.checked_runs_are_runs.ensures script receipts report.outcomes.items c.in-Ok.ensures.checked;
       outcomes = report.outcomes.items;
-      shown = c.in-Ok.ensures.shown;
+      checked = c.in-Ok.ensures.checked;
       stand = rw c.as_slice.ensures.value at c.in-Ok-settle.ensures.stand;
       apart = rw c.as_slice.ensures.value at c.in-Ok-settle.ensures.apart;
       count = length-map report.receipts.items plain_receipt

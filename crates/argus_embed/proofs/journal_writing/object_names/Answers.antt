@@ -1,4 +1,4 @@
-use Rattle.std.proofs.Common.{ap, arith, ◌≡◌, ◌∙◌}
+use Rattle.std.proofs.Common.{ap, arith, ◌∙◌, ◌≡◌}
 use Rattle.argus_embed.proofs.Names.{one_more}
 use Rattle.argus_embed.specs.Questions.{object_names}
 use Rattle.argus_embed.proofs.journal_writing.object_names.Goals as goal

@@ -2,9 +2,9 @@
 use Rattle.argus_model.proofs.Theorems.{serial_content}
 use Rattle.argus_journal.specs.Entries.{entries}
 use Rattle.argus_journal.specs.Events.{history}
-use Rattle.argus_journal.specs.Opening.{opened}
+use Rattle.argus_journal.specs.Opening.{model_opening}
 use Rattle.argus_journal.proofs.Legal.{lawful}
 use Rattle.argus_journal.proofs.laws.base_is_serial.Goals as goal
 
 pub returns : goal.returns
-returns c = λ s j o l. serial_content entries (opened s) (history s j) o (lawful s j l)
+returns c = λ s j o l. serial_content entries (model_opening s) (history s j) o (lawful s j l)

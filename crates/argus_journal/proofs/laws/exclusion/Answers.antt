@@ -10,8 +10,8 @@ use Rattle.argus_model.proofs.Theorems.{one_above_the_other, writers_in_line}
 use Rattle.argus_journal.specs.Entries.{entries}
 use Rattle.argus_journal.specs.Events.{history}
 use Rattle.argus_journal.specs.Numbering.{in_program}
-use Rattle.argus_journal.specs.Opening.{Opening, opened}
-use Rattle.argus_journal.specs.Words.{readers_of, writers_of}
+use Rattle.argus_journal.specs.Opening.{Opening, model_opening}
+use Rattle.argus_journal.specs.JournalFacts.{readers_of, writers_of}
 use Rattle.argus_journal.proofs.Legal.{lawful}
 use Rattle.argus_journal.proofs.NextEntry.{readers_above, writers_above}
 use Rattle.argus_journal.proofs.Shifted.{contains_in_program, no_base-append}
@@ -34,12 +34,13 @@ holder s j o x m =
 pub returns : goal.returns
 returns c = record {
   related = λ s j o x y l m n.
-      one_above_the_other entries (opened s) (history s j) o (x + 1) (y + 1) (lawful s j l) (writer s j o x m)
+      one_above_the_other entries (model_opening s) (history s j) o (x + 1) (y + 1) (lawful s j l) (writer s j o x m)
       (holder s j o y n);
   chain = λ s j o x y l m n lt.
-      writers_in_line entries (opened s) (history s j) o (x + 1) (y + 1) (lawful s j l) (writer s j o x m)
+      writers_in_line entries (model_opening s) (history s j) o (x + 1) (y + 1) (lawful s j l) (writer s j o x m)
       (writer s j o y n) (omega (arith, lt));
   live = λ s j o x l m.
-      holders_live entries (history s j) (lawful_orderly entries (opened s) (history s j) (lawful s j l)) o (x + 1)
+      holders_live entries (history s j) (lawful_orderly entries (model_opening s) (history s j) (lawful s j l)) o
+      (x + 1)
       (holder s j o x m);
 }

@@ -5,7 +5,7 @@ use Rattle.argus_model.proofs.Commits.{written_are_held}
 use Rattle.argus_model.proofs.Theorems.{table_is_base}
 use Rattle.argus_journal.specs.Entries.{entries}
 use Rattle.argus_journal.specs.Events.{history}
-use Rattle.argus_journal.specs.Opening.{opened}
+use Rattle.argus_journal.specs.Opening.{model_opening}
 use Rattle.argus_journal.proofs.Legal.{lawful}
 use Rattle.argus_journal.proofs.NextEntry.{writers_above}
 use Rattle.argus_journal.proofs.Serial.{effects_added}
@@ -14,8 +14,8 @@ use Rattle.argus_journal.proofs.laws.table_of_effects.Goals as goal
 
 pub returns : goal.returns
 returns c = record {
-  base = λ s j o l. table_is_base entries (opened s) (history s j) o (lawful s j l);
+  base = λ s j o l. table_is_base entries (model_opening s) (history s j) o (lawful s j l);
   grows = effects_added;
-  written = λ s j a o l live. written_are_held entries (opened s) (history s j) (a + 1) o (lawful s j l) live
+  written = λ s j a o l live. written_are_held entries (model_opening s) (history s j) (a + 1) o (lawful s j l) live
       ∙ sym (contains_in_program (writers entries (history s j) o) a (writers_above (history s j) o));
 }

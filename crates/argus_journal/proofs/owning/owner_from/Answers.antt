@@ -1,13 +1,13 @@
 -- What is known of the owner, or of one that shares its fate, is the owner after all entries.
 use Rattle.std.proofs.Common.{arith, sym, ◌+◌, ◌∙◌, ◌≡◌}
 use Rattle.std.proofs.lemmas.Grind.{common_steps}
-use Rattle.argus_journal.specs.Journal.{entries_of, first_of, opening_of}
-use Rattle.argus_journal.specs.Told.{told_owner}
+use Rattle.argus_journal.specs.Journal.{entries_of, first_entries_of, opening_of}
+use Rattle.argus_journal.specs.Replaying.{owner_by_entries}
 use Rattle.argus_journal.proofs.Owners.{heir_fate, last_told}
 use Rattle.argus_journal.proofs.owning.owner_from.Goals as goal
 
 last : (c : goal.In-Some)
-    → c.in-Some.last ≡ told_owner c.args.journal.now.first_action (entries_of c.args.journal.now) c.args.a.0
+    → c.in-Some.last ≡ owner_by_entries c.args.journal.now.first_action (entries_of c.args.journal.now) c.args.a.0
 last c =
     let journal = c.args.journal.now in
     let so = c.loop-i.invariant in
@@ -25,7 +25,7 @@ loop-i-preserved c =
     let journal = c.args.journal.now in
     let so = c.loop-i.invariant in
     let next : c.owner_after-owner.result
-    ≡ told_owner journal.first_action (first_of journal (c.loop-i.i + 1)) c.args.a.0
+    ≡ owner_by_entries journal.first_action (first_entries_of journal (c.loop-i.i + 1)) c.args.a.0
     = grind (arith, common_steps, so.so_far) in
     record {
       so_far = next;

@@ -1,23 +1,23 @@
 -- The base's line and the versions' lines are those of the audit.
 use Rattle.std.proofs.Common.{map, string_bytes, ◌∙◌}
 use Rattle.std.proofs.lemmas.Result.{IfOk-equal}
-use Rattle.argus_guardian.specs.Telling.{version_told}
+use Rattle.argus_core.specs.Objects.{version_pair}
 use Rattle.argus_journal.specs.Journal.{entries_of, opening_of}
 use Rattle.argus_journal.specs.Legal.{Legal}
-use Rattle.argus_journal.specs.Words.{versions_of}
+use Rattle.argus_journal.specs.JournalFacts.{versions_of}
 use Rattle.argus_listings.proofs.Audits.{audited, told_there}
 use Rattle.argus_listings.proofs.auditing.append_audit.Goals as goal
 
 pub returns-in-Some : goal.returns-in-Some
 returns-in-Some c =
-    let said = c.args.guardian.now in
+    let view = c.args.guardian.now in
     let journal = c.journal-journal.result.now in
     let opening = c.journal-journal.ensures.opening ∙ c.journal.ensures.opening in
     let entries = c.journal-journal.ensures.entries ∙ c.journal.ensures.entries in
-    let legal : Legal said.opening said.entries = rw (← opening, ← entries) c.journal-journal.ensures.legal in
-    let told = told_there said c.args.o.0 (map version_told c.in-Some.versions.now)
-    (versions_of said.opening said.entries c.args.o.0) c.requires c.in-Some.ensures in
+    let legal : Legal view.opening view.entries = rw (← opening, ← entries) c.journal-journal.ensures.legal in
+    let told = told_there view c.args.o.0 (map version_pair c.in-Some.versions.now)
+    (versions_of view.opening view.entries c.args.o.0) c.requires c.in-Some.ensures in
     IfOk-equal c.append_versions_again.result _ _ _ c.append_versions_again.ensures
-    (audited said legal c.args.o.0 c.args.name.now (opening_of journal) (entries_of journal) c.in-Some.versions.now
+    (audited view legal c.args.o.0 c.args.name.now (opening_of journal) (entries_of journal) c.in-Some.versions.now
     (string_bytes c.args.text.now) (string_bytes c.append_base_again.new.text) opening entries told
     c.in_ok-append_base_again.ensures)

@@ -2,8 +2,9 @@
 use Rattle.std.proofs.Common.{drop, false, reverse, string_bytes, ◌-◌, ◌≡◌, ◌≤◌}
 use Rattle.argus_journal.specs.Journal.{entries_of, opening_of}
 use Rattle.argus_listings.proofs.Added.{Left}
-use Rattle.argus_listings.specs.Listing.{each_from, entries_text, entry_line}
-use Rattle.argus_streams.specs.Watched.{has_failed, inner_of}
+use Rattle.argus_listings.specs.Listing.{each_from, entries_text}
+use Rattle.argus_entries.specs.EntrySpelling.{entry_line}
+use Rattle.argus_streams.specs.FailStop.{has_failed, inner_of}
 use Rattle.argus_listings.proofs.journal_listing.write_entries.Given as goal
 
 abbrev pub invariant-loop-at : goal.invariant-loop-at

@@ -6,7 +6,7 @@ use Rattle.argus_journal.specs.Journal.{opening_of}
 use Rattle.argus_listings.proofs.Added.{left_starts, on_err}
 use Rattle.argus_listings.proofs.Each.{each_cut, each_ends, each_next, each_stops}
 use Rattle.argus_listings.specs.Listing.{each_from, opened_line}
-use Rattle.argus_streams.specs.Watched.{inner_of}
+use Rattle.argus_streams.specs.FailStop.{inner_of}
 use Rattle.argus_listings.proofs.journal_listing.write_opened.Goals as goal
 
 pub loop-shape-init : goal.loop-shape-init
@@ -24,16 +24,16 @@ returns-in_err-append_opened-clause-cut g c =
     (g.W.Write.contents (inner_of c.loop-shape.writer)) (string_bytes c.loop-shape.text)
     (each_from opened_line 0 (opening_of c.args.journal.now).objects) c.loop-shape.invariant.left)
 
-pub returns-in_err-pour_long-clause-cut : goal.returns-in_err-pour_long-clause-cut
-returns-in_err-pour_long-clause-cut g c =
-    on_err c.from_residual-in_err-pour_long.result
+pub returns-in_err-flush_long-clause-cut : goal.returns-in_err-flush_long-clause-cut
+returns-in_err-flush_long-clause-cut g c =
+    on_err c.from_residual-in_err-flush_long.result
     (each_cut opened_line (opening_of c.args.journal.now).objects c.loop-shape.o c.loop-shape.o
     (g.W.Write.contents (inner_of c.args.writer.now)) (string_bytes c.args.text.now)
     (g.W.Write.contents (inner_of c.loop-shape.writer)) (string_bytes c.loop-shape.text)
     (each_from opened_line 0 (opening_of c.args.journal.now).objects) c.loop-shape.invariant.left
     (c.in-Some.shape.now, plain_option c.in-Some.content.now) (sym c.in-Some.ensures.object)
     (string_bytes c.append_opened.new.text) c.in_ok-append_opened.ensures
-    (g.W.Write.contents (inner_of c.pour_long.new.writer)) c.in_err-pour_long.ensures.cut)
+    (g.W.Write.contents (inner_of c.flush_long.new.writer)) c.in_err-flush_long.ensures.cut)
 
 pub overflow_add-o : goal.overflow_add-o
 overflow_add-o g c =
@@ -49,15 +49,15 @@ loop-shape-smaller g c =
 
 pub loop-shape-preserved : goal.loop-shape-preserved
 loop-shape-preserved g c = record {
-  fine = c.in_ok-pour_long.ensures.fine;
+  fine = c.in_ok-flush_long.ensures.fine;
   left = each_next opened_line (opening_of c.args.journal.now).objects c.loop-shape.o c.loop-shape.o
       (g.W.Write.contents (inner_of c.args.writer.now)) (string_bytes c.args.text.now)
       (g.W.Write.contents (inner_of c.loop-shape.writer)) (string_bytes c.loop-shape.text)
       (each_from opened_line 0 (opening_of c.args.journal.now).objects) c.loop-shape.invariant.left
       (c.in-Some.shape.now, plain_option c.in-Some.content.now) (sym c.in-Some.ensures.object)
       (string_bytes c.append_opened.new.text) c.in_ok-append_opened.ensures
-      (g.W.Write.contents (inner_of c.pour_long.new.writer)) (string_bytes c.pour_long.new.text)
-      c.in_ok-pour_long.ensures.ok;
+      (g.W.Write.contents (inner_of c.flush_long.new.writer)) (string_bytes c.flush_long.new.text)
+      c.in_ok-flush_long.ensures.ok;
 }
 
 pub returns-clause-ok : goal.returns-clause-ok

@@ -3,7 +3,7 @@ use Rattle.std.proofs.Common.{drop, false, length, string_bytes, ◌-◌, ◌≡
 use Rattle.argus_journal.specs.Journal.{opening_of}
 use Rattle.argus_listings.proofs.Added.{Left}
 use Rattle.argus_listings.specs.Listing.{each_from, opened_line}
-use Rattle.argus_streams.specs.Watched.{has_failed, inner_of}
+use Rattle.argus_streams.specs.FailStop.{has_failed, inner_of}
 use Rattle.argus_listings.proofs.journal_listing.write_opened.Given as goal
 
 abbrev pub invariant-loop-shape : goal.invariant-loop-shape

@@ -5,8 +5,8 @@ use Rattle.argus_journal.specs.Journal.{opening_of}
 use Rattle.argus_listings.proofs.Added.{added_then, cut_then, text_added}
 use Rattle.argus_listings.proofs.Each.{opening_there}
 use Rattle.argus_listings.specs.Listing.{each_from, folded_line, opened_line}
-use Rattle.argus_listings.specs.Pouring.{Added, Cut}
-use Rattle.argus_streams.specs.Watched.{inner_of}
+use Rattle.argus_listings.specs.Flushing.{Added, Cut}
+use Rattle.argus_streams.specs.FailStop.{inner_of}
 use Rattle.argus_listings.proofs.journal_listing.write_opening.Goals as goal
 
 pub returns-clause-ok : goal.returns-clause-ok

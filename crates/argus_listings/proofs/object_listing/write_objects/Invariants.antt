@@ -2,7 +2,7 @@
 use Rattle.std.proofs.Common.{drop, false, string_bytes, ◌≡◌}
 use Rattle.argus_listings.proofs.Added.{Left}
 use Rattle.argus_listings.specs.Listing.{each_from, names_within, object_text, objects_text}
-use Rattle.argus_streams.specs.Watched.{has_failed, inner_of}
+use Rattle.argus_streams.specs.FailStop.{has_failed, inner_of}
 use Rattle.argus_listings.proofs.object_listing.write_objects.Given as goal
 
 abbrev pub invariant-loop-name : goal.invariant-loop-name

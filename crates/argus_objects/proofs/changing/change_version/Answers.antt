@@ -8,8 +8,8 @@ use Rattle.argus_contents.specs.Answer.{plain_answer}
 use Rattle.argus_contents.specs.Content.{PlainContent, plain_option}
 use Rattle.argus_contents.specs.Change.{plain_change, Outcome, outcome}
 use Rattle.argus_objects.specs.declared.version.Version.{Version}
-use Rattle.argus_objects.specs.Object.{newest_first, holders}
-use Rattle.argus_objects.specs.Moves.{changed_top, newest_content, with_version}
+use Rattle.argus_objects.specs.Object.{versions_newest_first, holders}
+use Rattle.argus_objects.specs.CellChanges.{changed_top, newest_content, with_version}
 use Rattle.argus_objects.proofs.InOrder.{any_default}
 use Rattle.argus_objects.proofs.Stacks.{same_id, version_pushed, all_lower, none_lower}
 use Rattle.argus_objects.proofs.Changes.{content_on_top, changed_in_place}
@@ -21,10 +21,10 @@ use Rattle.argus_objects.proofs.changing.change_version.Goals.{else-held-gt0-via
 in_place : (c : goal.After-versions-1)
     → let vs = c.args.versions.now.items in
     let new : Version = record { holder = c.index_mut.result.now.holder; content = c.alter_in_place.new.content } in
-    let after = newest_first (set vs (c.len-held.result - 1) new) in
-    let changed = changed_top (plain_change c.args.change) (plain_option c.args.base.now) (newest_first vs) in
-    OnOk c.alter_in_place.result (after ≡ with_version c.args.a changed.0 (newest_first vs))
-    × OnErr c.alter_in_place.result (after ≡ newest_first vs)
+    let after = versions_newest_first (set vs (c.len-held.result - 1) new) in
+    let changed = changed_top (plain_change c.args.change) (plain_option c.args.base.now) (versions_newest_first vs) in
+    OnOk c.alter_in_place.result (after ≡ with_version c.args.a changed.0 (versions_newest_first vs))
+    × OnErr c.alter_in_place.result (after ≡ versions_newest_first vs)
 in_place c =
     let vs = c.args.versions.now.items in
     let base = plain_option c.args.base.now in
@@ -40,12 +40,13 @@ in_place c =
     let mine : v.holder ≡ c.args.a = same_id v.holder c.args.a (ap (λ (v : Version). v.holder.0) item ∙ held) in
     let content : plain_option old.content ≡ plain_option (get_or vs k d).content =
     ap (λ (v : Version). plain_option v.content) item in
-    let seen : plain_option old.content ≡ newest_content base (newest_first vs) =
+    let seen : plain_option old.content ≡ newest_content base (versions_newest_first vs) =
     content ∙ sym (content_on_top base vs k d last) in
     let Answers : Option PlainContent → Type 0 =
     λ x. IfOk c.alter_in_place.result (λ answer. (plain_option v.content, plain_answer answer)
     ≡ outcome (plain_change c.args.change) x) in
-    changed_in_place c.alter_in_place.result c.args.a (changed_top (plain_change c.args.change) base (newest_first vs))
+    changed_in_place c.alter_in_place.result c.args.a (changed_top (plain_change c.args.change) base
+    (versions_newest_first vs))
     vs k d v last
     c.requires.ascending held mine same (subst Answers seen c.alter_in_place.ensures.ok)
     (subst (λ x. OnErr c.alter_in_place.result (plain_option v.content ≡ x)) content c.alter_in_place.ensures.err)
@@ -61,7 +62,7 @@ returns-clause-versions c =
     let vs = c.args.versions.now.items in
     let base = plain_option c.args.base.now in
     let v : Version = record { holder = c.args.a; content = c.in_ok-content.content } in
-    let low : list_all (λ (x : ActionId). ltb x.0 c.args.a.0) (holders (newest_first vs)) ≡ true =
+    let low : list_all (λ (x : ActionId). ltb x.0 c.args.a.0) (holders (versions_newest_first vs)) ≡ true =
     elim c.else-held-gt0.branch [
       | else-held-gt0-via-then-held-gt0+else-index-a w ↦
           all_lower c.args.a vs (c.len-held.result - 1) w.index.result.now (omega arith)
@@ -69,10 +70,10 @@ returns-clause-versions c =
           (λ e. w.if-index-a.false (ap (λ (v : Version). v.holder.0) w.index.ensures ∙ e))
       | else-held-gt0-via-else-held-gt0 w ↦ none_lower c.args.a vs (omega arith)
     ] in
-    let seen : plain_option c.content_on_top.result.now ≡ newest_content base (newest_first vs) =
-    c.content_on_top.ensures ∙ ap (λ ws. newest_content base (newest_first ws)) c.as_slice.ensures.value in
+    let seen : plain_option c.content_on_top.result.now ≡ newest_content base (versions_newest_first vs) =
+    c.content_on_top.ensures ∙ ap (λ ws. newest_content base (versions_newest_first ws)) c.as_slice.ensures.value in
     let content : plain_option c.in_ok-content.content ≡ (outcome (plain_change c.args.change)
-    (newest_content base (newest_first vs))).0 =
+    (newest_content base (versions_newest_first vs))).0 =
     ap (λ (p : Outcome). p.0) c.in_ok-content.ensures.ok ∙ ap (λ x. (outcome (plain_change c.args.change) x).0) seen in
-    ap newest_first c.in_ok-push.ensures.items
-    ∙ (version_pushed c.args.a vs v refl low ∙ ap (λ x. with_version c.args.a x (newest_first vs)) content)
+    ap versions_newest_first c.in_ok-push.ensures.items
+    ∙ (version_pushed c.args.a vs v refl low ∙ ap (λ x. with_version c.args.a x (versions_newest_first vs)) content)

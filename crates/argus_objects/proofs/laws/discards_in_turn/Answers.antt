@@ -3,7 +3,7 @@ use Rattle.std.proofs.Common.{not, [], ◌∷◌, refl}
 use Rattle.argus_actions.specs.declared.action_id.ActionId.{ActionId}
 use Rattle.argus_actions.specs.Tree.{is_ancestor}
 use Rattle.argus_objects.specs.Object.{PlainVersion}
-use Rattle.argus_objects.specs.Moves.{is_under_any}
+use Rattle.argus_objects.specs.CellChanges.{is_under_any}
 use Rattle.argus_objects.proofs.Later.{filter_all, filter_twice, not_or}
 use Rattle.argus_objects.proofs.laws.discards_in_turn.Goals as goal
 

@@ -2,7 +2,7 @@
 use Rattle.std.proofs.Common.{◌≡◌, ℕ, ◌+◌, ◌-◌, ◌<◌, ◌++◌, ◌∷◌, take, drop, get_or, sym, ◌∙◌, ap, arith, rules}
 use Rattle.std.proofs.lemmas.List.{take-append-drop}
 use Rattle.argus_actions.specs.declared.action_id.ActionId.{ActionId}
-use Rattle.argus_objects.specs.Moves.{with_reader}
+use Rattle.argus_objects.specs.CellChanges.{with_reader}
 use Rattle.argus_objects.proofs.InOrder.{any_default, place_more, place_taken, placed}
 use Rattle.argus_objects.proofs.readers.add_reader.Goals as goal
 use Rattle.argus_objects.proofs.readers.add_reader.Goals.{then-loop-at-test+else-a-index, else-loop-at-test}

@@ -1,6 +1,6 @@
 -- Put among the readers before the place, with the others behind it, the action stands where it would among all.
 use Rattle.std.proofs.Common.{◌≡◌, ◌≤◌, ◌++◌, length, take, drop}
-use Rattle.argus_objects.specs.Moves.{with_reader}
+use Rattle.argus_objects.specs.CellChanges.{with_reader}
 use Rattle.argus_objects.proofs.readers.add_reader.Given as goal
 
 abbrev pub invariant-loop-at : goal.invariant-loop-at

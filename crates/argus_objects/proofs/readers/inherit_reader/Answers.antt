@@ -1,7 +1,7 @@
 -- The reader that went leaves room for the parent.
 use Rattle.std.proofs.Common.{◌<◌, length, not, eqb, sym, ◌∙◌, ap, arith, rules}
 use Rattle.argus_actions.specs.declared.action_id.ActionId.{ActionId}
-use Rattle.argus_objects.specs.Moves.{is_reader, without_reader}
+use Rattle.argus_objects.specs.CellChanges.{is_reader, without_reader}
 use Rattle.argus_objects.proofs.InOrder.{fewer_readers}
 use Rattle.argus_objects.proofs.Ascending.{ascending_filter}
 use Rattle.argus_objects.proofs.readers.inherit_reader.Goals as goal

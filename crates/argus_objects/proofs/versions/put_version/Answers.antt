@@ -4,7 +4,7 @@ use Rattle.std.specs.List.{list_all}
 use Rattle.argus_actions.specs.declared.action_id.ActionId.{ActionId}
 use Rattle.argus_contents.specs.Content.{plain_option}
 use Rattle.argus_objects.specs.declared.version.Version.{Version}
-use Rattle.argus_objects.specs.Object.{newest_first, holders}
+use Rattle.argus_objects.specs.Object.{versions_newest_first, holders}
 use Rattle.argus_objects.proofs.InOrder.{any_default}
 use Rattle.argus_objects.proofs.Stacks.{same_id, version_set, version_pushed, all_lower, none_lower}
 use Rattle.argus_objects.proofs.versions.put_version.Goals as goal
@@ -28,7 +28,7 @@ pub returns-else-held-gt0 : goal.returns-else-held-gt0
 returns-else-held-gt0 c =
     let vs = c.args.versions.now.items in
     let v : Version = record { holder = c.args.a; content = c.args.content } in
-    let low : list_all (λ (x : ActionId). ltb x.0 c.args.a.0) (holders (newest_first vs)) ≡ true =
+    let low : list_all (λ (x : ActionId). ltb x.0 c.args.a.0) (holders (versions_newest_first vs)) ≡ true =
     elim c.else-held-gt0.branch [
       | else-held-gt0-via-then-held-gt0+else-index-a w ↦
           all_lower c.args.a vs (c.len-held.result - 1) w.index.result.now (omega arith)
@@ -36,4 +36,4 @@ returns-else-held-gt0 c =
           (λ e. w.if-index-a.false (ap (λ (v : Version). v.holder.0) w.index.ensures ∙ e))
       | else-held-gt0-via-else-held-gt0 w ↦ none_lower c.args.a vs (omega arith)
     ] in
-    ap newest_first c.push_reserved.ensures.items ∙ version_pushed c.args.a vs v refl low
+    ap versions_newest_first c.push_reserved.ensures.items ∙ version_pushed c.args.a vs v refl low

@@ -3,8 +3,8 @@ use Rattle.std.proofs.Common.{◌≡◌, ℕ, ◌+◌, ◌-◌, ◌++◌, take, 
 use Rattle.std.proofs.lemmas.List.{drop_all}
 use Rattle.argus_contents.specs.Content.{plain_option}
 use Rattle.argus_objects.specs.declared.version.Version.{Version}
-use Rattle.argus_objects.specs.Object.{newest_first}
-use Rattle.argus_objects.specs.Moves.{has_version}
+use Rattle.argus_objects.specs.Object.{versions_newest_first}
+use Rattle.argus_objects.specs.CellChanges.{has_version}
 use Rattle.argus_objects.proofs.InOrder.{any_default}
 use Rattle.argus_objects.proofs.Stacks.{version_here, removed_here, none_more, version_of_none, without_none}
 use Rattle.argus_objects.proofs.versions.take_version.Goals as goal
@@ -15,7 +15,7 @@ loop-at-init c =
     record {
       same = refl;
       bound = omega arith;
-      none = ap (λ ws. has_version c.args.t (newest_first ws)) (drop_all c.len-at.result vs (omega arith));
+      none = ap (λ ws. has_version c.args.t (versions_newest_first ws)) (drop_all c.len-at.result vs (omega arith));
     }
 
 pub loop-at-preserved : goal.loop-at-preserved
@@ -28,7 +28,7 @@ loop-at-preserved c =
     record {
       same = c.loop-at.invariant.same;
       bound = omega arith;
-      none = none_more c.args.t vs k d (omega arith) (ap (λ n. has_version c.args.t (newest_first (drop n vs)))
+      none = none_more c.args.t vs k d (omega arith) (ap (λ n. has_version c.args.t (versions_newest_first (drop n vs)))
           (sym more) ∙ c.loop-at.invariant.none)
           (λ e. c.if-index-t.false (ap (λ (v : Version). v.holder.0) item ∙ e));
     }
@@ -45,7 +45,7 @@ returns-then-index-t-clause-content c =
     ∙ any_default vs k c.remove.result d (omega arith)) in
     ap (λ (v : Version). Some (plain_option v.content)) taken
     ∙ version_here c.args.t vs k d (omega arith) c.requires
-    (ap (λ n. has_version c.args.t (newest_first (drop n vs))) (sym more) ∙ c.loop-at.invariant.none)
+    (ap (λ n. has_version c.args.t (versions_newest_first (drop n vs))) (sym more) ∙ c.loop-at.invariant.none)
     (sym (ap (λ (v : Version). v.holder.0) item) ∙ c.if-index-t.true)
 
 pub returns-then-index-t-clause-versions : goal.returns-then-index-t-clause-versions
@@ -56,23 +56,25 @@ returns-then-index-t-clause-versions c =
     let more : c.loop-at.at ≡ k + 1 = omega arith in
     let item : d ≡ get_or vs k d = c.index.ensures ∙ ap (λ ws. get_or ws k d) c.loop-at.invariant.same in
     let next : suc k ≡ k + 1 = omega arith in
-    ap newest_first (c.remove.ensures.items ∙ (ap (λ ws. take k ws ++ drop (suc k) ws) c.loop-at.invariant.same
+    ap versions_newest_first (c.remove.ensures.items ∙ (ap (λ ws. take k ws ++ drop (suc k) ws) c.loop-at.invariant.same
     ∙ ap (λ n. take k vs ++ drop n vs) next))
     ∙ removed_here c.args.t vs k d (omega arith) c.requires
-    (ap (λ n. has_version c.args.t (newest_first (drop n vs))) (sym more) ∙ c.loop-at.invariant.none)
+    (ap (λ n. has_version c.args.t (versions_newest_first (drop n vs))) (sym more) ∙ c.loop-at.invariant.none)
     (sym (ap (λ (v : Version). v.holder.0) item) ∙ c.if-index-t.true)
 
 pub returns-clause-content : goal.returns-clause-content
 returns-clause-content c =
     let vs = c.args.versions.now.items in
     let first : c.loop-at.at ≡ 0 = omega arith in
-    sym (version_of_none c.args.t (newest_first vs) (ap (λ n. has_version c.args.t (newest_first (drop n vs)))
+    sym (version_of_none c.args.t (versions_newest_first vs) (ap (λ n. has_version c.args.t (versions_newest_first
+    (drop n vs)))
     (sym first) ∙ c.loop-at.invariant.none))
 
 pub returns-clause-versions : goal.returns-clause-versions
 returns-clause-versions c =
     let vs = c.args.versions.now.items in
     let first : c.loop-at.at ≡ 0 = omega arith in
-    ap newest_first c.loop-at.invariant.same
-    ∙ sym (without_none c.args.t (newest_first vs) (ap (λ n. has_version c.args.t (newest_first (drop n vs)))
+    ap versions_newest_first c.loop-at.invariant.same
+    ∙ sym (without_none c.args.t (versions_newest_first vs) (ap (λ n. has_version c.args.t (versions_newest_first
+    (drop n vs)))
     (sym first) ∙ c.loop-at.invariant.none))

@@ -1,14 +1,14 @@
 -- No version that was passed is that of the action.
 use Rattle.std.proofs.Common.{◌≡◌, ◌≤◌, length, drop, false}
-use Rattle.argus_objects.specs.Object.{newest_first}
-use Rattle.argus_objects.specs.Moves.{has_version}
+use Rattle.argus_objects.specs.Object.{versions_newest_first}
+use Rattle.argus_objects.specs.CellChanges.{has_version}
 use Rattle.argus_objects.proofs.versions.take_version.Given as goal
 
 abbrev pub invariant-loop-at : goal.invariant-loop-at
 invariant-loop-at l = record {
   same : l.versions.items ≡ l.initial.versions.items;
   bound : l.at ≤ length l.initial.versions.items;
-  none : has_version l.t (newest_first (drop l.at l.initial.versions.items)) ≡ false;
+  none : has_version l.t (versions_newest_first (drop l.at l.initial.versions.items)) ≡ false;
 }
 
 abbrev pub decreases-loop-at : goal.decreases-loop-at

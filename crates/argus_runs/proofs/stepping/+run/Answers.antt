@@ -1,11 +1,11 @@
 -- Where a step, an arm, a begin or a test stops, its state is a beginning of what the whole comes to.
 use Rattle.std.proofs.Common.{Some, rules}
-use Rattle.argus_commands.specs.Part.{block, plain_steps}
-use Rattle.argus_commands.specs.declared.opening.Opening.TheVariants as opening
-use Rattle.argus_runs.specs.Replies.{named, test_call}
-use Rattle.argus_runs.specs.Running.{begin_all, begin_one, run_arms, run_handed, run_part, run_parts}
-use Rattle.argus_runs.proofs.Early.{arms_early, on_err, steps_early}
-use Rattle.argus_runs.proofs.Growth.{Growing, enter_on, enter_on_grows, handed_grows, parts_grow, test_on}
+use Rattle.argus_language.specs.PlainStep.{block, plain_steps}
+use Rattle.argus_language.specs.declared.block_kind.BlockKind.TheVariants as opening
+use Rattle.argus_runs.specs.Replies.{object_number_at, test_call}
+use Rattle.argus_runs.specs.Running.{begin_all, begin_one, run_arms, run_arms_by_runner, run_step, run_steps}
+use Rattle.argus_runs.proofs.StoppedRuns.{arms_early, on_err, steps_early}
+use Rattle.argus_runs.proofs.Growth.{ExtendingCalls, enter_on, enter_on_grows, handed_grows, parts_grow, test_on}
 use Rattle.argus_runs.proofs.Growth.{test_on_grows, within_then}
 use Rattle.argus_runs.proofs.stepping.+run.Goals as goal
 
@@ -13,125 +13,139 @@ pub run_begun-returns-in_err-run_if_begun-clause-early :
     goal.run_begun-returns-in_err-run_if_begun-clause-early
 run_begun-returns-in_err-run_if_begun-clause-early g t c =
     let s = g.C.Caller.state c.args.caller.now in let u = g.C.Caller.state c.run_if_begun.new.caller in
-    on_err c.from_residual.result g.C.Caller.known g.C.Caller.adds g.C.Caller.begins u
-    (run_arms g.C.Caller.State g.C.Caller.reply g.C.Caller.hand c.args.numbers.now (plain_steps c.args.arms.now)
+    on_err c.from_residual.result g.C.Caller.is_determined g.C.Caller.calls_extend g.C.Caller.is_prefix u
+    (run_arms g.C.Caller.State g.C.Caller.reply g.C.Caller.arm_runner c.args.numbers.now (plain_steps c.args.arms.now)
     c.args.begun.now s)
-    (λ known adds.
-    let l : Growing g.C.Caller.State g.C.Caller.begins g.C.Caller.reply g.C.Caller.hand = record {
-      plain = g.met.C.Caller.plain adds;
-      same = g.met.C.Caller.begins_same adds;
-      on = g.met.C.Caller.begins_on adds;
-      grows = g.met.C.Caller.grows adds;
+    (λ is_determined calls_extend.
+    let l : ExtendingCalls g.C.Caller.State g.C.Caller.is_prefix g.C.Caller.reply g.C.Caller.arm_runner = record {
+      no_arm_runner = g.met.C.Caller.no_arm_runner calls_extend;
+      same = g.met.C.Caller.prefix_refl calls_extend;
+      on = g.met.C.Caller.prefix_trans calls_extend;
+      call_extends = g.met.C.Caller.call_extends calls_extend;
     } in
-    arms_early g.C.Caller.State g.C.Caller.begins g.C.Caller.reply g.C.Caller.hand l c.args.numbers.now c.args.arms.now
+    arms_early g.C.Caller.State g.C.Caller.is_prefix g.C.Caller.reply g.C.Caller.arm_runner l c.args.numbers.now
+    c.args.arms.now
     c.args.begun.now c.loop-i.i
     c.index-arms-i.result s (g.C.Caller.state c.loop-i.caller) u c.loop-i-test.true c.requires.len c.index-arms-i.is
-    (c.loop-i.invariant.1 known) (c.in_err-run_if_begun.ensures.early known adds))
+    (c.loop-i.invariant.1 is_determined) (c.in_err-run_if_begun.ensures.early is_determined calls_extend))
 
 pub run_steps-returns-in_err-flow-clause-early :
     goal.run_steps-returns-in_err-flow-clause-early
 run_steps-returns-in_err-flow-clause-early g t c =
     let s = g.C.Caller.state c.args.caller.now in let u = g.C.Caller.state c.run_step.new.caller in
-    on_err c.from_residual.result g.C.Caller.known g.C.Caller.adds g.C.Caller.begins u
-    (run_parts g.C.Caller.State g.C.Caller.reply g.C.Caller.hand c.args.numbers.now (plain_steps c.args.steps.now)
+    on_err c.from_residual.result g.C.Caller.is_determined g.C.Caller.calls_extend g.C.Caller.is_prefix u
+    (run_steps g.C.Caller.State g.C.Caller.reply g.C.Caller.arm_runner c.args.numbers.now (plain_steps c.args.steps.now)
     c.args.within s)
-    (λ known adds.
-    let l : Growing g.C.Caller.State g.C.Caller.begins g.C.Caller.reply g.C.Caller.hand = record {
-      plain = g.met.C.Caller.plain adds;
-      same = g.met.C.Caller.begins_same adds;
-      on = g.met.C.Caller.begins_on adds;
-      grows = g.met.C.Caller.grows adds;
+    (λ is_determined calls_extend.
+    let l : ExtendingCalls g.C.Caller.State g.C.Caller.is_prefix g.C.Caller.reply g.C.Caller.arm_runner = record {
+      no_arm_runner = g.met.C.Caller.no_arm_runner calls_extend;
+      same = g.met.C.Caller.prefix_refl calls_extend;
+      on = g.met.C.Caller.prefix_trans calls_extend;
+      call_extends = g.met.C.Caller.call_extends calls_extend;
     } in
-    steps_early g.C.Caller.State g.C.Caller.begins g.C.Caller.reply g.C.Caller.hand l c.args.numbers.now
+    steps_early g.C.Caller.State g.C.Caller.is_prefix g.C.Caller.reply g.C.Caller.arm_runner l c.args.numbers.now
     c.args.steps.now c.loop-step.step-index c.step-item.result c.args.within s
     (g.C.Caller.state c.loop-step.caller) u c.loop-step-test.true c.step-item.is
-    (c.loop-step.invariant.1 known) (c.in_err-flow.ensures.early known adds))
+    (c.loop-step.invariant.1 is_determined) (c.in_err-flow.ensures.early is_determined calls_extend))
 
 pub run_coenter-returns-in_err-begun-clause-early :
     goal.run_coenter-returns-in_err-begun-clause-early
 run_coenter-returns-in_err-begun-clause-early g t c =
     let s = g.C.Caller.state c.args.caller.now in let u = g.C.Caller.state c.begin_arms.new.caller in
-    on_err c.from_residual.result g.C.Caller.known g.C.Caller.adds g.C.Caller.begins u
-    (run_part g.C.Caller.State g.C.Caller.reply g.C.Caller.hand c.args.numbers.now (block opening.Coenter (plain_steps
+    on_err c.from_residual.result g.C.Caller.is_determined g.C.Caller.calls_extend g.C.Caller.is_prefix u
+    (run_step g.C.Caller.State g.C.Caller.reply g.C.Caller.arm_runner c.args.numbers.now (block opening.Coenter
+    (plain_steps
     c.args.arms.now)) c.args.within s)
-    (λ known adds.
-    let l : Growing g.C.Caller.State g.C.Caller.begins g.C.Caller.reply g.C.Caller.hand = record {
-      plain = g.met.C.Caller.plain adds;
-      same = g.met.C.Caller.begins_same adds;
-      on = g.met.C.Caller.begins_on adds;
-      grows = g.met.C.Caller.grows adds;
+    (λ is_determined calls_extend.
+    let l : ExtendingCalls g.C.Caller.State g.C.Caller.is_prefix g.C.Caller.reply g.C.Caller.arm_runner = record {
+      no_arm_runner = g.met.C.Caller.no_arm_runner calls_extend;
+      same = g.met.C.Caller.prefix_refl calls_extend;
+      on = g.met.C.Caller.prefix_trans calls_extend;
+      call_extends = g.met.C.Caller.call_extends calls_extend;
     } in
-    within_then g.C.Caller.State g.C.Caller.begins g.C.Caller.reply g.C.Caller.hand l u (begin_all g.C.Caller.State
-    g.C.Caller.reply g.C.Caller.hand (plain_steps c.args.arms.now) c.args.within s)
-    (run_handed g.C.Caller.State g.C.Caller.reply g.C.Caller.hand c.args.numbers.now (plain_steps c.args.arms.now))
-    (c.in_err-begun.ensures.early known adds)
-    (handed_grows g.C.Caller.State g.C.Caller.begins g.C.Caller.reply g.C.Caller.hand l c.args.numbers.now (plain_steps
+    within_then g.C.Caller.State g.C.Caller.is_prefix g.C.Caller.reply g.C.Caller.arm_runner l u
+    (begin_all g.C.Caller.State
+    g.C.Caller.reply g.C.Caller.arm_runner (plain_steps c.args.arms.now) c.args.within s)
+    (run_arms_by_runner g.C.Caller.State g.C.Caller.reply g.C.Caller.arm_runner c.args.numbers.now
+    (plain_steps c.args.arms.now))
+    (c.in_err-begun.ensures.early is_determined calls_extend)
+    (handed_grows g.C.Caller.State g.C.Caller.is_prefix g.C.Caller.reply g.C.Caller.arm_runner l c.args.numbers.now
+    (plain_steps
     c.args.arms.now)))
 
 pub run_coenter-returns-in_err-arms-clause-early :
     goal.run_coenter-returns-in_err-arms-clause-early
 run_coenter-returns-in_err-arms-clause-early g t c =
     let s = g.C.Caller.state c.args.caller.now in let u = g.C.Caller.state c.arms.new.self in
-    on_err c.from_residual-in_err-arms.result g.C.Caller.known g.C.Caller.adds g.C.Caller.begins u
-    (run_part g.C.Caller.State g.C.Caller.reply g.C.Caller.hand c.args.numbers.now (block opening.Coenter (plain_steps
+    on_err c.from_residual-in_err-arms.result g.C.Caller.is_determined g.C.Caller.calls_extend g.C.Caller.is_prefix u
+    (run_step g.C.Caller.State g.C.Caller.reply g.C.Caller.arm_runner c.args.numbers.now (block opening.Coenter
+    (plain_steps
     c.args.arms.now)) c.args.within s)
-    (λ known adds.
-    let l : Growing g.C.Caller.State g.C.Caller.begins g.C.Caller.reply g.C.Caller.hand = record {
-      plain = g.met.C.Caller.plain adds;
-      same = g.met.C.Caller.begins_same adds;
-      on = g.met.C.Caller.begins_on adds;
-      grows = g.met.C.Caller.grows adds;
+    (λ is_determined calls_extend.
+    let l : ExtendingCalls g.C.Caller.State g.C.Caller.is_prefix g.C.Caller.reply g.C.Caller.arm_runner = record {
+      no_arm_runner = g.met.C.Caller.no_arm_runner calls_extend;
+      same = g.met.C.Caller.prefix_refl calls_extend;
+      on = g.met.C.Caller.prefix_trans calls_extend;
+      call_extends = g.met.C.Caller.call_extends calls_extend;
     } in
     let v = g.C.Caller.state c.begin_arms.new.caller in
-    rw (c.in_ok-begun.ensures.begun known) (rw (c.in_err-arms.ensures.early adds)
-    (handed_grows g.C.Caller.State g.C.Caller.begins g.C.Caller.reply g.C.Caller.hand l c.args.numbers.now (plain_steps
+    rw (c.in_ok-begun.ensures.begun is_determined) (rw (c.in_err-arms.ensures.early calls_extend)
+    (handed_grows g.C.Caller.State g.C.Caller.is_prefix g.C.Caller.reply g.C.Caller.arm_runner l c.args.numbers.now
+    (plain_steps
     c.args.arms.now) c.in_ok-begun.begun.items v)))
 
 pub run_entered-returns-in_err-begin-clause-early :
     goal.run_entered-returns-in_err-begin-clause-early
 run_entered-returns-in_err-begin-clause-early g t c =
     let s = g.C.Caller.state c.args.caller.now in let u = g.C.Caller.state c.begin.new.caller in
-    on_err c.from_residual.result g.C.Caller.known g.C.Caller.adds g.C.Caller.begins u
-    (run_part g.C.Caller.State g.C.Caller.reply g.C.Caller.hand c.args.numbers.now (block (opening.Enter c.args.kind)
+    on_err c.from_residual.result g.C.Caller.is_determined g.C.Caller.calls_extend g.C.Caller.is_prefix u
+    (run_step g.C.Caller.State g.C.Caller.reply g.C.Caller.arm_runner c.args.numbers.now (block
+    (opening.Enter c.args.kind)
     (plain_steps c.args.body.now)) c.args.within s)
-    (λ known adds.
-    let l : Growing g.C.Caller.State g.C.Caller.begins g.C.Caller.reply g.C.Caller.hand = record {
-      plain = g.met.C.Caller.plain adds;
-      same = g.met.C.Caller.begins_same adds;
-      on = g.met.C.Caller.begins_on adds;
-      grows = g.met.C.Caller.grows adds;
+    (λ is_determined calls_extend.
+    let l : ExtendingCalls g.C.Caller.State g.C.Caller.is_prefix g.C.Caller.reply g.C.Caller.arm_runner = record {
+      no_arm_runner = g.met.C.Caller.no_arm_runner calls_extend;
+      same = g.met.C.Caller.prefix_refl calls_extend;
+      on = g.met.C.Caller.prefix_trans calls_extend;
+      call_extends = g.met.C.Caller.call_extends calls_extend;
     } in
-    within_then g.C.Caller.State g.C.Caller.begins g.C.Caller.reply g.C.Caller.hand l u (begin_one g.C.Caller.State
-    g.C.Caller.reply g.C.Caller.hand c.args.kind c.args.within s)
-    (enter_on g.C.Caller.State g.C.Caller.begins g.C.Caller.reply g.C.Caller.hand l c.args.numbers.now (plain_steps
-    c.args.body.now)) (c.in_err-begin.ensures.early known adds)
-    (enter_on_grows g.C.Caller.State g.C.Caller.begins g.C.Caller.reply g.C.Caller.hand l c.args.numbers.now
+    within_then g.C.Caller.State g.C.Caller.is_prefix g.C.Caller.reply g.C.Caller.arm_runner l u
+    (begin_one g.C.Caller.State
+    g.C.Caller.reply g.C.Caller.arm_runner c.args.kind c.args.within s)
+    (enter_on g.C.Caller.State g.C.Caller.is_prefix g.C.Caller.reply g.C.Caller.arm_runner l c.args.numbers.now
+    (plain_steps
+    c.args.body.now)) (c.in_err-begin.ensures.early is_determined calls_extend)
+    (enter_on_grows g.C.Caller.State g.C.Caller.is_prefix g.C.Caller.reply g.C.Caller.arm_runner l c.args.numbers.now
     (plain_steps c.args.body.now)
-    (parts_grow g.C.Caller.State g.C.Caller.begins g.C.Caller.reply g.C.Caller.hand l c.args.numbers.now (plain_steps
+    (parts_grow g.C.Caller.State g.C.Caller.is_prefix g.C.Caller.reply g.C.Caller.arm_runner l c.args.numbers.now
+    (plain_steps
     c.args.body.now))))
 
 pub run_if-returns-in_err-reply-clause-early :
     goal.run_if-returns-in_err-reply-clause-early
 run_if-returns-in_err-reply-clause-early g t c =
     let s = g.C.Caller.state c.args.caller.now in let u = g.C.Caller.state c.call.new.self in
-    on_err c.from_residual.result g.C.Caller.known g.C.Caller.adds g.C.Caller.begins u
-    (run_part g.C.Caller.State g.C.Caller.reply g.C.Caller.hand c.args.numbers.now (block (opening.If c.args.lock
+    on_err c.from_residual.result g.C.Caller.is_determined g.C.Caller.calls_extend g.C.Caller.is_prefix u
+    (run_step g.C.Caller.State g.C.Caller.reply g.C.Caller.arm_runner c.args.numbers.now (block (opening.If c.args.lock
     c.args.x) (plain_steps c.args.body.now)) (Some c.args.action) s)
-    (λ known adds.
-    let l : Growing g.C.Caller.State g.C.Caller.begins g.C.Caller.reply g.C.Caller.hand = record {
-      plain = g.met.C.Caller.plain adds;
-      same = g.met.C.Caller.begins_same adds;
-      on = g.met.C.Caller.begins_on adds;
-      grows = g.met.C.Caller.grows adds;
+    (λ is_determined calls_extend.
+    let l : ExtendingCalls g.C.Caller.State g.C.Caller.is_prefix g.C.Caller.reply g.C.Caller.arm_runner = record {
+      no_arm_runner = g.met.C.Caller.no_arm_runner calls_extend;
+      same = g.met.C.Caller.prefix_refl calls_extend;
+      on = g.met.C.Caller.prefix_trans calls_extend;
+      call_extends = g.met.C.Caller.call_extends calls_extend;
     } in
-    within_then g.C.Caller.State g.C.Caller.begins g.C.Caller.reply g.C.Caller.hand l u (g.C.Caller.reply (test_call
-    c.args.lock c.args.action (named c.args.numbers.now c.args.x)) s)
-    (test_on g.C.Caller.State g.C.Caller.begins g.C.Caller.reply g.C.Caller.hand l c.args.numbers.now (plain_steps
+    within_then g.C.Caller.State g.C.Caller.is_prefix g.C.Caller.reply g.C.Caller.arm_runner l u (g.C.Caller.reply
+    (test_call
+    c.args.lock c.args.action (object_number_at c.args.numbers.now c.args.x)) s)
+    (test_on g.C.Caller.State g.C.Caller.is_prefix g.C.Caller.reply g.C.Caller.arm_runner l c.args.numbers.now
+    (plain_steps
     c.args.body.now) c.args.action) (rw c.object_at.ensures at (rw c.call_to_test.ensures at
-    (c.in_err-reply.ensures.early adds)))
-    (test_on_grows g.C.Caller.State g.C.Caller.begins g.C.Caller.reply g.C.Caller.hand l c.args.numbers.now
+    (c.in_err-reply.ensures.early calls_extend)))
+    (test_on_grows g.C.Caller.State g.C.Caller.is_prefix g.C.Caller.reply g.C.Caller.arm_runner l c.args.numbers.now
     (plain_steps c.args.body.now) c.args.action
-    (parts_grow g.C.Caller.State g.C.Caller.begins g.C.Caller.reply g.C.Caller.hand l c.args.numbers.now (plain_steps
+    (parts_grow g.C.Caller.State g.C.Caller.is_prefix g.C.Caller.reply g.C.Caller.arm_runner l c.args.numbers.now
+    (plain_steps
     c.args.body.now))))
 
 pub run_body-returns-clause-told : goal.run_body-returns-clause-told

@@ -1,7 +1,7 @@
 -- What was read is the front of what the reader had.
 use Rattle.std.proofs.Common.{◌≡◌, ◌≤◌, ◌-◌, false, length}
 use Rattle.std.specs.Io.KnownBytes.{Consumes}
-use Rattle.argus_streams.specs.Watched.{has_failed, inner_of}
+use Rattle.argus_streams.specs.FailStop.{has_failed, inner_of}
 use Rattle.argus_streams.proofs.input.read_up_to.Given as goal
 
 abbrev pub invariant-loop-chunk : goal.invariant-loop-chunk

@@ -3,7 +3,7 @@ use Rattle.std.proofs.lemmas.Grind.{common_steps}
 use Rattle.std.proofs.Common.{length-drop, arith}
 use Rattle.std.proofs.lemmas.List.{take_rest}
 use Rattle.argus_streams.proofs.Bytes.{appends_more}
-use Rattle.argus_streams.specs.Watched.{inner_of}
+use Rattle.argus_streams.specs.FailStop.{inner_of}
 use Rattle.argus_streams.proofs.output.write_whole.Goals as goal
 
 pub loop-at-preserved : goal.loop-at-preserved

@@ -1,7 +1,7 @@
 -- What was written is the front of the bytes.
 use Rattle.std.proofs.Common.{◌≡◌, ◌≤◌, ◌-◌, false, take, length}
 use Rattle.std.specs.Io.KnownBytes.{Appends}
-use Rattle.argus_streams.specs.Watched.{has_failed, inner_of}
+use Rattle.argus_streams.specs.FailStop.{has_failed, inner_of}
 use Rattle.argus_streams.proofs.output.write_whole.Given as goal
 
 abbrev pub invariant-loop-at : goal.invariant-loop-at

@@ -1,6 +1,6 @@
 -- Lookers may cross to other threads.
 use denote.Param.Send.{sendable}
-use Rattle.argus_sharing.proofs.Crossing.{crosses}
+use Rattle.argus_guardian.proofs.Crossing.{crosses}
 use Rattle.guardian_tests.proofs.closing.watch_all.Goals as goal
 
 pub map_vec-requires-send-J : goal.map_vec-requires-send-J

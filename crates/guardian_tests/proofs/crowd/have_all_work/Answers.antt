@@ -1,6 +1,6 @@
 -- Lookers may cross to another thread, and back.
 use denote.Param.Send.{sendable}
-use Rattle.argus_sharing.proofs.Crossing.{crosses}
+use Rattle.argus_guardian.proofs.Crossing.{crosses}
 use Rattle.std.proofs.Crossing.{crosses as std_crosses}
 use Rattle.guardian_tests.proofs.crowd.have_all_work.Goals as goal
 

@@ -1,8 +1,8 @@
 -- Which sharing this is.
-use Rattle.argus_board.specs.Keeper.{history_of, root_of}
+use Rattle.argus_guardian.specs.Keeper.{history_of, next_right_of}
 use Rattle.argus_journal.specs.Opening.{content_in}
-use Rattle.argus_sharing.specs.Following.{bases_told, effects_told}
-use Rattle.argus_sharing.specs.Locked.{next_number}
+use Rattle.argus_guardian.specs.Following.{journal_bases, journal_effects}
+use Rattle.argus_journal.specs.JournalView.{next_entry}
 use Rattle.guardian_tests.proofs.sharing.share.Given as goal
 
 abbrev pub ghosts-share_as-N-Ledger : goal.ghosts-share_as-N-Ledger
@@ -11,11 +11,11 @@ ghosts-share_as-N-Ledger g a = record { name = a.blank.name; parts = a.blank.par
 abbrev pub ghosts-share_as-N-Board : goal.ghosts-share_as-N-Board
 ghosts-share_as-N-Board g a = record {
   history = history_of a.keeper;
-  root = root_of a.keeper;
-  opening = content_in a.guardian.opening.objects;
-  before = effects_told a.guardian;
-  first = bases_told a.guardian;
+  root = next_right_of a.keeper;
+  opening_contents = content_in a.guardian.opening.objects;
+  before = journal_effects a.guardian;
+  first = journal_bases a.guardian;
 }
 
 abbrev pub ghosts-share_as-N-Sharing : goal.ghosts-share_as-N-Sharing
-ghosts-share_as-N-Sharing g a = record { start = next_number a.guardian }
+ghosts-share_as-N-Sharing g a = record { start = next_entry a.guardian }

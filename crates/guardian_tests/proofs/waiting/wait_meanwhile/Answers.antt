@@ -1,6 +1,6 @@
 -- Who waits in another thread may cross to it, and back.
 use denote.Param.Send.{sendable}
-use Rattle.argus_sharing.proofs.Crossing.{crosses}
+use Rattle.argus_guardian.proofs.Crossing.{crosses}
 use Rattle.std.proofs.Crossing.{crosses as std_crosses}
 use Rattle.guardian_tests.proofs.waiting.wait_meanwhile.Goals as goal
 

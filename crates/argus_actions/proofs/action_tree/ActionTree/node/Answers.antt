@@ -5,7 +5,7 @@ use Rattle.argus_actions.specs.declared.node.Node.{Node}
 use Rattle.argus_actions.specs.Row.{Row, at_parent, under_of}
 use Rattle.argus_actions.specs.Rows.{newest_below, newest_child_below}
 use Rattle.argus_actions.specs.Tree.{named}
-use Rattle.argus_actions.specs.Nodes.{shown, rows_of, IsNode}
+use Rattle.argus_actions.specs.Nodes.{row_of_node, rows_of, IsNode}
 use Rattle.argus_actions.proofs.RowsLemmas.{numbered_low}
 use Rattle.argus_actions.proofs.NodesLemmas.{length-rows_of, row_at, no_row_at}
 use Rattle.argus_actions.proofs.Begun.{live_count_none, newest_below_none, newest_child_none}
@@ -18,7 +18,7 @@ returns-then-at-len-clause-node c =
     let P : Node → Type 0 = IsNode c.self.inside.first (rows_of nodes) c.args.a.0 in
     rw (← c.self.view_is) (
       row_at c.self.inside.first nodes c.args.a.0 (c.args.a.0 - c.self.inside.first) c.index.result.now (omega arith)
-          (omega arith) ∙ ap (λ node. Some (shown node)) (sym c.index.ensures),
+          (omega arith) ∙ ap (λ node. Some (row_of_node node)) (sym c.index.ensures),
       subst P (sym c.index.ensures) (c.self.invariant.nodes.each c.args.a.0 (c.args.a.0 - c.self.inside.first)
           c.index.result.now (omega arith) (omega arith)),
     )
@@ -42,7 +42,7 @@ returns-then-at-len-clause-older c =
     (c.args.a.0 - c.self.inside.first) c.index.result.now (omega arith) (omega arith) c.index.ensures
     ∙ sym (ap (option_and_then link) (row_at c.self.inside.first c.self.inside.nodes.items c.args.a.0
     (c.args.a.0 - c.self.inside.first) c.index.result.now (omega arith) (omega arith))
-    ∙ ap (λ node. link (shown node)) (sym c.index.ensures)))
+    ∙ ap (λ node. link (row_of_node node)) (sym c.index.ensures)))
 
 pub returns-then-at-len-clause-older_child : goal.returns-then-at-len-clause-older_child
 returns-then-at-len-clause-older_child c =
@@ -53,7 +53,7 @@ returns-then-at-len-clause-older_child c =
     (c.args.a.0 - c.self.inside.first) c.index.result.now (omega arith) (omega arith) c.index.ensures
     ∙ sym (ap (option_and_then link) (row_at c.self.inside.first c.self.inside.nodes.items c.args.a.0
     (c.args.a.0 - c.self.inside.first) c.index.result.now (omega arith) (omega arith))
-    ∙ ap (λ node. link (shown node)) (sym c.index.ensures)))
+    ∙ ap (λ node. link (row_of_node node)) (sym c.index.ensures)))
 
 pub returns-else-at-len-clause-node : goal.returns-else-at-len-clause-node
 returns-else-at-len-clause-node c =

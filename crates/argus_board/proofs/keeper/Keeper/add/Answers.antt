@@ -1,7 +1,7 @@
 -- Who holds the newest right of a line may add a page, by which the line has one effect more and a new right.
-use Rattle.std.proofs.Common.{◌++◌, ◌∷◌, [], ℕ, List, sym, ◌∙◌, ap}
+use Rattle.std.proofs.Common.{List, [], ap, sym, ℕ, ◌++◌, ◌∙◌, ◌∷◌}
 use Rattle.argus_board.proofs.History.{add_moves, line_adds}
-use Rattle.argus_board.specs.Effects.{Effect}
+use Rattle.argus_contents.specs.Effect.{Effect}
 use Rattle.argus_board.specs.declared.page.Page.{Page}
 use Rattle.argus_board.specs.History.{line}
 use Rattle.argus_board.proofs.keeper.Keeper.add.Goals as goal
@@ -27,8 +27,8 @@ returns-clause-line c r is =
     let all = line_adds r xs e.7.0 c.compare_exchange.new.seen.log page is e.7.1 e.7.2 e.7.3 in
     ap (λ (s : ℕ × List Effect). s.1) all ∙ ap (λ (p : Page). line r xs ++ p.effect ∷ []) c.plain-offer.ensures.1
 
-pub returns-clause-tip : goal.returns-clause-tip
-returns-clause-tip c r is =
+pub returns-clause-next_right : goal.returns-clause-next_right
+returns-clause-next_right c r is =
     let e = c.compare_exchange.ensures in
     let xs = c.args.self.now.front.seen.log in
     let ask = c.plain-offer.result.ask in

@@ -2,9 +2,9 @@
 use Rattle.std.proofs.Common.{List, Option, ap, map, sym, ◌++◌, ◌∙◌, ◌≡◌}
 use Rattle.argus_contents.specs.Content.{PlainContent}
 use Rattle.argus_contents.specs.declared.content.Content.{Content}
-use Rattle.argus_board.specs.Effects.{content_at, left_by, plain_contents}
+use Rattle.argus_board.specs.Effects.{content_of_object, contents_after, plain_contents}
 use Rattle.argus_board.specs.History.{line}
-use Rattle.argus_board.specs.declared.front.Front.{Front}
+use Rattle.argus_board.specs.declared.history_prefix.HistoryPrefix.{HistoryPrefix}
 use Rattle.argus_board.specs.declared.table.Table.{Table}
 use Rattle.argus_board.proofs.Contents.{looked_up}
 use Rattle.argus_board.proofs.Rule.{looks}
@@ -22,10 +22,10 @@ returns-in-Ok-found-clause-answer g c =
     let sees = c.in-Ok.ensures.1 in
     let front : c.again-front.result ≡ t.front = c.again-front.ensures
     ∙ ap (λ (x : Table). x.front) c.get-table.ensures in
-    let contents : plain_contents c.as_slice.result.now ≡ left_by first later =
+    let contents : plain_contents c.as_slice.result.now ≡ contents_after first later =
     ap plain_contents (c.as_slice.ensures.value ∙ ap (λ (x : Table). x.contents.items) c.get-table.ensures)
-    ∙ sees.2.0 ∙ ap (left_by first) (sees.1 ∙ sym (ap (λ (f : Front). line root f.seen.log) front)) in
+    ∙ sees.2.0 ∙ ap (contents_after first) (sees.1 ∙ sym (ap (λ (f : HistoryPrefix). line root f.seen.log) front)) in
     c.in-Ok-found.ensures
-    ∙ looked_up g.N.Board.opening g.N.Board.before later first
+    ∙ looked_up g.N.Board.opening_contents g.N.Board.before later first
     (plain_contents c.as_slice.result.now) c.self.invariant.0 contents
     c.args.objects.now

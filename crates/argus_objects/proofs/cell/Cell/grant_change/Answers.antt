@@ -7,9 +7,9 @@ use Rattle.argus_actions.specs.Tree.{is_ancestor}
 use Rattle.argus_contents.specs.Answer.{plain_answer}
 use Rattle.argus_contents.specs.Change.{plain_change, outcome}
 use Rattle.argus_contents.specs.Content.{KeepsLimits, plain_option}
-use Rattle.argus_objects.specs.Object.{Object, holders, newest_first, writers}
-use Rattle.argus_objects.specs.Rules.{is_lawful, may_write, all_above, seen_by}
-use Rattle.argus_objects.specs.Moves.{changed, changed_top, newest_content, with_version}
+use Rattle.argus_objects.specs.Object.{Object, holders, versions_newest_first, writers}
+use Rattle.argus_objects.specs.Rules.{is_lawful, may_write, all_above, visible_content}
+use Rattle.argus_objects.specs.CellChanges.{changed, changed_top, newest_content, with_version}
 use Rattle.argus_contents.proofs.Kept.{outcome_keeps}
 use Rattle.argus_objects.proofs.Ascending.{above_up_to}
 use Rattle.argus_objects.proofs.Stacks.{all_holders}
@@ -24,23 +24,23 @@ change_version-requires-clause-newest c =
     let up = subst (λ (o : Object). may_write t o c.args.a ≡ true) (sym c.self.view_is) c.requires.granted in
     above_up_to t c.args.a (writers vs)
     (sym (all_holders (λ (x : ActionId). is_ancestor t x.0 c.args.a.0) vs)
-    ∙ (and_parts (all_above t c.args.a (holders (newest_first vs))) _ up).0)
+    ∙ (and_parts (all_above t c.args.a (holders (versions_newest_first vs))) _ up).0)
 
 pub change_version-requires-clause-limits : goal.change_version-requires-clause-limits
 change_version-requires-clause-limits c =
     let t = c.args.tree.now in
-    let vs = newest_first c.self.inside.versions.items in
+    let vs = versions_newest_first c.self.inside.versions.items in
     let base = plain_option c.self.inside.base in
     let up = subst (λ (o : Object). may_write t o c.args.a ≡ true) (sym c.self.view_is) c.requires.granted in
-    let same : newest_content base vs ≡ seen_by t c.args.a base vs =
+    let same : newest_content base vs ≡ visible_content t c.args.a base vs =
     seen_on_top t c.args.a base vs (and_parts (all_above t c.args.a (holders vs)) _ up).0 in
-    subst KeepsLimits (sym same) (subst (λ (o : Object). KeepsLimits (seen_by t c.args.a o.base o.versions))
+    subst KeepsLimits (sym same) (subst (λ (o : Object). KeepsLimits (visible_content t c.args.a o.base o.versions))
     (sym c.self.view_is) c.requires.limits)
 
 kept : (c : goal.After-change_version) → Kept c.args.tree.now c.self.inside.readers.items
     c.change_version.new.versions.items
 kept c =
-    let vs = newest_first c.self.inside.versions.items in
+    let vs = versions_newest_first c.self.inside.versions.items in
     let base = plain_option c.self.inside.base in
     kept_change c.args.tree.now c.self.inside.readers.items c.self.inside.readers.items c.self.inside.versions.items
     c.change_version.new.versions.items c.self.invariant.readers_ascend
@@ -57,19 +57,20 @@ returns-clause-lawful c = (kept c).lawful
 
 -- what the action sees is what is on top
 seen : (c : goal.After-change_version)
-    → newest_content (plain_option c.self.inside.base) (newest_first c.self.inside.versions.items)
-    ≡ seen_by c.args.tree.now c.args.a (plain_option c.self.inside.base) (newest_first c.self.inside.versions.items)
+    → newest_content (plain_option c.self.inside.base) (versions_newest_first c.self.inside.versions.items)
+    ≡ visible_content c.args.tree.now c.args.a (plain_option c.self.inside.base)
+    (versions_newest_first c.self.inside.versions.items)
 seen c =
     let t = c.args.tree.now in
-    let vs = newest_first c.self.inside.versions.items in
+    let vs = versions_newest_first c.self.inside.versions.items in
     let up = subst (λ (o : Object). may_write t o c.args.a ≡ true) (sym c.self.view_is) c.requires.granted in
     seen_on_top t c.args.a (plain_option c.self.inside.base) vs (and_parts (all_above t c.args.a (holders vs)) _ up).0
 
 pub returns-clause-versions : goal.returns-clause-versions
 returns-clause-versions c =
     let change = plain_change c.args.change in
-    let vs = newest_first c.self.inside.versions.items in
-    let new = newest_first c.change_version.new.versions.items in
+    let vs = versions_newest_first c.self.inside.versions.items in
+    let new = versions_newest_first c.change_version.new.versions.items in
     subst (λ (o : Object). OnOk c.change_version.result (new
     ≡ with_version c.args.a (changed c.args.tree.now c.args.a change o).0 o.versions))
     c.self.view_is

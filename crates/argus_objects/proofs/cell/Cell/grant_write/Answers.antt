@@ -3,7 +3,7 @@ use Rattle.std.proofs.Common.{◌≡◌, true, refl, sym, ◌∙◌, subst}
 use Rattle.argus_actions.specs.declared.action_id.ActionId.{ActionId}
 use Rattle.argus_actions.specs.Tree.{is_ancestor}
 use Rattle.argus_contents.specs.Content.{plain_option}
-use Rattle.argus_objects.specs.Object.{Object, holders, newest_first, writers}
+use Rattle.argus_objects.specs.Object.{Object, holders, versions_newest_first, writers}
 use Rattle.argus_objects.specs.Rules.{is_lawful, may_write, all_above}
 use Rattle.argus_objects.proofs.Lawful.{Kept, kept_write}
 use Rattle.argus_objects.proofs.cell.Cell.grant_write.Goals as goal
@@ -18,7 +18,7 @@ put_version-requires-clause-newest c =
     let up = subst (λ (o : Object). may_write t o c.args.a ≡ true) (sym c.self.view_is) c.requires.granted in
     above_up_to t c.args.a (writers vs)
     (sym (all_holders (λ (x : ActionId). is_ancestor t x.0 c.args.a.0) vs)
-    ∙ (and_parts (all_above t c.args.a (holders (newest_first vs))) _ up).0)
+    ∙ (and_parts (all_above t c.args.a (holders (versions_newest_first vs))) _ up).0)
 
 kept : (c : goal.After-put_version) → Kept c.args.tree.now c.self.inside.readers.items c.put_version.new.versions.items
 kept c =

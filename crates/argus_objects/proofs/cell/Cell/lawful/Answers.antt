@@ -3,7 +3,7 @@ use Rattle.std.proofs.Common.{◌≡◌, ◌&&◌, true, List, sym, ◌∙◌, a
 use Rattle.std.specs.List.{list_all}
 use Rattle.argus_actions.specs.declared.action_id.ActionId.{ActionId}
 use Rattle.argus_objects.specs.declared.version.Version.{Version}
-use Rattle.argus_objects.specs.Object.{holders, newest_first}
+use Rattle.argus_objects.specs.Object.{holders, versions_newest_first}
 use Rattle.argus_objects.specs.Rules.{are_related, is_chain, is_related}
 use Rattle.argus_objects.proofs.Stacks.{related_versions}
 use Rattle.argus_objects.proofs.cell.Cell.lawful.Goals as goal
@@ -14,8 +14,8 @@ returns-then-are_chained c =
     let rs = c.self.inside.readers.items in
     let vs = c.self.inside.versions.items in
     let same : c.as_slice-versions.result.now ≡ vs = c.as_slice-versions.ensures.value in
-    let chained : is_chain t (holders (newest_first vs)) ≡ true =
-    ap (λ ws. is_chain t (holders (newest_first ws))) (sym same)
+    let chained : is_chain t (holders (versions_newest_first vs)) ≡ true =
+    ap (λ ws. is_chain t (holders (versions_newest_first ws))) (sym same)
     ∙ (sym c.are_chained.ensures ∙ c.if-are_chained.true) in
     rw (← c.self.view_is)
     (c.are_all_related.ensures
@@ -24,4 +24,4 @@ returns-then-are_chained c =
     ∙ (ap (λ (xs : List ActionId). list_all (λ (x : ActionId). list_all (λ (v : Version). are_related t x v.holder) vs)
     xs) c.as_slice.ensures.value
     ∙ (sym (related_versions t vs rs)
-    ∙ sym (ap (λ b. b && list_all (is_related t (holders (newest_first vs))) rs) chained)))))
+    ∙ sym (ap (λ b. b && list_all (is_related t (holders (versions_newest_first vs))) rs) chained)))))

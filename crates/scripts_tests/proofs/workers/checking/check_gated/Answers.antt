@@ -1,6 +1,6 @@
 -- The gate may be looked at from other threads.
 use denote.Param.Send.{sendable}
-use Rattle.argus_memory.proofs.Crossing.{crosses}
+use Rattle.argus_values.proofs.MemoryCrossing.{crosses}
 use Rattle.std.proofs.Crossing.{crosses as std_crosses}
 use Rattle.scripts_tests.proofs.workers.checking.check_gated.Goals as goal
 

@@ -1,9 +1,0 @@
--- A turn without a free place leaves all as it is.
-use Rattle.std.proofs.Common.{drop, ◌≡◌}
-use Rattle.left_right.specs.Sides.{view}
-use Rattle.argus_board.proofs.publishing.place_of.Given as goal
-
-abbrev pub invariant-loop-turn : goal.invariant-loop-turn
-invariant-loop-turn g l =
-    (view l.writer.desk.place ≡ view l.initial.writer.desk.place) × (l.writer.desk.shown ≡ l.initial.writer.desk.shown)
-    × (drop l.writer.behind l.writer.log.items ≡ drop l.initial.writer.behind l.initial.writer.log.items)

@@ -1,0 +1,25 @@
+-- The rule of the board lets the table grow by what is pending.
+use Rattle.std.proofs.Common.{List, Option, ap, subst, sym, ◌∙◌, ◌≡◌}
+use mathlib.Core.List.{IsPrefix}
+use Rattle.argus_contents.specs.Content.{PlainContent}
+use Rattle.argus_board.specs.Effects.{contents_after, plain_contents}
+use Rattle.argus_board.specs.History.{line}
+use Rattle.argus_board.specs.declared.history_prefix.HistoryPrefix.{HistoryPrefix}
+use Rattle.argus_board.proofs.Changes.{both_cases}
+use Rattle.argus_board.proofs.Rule.{rises}
+use Rattle.argus_board.proofs.publishing.publish_owned.Goals as goal
+
+pub publish_as-writer-requires : goal.publish_as-writer-requires
+publish_as-writer-requires g c next is =
+    let x = c.args.writer.desk.shown.value in
+    let first = g.N.Board.first in
+    let root = g.N.Board.root in
+    let both = is ∙ c.requires.leaves in
+    let front : next.front ≡ c.args.front.now = ap (λ (s : List (Option PlainContent) × HistoryPrefix). s.1) both in
+    let log : line root next.front.seen.log ≡ line root c.args.front.now.seen.log = ap (λ
+    (f : HistoryPrefix). line root f.seen.log) front in
+    let contents : plain_contents next.contents.items ≡ contents_after first (line root c.args.front.now.seen.log) =
+    ap (λ (s : List (Option PlainContent) × HistoryPrefix). s.0) both in
+    rises first g.N.Board.history root _ _ x next
+    (subst (IsPrefix (line root x.front.seen.log)) (sym log) c.requires.begins)
+    (contents ∙ ap (contents_after first) (sym log), ap (λ (f : HistoryPrefix). f.seen.book) front ∙ c.requires.book)

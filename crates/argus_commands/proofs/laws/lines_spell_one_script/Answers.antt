@@ -1,6 +1,0 @@
--- Lines spell one script at most.
-use Rattle.argus_commands.proofs.Unambiguous.{one-script}
-use Rattle.argus_commands.proofs.laws.lines_spell_one_script.Goals as goal
-
-pub returns : goal.returns
-returns c = one-script

@@ -1,0 +1,66 @@
+-- Changes, as the guardian refuses and grants them.
+use Rattle.std.proofs.Common.{None, ap, length, sym, ◌+◌, ◌∙◌, ◌≡◌}
+use Rattle.std.specs.Prelude.{slice_get}
+use Rattle.argus_actions.specs.declared.action_id.ActionId.{ActionId}
+use Rattle.argus_contents.specs.Fitting.{change_suits}
+use Rattle.argus_contents.specs.Change.{PlainChange, outcome}
+use Rattle.argus_contents.specs.Answer.{PlainAnswer}
+use Rattle.argus_contents.specs.declared.obj_id.ObjId.{ObjId}
+use Rattle.argus_entries.specs.Call.{alter}
+use Rattle.argus_entries.specs.Reply.{answered}
+use Rattle.argus_entries.specs.declared.refusal.Refusal.TheVariants.{Conflict, IllTyped}
+use Rattle.argus_core.specs.Accessing.{access_refusal, seen_at}
+use Rattle.argus_core.specs.GuardianState.{StateInvariant, journal_view_of}
+use Rattle.argus_core.specs.Prepared.{IsFree}
+use Rattle.argus_core.specs.declared.engine.atomic_object.AtomicObject.{AtomicObject}
+use Rattle.argus_core.specs.declared.engine.guardian_state.GuardianState.{GuardianState}
+use Rattle.argus_core.proofs.Accesses.{IsAccess, access_free, access_granted, access_is, acts, count, seen_is}
+use Rattle.argus_core.proofs.Accesses.{writes_agree}
+use Rattle.argus_core.proofs.Ends.{some_object}
+use Rattle.argus_core.proofs.FreeLocks.{writer_reads}
+use Rattle.argus_journal.specs.Answers.{if_declared, if_free, suits, unless}
+use Rattle.argus_journal.specs.Entries.{entries}
+use Rattle.argus_journal.specs.Events.{history}
+use Rattle.argus_journal.specs.JournalView.{reply_to}
+use Rattle.argus_journal.specs.LegalJournal.{entries_in, opening_in}
+use Rattle.argus_journal.specs.Objects.{shapes}
+use Rattle.argus_model.specs.Holders as model
+use Rattle.argus_objects.specs.Rules.{may_read, may_write}
+
+module _ (p : GuardianState) (k : StateInvariant p) (a : ActionId) (o : ObjId) (change : PlainChange) where
+  pub alters : IsAccess p a o (alter a.0 o.0 change) (λ shape. change_suits shape (length p.objects.items) change)
+      (λ c. may_write p.tree c a)
+  alters = record {
+    refuses =
+        let s = opening_in p.journal in
+        let j = entries_in p.journal in
+        let lock = model.may_write entries (history s j) (a.0 + 1) o.0 in
+        access_is p.tree p.objects.items p.holdings s j k a o.0
+        (λ shape. change_suits shape (length p.objects.items) change) (λ c. may_write p.tree c a) lock
+        (writes_agree p.tree p.objects.items p.holdings s j k a o.0)
+        ∙ ap (λ n. if_free (history s j) a.0 (if_declared (shapes s j) o.0
+        (unless (suits (λ shape. change_suits shape n change) (slice_get (shapes s j) o.0)) IllTyped
+        (unless lock Conflict None))))
+        (sym (count p.tree p.objects.items p.holdings s j k a o.0));
+  }
+
+  module _ (e : access_refusal p.tree p.objects.items a.0 o.0
+      (λ shape. change_suits shape (length p.objects.items) change) (λ c. may_write p.tree c a) ≡ None) where
+    pub alter_free : IsFree p.tree p.objects.items a o (λ c. may_write p.tree c a)
+    alter_free = access_free alters e
+
+    pub alter_reads : IsFree p.tree p.objects.items a o (λ c. may_read p.tree c a)
+    alter_reads = writer_reads p k a o alter_free
+
+    -- what was read at any object is the answer
+    pub alter_told : (x : PlainAnswer)
+        → ((d : AtomicObject) → x ≡ (outcome change (seen_at p.tree a p.objects.items o.0 d)).1)
+        → answered x ≡ reply_to (journal_view_of p) (alter a.0 o.0 change)
+    alter_told x f =
+        let s = opening_in p.journal in
+        let j = entries_in p.journal in
+        let d : AtomicObject = some_object p.objects.items o.0 alter_free.low in
+        ap answered (f d ∙ ap (λ c. (outcome change c).1) (seen_is p.tree p.objects.items p.holdings s j k a o.0
+        (acts p.tree p.objects.items p.holdings s j k a o.0 alter_free.accepted) d alter_free.low
+        (alter_reads.opens d)))
+        ∙ sym (access_granted alters e)

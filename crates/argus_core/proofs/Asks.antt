@@ -1,0 +1,50 @@
+-- Queries, as the guardian refuses and grants them.
+use Rattle.std.proofs.Common.{None, ap, sym, ◌+◌, ◌∙◌, ◌≡◌}
+use Rattle.argus_actions.specs.declared.action_id.ActionId.{ActionId}
+use Rattle.argus_contents.specs.Fitting.{query_suits}
+use Rattle.argus_contents.specs.Query.{reply}
+use Rattle.argus_contents.specs.Answer.{PlainAnswer}
+use Rattle.argus_contents.specs.declared.obj_id.ObjId.{ObjId}
+use Rattle.argus_contents.specs.declared.query.Query.{Query}
+use Rattle.argus_entries.specs.Call.{ask}
+use Rattle.argus_entries.specs.Reply.{answered}
+use Rattle.argus_core.specs.Accessing.{seen_at}
+use Rattle.argus_core.specs.GuardianState.{StateInvariant, journal_view_of}
+use Rattle.argus_core.specs.Prepared.{IsFree}
+use Rattle.argus_core.specs.declared.engine.atomic_object.AtomicObject.{AtomicObject}
+use Rattle.argus_core.specs.declared.engine.guardian_state.GuardianState.{GuardianState}
+use Rattle.argus_core.proofs.Accesses.{IsAccess, access_free, access_granted, access_is, acts, reads_agree}
+use Rattle.argus_core.proofs.Accesses.{seen_is}
+use Rattle.argus_core.proofs.Ends.{some_object}
+use Rattle.argus_journal.specs.Entries.{entries}
+use Rattle.argus_journal.specs.Events.{history}
+use Rattle.argus_journal.specs.JournalView.{refusal_to, reply_to}
+use Rattle.argus_journal.specs.LegalJournal.{entries_in, opening_in}
+use Rattle.argus_model.specs.Holders as model
+use Rattle.argus_objects.specs.Rules.{may_read}
+
+module _ (p : GuardianState) (k : StateInvariant p) (a : ActionId) (o : ObjId) (query : Query) where
+  pub asks : IsAccess p a o (ask a.0 o.0 query) (λ shape. query_suits shape query) (λ c. may_read p.tree c a)
+  asks = record {
+    refuses =
+        let s = opening_in p.journal in
+        let j = entries_in p.journal in
+        access_is p.tree p.objects.items p.holdings s j k a o.0 (λ shape. query_suits shape query)
+        (λ c. may_read p.tree c a) (model.may_read entries (history s j) (a.0 + 1) o.0)
+        (reads_agree p.tree p.objects.items p.holdings s j k a o.0);
+  }
+
+  module _ (granted : refusal_to (journal_view_of p) (ask a.0 o.0 query) ≡ None) where
+    pub ask_free : IsFree p.tree p.objects.items a o (λ c. may_read p.tree c a)
+    ask_free = access_free asks (asks.refuses ∙ granted)
+
+    -- what was read at any object is the answer
+    pub ask_told : (x : PlainAnswer) → ((d : AtomicObject) → x ≡ reply query (seen_at p.tree a p.objects.items o.0 d))
+        → answered x ≡ reply_to (journal_view_of p) (ask a.0 o.0 query)
+    ask_told x f =
+        let s = opening_in p.journal in
+        let j = entries_in p.journal in
+        let d : AtomicObject = some_object p.objects.items o.0 ask_free.low in
+        ap answered (f d ∙ ap (reply query) (seen_is p.tree p.objects.items p.holdings s j k a o.0
+        (acts p.tree p.objects.items p.holdings s j k a o.0 ask_free.accepted) d ask_free.low (ask_free.opens d)))
+        ∙ sym (access_granted asks (asks.refuses ∙ granted))

@@ -1,0 +1,161 @@
+-- A declaration: one more object, which nobody holds.
+use Rattle.std.proofs.Common.{List, None, Option, Some, [], ap, arith, false, inl, inr, length, refl, subst, suc, sym}
+use Rattle.std.proofs.Common.{true, zero, ℕ, ◌+◌, ◌<◌, ◌≤◌, ◌++◌, ◌∙◌, ◌∷◌, ◌≡◌}
+use Rattle.std.specs.Prelude.{nat_lt, slice_index_or}
+use Rattle.std.proofs.Math.Seq.{get_or-append_seam}
+use Rattle.std.proofs.lemmas.Bool.{cases_Bool, cases_lt, or_parts}
+use Rattle.std.proofs.lemmas.Bool.Decides.{nat_tests}
+use Rattle.std.proofs.lemmas.List.{get_or_append_left, length-append, length-map, map-append}
+use Rattle.std.proofs.lemmas.Option.{slice_get_past}
+use Rattle.argus_actions.specs.Tree.{Tree}
+use Rattle.argus_actions.specs.declared.action_id.ActionId.{ActionId}
+use Rattle.argus_contents.specs.Content.{PlainContent}
+use Rattle.argus_contents.specs.Shape.{PlainShape}
+use Rattle.argus_contents.specs.declared.limits.TheConstants.{MAX_OBJECTS}
+use Rattle.argus_entries.specs.Call.{declare}
+use Rattle.argus_entries.specs.Entry.{PlainEntry}
+use Rattle.argus_entries.specs.Reply.{object, refused}
+use Rattle.argus_entries.specs.declared.refusal.Refusal.TheVariants.{TooMany}
+use Rattle.argus_core.specs.StateRefinement.{StateRefinesJournal, holds}
+use Rattle.argus_journal.specs.JournalView.{entry_with}
+use Rattle.argus_core.specs.declared.engine.atomic_object.AtomicObject.{AtomicObject}
+use Rattle.argus_journal.specs.Answers.{answer, granted, or_refused, unless}
+use Rattle.argus_journal.specs.Entries.{entries}
+use Rattle.argus_journal.specs.Events.{history}
+use Rattle.argus_journal.specs.Objects.{declared, shapes}
+use Rattle.argus_journal.specs.Opening.{Opening, fits_shape, model_opening}
+use Rattle.argus_journal.proofs.Contents.{content_fits}
+use Rattle.argus_journal.proofs.Fitting.{nothing}
+use Rattle.argus_journal.proofs.NextEntry.{readers_above}
+use Rattle.argus_refinement.specs.CellRefinement.{IsCell}
+use Rattle.argus_refinement.proofs.CellHolders.{cell_same}
+use Rattle.argus_model.specs.Contents.{base}
+use Rattle.argus_model.specs.Holders.{readers, writers}
+use Rattle.argus_model.specs.Numbers.{contains}
+use Rattle.argus_model.specs.Owner.{is_base, owner}
+use Rattle.argus_model.proofs.Numbers.{contains_first}
+use Rattle.argus_objects.specs.Object.{Object}
+use Rattle.argus_objects.specs.declared.holdings.Holdings.{Holdings}
+
+-- a list without members is empty
+none_listed : (xs : List ℕ) → ((x : ℕ) → contains xs x ≡ false) → xs ≡ []
+none_listed [] f = refl
+none_listed (y ∷ ys) f = nothing (sym (f y) ∙ contains_first y ys)
+
+-- no content fits where no shape is
+absent : (n : ℕ) (c : Option PlainContent) → fits_shape None n c ≡ true → c ≡ None
+absent n None e = refl
+absent n (Some c) e = nothing e
+
+module _ (t : Tree) (objects : List AtomicObject) (holdings : Holdings) (s : Opening) (j : List PlainEntry)
+    (k : StateRefinesJournal t objects holdings s j) where
+  count : length (shapes s j) ≡ length objects
+  count = ap (λ xs. length xs) (sym k.shapes) ∙ length-map objects (λ (x : AtomicObject). x.shape)
+
+  -- nobody holds an object that isn't declared
+  nobody : (n : ℕ) → holds (history s j) (n + 1) (length objects) ≡ false
+  nobody n =
+      let x : ActionId = record { 0 = n } in
+      elim (cases_Bool (holds (history s j) (n + 1) (length objects))) [
+        | inl e ↦
+            let lt = k.state.there x (length objects) (k.state.held x (length objects) ∙ e) in
+            absurd (omega arith)
+        | inr e ↦ e
+      ]
+
+  no_reader : readers entries (history s j) (length objects) ≡ []
+  no_reader = none_listed (readers entries (history s j) (length objects)) each
+    where
+      each : (x : ℕ) → contains (readers entries (history s j) (length objects)) x ≡ false
+      each zero = readers_above (history s j) (length objects)
+      each (suc n) =
+          let e : n + 1 ≡ suc n = omega arith in
+          subst (λ x. contains (readers entries (history s j) (length objects)) x ≡ false) e
+          (or_parts (contains (readers entries (history s j) (length objects)) (n + 1))
+          (contains (writers entries (history s j) (length objects)) (n + 1)) (nobody n)).0
+
+  no_base : base entries (model_opening s) (history s j) (length objects) ≡ None
+  no_base =
+      let o = length objects in
+      let n = declared s j in
+      let low : length (shapes s j) ≤ o = omega (arith, count) in
+      absent n (base entries (model_opening s) (history s j) o)
+      (subst (λ q. fits_shape q n (base entries (model_opening s) (history s j) o) ≡ true) (slice_get_past
+      (shapes s j) o low)
+      (content_fits (λ b. is_base (owner (history s j) b)) s j o k.sound k.legal))
+
+  -- an object with neither content nor holder
+  abbrev fresh : Object
+  fresh = record { base = None; readers = []; versions = []; room = 0 }
+
+  fresh_cell : (c : Object) → c.base ≡ None → c.readers ≡ [] → c.versions ≡ []
+      → IsCell s (history s j) t (length objects) c
+  fresh_cell c b r v =
+      cell_same s (history s j) t t (length objects) fresh c (record { folded = refl; rows = refl })
+      (record { base = b; readers = r; versions = v })
+      (record {
+        lawful = refl;
+        base = sym no_base;
+        readers = sym no_reader;
+        writers = λ x. sym (or_parts (contains (readers entries (history s j) (length objects)) (x.0 + 1))
+            (contains (writers entries (history s j) (length objects)) (x.0 + 1)) (nobody x.0)).1;
+        seen = tt;
+      })
+
+  pub declare_refused : (shape : PlainShape) → MAX_OBJECTS ≤ length objects
+      → answer s j (declare shape) ≡ refused TooMany
+  declare_refused shape full =
+      let e = count in
+      let past : nat_lt (length (shapes s j)) MAX_OBJECTS ≡ false = grind (arith, nat_tests) in
+      ap (λ b. or_refused (unless b TooMany None) (granted s (history s j) (shapes s j) (declare shape))) past
+
+  module _ (shape : PlainShape) (low : length objects < MAX_OBJECTS) where
+    pub declared_right : object (length objects) ≡ answer s j (declare shape)
+    declared_right =
+        let e = count in
+        let fits : nat_lt (length (shapes s j)) MAX_OBJECTS ≡ true = grind (arith, nat_tests) in
+        ap object (sym count)
+        ∙ sym (ap (λ b. or_refused (unless b TooMany None) (object (length (shapes s j)))) fits)
+
+    one_more : (x : AtomicObject) → x.shape ≡ shape → x.cell.base ≡ None → x.cell.readers ≡ []
+        → x.cell.versions ≡ []
+        → StateRefinesJournal t (objects ++ x ∷ []) holdings s (entry_with (declare shape) (object (length objects))
+        ∷ j)
+    one_more x is b r v = record {
+      legal = (declared_right, k.legal);
+      sound = k.sound;
+      limits = k.limits;
+      few = let e = length-append objects (x ∷ []) in omega arith;
+      shapes =
+          map-append (λ (y : AtomicObject). y.shape) objects (x ∷ [])
+          ∙ ap (λ ys. ys ++ x.shape ∷ []) k.shapes ∙ ap (λ y. shapes s j ++ y ∷ []) is;
+      state = record {
+        actions = k.state.actions;
+        each = each;
+        held = k.state.held;
+        there = λ a o i. let e = length-append objects (x ∷ []) in let lt = k.state.there a o i in omega arith;
+      };
+    }
+      where
+        each : (o : ℕ) (d : AtomicObject) → o < length (objects ++ x ∷ [])
+            → IsCell s (history s j) t o (slice_index_or (objects ++ x ∷ []) o d).cell
+        each o d lt =
+            elim (cases_lt o (length objects)) [
+              | inl less ↦
+                  subst (λ (y : AtomicObject). IsCell s (history s j) t o y.cell)
+                  (sym (get_or_append_left objects (x ∷ []) d o less)) (k.state.each o d less)
+              | inr ge ↦
+                  let e = length-append objects (x ∷ []) in
+                  let last : length objects ≡ o = omega arith in
+                  subst (λ n. IsCell s (history s j) t n (slice_index_or (objects ++ x ∷ []) n d).cell) last
+                  (subst (λ (y : AtomicObject). IsCell s (history s j) t (length objects) y.cell)
+                  (sym (get_or-append_seam objects x [] d)) (fresh_cell x.cell b r v))
+            ]
+
+    pub kept_declared : (n : ℕ) → n ≡ length objects → (x : AtomicObject) → x.shape ≡ shape → x.cell.base ≡ None
+        → x.cell.readers ≡ [] → x.cell.versions ≡ []
+        → StateRefinesJournal t (objects ++ x ∷ []) holdings s (entry_with (declare shape) (object n) ∷ j)
+    kept_declared n number x is b r v =
+        subst (λ m. StateRefinesJournal t (objects ++ x ∷ []) holdings s (entry_with (declare shape) (object m) ∷ j))
+        (sym number)
+        (one_more x is b r v)

@@ -1,0 +1,69 @@
+-- What a test that says yes tells of the lock, and what a free lock is good for.
+use Rattle.std.proofs.Common.{Bool, None, Option, Some, refl, sym, true, ◌∙◌, ◌≡◌}
+use Rattle.std.specs.Prelude.{slice_index_or}
+use Rattle.std.proofs.lemmas.Bool.{and_parts}
+use Rattle.argus_actions.specs.declared.action_id.ActionId.{ActionId}
+use Rattle.argus_contents.specs.Answer.{PlainAnswer, flag}
+use Rattle.argus_contents.specs.Content.{KeepsLimits}
+use Rattle.argus_contents.specs.declared.obj_id.ObjId.{ObjId}
+use Rattle.argus_entries.specs.Call.{PlainCall}
+use Rattle.argus_entries.specs.Reply.{PlainReply, answered}
+use Rattle.argus_entries.specs.declared.refusal.Refusal.{Refusal}
+use Rattle.argus_core.specs.Accessing.{seen_at}
+use Rattle.argus_core.specs.GuardianState.{StateInvariant, journal_view_of}
+use Rattle.argus_core.specs.Prepared.{IsFree}
+use Rattle.argus_journal.specs.JournalView.{refusal_to, reply_to}
+use Rattle.argus_core.specs.declared.engine.atomic_object.AtomicObject.{AtomicObject}
+use Rattle.argus_core.specs.declared.engine.guardian_state.GuardianState.{GuardianState}
+use Rattle.argus_core.proofs.Accesses.{acts, granted_to, seen_limits}
+use Rattle.argus_core.proofs.Tests.{IsTest, test_free, test_lock, tests}
+use Rattle.argus_journal.specs.Answers.{or_refused}
+use Rattle.argus_journal.specs.LegalJournal.{entries_in, opening_in}
+use Rattle.argus_objects.specs.Object.{Object, holders}
+use Rattle.argus_objects.specs.Rules.{all_above, may_read, may_write}
+
+-- what is answered isn't refused
+record IsGrantedWith (q : Option Refusal) (r : PlainReply) (x : PlainAnswer) : Type 0 where
+  pub free : q ≡ None
+  pub reply : r ≡ answered x
+
+not_refused : (q : Option Refusal) (r : PlainReply) (x : PlainAnswer) → or_refused q r ≡ answered x → IsGrantedWith q r
+    x
+not_refused None r x e = record { free = refl; reply = e }
+not_refused (Some why) r x e = cc
+
+same_flag : (b c : Bool) → answered (flag b) ≡ answered (flag c) → b ≡ c
+same_flag b c e = cc
+
+pub said_free : {p : GuardianState} {a : ActionId} {o : ObjId} {call : PlainCall} {free : Object → Bool}
+    → IsTest p a o call free → reply_to (journal_view_of p) call ≡ answered (flag true)
+    → IsFree p.tree p.objects.items a o free
+said_free {p} {call = call} test says =
+    let w = not_refused (refusal_to (journal_view_of p) call) (granted_to p call) (flag true) says in
+    let e = (tests test).refuses ∙ w.free in
+    test_free test e
+    (λ d. test_lock test e d ∙ same_flag test.lock true (sym test.grants ∙ w.reply))
+
+module _ (p : GuardianState) (k : StateInvariant p) (a : ActionId) (o : ObjId) where
+  -- what is seen keeps the limits
+  pub reader_limits : IsFree p.tree p.objects.items a o (λ cell. may_read p.tree cell a) → (d : AtomicObject)
+      → KeepsLimits (seen_at p.tree a p.objects.items o.0 d)
+  reader_limits f d =
+      let s = opening_in p.journal in
+      let j = entries_in p.journal in
+      seen_limits p.tree p.objects.items p.holdings s j k a o.0
+      (acts p.tree p.objects.items p.holdings s j k a o.0 f.accepted) d f.low (f.opens d)
+
+  -- who may write may read
+  module _ (f : IsFree p.tree p.objects.items a o (λ cell. may_write p.tree cell a)) where
+    pub writer_reads : IsFree p.tree p.objects.items a o (λ cell. may_read p.tree cell a)
+    writer_reads = record {
+      accepted = f.accepted;
+      low = f.low;
+      opens = λ d.
+          let cell = (slice_index_or p.objects.items o.0 d).cell in
+          (and_parts (all_above p.tree a (holders cell.versions)) (all_above p.tree a cell.readers) (f.opens d)).0;
+    }
+
+    pub writer_limits : (d : AtomicObject) → KeepsLimits (seen_at p.tree a p.objects.items o.0 d)
+    writer_limits = reader_limits writer_reads

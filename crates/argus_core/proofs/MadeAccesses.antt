@@ -1,0 +1,89 @@
+-- What making a prepared access leaves.
+use Rattle.std.proofs.Common.{List, Option, [], ap, sym, true, ◌+◌, ◌∙◌, ◌∷◌, ◌≡◌}
+use Rattle.std.specs.Prelude.{slice_index_or}
+use Rattle.std.proofs.lemmas.Bool.{and_parts}
+use Rattle.argus_actions.specs.declared.action_id.ActionId.{ActionId}
+use Rattle.argus_contents.specs.Change.{PlainChange, outcome}
+use Rattle.argus_contents.specs.Content.{PlainContent}
+use Rattle.argus_contents.specs.declared.obj_id.ObjId.{ObjId}
+use Rattle.argus_entries.specs.Entry.{PlainEntry}
+use Rattle.argus_core.specs.Accessing.{IsAccessed, IsAltered}
+use Rattle.argus_core.specs.StateRefinement.{StateRefinesJournal}
+use Rattle.argus_core.specs.Moving.{IsRead}
+use Rattle.argus_core.specs.GuardianState.{StateInvariant, journal_view_of}
+use Rattle.argus_core.specs.Prepared.{CanRead, HasPlace, IsFree, IsAccessEntry}
+use Rattle.argus_journal.specs.JournalView.{reply_to}
+use Rattle.argus_core.specs.declared.engine.atomic_object.AtomicObject.{AtomicObject}
+use Rattle.argus_core.specs.declared.engine.guardian_state.GuardianState.{GuardianState}
+use Rattle.argus_core.proofs.Accessed.{parts_accessed}
+use Rattle.argus_core.proofs.Accesses.{acts, reads_agree}
+use Rattle.argus_core.proofs.Begun.{kept_event}
+use Rattle.argus_core.proofs.Ends.{shapes_kept, some_object}
+use Rattle.argus_journal.specs.Entries.{entries, content_after_call}
+use Rattle.argus_journal.specs.Events.{history}
+use Rattle.argus_journal.specs.LegalJournal.{entries_in, opening_in}
+use Rattle.argus_journal.specs.Opening.{model_opening}
+use Rattle.argus_journal.proofs.Legal.{lawful}
+use Rattle.argus_refinement.proofs.CellAccesses.{read_cell, written_cell}
+use Rattle.argus_refinement.proofs.CellHolders.{may_read_is}
+use Rattle.argus_refinement.proofs.CellSeen.{visible_is}
+use Rattle.argus_model.specs.Contents.{sees}
+use Rattle.argus_model.specs.Event.{Accessed}
+use Rattle.argus_objects.specs.CellChanges.{changed}
+use Rattle.argus_objects.specs.Object.{holders}
+use Rattle.argus_objects.specs.Rules.{all_above, may_read, may_write}
+use Rattle.argus_objects.specs.declared.holdings.Holdings.{Holdings}
+
+module _ (p : GuardianState) (e : PlainEntry) (a : ActionId) (o : ObjId) (k : StateInvariant p) (place : HasPlace p e)
+    (objects' : List AtomicObject) (holdings' : Holdings) where
+  pub made_read : CanRead p e a o
+      → IsAccessed (IsRead p.tree a) a o p.objects.items objects' p.holdings holdings'
+      → StateRefinesJournal p.tree objects' holdings' (opening_in p.journal) (e ∷ entries_in p.journal)
+  made_read can moved =
+      let s = opening_in p.journal in
+      let h = history s (entries_in p.journal) in
+      kept_event s e (entries_in p.journal) p.tree p.tree p.objects.items objects' p.holdings holdings' k place.right
+      can.told.object (shapes_kept (IsRead p.tree a) (o ∷ []) p.objects.items objects' moved.objects)
+      moved.objects.count
+      (Accessed (a.0 + 1) o.0 e) can.told.event
+      (λ l. parts_accessed (IsRead p.tree a) s h p.tree p.objects.items objects' p.holdings holdings' k.state a o e l
+      can.free.low
+      (λ c c' i r. read_cell s h p.tree k.state.actions a o.0 e l can.told.write c c' i r.base r.readers r.versions
+      r.lawful)
+      moved)
+
+-- a change in one go: what it leaves of what a sees is what the entry tells
+pub made_change : (p : GuardianState) (e : PlainEntry) (a : ActionId) (o : ObjId) (k : StateInvariant p)
+    (objects' : List AtomicObject)
+    (holdings' : Holdings) (change : PlainChange)
+    → e.reply ≡ reply_to (journal_view_of p) e.call
+    → IsFree p.tree p.objects.items a o (λ cell. may_write p.tree cell a) → IsAccessEntry p e a o true
+    → ((seen : Option PlainContent) → content_after_call e.call seen ≡ (outcome change seen).0)
+    → IsAccessed (IsAltered p.tree a change) a o p.objects.items objects' p.holdings holdings'
+    → StateRefinesJournal p.tree objects' holdings' (opening_in p.journal) (e ∷ entries_in p.journal)
+made_change p e a o k objects' holdings' change right free told left moved =
+    let s = opening_in p.journal in
+    let j = entries_in p.journal in
+    let h = history s j in
+    let t = p.tree in
+    let xs = p.objects.items in
+    let d : AtomicObject = some_object xs o.0 free.low in
+    let cell = (slice_index_or xs o.0 d).cell in
+    let reads : may_read t cell a ≡ true =
+    (and_parts (all_above t a (holders cell.versions)) (all_above t a cell.readers) (free.opens d)).0 in
+    let la = acts t xs p.holdings s j k a o.0 free.accepted in
+    kept_event s e j t t xs objects' p.holdings holdings' k right
+    told.object (shapes_kept (IsAltered t a change) (o ∷ []) xs objects' moved.objects)
+    moved.objects.count (Accessed (a.0 + 1) o.0 e) told.event
+    (λ l. parts_accessed (IsAltered t a change) s h t xs objects' p.holdings holdings' k.state a o e l free.low
+    (λ c c' i r.
+    let may : may_read t c a ≡ true =
+    may_read_is s h (lawful s j k.legal) t k.state.actions o.0 c i a la
+    ∙ sym (reads_agree t xs p.holdings s j k a o.0 la d free.low)
+    ∙ reads in
+    let is : (changed t a change c).0 ≡ content_after_call e.call (sees entries (model_opening s) h (a.0 + 1) o.0) =
+    ap (λ x. (outcome change x).0) (visible_is s h (lawful s j k.legal) t k.state.actions o.0 c i a la may)
+    ∙ sym (left (sees entries (model_opening s) h (a.0 + 1) o.0)) in
+    written_cell s h t k.state.actions a o.0 e l told.write c c' (changed t a change c).0 i is
+    r.base r.readers r.versions r.lawful)
+    moved)

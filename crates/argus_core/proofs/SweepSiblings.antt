@@ -1,0 +1,431 @@
+-- The walk over the siblings of an action: which of them were ended so far.
+use Rattle.std.proofs.Common.{Bool, List, None, Option, Some, [], ap, arith, cond, false, inl, inr, length, refl, subst}
+use Rattle.std.proofs.Common.{sym, true, ℕ, ◌+◌, ◌<◌, ◌≤◌, ◌∙◌, ◌∷◌, ◌≡◌, eqb, ◌||◌}
+use Rattle.std.specs.List.{filter}
+use Rattle.std.specs.Option.{option_and_then, option_map_or}
+use Rattle.std.specs.Prelude.{nat_le, not, slice_index_or, ◌&&◌, ◌==◌}
+use Rattle.std.proofs.lemmas.Bool.{and_from, and_parts, and_right, cases_Bool, cases_eq, cases_lt, eq-eqb, false≢true}
+use Rattle.std.proofs.lemmas.Bool.{le-leb, lt-leb, ne_eqb, or_left, or_right}
+use Rattle.std.proofs.lemmas.List.Elements.{filter_agree}
+use Rattle.argus_actions.proofs.Newest.{came_row, newest_where_at, newest_where_most, newest_where_no}
+use Rattle.argus_actions.proofs.RowsLemmas.{row_begun}
+use Rattle.argus_actions.proofs.Siblings.{comes_under}
+use Rattle.argus_actions.specs.Row.{Row, is_begun_under, under_of}
+use Rattle.argus_actions.specs.Row as tree_row
+use Rattle.argus_actions.specs.Rows.{has_ancestor, is_above, is_child_of, is_live_at, is_sibling_of, newest_child_below}
+use Rattle.argus_actions.specs.Rows.{numbered, under_at}
+use Rattle.argus_actions.specs.Tree.{Tree, is_ancestor, is_live_sibling, named, newest_child_of, next, older_sibling_of}
+use Rattle.argus_actions.specs.declared.action_id.ActionId.{ActionId}
+use Rattle.argus_actions.specs.declared.origin.Origin as tree_origin
+use Rattle.argus_actions.specs.declared.origin.Origin.TheVariants as begun
+use Rattle.argus_core.proofs.Sweeps.{ended_both, named_none, named_some, steps_left}
+use Rattle.argus_core.specs.Moving.{AreLawful, is_listed}
+use Rattle.argus_core.specs.Sweeping.{AreCovered, AreEnded}
+use Rattle.argus_core.specs.declared.engine.atomic_object.AtomicObject.{AtomicObject}
+use Rattle.argus_objects.proofs.Later.{filter_all}
+use Rattle.argus_refinement.proofs.CellLists.{has_filtered}
+use Rattle.argus_objects.specs.Holdings.{objects_held_by}
+use Rattle.argus_objects.specs.CellChanges.{has_version, is_reader}
+use Rattle.argus_objects.specs.Object.{Object}
+use Rattle.argus_objects.specs.declared.holdings.Holdings.{Holdings}
+
+-- an ancestor passes one of two tests
+has_either : (p q : ℕ → Bool) (n : ℕ) (rows : List Row) (y : ℕ)
+    → has_ancestor (λ x. p x || q x) n rows y ≡ (has_ancestor p n rows y || has_ancestor q n rows y)
+has_either p q n [] y = refl
+has_either p q n (r ∷ rows) y = at (λ m. has_either p q n rows m) (eqb y (n + length rows))
+  where
+    four : (a b c d : Bool) → ((a || b) || (c || d)) ≡ ((a || c) || (b || d))
+    four true b c d = refl
+    four false true true d = refl
+    four false true false d = refl
+    four false false c d = refl
+
+    up : ((m : ℕ) → has_ancestor (λ x. p x || q x) n rows m ≡ (has_ancestor p n rows m || has_ancestor q n rows m))
+        → (o : tree_origin.Origin) → tree_row.at_parent false o (has_ancestor (λ x. p x || q x) n rows)
+        ≡ (tree_row.at_parent false o (has_ancestor p n rows) || tree_row.at_parent false o (has_ancestor q n rows))
+    up older begun.Top = refl
+    up older (begun.Sub m) = older m
+    up older (begun.Nested c) = refl
+
+    at : ((m : ℕ) → has_ancestor (λ x. p x || q x) n rows m ≡ (has_ancestor p n rows m || has_ancestor q n rows m))
+        → (b : Bool) → cond b ((p y || q y) || tree_row.at_parent false r.origin
+        (has_ancestor (λ x. p x || q x) n rows)) (has_ancestor (λ x. p x || q x) n rows y)
+        ≡ (cond b (p y || tree_row.at_parent false r.origin (has_ancestor p n rows)) (has_ancestor p n rows y)
+        || cond b (q y || tree_row.at_parent false r.origin (has_ancestor q n rows)) (has_ancestor q n rows y))
+    at older true = ap (λ b. (p y || q y) || b) (up older r.origin)
+        ∙ four (p y) (q y) (tree_row.at_parent false r.origin (has_ancestor p n rows))
+        (tree_row.at_parent false r.origin (has_ancestor q n rows))
+    at older false = older y
+
+-- the ancestor is this one
+has_one : (c n : ℕ) (rows : List Row) (y : ℕ) → has_ancestor (λ x. c == x) n rows y ≡ is_above n rows c y
+has_one c n [] y = refl
+has_one c n (r ∷ rows) y = at (λ m. has_one c n rows m) (eqb y (n + length rows))
+  where
+    up : ((m : ℕ) → has_ancestor (λ x. c == x) n rows m ≡ is_above n rows c m) → (o : tree_origin.Origin)
+        → tree_row.at_parent false o (has_ancestor (λ x. c == x) n rows)
+        ≡ tree_row.at_parent false o (is_above n rows c)
+    up older begun.Top = refl
+    up older (begun.Sub m) = older m
+    up older (begun.Nested k) = refl
+
+    at : ((m : ℕ) → has_ancestor (λ x. c == x) n rows m ≡ is_above n rows c m) → (b : Bool)
+        → cond b (c == y || tree_row.at_parent false r.origin (has_ancestor (λ x. c == x) n rows))
+        (has_ancestor (λ x. c == x) n rows y) ≡ cond b (c == y || tree_row.at_parent false r.origin (is_above n rows c))
+        (is_above n rows c y)
+    at older true = ap (λ b. c == y || b) (up older r.origin)
+    at older false = older y
+
+-- tests that agree
+has_same : (p q : ℕ → Bool) → ((x : ℕ) → p x ≡ q x) → (n : ℕ) (rows : List Row) (y : ℕ)
+    → has_ancestor p n rows y ≡ has_ancestor q n rows y
+has_same p q same n [] y = refl
+has_same p q same n (r ∷ rows) y = at (λ m. has_same p q same n rows m) (eqb y (n + length rows))
+  where
+    up : ((m : ℕ) → has_ancestor p n rows m ≡ has_ancestor q n rows m) → (o : tree_origin.Origin)
+        → tree_row.at_parent false o (has_ancestor p n rows) ≡ tree_row.at_parent false o (has_ancestor q n rows)
+    up older begun.Top = refl
+    up older (begun.Sub m) = older m
+    up older (begun.Nested c) = refl
+
+    at : ((m : ℕ) → has_ancestor p n rows m ≡ has_ancestor q n rows m) → (b : Bool)
+        → cond b (p y || tree_row.at_parent false r.origin (has_ancestor p n rows)) (has_ancestor p n rows y)
+        ≡ cond b (q y || tree_row.at_parent false r.origin (has_ancestor q n rows)) (has_ancestor q n rows y)
+    at older true = ap (λ b. b || tree_row.at_parent false r.origin (has_ancestor p n rows)) (same y)
+        ∙ ap (λ b. q y || b) (up older r.origin)
+    at older false = older y
+
+-- no ancestor passes a test that nothing passes
+has_none : (n : ℕ) (rows : List Row) (y : ℕ) → has_ancestor (λ x. false) n rows y ≡ false
+has_none n [] y = refl
+has_none n (r ∷ rows) y = at (λ m. has_none n rows m) (eqb y (n + length rows))
+  where
+    up : ((m : ℕ) → has_ancestor (λ x. false) n rows m ≡ false) → (o : tree_origin.Origin)
+        → tree_row.at_parent false o (has_ancestor (λ x. false) n rows) ≡ false
+    up older begun.Top = refl
+    up older (begun.Sub m) = older m
+    up older (begun.Nested c) = refl
+
+    at : ((m : ℕ) → has_ancestor (λ x. false) n rows m ≡ false) → (b : Bool)
+        → cond b (tree_row.at_parent false r.origin (has_ancestor (λ x. false) n rows))
+        (has_ancestor (λ x. false) n rows y) ≡ false
+    at older true = up older r.origin
+    at older false = older y
+
+-- nothing was ended yet
+none_ended : (t : Tree) (ended : ℕ → Bool) → ((x : ℕ) → ended x ≡ false)
+    → (objects : List AtomicObject) (held : Holdings) → AreLawful t objects → AreEnded t ended objects objects held held
+none_ended t ended none objects held l = record {
+  count = refl;
+  shape = λ o d lt. refl;
+  cell = λ o d lt.
+      let c : Object = (slice_index_or objects o d).cell in
+      record {
+        base = refl;
+        readers = sym (filter_all (λ x. not (ended x.0)) (λ x. ap not (none x.0)) c.readers);
+        versions = sym (filter_all (λ v. not (ended v.holder.0)) (λ v. ap not (none v.holder.0)) c.versions);
+        lawful = l o d lt;
+      };
+  lists = λ x. sym (ap (λ b. cond b [] (objects_held_by held x)) (none x.0));
+}
+
+-- two endings of all objects, one after the other
+all_both : (t : Tree) (p q both : ℕ → Bool) → ((x : ℕ) → both x ≡ (p x || q x))
+    → (old mid new : List AtomicObject) (held hm hn : Holdings) → AreEnded t p old mid held hm
+    → AreEnded t q mid new hm hn → AreEnded t both old new held hn
+all_both t p q both split old mid new held hm hn k m = record {
+  count = m.count ∙ k.count;
+  shape = λ o d lt. m.shape o d (subst (λ n. o < n) (sym k.count) lt) ∙ k.shape o d lt;
+  cell = λ o d lt.
+      ended_both t p q both split (slice_index_or old o d).cell (slice_index_or mid o d).cell
+      (slice_index_or new o d).cell (k.cell o d lt)
+      (m.cell o d (subst (λ n. o < n) (sym k.count) lt));
+  lists = λ x.
+      m.lists x ∙ ap (λ list. cond (q x.0) [] list) (k.lists x) ∙ join x (p x.0) (q x.0)
+      ∙ ap (λ b. cond b [] (objects_held_by held x)) (sym (split x.0));
+}
+  where
+    join : (x : ActionId) (b c : Bool) → cond c [] (cond b [] (objects_held_by held x)) ≡ cond (b || c) []
+        (objects_held_by held x)
+    join x true true = refl
+    join x true false = refl
+    join x false true = refl
+    join x false false = refl
+
+-- the same ending, told by another test
+all_same : (t : Tree) (p q : ℕ → Bool) → ((x : ℕ) → q x ≡ p x) → (old new : List AtomicObject) (held held' : Holdings)
+    → AreEnded t p old new held held' → AreEnded t q old new held held'
+all_same t p q same old new held held' k = record {
+  count = k.count;
+  shape = k.shape;
+  cell = λ o d lt.
+      let was : Object = (slice_index_or old o d).cell in
+      let e = k.cell o d lt in
+      record {
+        base = e.base;
+        readers = e.readers ∙ filter_agree (λ x. not (p x.0)) (λ x. not (q x.0)) (λ x. ap not (sym (same x.0)))
+            was.readers;
+        versions = e.versions ∙ filter_agree (λ v. not (p v.holder.0)) (λ v. not (q v.holder.0))
+            (λ v. ap not (sym (same v.holder.0))) was.versions;
+        lawful = e.lawful;
+      };
+  lists = λ x. k.lists x ∙ ap (λ b. cond b [] (objects_held_by held x)) (sym (same x.0));
+}
+
+-- who holds an object after an ending has it on its list
+pub covered_more : (t : Tree) (ended : ℕ → Bool) (old new : List AtomicObject) (held held' : Holdings)
+    → AreEnded t ended old new held held' → AreCovered old held → AreCovered new held'
+covered_more t ended old new held held' k cover = λ x o d lt e.
+    let low : o < length old = subst (λ n. o < n) k.count lt in
+    let c = k.cell o d low in
+    let was : Object = (slice_index_or old o d).cell in
+    let now : Object = (slice_index_or new o d).cell in
+    let kept : ((is_reader x was.readers || has_version x was.versions) && not (ended x.0)) ≡ true =
+    sym (ap (λ rs. is_reader x rs || has_version x now.versions) c.readers
+    ∙ ap (λ vs. is_reader x (filter (λ y. not (ended y.0)) was.readers) || has_version x vs) c.versions
+    ∙ ap (λ b. b || has_version x (filter (λ v. not (ended v.holder.0)) was.versions)) (reader_filtered x was.readers)
+    ∙ ap (λ b. (is_reader x was.readers && not (ended x.0)) || b) (has_filtered (λ n. not (ended n)) was.versions x)
+    ∙ join (is_reader x was.readers) (has_version x was.versions) (not (ended x.0))) ∙ e in
+    let q = and_parts (is_reader x was.readers || has_version x was.versions) (not (ended x.0)) kept in
+    ap (λ list. is_listed list o) (k.lists x ∙ ap (λ b. cond b [] (objects_held_by held x)) (off (ended x.0) q.1))
+    ∙ cover x o d low q.0
+  where
+    off : (b : Bool) → not b ≡ true → b ≡ false
+    off true e = absurd (false≢true e)
+    off false e = refl
+
+    join : (a b c : Bool) → ((a && c) || (b && c)) ≡ ((a || b) && c)
+    join true true true = refl
+    join true true false = refl
+    join true false true = refl
+    join true false false = refl
+    join false b c = refl
+
+    reader_filtered : (x : ActionId) (rs : List ActionId)
+        → is_reader x (filter (λ y. not (ended y.0)) rs) ≡ (is_reader x rs && not (ended x.0))
+    reader_filtered x [] = refl
+    reader_filtered x (y ∷ rs) = at (ended y.0) refl (reader_filtered x rs)
+      where
+        at : (b : Bool) → ended y.0 ≡ b → is_reader x (filter (λ z. not (ended z.0)) rs)
+            ≡ (is_reader x rs && not (ended x.0)) → is_reader x
+            (cond (not b) (y ∷ filter (λ z. not (ended z.0)) rs) (filter (λ z. not (ended z.0)) rs))
+            ≡ ((eqb y.0 x.0 || is_reader x rs) && not (ended x.0))
+        at true e ih =
+            ih
+            ∙ elim (cases_eq y.0 x.0) [
+              | inl same ↦
+                  let gone : not (ended x.0) ≡ false = ap not (ap ended (sym same) ∙ e) in
+                  and_right (is_reader x rs) (not (ended x.0)) gone
+                  ∙ sym (and_right (eqb y.0 x.0 || is_reader x rs) (not (ended x.0)) gone)
+              | inr ne ↦ ap (λ b. (b || is_reader x rs) && not (ended x.0)) (sym (ne_eqb y.0 x.0 ne))
+            ]
+        at false e ih =
+            ap (λ b. eqb y.0 x.0 || b) ih
+            ∙ elim (cases_eq y.0 x.0) [
+              | inl same ↦
+                  let stays : not (ended x.0) ≡ true = ap not (ap ended (sym same) ∙ e) in
+                  ap (λ b. b || (is_reader x rs && not (ended x.0))) (eq-eqb y.0 x.0 same)
+                  ∙ sym (ap (λ b. (b || is_reader x rs) && not (ended x.0)) (eq-eqb y.0 x.0 same) ∙ stays)
+              | inr ne ↦
+                  ap (λ b. b || (is_reader x rs && not (ended x.0))) (ne_eqb y.0 x.0 ne)
+                  ∙ sym (ap (λ b. (b || is_reader x rs) && not (ended x.0)) (ne_eqb y.0 x.0 ne))
+            ]
+
+pub ended_lawful : (t : Tree) (ended : ℕ → Bool) (old new : List AtomicObject) (held held' : Holdings)
+    → AreEnded t ended old new held held' → AreLawful t new
+ended_lawful t ended old new held held' k = λ o d lt. (k.cell o d (subst (λ n. o < n) k.count lt)).lawful
+
+-- a live sibling whose number is the bound or greater
+abbrev pub is_seen : Tree → ℕ → ℕ → ℕ → Bool
+is_seen t a bound x = is_live_sibling t a x && nat_le bound x
+
+-- in the midst of the loop: the siblings from the bound on were ended, and the next is the newest below it
+pub record IsSwung (t : Tree) (a u : ℕ) (old new : List AtomicObject) (held held' : Holdings)
+    (child : Option ActionId) : Type 0 where
+  pub bound : ℕ
+  pub next_child : child ≡ named (newest_child_below t.folded t.rows u bound)
+  pub ended : AreEnded t (has_ancestor (is_seen t a bound) t.folded t.rows) old new held held'
+
+module _ (t : Tree) (a u : ℕ) (under : under_at t.folded t.rows a ≡ Some u) where
+  -- a live sibling was begun under the same action
+  sibling_row : (x : ℕ) → is_live_sibling t a x ≡ true → (row : Row)
+      × ((numbered t.folded t.rows x ≡ Some row) × (is_begun_under u row.origin ≡ true))
+  sibling_row x e =
+      let q = and_parts (is_live_at t.folded t.rows x) (is_sibling_of t.folded t.rows a x) e in
+      let r = and_parts (not (x == a)) (option_map_or (λ under. is_child_of t.folded t.rows under x)
+      (under_at t.folded t.rows a) false) q.1 in
+      came_row (is_begun_under u) t.folded t.rows x (sym (ap (λ o. option_map_or
+      (λ under. is_child_of t.folded t.rows under x) o false) under) ∙ r.1)
+
+  -- the next older one
+  older_is : (bound c : ℕ) → newest_child_below t.folded t.rows u bound ≡ Some c
+      → older_sibling_of t c ≡ named (newest_child_below t.folded t.rows u c)
+  older_is bound c e =
+      let at = newest_where_at (is_begun_under u) t.folded t.rows bound c e in
+      ap (option_and_then (λ (row : Row). named (option_and_then (λ under. newest_child_below t.folded t.rows under c)
+      (under_of row.origin)))) at.1.1.1.1.0
+      ∙ ap (λ o. named (option_and_then (λ under. newest_child_below t.folded t.rows under c) o))
+      (comes_under at.1.1.1.0.origin u at.1.1.1.1.1)
+
+  seen_more : (bound c : ℕ) → newest_child_below t.folded t.rows u bound ≡ Some c → (x : ℕ)
+      → is_seen t a c x ≡ (is_seen t a bound x || (is_live_sibling t a c && c == x))
+  seen_more bound c e x =
+      let at = newest_where_at (is_begun_under u) t.folded t.rows bound c e in
+      elim (cases_Bool (is_live_sibling t a x)) [
+        | inl live ↦
+            let r = sibling_row x live in
+            ap (λ b. b && nat_le c x) live
+            ∙ elim (cases_lt x bound) [
+              | inl below ↦
+                  let le = newest_where_most (is_begun_under u) t.folded t.rows bound c x r.0 e r.1.0 r.1.1 below in
+                  elim (cases_eq c x) [
+                    | inl same ↦
+                        le-leb c x (omega (arith, same))
+                        ∙ sym (or_right (is_seen t a bound x) (is_live_sibling t a c && c == x)
+                        (and_from (is_live_sibling t a c) (c == x) (ap (is_live_sibling t a) same ∙ live)
+                        (eq-eqb c x same)))
+                    | inr ne ↦
+                        lt-leb c x (omega (arith, le, ne))
+                        ∙ sym (ap (λ b. (is_live_sibling t a x && b) || (is_live_sibling t a c && c == x))
+                        (lt-leb bound x below)
+                        ∙ ap (λ b. b || (is_live_sibling t a c && c == x))
+                        (and_right (is_live_sibling t a x) false refl)
+                        ∙ and_right (is_live_sibling t a c) (c == x) (ne_eqb c x ne))
+                  ]
+              | inr past ↦
+                  le-leb c x (omega (arith, past, at.1.1.0))
+                  ∙ sym (or_left (is_seen t a bound x) (is_live_sibling t a c && c == x)
+                  (and_from (is_live_sibling t a x) (nat_le bound x) live (le-leb bound x past)))
+            ]
+        | inr not_live ↦
+            ap (λ b. b && nat_le c x) not_live
+            ∙ sym (ap (λ b. (b && nat_le bound x) || (is_live_sibling t a c && c == x)) not_live ∙ other not_live)
+      ]
+    where
+      other : is_live_sibling t a x ≡ false → (is_live_sibling t a c && c == x) ≡ false
+      other e =
+          elim (cases_eq c x) [
+            | inl same ↦ ap (λ b. b && c == x) (ap (is_live_sibling t a) same ∙ e)
+            | inr ne ↦ and_right (is_live_sibling t a c) (c == x) (ne_eqb c x ne)
+          ]
+
+  module _ (old new : List AtomicObject) (held held' : Holdings) where
+    -- before the first
+    pub swing_start : (child : Option ActionId) → child ≡ newest_child_of t u → AreLawful t old
+        → IsSwung t a u old old held held child
+    swing_start child is l = record {
+      bound = next t;
+      next_child = is;
+      ended = none_ended t (has_ancestor (is_seen t a (next t)) t.folded t.rows)
+          (λ x. has_same (is_seen t a (next t)) (λ x. false) none t.folded t.rows x ∙ has_none t.folded t.rows x)
+          old held l;
+    }
+      where
+        none : (x : ℕ) → is_seen t a (next t) x ≡ false
+        none x =
+            elim (cases_Bool (is_live_sibling t a x)) [
+              | inl live ↦
+                  let r = sibling_row x live in
+                  and_right (is_live_sibling t a x) (nat_le (next t) x)
+                  (lt-leb (next t) x (row_begun t.folded t.rows x r.0 r.1.0).1)
+              | inr off ↦ ap (λ b. b && nat_le (next t) x) off
+            ]
+
+    -- the sibling that comes next has begun
+    pub swing_next : (c : ActionId) → IsSwung t a u old new held held' (Some c) → (c.0 < next t) × (t.folded ≤ c.0)
+    swing_next c k =
+        let at = newest_where_at (is_begun_under u) t.folded t.rows k.bound c.0
+        (named_some (newest_child_below t.folded t.rows u k.bound) c k.next_child) in
+        (at.1.0, at.0)
+
+    -- whether it is a live sibling
+    pub sibling_here : (c : ActionId) → IsSwung t a u old new held held' (Some c)
+        → is_live_sibling t a c.0 ≡ (is_live_at t.folded t.rows c.0 && not (c.0 == a))
+    sibling_here c k =
+        let at = newest_where_at (is_begun_under u) t.folded t.rows k.bound c.0
+        (named_some (newest_child_below t.folded t.rows u k.bound) c k.next_child) in
+        ap (λ o. is_live_at t.folded t.rows c.0 && (not (c.0 == a)
+        && option_map_or (λ under. is_child_of t.folded t.rows under c.0) o false)) under
+        ∙ ap (λ b. is_live_at t.folded t.rows c.0 && (not (c.0 == a) && b))
+        (ap (λ o. option_map_or (λ (row : Row). is_begun_under u row.origin) o false) at.1.1.1.1.0 ∙ at.1.1.1.1.1)
+        ∙ ap (λ b. is_live_at t.folded t.rows c.0 && b) (and_all (not (c.0 == a)))
+      where
+        and_all : (b : Bool) → (b && true) ≡ b
+        and_all true = refl
+        and_all false = refl
+
+    -- the steps get fewer
+    pub swing_fewer : (c : ActionId) → IsSwung t a u old new held held' (Some c)
+        → steps_left (older_sibling_of t c.0) < c.0 + 1
+    swing_fewer c k =
+        let e = named_some (newest_child_below t.folded t.rows u k.bound) c k.next_child in
+        subst (λ o. steps_left o < c.0 + 1) (sym (older_is k.bound c.0 e))
+        (fewer (newest_child_below t.folded t.rows u c.0) refl)
+      where
+        fewer : (o : Option ℕ) → newest_child_below t.folded t.rows u c.0 ≡ o → steps_left (named o) < c.0 + 1
+        fewer None i = omega arith
+        fewer (Some m) i = let at = newest_where_at (is_begun_under u) t.folded t.rows c.0 m i in omega
+            (arith, at.1.1.0)
+
+    -- a live sibling was ended
+    pub swing_step : (c : ActionId) (more : List AtomicObject) (held2 : Holdings) → is_live_sibling t a c.0 ≡ true
+        → IsSwung t a u old new held held' (Some c) → AreEnded t (is_ancestor t c.0) new more held' held2
+        → IsSwung t a u old more held held2 (older_sibling_of t c.0)
+    swing_step c more held2 live k m =
+        let e = named_some (newest_child_below t.folded t.rows u k.bound) c k.next_child in
+        record {
+          bound = c.0;
+          next_child = older_is k.bound c.0 e;
+          ended =
+              all_both t (has_ancestor (is_seen t a k.bound) t.folded t.rows) (is_ancestor t c.0)
+              (has_ancestor (is_seen t a c.0) t.folded t.rows)
+              (λ y. has_same (is_seen t a c.0) (λ x. is_seen t a k.bound x || c.0 == x)
+              (λ x. seen_more k.bound c.0 e x ∙ ap (λ b. is_seen t a k.bound x || (b && c.0 == x)) live)
+              t.folded t.rows y
+              ∙ has_either (is_seen t a k.bound) (λ x. c.0 == x) t.folded t.rows y
+              ∙ ap (λ b. has_ancestor (is_seen t a k.bound) t.folded t.rows y || b) (has_one c.0 t.folded t.rows y))
+              old new more held held' held2 k.ended m;
+        }
+
+    -- another one is passed over
+    pub swing_pass : (c : ActionId) → is_live_sibling t a c.0 ≡ false → IsSwung t a u old new held held' (Some c)
+        → IsSwung t a u old new held held' (older_sibling_of t c.0)
+    swing_pass c off k =
+        let e = named_some (newest_child_below t.folded t.rows u k.bound) c k.next_child in
+        record {
+          bound = c.0;
+          next_child = older_is k.bound c.0 e;
+          ended =
+              all_same t (has_ancestor (is_seen t a k.bound) t.folded t.rows)
+              (has_ancestor (is_seen t a c.0) t.folded t.rows)
+              (λ y. has_same (is_seen t a c.0) (is_seen t a k.bound)
+              (λ x. seen_more k.bound c.0 e x ∙ ap (λ b. is_seen t a k.bound x || (b && c.0 == x)) off
+              ∙ or_off (is_seen t a k.bound x)) t.folded t.rows y)
+              old new held held' k.ended;
+        }
+      where
+        or_off : (b : Bool) → (b || false) ≡ b
+        or_off true = refl
+        or_off false = refl
+
+    -- none is left
+    pub swing_end : IsSwung t a u old new held held' None
+        → AreEnded t (has_ancestor (is_live_sibling t a) t.folded t.rows) old new held held'
+    swing_end k =
+        all_same t (has_ancestor (is_seen t a k.bound) t.folded t.rows)
+        (has_ancestor (is_live_sibling t a) t.folded t.rows)
+        (λ y. has_same (is_live_sibling t a) (is_seen t a k.bound) all t.folded t.rows y)
+        old new held held' k.ended
+      where
+        all : (x : ℕ) → is_live_sibling t a x ≡ is_seen t a k.bound x
+        all x =
+            elim (cases_Bool (is_live_sibling t a x)) [
+              | inl live ↦
+                  let r = sibling_row x live in
+                  live
+                  ∙ sym (and_from (is_live_sibling t a x) (nat_le k.bound x) live
+                  (le-leb k.bound x (newest_where_no (is_begun_under u) t.folded t.rows k.bound x r.0
+                  (named_none (newest_child_below t.folded t.rows u k.bound) k.next_child) r.1.0 r.1.1)))
+              | inr off ↦ off ∙ sym (ap (λ b. b && nat_le k.bound x) off)
+            ]

@@ -1,0 +1,86 @@
+-- What an action has written, as the walk over its list finds it.
+use Rattle.std.proofs.Common.{List, None, Option, Some, [], ap, cond, get_or, inl, inr, length, map}
+use Rattle.std.proofs.Common.{refl, sym, take, ℕ, ◌++◌, ◌+◌, ◌<◌, ◌||◌, ◌∙◌, ◌∷◌, ◌≡◌}
+use Rattle.std.specs.Option.{is_some, option_map}
+use Rattle.std.proofs.lemmas.Bool.{cases_Bool, cases_eq, eq-eqb, ne_eqb}
+use Rattle.std.proofs.lemmas.List.{map-append, take_more}
+use Rattle.argus_actions.specs.declared.action_id.ActionId.{ActionId}
+use Rattle.argus_contents.specs.Content.{PlainContent, plain_option}
+use Rattle.argus_contents.specs.declared.content.Content.{Content}
+use Rattle.argus_contents.specs.declared.obj_id.ObjId.{ObjId}
+use Rattle.argus_core.specs.Effect.{version_in, written_in}
+use Rattle.argus_contents.specs.Effect.{plain_effect}
+use Rattle.argus_core.specs.declared.engine.atomic_object.AtomicObject.{AtomicObject}
+use Rattle.argus_objects.specs.CellChanges.{has_version, version_of}
+use Rattle.argus_objects.specs.Object.{PlainVersion}
+use Rattle.std.specs.Prelude.{slice_index_or}
+
+-- an action has a version where there is one of it
+pub has_where_found : (a : ActionId) (vs : List PlainVersion) → is_some (version_of a vs) ≡ has_version a vs
+has_where_found a [] = refl
+has_where_found a (v ∷ vs) =
+    elim (cases_eq v.holder.0 a.0) [
+      | inl e ↦
+          ap (λ b. is_some (cond b (Some v.content) (version_of a vs))) (eq-eqb v.holder.0 a.0 e)
+          ∙ sym (ap (λ b. b || has_version a vs) (eq-eqb v.holder.0 a.0 e))
+      | inr n ↦
+          ap (λ b. is_some (cond b (Some v.content) (version_of a vs))) (ne_eqb v.holder.0 a.0 n)
+          ∙ has_where_found a vs
+          ∙ sym (ap (λ b. b || has_version a vs) (ne_eqb v.holder.0 a.0 n))
+    ]
+
+-- a number with a content, as the program and as the model have it
+abbrev numbered : ℕ → Option Content → ObjId × Option Content
+numbered n content = let id : ObjId = record { 0 = n } in (id, content)
+
+abbrev with_plain : ℕ → Option PlainContent → ℕ × Option PlainContent
+with_plain n content = (n, content)
+
+abbrev told : ObjId × Option Content → ℕ × Option PlainContent
+told pair = (pair.0.0, plain_option pair.1)
+
+module _ (a : ActionId) (objects : List AtomicObject) (d : AtomicObject) where
+  written_last : (list : List ObjId) (o : ObjId)
+      → written_in a objects d (list ++ o ∷ [])
+      ≡ written_in a objects d list ++ cond (has_version a (slice_index_or objects o.0 d).cell.versions) (o.0 ∷ []) []
+  written_last [] o = refl
+  written_last (x ∷ list) o =
+      elim (cases_Bool (has_version a (slice_index_or objects x.0 d).cell.versions)) [
+        | inl e ↦
+            ap (λ b. cond b (x.0 ∷ written_in a objects d (list ++ o ∷ [])) (written_in a objects d (list ++ o ∷ []))) e
+            ∙ ap (λ ns. x.0 ∷ ns) (written_last list o)
+            ∙ sym (ap (λ b. cond b (x.0 ∷ written_in a objects d list) (written_in a objects d list)
+            ++ cond (has_version a (slice_index_or objects o.0 d).cell.versions) (o.0 ∷ []) []) e)
+        | inr e ↦
+            ap (λ b. cond b (x.0 ∷ written_in a objects d (list ++ o ∷ [])) (written_in a objects d (list ++ o ∷ []))) e
+            ∙ written_last list o
+            ∙ sym (ap (λ b. cond b (x.0 ∷ written_in a objects d list) (written_in a objects d list)
+            ++ cond (has_version a (slice_index_or objects o.0 d).cell.versions) (o.0 ∷ []) []) e)
+      ]
+
+  pub written_more : (list : List ObjId) (i : ℕ) (e : ObjId) → i < length list
+      → written_in a objects d (take (i + 1) list)
+      ≡ written_in a objects d (take i list)
+      ++ cond (has_version a (slice_index_or objects (get_or list i e).0 d).cell.versions) ((get_or list i e).0 ∷ []) []
+  written_more list i e low =
+      ap (written_in a objects d) (take_more list i e low) ∙ written_last (take i list) (get_or list i e)
+
+  -- one more object with its content
+  pub copied_more : (numbers : List ℕ) (i : ℕ) (items items' : List (ObjId × Option Content)) (content : Option Content)
+      → i < length numbers → plain_effect items ≡ map (λ o. (o, version_in a objects d o)) (take i numbers)
+      → items' ≡ items ++ numbered (get_or numbers i 0) content ∷ []
+      → plain_option content ≡ version_in a objects d (get_or numbers i 0)
+      → plain_effect items' ≡ map (λ o. (o, version_in a objects d o)) (take (i + 1) numbers)
+  copied_more numbers i items items' content low e is same =
+      let n = get_or numbers i 0 in
+      let f : ℕ → ℕ × Option PlainContent = λ o. (o, version_in a objects d o) in
+      ap plain_effect is
+      ∙ map-append told items (numbered n content ∷ [])
+      ∙ ap (λ ps. ps ++ with_plain n (plain_option content) ∷ []) e
+      ∙ ap (λ c. map f (take i numbers) ++ with_plain n c ∷ []) same
+      ∙ sym (ap (map f) (take_more numbers i 0 low) ∙ map-append f (take i numbers) (n ∷ []))
+
+-- there is one where there is one of it
+pub some_mapped : {X Y : Type 0} (f : X → Y) (q : Option X) → is_some (option_map f q) ≡ is_some q
+some_mapped f None = refl
+some_mapped f (Some x) = refl

@@ -1,0 +1,18 @@
+-- Room for a lock changes nothing that the journal speaks of.
+use Rattle.std.proofs.Common.{arith, length, ◌≡◌}
+use Rattle.std.proofs.lemmas.List.{with_items_is}
+use Rattle.argus_core.proofs.Accessed.{kept_locks}
+use Rattle.argus_core.proofs.engine.granting.reserve_access.Goals as goal
+use Rattle.argus_journal.specs.LegalJournal.{entries_in, opening_in}
+
+pub returns-clause-kept : goal.returns-clause-kept
+returns-clause-kept c =
+    let p = c.args.state.now in
+    let s = opening_in p.journal in
+    let j = entries_in p.journal in
+    let new = c.reserve_grant.new.objects in
+    let held = c.reserve_grant.new.holdings in
+    let fits : length new ≡ p.objects.len = omega arith in
+    rw (with_items_is p.objects new fits, c.reserve.ensures.entries, c.reserve.ensures.opening)
+    (kept_locks p.tree p.objects.items new p.holdings held s j c.args.o c.requires.kept
+    (rw (c.as_mut_slice.ensures.value) at c.reserve_grant.ensures.same))

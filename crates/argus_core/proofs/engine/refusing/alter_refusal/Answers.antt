@@ -1,0 +1,15 @@
+-- Answered outright, so that nothing is searched for.
+use Rattle.std.proofs.Common.{rules}
+use Rattle.argus_core.proofs.engine.refusing.alter_refusal.Goals as goal
+
+pub returns-in-Some : goal.returns-in-Some
+returns-in-Some c = search rules
+
+pub overflow_cast-o : goal.overflow_cast-o
+overflow_cast-o c = search rules
+
+pub get-requires : goal.get-requires
+get-requires c = search rules
+
+pub overflow_cast-objects : goal.overflow_cast-objects
+overflow_cast-objects c = search rules

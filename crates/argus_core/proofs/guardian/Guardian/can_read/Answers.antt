@@ -1,0 +1,21 @@
+-- The journal answers a test for reading by a refusal, or by whether the lock could be had.
+use Rattle.std.proofs.Common.{sym, ◌∙◌}
+use Rattle.argus_core.proofs.Told.{granted_where, not_granted}
+use Rattle.argus_core.proofs.Accesses.{access_refused}
+use Rattle.argus_core.proofs.Tests.{reads, test_right, tests}
+use Rattle.argus_core.proofs.guardian.Guardian.can_read.Goals as goal
+
+pub returns-in-Some : goal.returns-in-Some
+returns-in-Some c =
+    let g = c.self.inside.state in
+    rw (← c.self.view_is)
+    (not_granted _ c.in-Some.field-0 (access_refused (tests (reads g c.self.invariant c.args.a c.args.o))
+    c.in-Some.field-0 (sym (rw (c.as_slice.ensures.value) at c.test_refusal.ensures) ∙ c.in-Some.is)))
+
+pub returns-in-None : goal.returns-in-None
+returns-in-None c =
+    let g = c.self.inside.state in
+    rw (← c.self.view_is)
+    (granted_where _ c.is_readable.result (test_right (reads g c.self.invariant c.args.a c.args.o)
+    (sym (rw (c.as_slice.ensures.value) at c.test_refusal.ensures) ∙ c.in-None.is) c.is_readable.result
+    (rw (c.as_slice-in-None.ensures.value) at c.is_readable.ensures)))

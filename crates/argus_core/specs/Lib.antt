@@ -1,0 +1,10 @@
+pub mod Checkpoint
+pub mod Effect
+pub mod Objects
+pub mod ReadyCommit
+pub mod Accessing
+pub mod StateRefinement
+pub mod Moving
+pub mod GuardianState
+pub mod Prepared
+pub mod Sweeping

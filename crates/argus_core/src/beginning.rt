@@ -1,0 +1,55 @@
+//! How actions begin.
+
+ghost use Rattle.std.specs.Prelude.{◌≡◌, IfOk, OnErr, OnOk};
+ghost use Rattle.argus_entries.specs.Call.{begin_nested, begin_sub, begin_top};
+ghost use Rattle.argus_entries.specs.Reply.{plain_reply};
+ghost use Rattle.argus_journal.specs.JournalView.{after, reply_to};
+
+use crate::engine::beginning::{prepare_begin_nested, prepare_begin_sub, prepare_begin_top};
+use crate::engine::making::make;
+use crate::guardian::Guardian;
+use argus_actions::ActionId;
+use argus_entries::Reply;
+use argus_memory::OutOfMemory;
+
+impl Guardian {
+    /// Begins a topaction, and answers its number.
+    ///
+    /// Refusal: `TooMany`. After `OutOfMemory` all is as before.
+    pub fn begin_top(&mut self) -> Result<Reply, OutOfMemory>
+        ensures reply { IfOk result (λ reply. plain_reply reply ≡ reply_to self.old begin_top) }
+        ensures ok { OnOk result (self.new ≡ after self.old begin_top) }
+        ensures err { OnErr result (self.new ≡ self.old) }
+    {
+        let prepared = prepare_begin_top(&mut self.state)?;
+        Ok(make(&mut self.state, prepared))
+    }
+
+    /// Begins a subaction of this parent, and answers its number.
+    ///
+    /// Refusals: `NoAction`, `Over`, `TooDeep` where the parent has 64 ancestors, `TooMany`. After
+    /// `OutOfMemory` all is as before.
+    pub fn begin_sub(&mut self, parent: ActionId) -> Result<Reply, OutOfMemory>
+        ensures reply { IfOk result (λ reply. plain_reply reply
+            ≡ reply_to self.old (begin_sub parent.0)) }
+        ensures ok { OnOk result (self.new ≡ after self.old (begin_sub parent.0)) }
+        ensures err { OnErr result (self.new ≡ self.old) }
+    {
+        let prepared = prepare_begin_sub(&mut self.state, parent)?;
+        Ok(make(&mut self.state, prepared))
+    }
+
+    /// Begins a nested topaction that this action creates, and answers its number. It has no
+    /// privilege from its creator.
+    ///
+    /// Refusals: `NoAction`, `Over`, `TooMany`. After `OutOfMemory` all is as before.
+    pub fn begin_nested(&mut self, creator: ActionId) -> Result<Reply, OutOfMemory>
+        ensures reply { IfOk result (λ reply. plain_reply reply
+            ≡ reply_to self.old (begin_nested creator.0)) }
+        ensures ok { OnOk result (self.new ≡ after self.old (begin_nested creator.0)) }
+        ensures err { OnErr result (self.new ≡ self.old) }
+    {
+        let prepared = prepare_begin_nested(&mut self.state, creator)?;
+        Ok(make(&mut self.state, prepared))
+    }
+}

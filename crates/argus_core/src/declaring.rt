@@ -1,0 +1,29 @@
+//! How objects are declared.
+
+ghost use Rattle.std.specs.Prelude.{◌≡◌, IfOk, OnErr, OnOk};
+ghost use Rattle.argus_entries.specs.Call.{declare};
+ghost use Rattle.argus_entries.specs.Reply.{plain_reply};
+ghost use Rattle.argus_journal.specs.JournalView.{after, reply_to};
+
+use crate::engine::declaring::prepare_declare;
+use crate::engine::making::make;
+use crate::guardian::Guardian;
+use argus_contents::Shape;
+use argus_entries::Reply;
+use argus_memory::OutOfMemory;
+
+impl Guardian {
+    /// Declares an object of this shape, and answers its number. The object belongs to no action
+    /// and stays; it has no content until an action creates one.
+    ///
+    /// Refusal: `TooMany` where 65,535 objects are declared. After `OutOfMemory` all is as before.
+    pub fn declare(&mut self, shape: Shape) -> Result<Reply, OutOfMemory>
+        ensures reply { IfOk result (λ reply. plain_reply reply
+            ≡ reply_to self.old (declare shape)) }
+        ensures ok { OnOk result (self.new ≡ after self.old (declare shape)) }
+        ensures err { OnErr result (self.new ≡ self.old) }
+    {
+        let prepared = prepare_declare(&mut self.state, shape)?;
+        Ok(make(&mut self.state, prepared))
+    }
+}

@@ -1,0 +1,137 @@
+//! What becomes of the objects that actions hold which an abort ends: the walk visits the objects
+//! on their lists and no other.
+
+ghost use Rattle.std.specs.Prelude.{◌≡◌, ◌<◌, ◌≤◌, length, None, Some};
+ghost use Rattle.std.specs.Option.{option_map};
+ghost use Rattle.argus_actions.specs.Nodes.{AreLinked};
+ghost use Rattle.argus_actions.specs.Refusals.{abort_others_refusal};
+ghost use Rattle.argus_actions.specs.Rows.{has_ancestor, is_live_at, under_at};
+ghost use Rattle.argus_actions.specs.Tree.{is_ancestor, is_live_sibling, next};
+ghost use Rattle.argus_actions.specs.declared.action_id.ActionId.{ActionId};
+ghost use Rattle.argus_core.specs.Moving.{AreLawful};
+ghost use Rattle.argus_core.specs.Sweeping.{AreAllThere, AreCovered, AreEnded, AreSwept};
+
+use crate::engine::atomic_object::AtomicObject;
+use crate::engine::moving::discard_all;
+use argus_actions::{ActionId, ActionTree, Status};
+use argus_objects::Holdings;
+
+/// Discards what `top` and all that stand under it hold, in the objects on the lists of `a` and of
+/// those under `a`, and clears these lists.
+fn sweep_under(
+    objects: &mut [AtomicObject],
+    holdings: &mut Holdings,
+    tree: &ActionTree,
+    top: ActionId,
+    a: ActionId,
+)
+    requires linked { AreLinked tree.now.folded tree.now.rows }
+    requires held { tree.now.folded ≤ a.0 }
+    requires begun { a.0 < next tree.now }
+    requires lawful { AreLawful tree.now objects.old }
+    requires there { AreAllThere holdings.old (length objects.old) }
+    ensures { AreSwept tree.now top.0 (is_ancestor tree.now a.0)
+        objects.old objects.new holdings.old holdings.new }
+{
+    discard_all(objects, holdings.of(a), tree, top);
+    holdings.clear(a);
+    let mut sub = tree.newest_sub(a);
+    while let Some(below) = sub {
+        sweep_under(objects, holdings, tree, top, below);
+        sub = tree.older_sub(below);
+    }
+}
+
+/// Discards what an action and all that stand under it hold, and clears their lists.
+pub(crate) fn discard_under(
+    objects: &mut [AtomicObject],
+    holdings: &mut Holdings,
+    tree: &ActionTree,
+    a: ActionId,
+)
+    requires linked { AreLinked tree.now.folded tree.now.rows }
+    requires held { tree.now.folded ≤ a.0 }
+    requires begun { a.0 < next tree.now }
+    requires lawful { AreLawful tree.now objects.old }
+    requires there { AreAllThere holdings.old (length objects.old) }
+    requires covered { AreCovered objects.old holdings.old }
+    ensures { AreEnded tree.now (is_ancestor tree.now a.0)
+        objects.old objects.new holdings.old holdings.new }
+{
+    sweep_under(objects, holdings, tree, a, a);
+}
+
+/// Discards what the live siblings of an action hold, which was begun under this one, and all that
+/// stand under them, and clears their lists.
+fn discard_siblings(
+    objects: &mut [AtomicObject],
+    holdings: &mut Holdings,
+    tree: &ActionTree,
+    a: ActionId,
+    under: ActionId,
+)
+    requires linked { AreLinked tree.now.folded tree.now.rows }
+    requires under { under_at tree.now.folded tree.now.rows a.0 ≡ Some under.0 }
+    requires lawful { AreLawful tree.now objects.old }
+    requires there { AreAllThere holdings.old (length objects.old) }
+    requires covered { AreCovered objects.old holdings.old }
+    ensures { AreEnded tree.now
+        (has_ancestor (is_live_sibling tree.now a.0) tree.now.folded tree.now.rows)
+        objects.old objects.new holdings.old holdings.new }
+{
+    let mut child = tree.newest_child(under);
+    while let Some(sibling) = child {
+        if sibling.0 != a.0 && is_live(tree, sibling) {
+            discard_under(objects, holdings, tree, sibling);
+        }
+        child = tree.older_sibling(sibling);
+    }
+}
+
+/// Discards what the live siblings of an action hold, where it may end them, and all that stand
+/// under them, and clears their lists.
+pub(crate) fn discard_others(
+    objects: &mut [AtomicObject],
+    holdings: &mut Holdings,
+    tree: &ActionTree,
+    a: ActionId,
+)
+    requires linked { AreLinked tree.now.folded tree.now.rows }
+    requires accepted { abort_others_refusal tree.now a.0 ≡ None }
+    requires lawful { AreLawful tree.now objects.old }
+    requires there { AreAllThere holdings.old (length objects.old) }
+    requires covered { AreCovered objects.old holdings.old }
+    ensures { AreEnded tree.now
+        (has_ancestor (is_live_sibling tree.now a.0) tree.now.folded tree.now.rows)
+        objects.old objects.new holdings.old holdings.new }
+{
+    match begun_under(tree, a) {
+        Some(under) => discard_siblings(objects, holdings, tree, a, under),
+        None => {}
+    }
+}
+
+/// The action that this one was begun under: its parent or its creator; None for a topaction that
+/// isn't nested.
+fn begun_under(tree: &ActionTree, a: ActionId) -> Option<ActionId>
+    ensures { option_map (λ (x : ActionId). x.0) result
+        ≡ under_at tree.now.folded tree.now.rows a.0 }
+{
+    match tree.parent(a) {
+        Some(parent) => Some(parent),
+        None => tree.creator(a),
+    }
+}
+
+/// Whether the action is live.
+pub(crate) fn is_live(tree: &ActionTree, a: ActionId) -> bool
+    ensures { result ≡ is_live_at tree.now.folded tree.now.rows a.0 }
+{
+    match tree.status(a) {
+        Some(Status::Live) => true,
+        Some(Status::Committed) => false,
+        Some(Status::Aborted) => false,
+        Some(Status::Folded) => false,
+        None => false,
+    }
+}

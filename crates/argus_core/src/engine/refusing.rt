@@ -1,0 +1,107 @@
+//! Why calls are refused.
+
+ghost use Rattle.std.specs.Prelude.{◌≡◌, ◌≤◌, length, true};
+ghost use Rattle.argus_contents.specs.Change.{plain_change};
+ghost use Rattle.argus_contents.specs.declared.limits.TheConstants.{MAX_OBJECTS};
+ghost use Rattle.argus_contents.specs.Fitting.{change_suits, query_suits};
+ghost use Rattle.argus_core.specs.Accessing.{access_refusal};
+ghost use Rattle.argus_refinement.specs.TreeRefinement.{journal_refusal};
+ghost use Rattle.argus_objects.specs.Rules.{may_read, may_write};
+
+use crate::engine::atomic_object::AtomicObject;
+use argus_actions::{ActionId, ActionRefusal, ActionTree};
+use argus_contents::{Change, ObjId, Query, change_fits, query_fits};
+use argus_entries::Refusal;
+
+/// The refusal of a call that the tree refuses.
+pub(crate) fn refusal_of(refusal: ActionRefusal) -> Refusal
+    ensures { result ≡ journal_refusal refusal }
+{
+    match refusal {
+        ActionRefusal::NoAction => Refusal::NoAction,
+        ActionRefusal::Over => Refusal::Over,
+        ActionRefusal::ChildrenLive => Refusal::Suspended,
+        ActionRefusal::TooDeep => Refusal::TooDeep,
+        ActionRefusal::TooMany => Refusal::TooMany,
+        ActionRefusal::NoSiblings => Refusal::NoSiblings,
+    }
+}
+
+/// Why a query is refused, if it is.
+pub(crate) fn ask_refusal(
+    objects: &[AtomicObject],
+    tree: &ActionTree,
+    a: ActionId,
+    o: ObjId,
+    query: &Query,
+) -> Option<Refusal>
+    ensures { result ≡ access_refusal tree.now objects.now a.0 o.0
+        (λ shape. query_suits shape query.now) (λ cell. may_read tree.now cell a) }
+{
+    match tree.commit_refusal(a) {
+        Some(refusal) => return Some(refusal_of(refusal)),
+        None => {}
+    }
+    match objects.get(o.0 as usize) {
+        None => Some(Refusal::NoObject),
+        Some(object) => {
+            if !query_fits(&object.shape, query) {
+                Some(Refusal::IllTyped)
+            } else if !object.cell.may_read(tree, a) {
+                Some(Refusal::Conflict)
+            } else {
+                None
+            }
+        }
+    }
+}
+
+/// Why a change is refused, if it is.
+pub(crate) fn alter_refusal(
+    objects: &[AtomicObject],
+    tree: &ActionTree,
+    a: ActionId,
+    o: ObjId,
+    change: &Change,
+) -> Option<Refusal>
+    requires { length objects.now ≤ MAX_OBJECTS }
+    ensures { result ≡ access_refusal tree.now objects.now a.0 o.0
+        (λ shape. change_suits shape (length objects.now) (plain_change change.now))
+        (λ cell. may_write tree.now cell a) }
+{
+    match tree.commit_refusal(a) {
+        Some(refusal) => return Some(refusal_of(refusal)),
+        None => {}
+    }
+    match objects.get(o.0 as usize) {
+        None => Some(Refusal::NoObject),
+        Some(object) => {
+            if !change_fits(&object.shape, objects.len() as u32, change) {
+                Some(Refusal::IllTyped)
+            } else if !object.cell.may_write(tree, a) {
+                Some(Refusal::Conflict)
+            } else {
+                None
+            }
+        }
+    }
+}
+
+/// Why a test of a lock is refused, if it is.
+pub(crate) fn test_refusal(
+    objects: &[AtomicObject],
+    tree: &ActionTree,
+    a: ActionId,
+    o: ObjId,
+) -> Option<Refusal>
+    ensures { result ≡ access_refusal tree.now objects.now a.0 o.0 (λ shape. true) (λ cell. true) }
+{
+    match tree.commit_refusal(a) {
+        Some(refusal) => return Some(refusal_of(refusal)),
+        None => {}
+    }
+    match objects.get(o.0 as usize) {
+        None => Some(Refusal::NoObject),
+        Some(_) => None,
+    }
+}

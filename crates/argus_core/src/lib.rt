@@ -1,0 +1,21 @@
+//! Atomic objects under nested transactions: each call is one step.
+#![tactic(auto)]
+
+mod accessing;
+mod beginning;
+mod calling;
+mod checkpoint_error;
+mod checkpointing;
+mod declaring;
+mod effect;
+mod ending;
+mod engine;
+mod guardian;
+mod laws;
+mod objects;
+mod ready_commit;
+mod testing;
+
+pub use checkpoint_error::CheckpointError;
+pub use guardian::Guardian;
+pub use ready_commit::ReadyCommit;

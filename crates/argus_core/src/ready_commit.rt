@@ -1,0 +1,120 @@
+//! `ReadyCommit`: a guardian with a commit for which all is at hand.
+
+ghost use Rattle.std.specs.Option.{option_map, option_to_list};
+ghost use Rattle.std.specs.Prelude.{IfErr, IfOk, ◌≡◌};
+ghost use Rattle.argus_entries.specs.Call.{commit};
+ghost use Rattle.argus_entries.specs.Reply.{plain_reply};
+ghost use Rattle.argus_core.specs.ReadyCommit.{added_by_call};
+ghost use Rattle.argus_contents.specs.Effect.{plain_effect};
+ghost use Rattle.argus_journal.specs.JournalView.{after, reply_to};
+
+use crate::effect::effect_in;
+use crate::engine::ending::prepare_commit;
+use crate::engine::guardian_state::GuardianState;
+use crate::engine::making::make;
+use crate::engine::prepared::Prepared;
+use crate::guardian::Guardian;
+use argus_actions::ActionId;
+use argus_contents::{Content, ObjId};
+use argus_entries::Reply;
+use argus_memory::{OutOfMemory, Room};
+use std::marker::Model;
+
+/// A guardian with a commit for which all is at hand, so that it can't fail: for a caller that has
+/// work of his own to do in between, which may. Contracts see the journal as it is before the
+/// commit, and the action.
+///
+/// ```text
+/// let ready = guardian.ready_commit(a)?;
+/// let effect = ready.effect()?;                    // what a topaction leaves for good
+/// let (guardian, reply) = ready.make();
+/// ```
+#[derive(Drop)]
+pub struct ReadyCommit {
+    state: GuardianState,
+    prepared: Prepared,
+    action: ActionId,
+}
+
+impl Model for ReadyCommit {
+    ghost use Rattle.std.specs.Prelude.{◌≡◌};
+    ghost use Rattle.argus_entries.specs.Call.{commit, plain_call};
+    ghost use Rattle.argus_core.specs.ReadyCommit.{Committing, committing_coded};
+    ghost use Rattle.argus_core.specs.GuardianState.{StateInvariant, journal_view_of};
+    ghost use Rattle.argus_core.specs.Prepared.{IsReady};
+
+    ghost Value = { Committing };
+
+    ghost coded = { committing_coded };
+
+    ghost view = { λ r. record { journal = journal_view_of r.state; action = r.action.0 } };
+
+    ghost invariant = { λ r. StateInvariant r.state × IsReady r.state r.prepared
+        × (plain_call r.prepared.entry.call ≡ commit r.action.0) };
+}
+
+impl Guardian {
+    /// Makes all ready for the commit of an action, as `commit` does it, but for the commit itself.
+    /// At `Err` there was no memory, and the guardian is as it was.
+    pub fn ready_commit(self, a: ActionId) -> Result<ReadyCommit, Guardian>
+        ensures journal { IfOk result (λ ready. ready.journal ≡ self) }
+        ensures action { IfOk result (λ ready. ready.action ≡ a.0) }
+        ensures err { IfErr result (λ guardian. guardian ≡ self) }
+    {
+        let mut state = self.into_parts();
+        match prepare_commit(&mut state, a) {
+            Ok(prepared) => Ok(ReadyCommit {
+                state,
+                prepared,
+                action: a,
+            }),
+            Err(OutOfMemory) => Err(Guardian { state }),
+        }
+    }
+}
+
+impl ReadyCommit {
+    /// What the commit leaves for good: of a topaction each object that it has written, in
+    /// increasing number, with its content; None of a subaction, and where the commit is refused.
+    /// `OutOfMemory`: there was no memory for the list or for the copies in it.
+    pub fn effect(&self) -> Result<Option<Vec<(ObjId, Option<Content>), Room>>, OutOfMemory>
+        ensures { IfOk result (λ effect. option_to_list (option_map (λ pairs.
+            plain_effect pairs.items) effect)
+            ≡ added_by_call self.now.journal (commit self.now.action)) }
+    {
+        match self.state.tree.commit_refusal(self.action) {
+            Some(_) => return Ok(None),
+            None => {}
+        }
+        match self.state.tree.parent(self.action) {
+            Some(_) => Ok(None),
+            None => effect_in(&self.state, self.action),
+        }
+    }
+
+    /// Commits. It takes no memory.
+    pub fn make(self) -> (Guardian, Reply)
+        ensures journal { result.0 ≡ after self.journal (commit self.action) }
+        ensures reply { plain_reply result.1 ≡ reply_to self.journal (commit self.action) }
+    {
+        let ReadyCommit {
+            mut state,
+            prepared,
+            action: _,
+        } = self;
+        let reply = make(&mut state, prepared);
+        (Guardian { state }, reply)
+    }
+
+    /// Gives the guardian back, as it was.
+    pub fn cancel(self) -> Guardian
+        ensures { result ≡ self.journal }
+    {
+        let ReadyCommit {
+            state,
+            prepared: _,
+            action: _,
+        } = self;
+        Guardian { state }
+    }
+}

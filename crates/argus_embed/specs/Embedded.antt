@@ -1,0 +1,96 @@
+-- What contracts see of an embedded guardian, and what a call and a question leave of it.
+use Rattle.std.specs.Coded.{Coded, code_by, coded_list, coded_option, coded_ℕ, coded×}
+use Rattle.std.specs.Prelude.{List, None, Option, Some, [], pos, refl, ℕ, ℤ, ◌+ℤ◌}
+use Rattle.argus_values.specs.Answer.{PlainAnswer, body, done, flag, num, signal, val}
+use Rattle.argus_journal.specs.Call.{PlainCall}
+use Rattle.argus_journal.specs.Reply.{PlainReply, answered, begun, object, refused}
+use Rattle.argus_guardian.specs.Checkpoint.{after_checkpoint}
+use Rattle.argus_journal.specs.Opening.{empty}
+use Rattle.argus_journal.specs.JournalView.{JournalView, after, journal_view_coded, reply_to}
+use Rattle.argus_values.specs.ContentSpelling.{content_spelling}
+use Rattle.argus_values.specs.Spelling.{spelling}
+use Rattle.argus_embed.specs.declared.outcome.Outcome.{Outcome}
+use Rattle.argus_embed.specs.declared.outcome.Outcome.TheVariants as outcome
+
+-- the journal, the newest action that was begun, and the text that is kept
+pub record EmbeddedState : Type 0 where
+  pub journal : JournalView
+  pub newest : Option ℕ
+  pub text : Option (List ℕ)
+
+-- all three are stored
+abbrev pub embedded_state_coded : Coded EmbeddedState
+embedded_state_coded =
+    code_by (JournalView × (Option ℕ × Option (List ℕ)))
+    (coded× journal_view_coded (coded× (coded_option coded_ℕ) (coded_option (coded_list coded_ℕ))))
+    (λ s. (s.journal, (s.newest, s.text)))
+    (λ p. record { journal = p.0; newest = p.1.0; text = p.1.1 }) (λ _. refl)
+
+-- no object, no action, no entry, no text
+abbrev pub empty_state : EmbeddedState
+empty_state = record {
+  journal = record { opening = empty; entries = [] };
+  newest = None;
+  text
+      = None;
+}
+
+-- the written form of an answer that is a value or a content
+abbrev pub answer_text : PlainAnswer → Option (List ℕ)
+answer_text (val v) = Some (spelling v)
+answer_text (body c) = Some (content_spelling c)
+answer_text done = None
+answer_text (num n) = None
+answer_text (flag truth) = None
+answer_text (signal s) = None
+
+-- the text that belongs to a reply, if any
+abbrev pub reply_text : PlainReply → Option (List ℕ)
+reply_text (answered a) = answer_text a
+reply_text (object o) = None
+reply_text (begun a) = None
+reply_text (refused why) = None
+
+-- the newest action, after this reply
+abbrev pub newest_by : PlainReply → Option ℕ → Option ℕ
+newest_by (begun a) newest = Some a
+newest_by (object o) newest = newest
+newest_by (answered a) newest = newest
+newest_by (refused why) newest = newest
+
+-- how many actions were begun, where this is the newest
+abbrev pub actions_begun : Option ℕ → ℤ
+actions_begun None = pos 0
+actions_begun (Some a) = pos a +ℤ pos 1
+
+-- after a call: the journal has it with its reply, whose text is kept
+abbrev pub after_call : EmbeddedState → PlainCall → EmbeddedState
+after_call state call = record {
+  journal = after state.journal call;
+  newest = newest_by (reply_to state.journal call) state.newest;
+  text = reply_text (reply_to state.journal call);
+}
+
+-- the same with the journal's entries folded into its opening
+abbrev pub after_fold : EmbeddedState → EmbeddedState
+after_fold state = record {
+  journal = after_checkpoint state.journal;
+  newest = state.newest;
+  text = state.text;
+}
+
+-- what an operation's answer is told as
+abbrev pub answer_outcome : PlainAnswer → Outcome
+answer_outcome done = outcome.Done
+answer_outcome (val v) = outcome.Value
+answer_outcome (num n) = outcome.Number n
+answer_outcome (flag truth) = outcome.Flag truth
+answer_outcome (body c) = outcome.Content
+answer_outcome (signal s) = outcome.Signal s
+
+-- what a reply is told as
+abbrev pub outcome_of : PlainReply → Outcome
+outcome_of (object o) = outcome.Object o
+outcome_of (begun a) = outcome.Action a
+outcome_of (answered a) = answer_outcome a
+outcome_of (refused why) = outcome.Refused why

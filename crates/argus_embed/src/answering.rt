@@ -1,0 +1,104 @@
+//! How a host is answered what it asks.
+
+ghost use Rattle.std.specs.Option.{option_map};
+ghost use Rattle.std.specs.Prelude.{IfErr, IfOk, None, OnErr, ◌≡◌};
+ghost use Rattle.argus_embed.specs.Questions.{IsAnswerTo, IsText, IsUnanswered, text_to};
+ghost use Rattle.argus_embed.specs.Embedded.{actions_begun};
+ghost use Rattle.argus_embed.specs.declared.embed_error.EmbedError.TheVariants.{NotThere};
+ghost use Rattle.argus_journal.specs.Call.{test_read, test_write};
+ghost use Rattle.argus_journal.specs.Events.{says_yes};
+ghost use Rattle.argus_journal.specs.Journal.{action_number_of};
+ghost use Rattle.argus_journal.specs.JournalView.{reply_to};
+
+use crate::codes::as_number;
+use crate::embed_error::EmbedError;
+use crate::embedded::Embedded;
+use crate::journal_writing::{entry_text, listing_text};
+use crate::kept::Kept;
+use crate::object_writing::{base_text, readers_text, versions_text};
+use crate::outcome::Outcome;
+use crate::question::Question;
+use argus_actions::ActionId;
+use argus_values::{ObjId, Room};
+use std::mem::replace;
+
+impl Embedded {
+    /// Answers a question, by what the journal says. A text is kept; nothing else changes.
+    ///
+    /// `NotThere` where the object isn't declared, or the journal hasn't the entry. `OutOfMemory`
+    /// may come in place of a text. After an error all is as before, and what was kept stays.
+    pub fn answer_question(&mut self, question: Question) -> Result<Outcome, EmbedError>
+        ensures told { IfOk result (λ outcome. IsAnswerTo question self.old self.new outcome) }
+        ensures untold { IfErr result (λ e. IsUnanswered (text_to self.old.journal question) e) }
+        ensures err { OnErr result (self.new ≡ self.old) }
+    {
+        match question {
+            Question::CanRead(a, o) => Ok(Outcome::Flag(self.may_read(a, o))),
+            Question::CanWrite(a, o) => Ok(Outcome::Flag(self.may_write(a, o))),
+            Question::Objects => Ok(Outcome::Number(i64::from(self.guardian.objects()))),
+            Question::Actions => Ok(Outcome::Number(number_behind(self.newest))),
+            Question::Entries => {
+                let entries = self.guardian.journal().journal().len();
+                Ok(Outcome::Number(as_number(entries)))
+            }
+            Question::Base(o) => {
+                let text = base_text(self.heap, &self.guardian, o)?;
+                self.keep(text)
+            }
+            Question::Readers(o) => {
+                let text = readers_text(self.heap, &self.guardian, o)?;
+                self.keep(text)
+            }
+            Question::Versions(o) => {
+                let text = versions_text(self.heap, &self.guardian, o)?;
+                self.keep(text)
+            }
+            Question::Entry(at) => {
+                let text = entry_text(self.heap, &self.guardian, at)?;
+                self.keep(text)
+            }
+            Question::List(listing) => {
+                let text = listing_text(self.heap, &self.guardian, listing)?;
+                self.keep(Some(text))
+            }
+        }
+    }
+
+    fn may_read(&self, a: ActionId, o: ObjId) -> bool
+        ensures { result ≡ says_yes (reply_to self.now.journal (test_read a.0 o.0)) }
+    {
+        self.guardian.can_read(a, o)
+    }
+
+    fn may_write(&self, a: ActionId, o: ObjId) -> bool
+        ensures { result ≡ says_yes (reply_to self.now.journal (test_write a.0 o.0)) }
+    {
+        self.guardian.can_write(a, o)
+    }
+
+    /// Keeps the text, where there is one.
+    fn keep(&mut self, text: Option<Vec<u8, Room>>) -> Result<Outcome, EmbedError>
+        ensures kept { IfOk result (λ outcome.
+            IsText (option_map (λ t. t.items) text) self.old self.new outcome) }
+        ensures none { IfErr result (λ e. (e ≡ NotThere) × (text ≡ None)) }
+        ensures err { OnErr result (self.new ≡ self.old) }
+    {
+        match text {
+            Some(text) => {
+                let _before = replace(&mut self.kept, Kept::Text(text));
+                Ok(Outcome::Text)
+            }
+            None => Err(EmbedError::NotThere),
+        }
+    }
+}
+
+/// How many actions were begun, where this is the newest.
+fn number_behind(newest: Option<ActionId>) -> i64
+    ensures { result ≡ actions_begun (action_number_of newest) }
+{
+    match newest {
+        Some(a) => i64::from(a.0) + 1,
+        None => 0,
+    }
+}

@@ -1,0 +1,10 @@
+-- How far apart entries stand.
+use Rattle.std.specs.Prelude.{ℕ}
+use Rattle.argus_frame.specs.declared.entry_spacing.EntrySpacing.{EntrySpacing}
+use Rattle.argus_frame.specs.declared.entry_spacing.EntrySpacing.TheVariants.{Wide, Middle, Narrow}
+
+-- how many pixels lie between two entries
+abbrev pub pixels_of : EntrySpacing → ℕ
+pixels_of Wide = 28
+pixels_of Middle = 12
+pixels_of Narrow = 4

@@ -1,0 +1,55 @@
+//! `EntrySpacing`: how far apart entries stand.
+
+ghost use Rattle.std.specs.Prelude.{◌≡◌, ◌≢◌, ◌*◌};
+ghost use Rattle.argus_frame.specs.EntrySpacing.{pixels_of};
+
+/// How far apart entries stand: the more there are, the closer.
+///
+/// | Step | Entries | Pixels between two |
+/// |---|---|---|
+/// | `Wide` | up to 64 | 28 |
+/// | `Middle` | up to 512 | 12 |
+/// | `Narrow` | more | 4 |
+///
+/// ```text
+/// assert!(rt; pixels(EntrySpacing::for_entries(65), 10) == 120);
+/// ```
+#[derive(Clone, Copy)]
+pub enum EntrySpacing {
+    Wide,
+    Middle,
+    Narrow,
+}
+
+impl EntrySpacing {
+    /// The one for so many entries.
+    pub fn for_entries(entries: u32) -> EntrySpacing {
+        match entries {
+            0..=64 => EntrySpacing::Wide,
+            65..=512 => EntrySpacing::Middle,
+            _ => EntrySpacing::Narrow,
+        }
+    }
+
+    /// Each so many entries have a number on the axis.
+    pub fn tick(self) -> u32
+        ensures { result ≢ 0 }
+    {
+        match self {
+            EntrySpacing::Wide => 1,
+            EntrySpacing::Middle => 10,
+            EntrySpacing::Narrow => 50,
+        }
+    }
+}
+
+/// How many pixels so many entries take.
+pub fn pixels(step: EntrySpacing, entries: u32) -> u64
+    ensures { result ≡ pixels_of step * entries }
+{
+    match step {
+        EntrySpacing::Wide => 28 * u64::from(entries),
+        EntrySpacing::Middle => 12 * u64::from(entries),
+        EntrySpacing::Narrow => 4 * u64::from(entries),
+    }
+}

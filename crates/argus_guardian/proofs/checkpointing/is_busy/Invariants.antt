@@ -1,7 +1,0 @@
--- None of those so far is live.
-use Rattle.std.proofs.Common.{false, ℕ, ◌<◌, ◌≡◌, ◌≤◌}
-use Rattle.argus_actions.specs.Rows.{is_live_at}
-use Rattle.argus_guardian.proofs.checkpointing.is_busy.Given as goal
-
-abbrev pub invariant-loop-a : goal.invariant-loop-a
-invariant-loop-a l = (x : ℕ) → l.first ≤ x → x < l.a → is_live_at l.tree.folded l.tree.rows x ≡ false

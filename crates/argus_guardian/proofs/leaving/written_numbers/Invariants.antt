@@ -1,8 +1,0 @@
--- What was found so far.
-use Rattle.std.proofs.Common.{take, ◌≡◌}
-use Rattle.argus_guardian.specs.Leaving.{written_in}
-use Rattle.argus_steps.specs.declared.atomic_object.AtomicObject.{AtomicObject}
-use Rattle.argus_guardian.proofs.leaving.written_numbers.Given as goal
-
-abbrev pub invariant-loop-o : goal.invariant-loop-o
-invariant-loop-o l = (d : AtomicObject) → l.numbers.items ≡ written_in l.a l.objects d (take l.o-index l.listed)

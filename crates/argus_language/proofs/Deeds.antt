@@ -1,0 +1,276 @@
+-- A line tells one deed: operations of queries and changes, taken back.
+use Rattle.std.proofs.Common.{◌≡◌, ℕ, List, [], ◌++◌, Option, Some, None, refl, sym, ◌∙◌, ap}
+use Rattle.std.specs.Option.{option_map}
+use Rattle.argus_contents.specs.Change.{PlainChange}
+use Rattle.argus_contents.specs.Change as change
+use Rattle.argus_contents.specs.Content.{PlainContent}
+use Rattle.argus_contents.specs.Value.{PlainValue}
+use Rattle.argus_contents.specs.declared.limits.TheConstants.{MAX_VALUE_DEPTH}
+use Rattle.argus_contents.specs.declared.query.Query.{Query}
+use Rattle.argus_contents.specs.declared.query.Query.TheVariants as query
+use Rattle.argus_texts.specs.Spelling.{Within, spelling}
+use Rattle.argus_texts.specs.ContentSpelling.{PartsWithin, content_spelling}
+use Rattle.argus_texts.proofs.Contents.{one_content}
+use Rattle.argus_texts.proofs.Forms.{one_form, value_ends}
+use Rattle.argus_language.specs.Operation.{AnyOperation, ArrayOperation, Operation, RecordOperation, VariantOperation}
+use Rattle.argus_language.specs.Operation.{of_any, of_record, of_array, of_variant}
+use Rattle.argus_language.specs.Operation as op
+use Rattle.argus_language.specs.PlainStep.{SimpleStep}
+use Rattle.argus_language.specs.PlainStep as part
+use Rattle.argus_language.specs.Spelled.{Sentence, change_words, query_words, sentence}
+use Rattle.argus_language.specs.Spelled as line
+use Rattle.argus_language.specs.Placement.{HasForm, IsReadable}
+
+-- the query that an operation is
+query-of : Operation ℕ → Option Query
+query-of (of_any (op.create t)) = None
+query-of (of_any op.read) = Some query.Whole
+query-of (of_any op.touch) = None
+query-of (of_record f op.get) = Some (query.Field f)
+query-of (of_record f (op.set t)) = None
+query-of (of_array op.low) = Some query.Low
+query-of (of_array op.high) = Some query.High
+query-of (of_array op.size) = Some query.Size
+query-of (of_array op.bottom) = Some query.Bottom
+query-of (of_array op.top) = Some query.Top
+query-of (of_array (op.fetch i)) = Some (query.Fetch i)
+query-of (of_array (op.store i t)) = None
+query-of (of_array (op.addh t)) = None
+query-of (of_array (op.addl t)) = None
+query-of (of_array op.remh) = None
+query-of (of_array op.reml) = None
+query-of (of_array (op.set_low i)) = None
+query-of (of_array (op.trim i n)) = None
+query-of (of_variant t op.is_tag) = Some (query.IsTag t)
+query-of (of_variant t op.tag_value) = Some (query.TagValue t)
+query-of (of_variant t (op.change_tag v)) = None
+
+query-told : (q : Query) → query-of (query_words q) ≡ Some q
+unfolding query-of
+query-told query.Whole = refl
+query-told (query.Field f) = refl
+query-told query.Low = refl
+query-told query.High = refl
+query-told query.Size = refl
+query-told (query.Fetch i) = refl
+query-told query.Bottom = refl
+query-told query.Top = refl
+query-told (query.IsTag t) = refl
+query-told (query.TagValue t) = refl
+
+change-no-query : (c : PlainChange) → query-of (change_words c) ≡ None
+unfolding query-of
+change-no-query (change.create c) = refl
+change-no-query (change.set_field f v) = refl
+change-no-query (change.store i v) = refl
+change-no-query (change.addh v) = refl
+change-no-query (change.addl v) = refl
+change-no-query change.remh = refl
+change-no-query change.reml = refl
+change-no-query (change.set_low i) = refl
+change-no-query (change.trim i n) = refl
+change-no-query (change.change_tag t v) = refl
+change-no-query change.touch = refl
+
+-- the value of a change, and its content
+value-of : PlainChange → Option PlainValue
+value-of (change.create c) = None
+value-of (change.set_field f v) = Some v
+value-of (change.store i v) = Some v
+value-of (change.addh v) = Some v
+value-of (change.addl v) = Some v
+value-of change.remh = None
+value-of change.reml = None
+value-of (change.set_low i) = None
+value-of (change.trim i n) = None
+value-of (change.change_tag t v) = Some v
+value-of change.touch = None
+
+content-of : PlainChange → Option PlainContent
+content-of (change.create c) = Some c
+content-of (change.set_field f v) = None
+content-of (change.store i v) = None
+content-of (change.addh v) = None
+content-of (change.addl v) = None
+content-of change.remh = None
+content-of change.reml = None
+content-of (change.set_low i) = None
+content-of (change.trim i n) = None
+content-of (change.change_tag t v) = None
+content-of change.touch = None
+
+-- the text of a value in an operation, and of a content
+value-text : Operation ℕ → Option (List ℕ)
+value-text (of_any o) = None
+value-text (of_record f op.get) = None
+value-text (of_record f (op.set t)) = Some t
+value-text (of_array op.low) = None
+value-text (of_array op.high) = None
+value-text (of_array op.size) = None
+value-text (of_array op.bottom) = None
+value-text (of_array op.top) = None
+value-text (of_array (op.fetch i)) = None
+value-text (of_array (op.store i t)) = Some t
+value-text (of_array (op.addh t)) = Some t
+value-text (of_array (op.addl t)) = Some t
+value-text (of_array op.remh) = None
+value-text (of_array op.reml) = None
+value-text (of_array (op.set_low i)) = None
+value-text (of_array (op.trim i n)) = None
+value-text (of_variant t op.is_tag) = None
+value-text (of_variant t op.tag_value) = None
+value-text (of_variant t (op.change_tag v)) = Some v
+
+content-text : Operation ℕ → Option (List ℕ)
+content-text (of_any (op.create t)) = Some t
+content-text (of_any op.read) = None
+content-text (of_any op.touch) = None
+content-text (of_record f o) = None
+content-text (of_array o) = None
+content-text (of_variant t o) = None
+
+-- the change of this operation, with the content or the value for its text
+rebuilt : Operation ℕ → Option PlainContent → Option PlainValue → Option PlainChange
+rebuilt (of_any (op.create t)) c v = option_map change.create c
+rebuilt (of_any op.read) c v = None
+rebuilt (of_any op.touch) c v = Some change.touch
+rebuilt (of_record f op.get) c v = None
+rebuilt (of_record f (op.set t)) c v = option_map (change.set_field f) v
+rebuilt (of_array op.low) c v = None
+rebuilt (of_array op.high) c v = None
+rebuilt (of_array op.size) c v = None
+rebuilt (of_array op.bottom) c v = None
+rebuilt (of_array op.top) c v = None
+rebuilt (of_array (op.fetch i)) c v = None
+rebuilt (of_array (op.store i t)) c v = option_map (change.store i) v
+rebuilt (of_array (op.addh t)) c v = option_map change.addh v
+rebuilt (of_array (op.addl t)) c v = option_map change.addl v
+rebuilt (of_array op.remh) c v = Some change.remh
+rebuilt (of_array op.reml) c v = Some change.reml
+rebuilt (of_array (op.set_low i)) c v = Some (change.set_low i)
+rebuilt (of_array (op.trim i n)) c v = Some (change.trim i n)
+rebuilt (of_variant t op.is_tag) c v = None
+rebuilt (of_variant t op.tag_value) c v = None
+rebuilt (of_variant t (op.change_tag x)) c v = option_map (change.change_tag t) v
+
+-- what a change's words tell
+record Told (c : PlainChange) : Type 0 where
+  same : rebuilt (change_words c) (content-of c) (value-of c) ≡ Some c
+  value : value-text (change_words c) ≡ option_map spelling (value-of c)
+  content : content-text (change_words c) ≡ option_map content_spelling (content-of c)
+
+change-told : (c : PlainChange) → Told c
+unfolding rebuilt value-of content-of value-text content-text
+change-told (change.create c) = record { same = refl; value = refl; content = refl }
+change-told (change.set_field f v) = record { same = refl; value = refl; content = refl }
+change-told (change.store i v) = record { same = refl; value = refl; content = refl }
+change-told (change.addh v) = record { same = refl; value = refl; content = refl }
+change-told (change.addl v) = record { same = refl; value = refl; content = refl }
+change-told change.remh = record { same = refl; value = refl; content = refl }
+change-told change.reml = record { same = refl; value = refl; content = refl }
+change-told (change.set_low i) = record { same = refl; value = refl; content = refl }
+change-told (change.trim i n) = record { same = refl; value = refl; content = refl }
+change-told (change.change_tag t v) = record { same = refl; value = refl; content = refl }
+change-told change.touch = record { same = refl; value = refl; content = refl }
+
+-- P holds of what is there
+Holds : {A : Type 0} → (A → Type 0) → Option A → Type 0
+Holds P None = Unit {0}
+Holds P (Some x) = P x
+
+readable-value : (c : PlainChange) → IsReadable c → Holds (Within MAX_VALUE_DEPTH) (value-of c)
+unfolding Holds value-of
+readable-value (change.create c) h = tt
+readable-value (change.set_field f v) h = h
+readable-value (change.store i v) h = h
+readable-value (change.addh v) h = h
+readable-value (change.addl v) h = h
+readable-value change.remh h = tt
+readable-value change.reml h = tt
+readable-value (change.set_low i) h = tt
+readable-value (change.trim i n) h = tt
+readable-value (change.change_tag t v) h = h
+readable-value change.touch h = tt
+
+readable-content : (c : PlainChange) → IsReadable c → Holds (PartsWithin MAX_VALUE_DEPTH) (content-of c)
+unfolding Holds content-of
+readable-content (change.create c) h = h
+readable-content (change.set_field f v) h = tt
+readable-content (change.store i v) h = tt
+readable-content (change.addh v) h = tt
+readable-content (change.addl v) h = tt
+readable-content change.remh h = tt
+readable-content change.reml h = tt
+readable-content (change.set_low i) h = tt
+readable-content (change.trim i n) h = tt
+readable-content (change.change_tag t v) h = tt
+readable-content change.touch h = tt
+
+-- each has one text
+one-of : {A : Type 0} (P : A → Type 0) (text : A → List ℕ)
+    → ((x y : A) → P x → P y → text x ≡ text y → x ≡ y) → (o q : Option A) → Holds P o → Holds P q
+    → option_map text o ≡ option_map text q → o ≡ q
+unfolding Holds
+one-of P text told None None h k e = refl
+one-of P text told (Some x) (Some y) h k e = ap Some (told x y h k cc)
+one-of P text told None (Some y) h k e = absurd (cc)
+one-of P text told (Some x) None h k e = absurd (cc)
+
+one-value : (v w : PlainValue) → Within MAX_VALUE_DEPTH v → Within MAX_VALUE_DEPTH w → spelling v ≡ spelling w → v ≡ w
+one-value v w h k e = (one_form MAX_VALUE_DEPTH v w [] [] h k (value_ends v [] tt) (value_ends w [] tt)
+    (ap (λ x. x ++ []) e)).0
+
+one-content-told : (v w : PlainContent) → PartsWithin MAX_VALUE_DEPTH v → PartsWithin MAX_VALUE_DEPTH w
+    → content_spelling v ≡ content_spelling w → v ≡ w
+one-content-told v w h k e = (one_content MAX_VALUE_DEPTH v w [] [] h k (ap (λ x. x ++ []) e)).0
+
+one-change : (c d : PlainChange) → IsReadable c → IsReadable d → change_words c ≡ change_words d → c ≡ d
+one-change c d h k e =
+    let C = change-told c in
+    let D = change-told d in
+    let values : value-of c ≡ value-of d = one-of (Within MAX_VALUE_DEPTH) spelling one-value (value-of c) (value-of d)
+    (readable-value c h) (readable-value d k) (sym C.value ∙ ap value-text e ∙ D.value) in
+    let contents : content-of c ≡ content-of d =
+    one-of (PartsWithin MAX_VALUE_DEPTH) content_spelling one-content-told (content-of c) (content-of d)
+    (readable-content c h) (readable-content d k) (sym C.content ∙ ap content-text e ∙ D.content) in
+    let same : Some c ≡ Some d = sym C.same ∙ ap (λ o. rebuilt o (content-of c) (value-of c)) e
+    ∙ ap (λ x. rebuilt (change_words d) x (value-of c)) contents
+    ∙ ap (λ x. rebuilt (change_words d) (content-of d) x) values ∙ D.same in
+    cc
+
+one-query : (q r : Query) → query_words q ≡ query_words r → q ≡ r
+one-query q r e =
+    let same : Some q ≡ Some r = sym (query-told q) ∙ ap query-of e ∙ query-told r in
+    cc
+
+apart : (q : Query) (c : PlainChange) → query_words q ≡ change_words c → ⊥
+apart q c e =
+    let same : Some q ≡ None = sym (query-told q) ∙ ap query-of e ∙ change-no-query c in
+    cc
+
+access-number : (x y : ℕ) (o p : Operation ℕ) → line.access x o ≡ line.access y p → x ≡ y
+access-number x y o p e = cc
+
+access-operation : (x y : ℕ) (o p : Operation ℕ) → line.access x o ≡ line.access y p → o ≡ p
+access-operation x y o p e = cc
+
+-- a line tells one deed
+pub one-deed : (d e : SimpleStep) → HasForm d → HasForm e → sentence d ≡ sentence e → d ≡ e
+one-deed part.declare part.declare h k e = refl
+one-deed part.leave part.leave h k e = refl
+one-deed part.abort_leave part.abort_leave h k e = refl
+one-deed part.leave_all part.leave_all h k e = refl
+one-deed (part.ask x q) (part.ask y r) h k e = λ j. part.ask (access-number x y _ _ e j)
+    (one-query q r (access-operation x y (query_words q) (query_words r) e) j)
+one-deed (part.alter x c) (part.alter y d) h k e = λ j. part.alter (access-number x y _ _ e j)
+    (one-change c d h k (access-operation x y (change_words c) (change_words d) e) j)
+one-deed (part.ask x q) (part.alter y d) h k e =
+    absurd (apart q d (access-operation x y (query_words q) (change_words d) e))
+one-deed (part.alter x c) (part.ask y r) h k e =
+    absurd (apart r c (access-operation y x (query_words r) (change_words c) (sym e)))
+one-deed part.declare d h k e = absurd (cc)
+one-deed part.leave d h k e = absurd (cc)
+one-deed part.abort_leave d h k e = absurd (cc)
+one-deed part.leave_all d h k e = absurd (cc)
+one-deed (part.ask x q) d h k e = absurd (cc)
+one-deed (part.alter x c) d h k e = absurd (cc)

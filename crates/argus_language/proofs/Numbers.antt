@@ -1,0 +1,86 @@
+-- What a line tells of objects it tells of more of them, too.
+use Rattle.std.proofs.Common.{◌≡◌, ℕ, cond, List, ◌++◌, slice_get, Option, Some, None, is_some}
+use Rattle.std.proofs.Common.{refl, sym, ◌∙◌, ap, arith, length-append}
+use Rattle.std.proofs.Math.ListN.{get_or-append}
+use Rattle.std.proofs.lemmas.Option.{slice_get_within, slice_get-get_or}
+use Rattle.std.specs.Option.{option_and_then, option_map}
+use Rattle.std.specs.Str.{bytes_eq}
+use Rattle.argus_contents.specs.Shape.{PlainShape}
+use Rattle.argus_language.specs.Command.{Command, command_of}
+use Rattle.argus_language.specs.Command as c
+use Rattle.argus_language.specs.Fault.{access_fault, name_fault}
+use Rattle.argus_language.specs.Lines.{line_text}
+use Rattle.argus_language.specs.Numbered.{access_to, numbered, numbered_in, one_or_none, sentences_of}
+use Rattle.argus_language.specs.Objects.{PlainObjects, number_of, shape_at, with_more}
+use Rattle.argus_language.specs.Operation.{Operation}
+use Rattle.argus_language.specs.Spelled.{Sentence}
+use Rattle.argus_language.specs.Spelled as sentence
+use Rattle.argus_language.specs.declared.fault_kind.FaultKind.TheVariants as kind
+use Rattle.argus_language.specs.declared.block_kind.BlockKind.TheVariants as opening
+use Rattle.argus_language.proofs.Naming.{position-kept}
+
+get-kept : {X : Type 0} (xs ys : List X) (i : ℕ) (x : X) → slice_get xs i ≡ Some x → slice_get (xs ++ ys) i ≡ Some x
+get-kept xs ys i x e =
+    let within = slice_get_within xs i x e in
+    slice_get-get_or (xs ++ ys) i x (omega (arith, length-append xs ys))
+    ∙ ap Some (get_or-append xs ys x i within) ∙ sym (slice_get-get_or xs i x within) ∙ e
+
+-- a name that was found
+record Found (o : Option ℕ) : Type 0 where
+  number : ℕ
+  is : o ≡ Some number
+
+found : (o : Option ℕ) → cond (is_some o) None (Some kind.UnknownName) ≡ None → Found o
+found (Some x) e = record { number = x; is = refl }
+found None e = absurd (cc)
+
+-- an object that was found
+record Shaped (os : PlainObjects) (o : Option ℕ) : Type 0 where
+  number : ℕ
+  shape : PlainShape
+  is : o ≡ Some number
+  shape-is : shape_at os number ≡ Some shape
+
+with-shape : (os : PlainObjects) (x : ℕ) (op : Operation (List ℕ)) (s : Option PlainShape) → shape_at os x ≡ s
+    → access_fault op s ≡ None → Shaped os (Some x)
+with-shape os x op (Some s) h e = record { number = x; shape = s; is = refl; shape-is = h }
+with-shape os x op None h e = absurd (cc)
+
+shaped : (os : PlainObjects) (op : Operation (List ℕ)) (o : Option ℕ)
+    → access_fault op (option_and_then (shape_at os) o) ≡ None → Shaped os o
+shaped os op (Some x) e = with-shape os x op (shape_at os x) refl e
+shaped os op None e = absurd (cc)
+
+module _ (os more : PlainObjects) where
+  number-kept : (name : List ℕ) (x : ℕ) → number_of name os ≡ Some x → number_of name (with_more os more) ≡ Some x
+  number-kept name x e = position-kept (λ n. bytes_eq name n) os.names more.names x e
+
+  access-kept : (op : Operation (List ℕ)) (name : List ℕ) → Shaped os (number_of name os)
+      → numbered (with_more os more) (c.access name op) ≡ numbered os (c.access name op)
+  access-kept op name h =
+      let f : Option PlainShape → Option Sentence =
+      λ o. option_and_then (λ s. option_map (sentence.access h.number) (numbered_in s op)) o in
+      ap (option_and_then (access_to (with_more os more) op)) (number-kept name h.number h.is)
+      ∙ ap f (get-kept os.shapes more.shapes h.number h.shape h.shape-is)
+      ∙ sym (ap (option_and_then (access_to os op)) h.is ∙ ap f h.shape-is)
+
+  numbered-grows : (x : Command) → name_fault x os ≡ None → numbered (with_more os more) x ≡ numbered os x
+  numbered-grows (c.test l name) e =
+      let h = found (number_of name os) e in
+      let f : Option ℕ → Option Sentence = option_map (λ x. sentence.begin (opening.If l x)) in
+      ap f (number-kept name h.number h.is) ∙ sym (ap f h.is)
+  numbered-grows (c.access name op) e = access-kept op name (shaped os op (number_of name os) e)
+  numbered-grows c.nothing e = refl
+  numbered-grows c.bad e = refl
+  numbered-grows (c.declare name shape) e = refl
+  numbered-grows (c.enter k) e = refl
+  numbered-grows c.coenter e = refl
+  numbered-grows (c.arm k) e = refl
+  numbered-grows c.leave e = refl
+  numbered-grows c.abort_leave e = refl
+  numbered-grows c.leave_all e = refl
+  numbered-grows c.«end» e = refl
+
+  pub told-grows : (line : List ℕ) → name_fault (command_of (line_text line)) os ≡ None
+      → sentences_of (with_more os more) line ≡ sentences_of os line
+  told-grows line e = ap one_or_none (numbered-grows (command_of (line_text line)) e)

@@ -1,0 +1,17 @@
+pub mod Command
+pub mod Fault
+pub mod Fields
+pub mod Int
+pub mod Laws
+pub mod Levels
+pub mod Lines
+pub mod Numbered
+pub mod Objects
+pub mod Operation
+pub mod PlainStep
+pub mod Parsed
+pub mod Reading
+pub mod PlainLine
+pub mod Script
+pub mod Spelled
+pub mod Placement

@@ -1,2 +1,0 @@
-pub mod TreeWords
-pub mod CellWords

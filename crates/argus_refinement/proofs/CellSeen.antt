@@ -1,0 +1,147 @@
+-- What an action that may read sees in a cell is what it sees in the history, and the write lock is free in both or in
+-- neither.
+use Rattle.std.proofs.Common.{Bool, List, None, Option, Some, [], ap, arith, false, inl, inr, refl, subst, sym}
+use Rattle.std.proofs.Common.{true, ℕ, ◌+◌, ◌-◌, ◌∙◌, ◌∷◌, ◌≡◌, ◌≢◌, eqb, ⊎_elim}
+use Rattle.std.specs.List.{list_all}
+use Rattle.std.specs.Prelude.{not, ◌&&◌}
+use Rattle.std.proofs.lemmas.Bool.{and_parts, both_ways, cases_eq, eq-eqb, eqb-true, or_cases, or_left}
+use Rattle.std.proofs.lemmas.Bool.{or_right}
+use Rattle.argus_actions.specs.Tree.{Tree, is_ancestor}
+use Rattle.argus_actions.specs.declared.action_id.ActionId.{ActionId}
+use Rattle.argus_entries.specs.Entry.{PlainEntry}
+use Rattle.argus_refinement.specs.CellRefinement.{AreSeen, IsCell, history_numbers}
+use Rattle.argus_refinement.specs.TreeRefinement.{IsTree}
+use Rattle.argus_refinement.proofs.CellHolders.{above, may_read_is, orderly, reader_live, version_live}
+use Rattle.argus_refinement.proofs.TreeAnswers.{ancestor_begun_is}
+use Rattle.argus_model.proofs.Siblings.{live_begun}
+use Rattle.argus_refinement.proofs.CellLists.{all_at}
+use Rattle.argus_journal.specs.Entries.{entries}
+use Rattle.argus_journal.specs.Opening.{Opening, model_opening}
+use Rattle.argus_model.specs.Ancestors as model
+use Rattle.argus_model.specs.Contents.{sees}
+use Rattle.argus_model.specs.History.{History}
+use Rattle.argus_model.specs.HolderSteps.{has_used}
+use Rattle.argus_model.specs.Holders as holders_of
+use Rattle.argus_model.specs.Holders.{readers, writers}
+use Rattle.argus_model.specs.Lawful.{Lawful}
+use Rattle.argus_model.specs.Numbers.{contains}
+use Rattle.argus_model.specs.OwnerSteps.{is_exactly, owner_by_steps}
+use Rattle.argus_model.specs.Status.{is_live}
+use Rattle.argus_model.specs.WorkSteps.{owner_passes}
+use Rattle.argus_model.proofs.Ancestors.{ancestor_self}
+use Rattle.argus_model.proofs.Contents.{accesses_by_agree}
+use Rattle.argus_model.proofs.Holders.{contains_holders}
+use Rattle.argus_model.proofs.HolderSteps.{used_by_from}
+use Rattle.argus_model.proofs.NextHolders.{no_base_holder}
+use Rattle.argus_model.proofs.NextSees.{sees_base}
+use Rattle.argus_model.proofs.Numbers.{contains_first, every_at}
+use Rattle.argus_model.proofs.Owner.{base_above}
+use Rattle.argus_model.proofs.Sees.{sees_is}
+use Rattle.argus_model.proofs.Standing.{Orderly, some_at}
+use Rattle.argus_objects.specs.CellChanges.{has_version, newest_content}
+use Rattle.argus_objects.specs.Object.{Object, PlainVersion, holders}
+use Rattle.argus_objects.specs.Rules.{all_above, is_chain, is_related, is_strictly_above, may_read}
+use Rattle.argus_objects.specs.Rules.{may_write, visible_content}
+use Rattle.argus_objects.proofs.Changes.{seen_on_top}
+
+-- who stand under the same writers see the same
+pub sees_same : (s : Opening) (h : History PlainEntry) → Orderly h → (x y o : ℕ)
+    → ((z : ℕ) → contains (writers entries h o) z ≡ true → model.is_ancestor h z x ≡ model.is_ancestor h z y)
+    → sees entries (model_opening s) h x o ≡ sees entries (model_opening s) h y o
+sees_same s h w x y o f =
+    sees_is entries (model_opening s) h w x o
+    ∙ accesses_by_agree entries (model_opening s).contents o (λ b. owner_passes (λ z. model.is_ancestor h z x)
+    (owner_by_steps h b)) (λ b. owner_passes (λ z. model.is_ancestor h z y) (owner_by_steps h b)) h
+    (λ b u. at b u (owner_by_steps h b) refl)
+    ∙ sym (sees_is entries (model_opening s) h w y o)
+  where
+    at : (b : ℕ) → has_used entries.writes h b o false ≡ true → (q : Option ℕ) → owner_by_steps h b ≡ q
+        → owner_passes (λ z. model.is_ancestor h z x) q ≡ owner_passes (λ z. model.is_ancestor h z y) q
+    at b u None e = refl
+    at b u (Some z) e =
+        elim (cases_eq z 0) [
+          | inl i ↦ ap (λ n. model.is_ancestor h n x) i ∙ base_above h x
+              ∙ sym (ap (λ n. model.is_ancestor h n y) i ∙ base_above h y)
+          | inr n ↦ f z (contains_holders entries.writes h w o z n
+              ∙ used_by_from entries.writes (λ c. is_exactly (owner_by_steps h c) z) o false h b u
+              (some_at (owner_by_steps h b) z e))
+        ]
+
+module _ (s : Opening) (h : History PlainEntry) (l : Lawful entries (model_opening s) h) (t : Tree) (is : IsTree t h)
+    (o : ℕ)
+    (c : Object) (k : IsCell s h t o c) (a : ActionId) (la : is_live h (a.0 + 1) ≡ true) where
+  -- a writer as an action
+  writer_of : (z : ℕ) → contains (writers entries h o) z ≡ true
+      → (y : ActionId) × ((y.0 + 1 ≡ z) × (has_version y c.versions ≡ true))
+  writer_of z e =
+      let n : z ≢ 0 = λ i. both_ways (contains (writers entries h o) 0) (no_base_holder entries.writes h o)
+      (subst (λ z. contains (writers entries h o) z ≡ true) i e) in
+      let y : ActionId = record { 0 = z - 1 } in
+      let same : y.0 + 1 ≡ z = omega arith in
+      (y, (same, k.writers y ∙ ap (contains (writers entries h o)) same ∙ e))
+
+  on_top : (vs : List PlainVersion) → c.versions ≡ vs → holders_of.may_read entries h (a.0 + 1) o ≡ true
+      → newest_content c.base vs ≡ sees entries (model_opening s) h (a.0 + 1) o
+  on_top [] e may =
+      k.base ∙ sym (sees_base entries (model_opening s) h (orderly s h l) o)
+      ∙ sees_same s h (orderly s h l) 0 (a.0 + 1) o (λ z i. let y = writer_of z i in
+      absurd (both_ways (has_version y.0 c.versions) (ap (has_version y.0) e) y.1.1))
+  on_top (v ∷ older) e may =
+      let seen : AreSeen s h o (v ∷ older) = subst (AreSeen s h o) e k.seen in
+      let there : has_version v.holder c.versions ≡ true = ap (has_version v.holder) e
+      ∙ or_left (eqb v.holder.0 v.holder.0) (has_version v.holder older) (eq-eqb v.holder.0 v.holder.0 refl) in
+      seen.0
+      ∙ sees_same s h (orderly s h l) (v.holder.0 + 1) (a.0 + 1) o
+      (λ z i.
+      let y = writer_of z i in
+      let y_at : has_version y.0 (v ∷ older) ≡ true = sym (ap (has_version y.0) e) ∙ y.1.1 in
+      let up : model.is_ancestor h z (v.holder.0 + 1) ≡ true =
+      subst (λ n. model.is_ancestor h n (v.holder.0 + 1) ≡ true) y.1.0
+      (⊎_elim
+      (λ q. subst (λ n. model.is_ancestor h (n + 1) (v.holder.0 + 1) ≡ true) (eqb-true v.holder.0 y.0.0 q)
+      (ancestor_self h (v.holder.0 + 1)))
+      (λ q.
+      let chain : is_chain t (holders (v ∷ older)) ≡ true = sym (ap (λ vs. is_chain t (holders vs)) e)
+      ∙ (and_parts (is_chain t (holders c.versions)) (list_all (is_related t (holders c.versions)) c.readers)
+      k.lawful).0 in
+      let all : list_all (λ x. is_strictly_above t x v.holder) (holders older) ≡ true =
+      (and_parts (list_all (λ x. is_strictly_above t x v.holder) (holders older)) (is_chain t (holders older))
+      chain).0 in
+      let higher : is_ancestor t y.0.0 v.holder.0 ≡ true =
+      (and_parts (is_ancestor t y.0.0 v.holder.0) (not (eqb y.0.0 v.holder.0))
+      (all_at (λ n. is_ancestor t n v.holder.0 && not (eqb n v.holder.0)) older y.0 all q)).0 in
+      sym (above s h l t is o c k y.0 v.holder y.1.1 (version_live s h l t is o c k v.holder there)) ∙ higher)
+      (or_cases (eqb v.holder.0 y.0.0) (has_version y.0 older) y_at)) in
+      up ∙ sym (every_at (λ x. model.is_ancestor h x (a.0 + 1)) (writers entries h o) z may i))
+
+  pub visible_is : may_read t c a ≡ true → visible_content t a c.base c.versions ≡ sees entries (model_opening s) h
+      (a.0 + 1) o
+  visible_is may = sym (seen_on_top t a c.base c.versions may)
+      ∙ on_top c.versions refl (sym (may_read_is s h l t is o c k a la) ∙ may)
+
+  all_readers : (rs : List ActionId) → ((x : ActionId) → contains (history_numbers rs) (x.0 + 1) ≡ true
+      → is_live h (x.0 + 1) ≡ true) → list_all (λ x. is_ancestor t x.0 a.0) rs
+      ≡ list_all (λ x. model.is_ancestor h x (a.0 + 1)) (history_numbers rs)
+  all_readers [] f = refl
+  all_readers (x ∷ rs) f =
+      ap (λ b. b && list_all (λ x. is_ancestor t x.0 a.0) rs)
+      (ancestor_begun_is t h is (orderly s h l) x.0 a.0 (live_begun h (x.0 + 1)
+      (f x (contains_first (x.0 + 1) (history_numbers rs)))) (live_begun h (a.0 + 1) la))
+      ∙ ap (λ b. model.is_ancestor h (x.0 + 1) (a.0 + 1) && b)
+      (all_readers rs (λ y i. f y (or_right (eqb (y.0 + 1) (x.0 + 1)) (contains (history_numbers rs) (y.0 + 1)) i)))
+
+  and_turn : (a b : Bool) → (a && b) ≡ (b && a)
+  and_turn true true = refl
+  and_turn true false = refl
+  and_turn false true = refl
+  and_turn false false = refl
+
+  pub may_write_is : may_write t c a ≡ holders_of.may_write entries h (a.0 + 1) o
+  may_write_is =
+      ap (λ b. b && all_above t a c.readers) (may_read_is s h l t is o c k a la)
+      ∙ ap (λ b. holders_of.may_read entries h (a.0 + 1) o && b)
+      (all_readers c.readers (λ x i. reader_live s h l o (x.0 + 1)
+      (sym (ap (λ rs. contains rs (x.0 + 1)) k.readers) ∙ i))
+      ∙ ap (list_all (λ x. model.is_ancestor h x (a.0 + 1))) k.readers)
+      ∙ and_turn (holders_of.may_read entries h (a.0 + 1) o)
+      (list_all (λ x. model.is_ancestor h x (a.0 + 1)) (readers entries h o))

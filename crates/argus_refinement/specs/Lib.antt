@@ -1,0 +1,2 @@
+pub mod TreeRefinement
+pub mod CellRefinement

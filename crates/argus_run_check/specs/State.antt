@@ -1,0 +1,16 @@
+-- What a teller stands for.
+use Rattle.std.specs.Prelude.{map}
+use Rattle.argus_receipts.specs.Receipt.{plain_receipt}
+use Rattle.argus_run_check.specs.RunCheck.{CheckState}
+use Rattle.argus_run_check.specs.declared.receipt_caller.ReceiptCaller.{ReceiptCaller}
+
+-- what a teller has seen
+abbrev pub check_state_of : ReceiptCaller → CheckState
+check_state_of t = record {
+  left = map plain_receipt t.left.now;
+  calls = t.calls.items;
+  arm = t.arm;
+  ended = t.ended;
+  coenters = t.coenters;
+  outcomes = t.outcomes.items;
+}

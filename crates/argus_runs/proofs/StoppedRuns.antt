@@ -1,0 +1,84 @@
+-- Where a run stops before its end, its state is a beginning of what the run comes to.
+use Rattle.std.proofs.Common.{◌≡◌, ℕ, suc, Bool, true, ◌<◌, List, ◌∷◌, ◌++◌, length, get_or, drop, Option, None, Result}
+use Rattle.std.proofs.Common.{Ok, Err, OnErr, sym, ◌∙◌, ap, drop-cons}
+use Rattle.argus_actions.specs.declared.action_id.ActionId.{ActionId}
+use Rattle.argus_language.specs.PlainStep.{more, plain_step, plain_steps}
+use Rattle.argus_language.specs.declared.step.Step.{Step}
+use Rattle.argus_contents.specs.Shape.{PlainShape}
+use Rattle.argus_contents.specs.declared.obj_id.ObjId.{ObjId}
+use Rattle.argus_entries.specs.Call.{PlainCall}
+use Rattle.argus_entries.specs.Reply.{PlainReply}
+use Rattle.argus_runs.specs.RunOutcome.{RunOutcome, finished}
+use Rattle.argus_runs.specs.Running.{begin_all, begin_arm, run_arm, run_arms, run_step, run_steps, run_top, run_tops}
+use Rattle.argus_runs.specs.Running.{with_front}
+use Rattle.argus_runs.specs.RunPrefix.{IsRunPrefix}
+use Rattle.argus_runs.proofs.Growth.{ExtendingCalls, ArmRunner, arms_grow, begin_on, begin_on_grows, go_on, go_on_grows}
+use Rattle.argus_runs.proofs.Growth.{parts_grow}
+use Rattle.argus_runs.proofs.Growth.{tops_grow, within_then}
+
+pub on_err : {S X A E : Type 0} (r : Result A E) (k a : Bool) (is_prefix : S → S → Type 0) (s : S) (m : RunOutcome S X)
+    → (k ≡ true → a ≡ true → IsRunPrefix is_prefix s m) → OnErr r (k ≡ true → a ≡ true → IsRunPrefix is_prefix s m)
+on_err (Ok x) k a is_prefix s m p = tt
+on_err (Err e) k a is_prefix s m p = p
+
+item : {A : Type 0} (xs : List A) (i : ℕ) (x : A) → i < length xs → x ≡ get_or xs i x → drop i xs ≡ x ∷ drop (suc i) xs
+item xs i x b e = drop-cons xs i x b ∙ ap (λ y. y ∷ drop (suc i) xs) (sym e)
+
+module _ (S : Type 0) (is_prefix : S → S → Type 0) (reply : PlainCall → S → RunOutcome S PlainReply)
+    (arm_runner : ArmRunner S)
+    (l : ExtendingCalls S is_prefix reply arm_runner) where
+  pub begins_early : (arms : List Step) (i : ℕ) (x : Step) (fs : List (Option ActionId)) (w : Option ActionId) (s u t :
+      S)
+      → i < length arms → x ≡ get_or arms i x
+      → begin_all S reply arm_runner (plain_steps arms) w s ≡ with_front S reply arm_runner fs
+      (begin_all S reply arm_runner (plain_steps
+      (drop i arms)) w u)
+      → IsRunPrefix is_prefix t (begin_arm S reply arm_runner (plain_step x) w u)
+      → IsRunPrefix is_prefix t (begin_all S reply arm_runner (plain_steps arms) w s)
+  begins_early arms i x fs w s u t b e p q = let ps = plain_steps (drop (suc i) arms) in rw p (rw (item arms i x b e)
+      (within_then S is_prefix reply arm_runner l t (begin_all S reply arm_runner (more (plain_step x) ps) w u)
+      (λ bs v. finished (fs ++
+      bs) v)
+      (within_then S is_prefix reply arm_runner l t (begin_arm S reply arm_runner (plain_step x) w u)
+      (begin_on S is_prefix reply arm_runner l
+      ps w) q (begin_on_grows S is_prefix reply arm_runner l ps w))
+      (λ bs v. l.same v)))
+
+  pub steps_early : (ns : List ObjId) (steps : List Step) (i : ℕ) (x : Step) (w : Option ActionId) (s u t : S)
+      → i < length steps → x ≡ get_or steps i x
+      → run_steps S reply arm_runner ns (plain_steps steps) w s ≡ run_steps S reply arm_runner ns (plain_steps
+      (drop i steps)) w u
+      → IsRunPrefix is_prefix t (run_step S reply arm_runner ns (plain_step x) w u)
+      → IsRunPrefix is_prefix t (run_steps S reply arm_runner ns (plain_steps steps) w s)
+  steps_early ns steps i x w s u t b e p q = let ps = plain_steps (drop (suc i) steps) in rw p (rw (item steps i x b e)
+      (within_then S is_prefix reply arm_runner l t (run_step S reply arm_runner ns (plain_step x) w u)
+      (go_on S is_prefix reply arm_runner l
+      ns ps w) q
+      (go_on_grows S is_prefix reply arm_runner l ns ps w (parts_grow S is_prefix reply arm_runner l ns ps))))
+
+  pub tops_early : (shapes : List PlainShape) (ns : List ObjId) (steps : List Step) (i : ℕ) (x : Step) (m : RunOutcome S
+      (List ObjId)) (u t : S)
+      → i < length steps → x ≡ get_or steps i x → m ≡ run_tops S reply arm_runner shapes ns (plain_steps
+      (drop i steps)) u
+      → IsRunPrefix is_prefix t (run_top S reply arm_runner shapes ns (plain_step x) u) → IsRunPrefix is_prefix t m
+  tops_early shapes ns steps i x m u t b e p q = let ps = plain_steps (drop (suc i) steps) in rw p (rw (item steps i x
+      b e)
+      (within_then S is_prefix reply arm_runner l t (run_top S reply arm_runner shapes ns (plain_step x) u)
+      (λ now v. run_tops S reply
+      arm_runner shapes now ps v) q
+      (λ now v. tops_grow S is_prefix reply arm_runner l shapes now ps v)))
+
+  pub arms_early : (ns : List ObjId) (arms : List Step) (bs : List (Option ActionId)) (i : ℕ) (x : Step) (s u t : S)
+      → i < length arms → length bs ≡ length arms → x ≡ get_or arms i x
+      → run_arms S reply arm_runner ns (plain_steps arms) bs s ≡ run_arms S reply arm_runner ns (plain_steps
+      (drop i arms)) (drop i
+      bs) u
+      → IsRunPrefix is_prefix t (run_arm S reply arm_runner ns (plain_step x) (get_or bs i None) u)
+      → IsRunPrefix is_prefix t (run_arms S reply arm_runner ns (plain_steps arms) bs s)
+  arms_early ns arms bs i x s u t less len e p q = let ps = plain_steps (drop (suc i) arms) in
+      let m : i < length bs = rw len less in
+      rw p (rw (item arms i x less e) (rw (drop-cons bs i None m)
+      (within_then S is_prefix reply arm_runner l t (run_arm S reply arm_runner ns (plain_step x) (get_or bs i None) u)
+      (λ y v.
+      run_arms S reply arm_runner ns ps (drop (suc i) bs) v) q
+      (λ y v. arms_grow S is_prefix reply arm_runner l ns ps (drop (suc i) bs) v))))

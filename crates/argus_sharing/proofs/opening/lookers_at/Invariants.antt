@@ -1,7 +1,0 @@
--- So many places have been taken.
-use Rattle.std.proofs.Common.{length, ◌≡◌}
-use Rattle.std.specs.Prelude.{All}
-use Rattle.argus_sharing.proofs.opening.lookers_at.Given as goal
-
-abbrev pub invariant-loop-i : goal.invariant-loop-i
-invariant-loop-i g l = All (λ k. k ≡ g.N.Board.before) l.lookers.items × (length l.lookers.items ≡ l._i)

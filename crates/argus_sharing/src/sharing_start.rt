@@ -1,0 +1,102 @@
+//! What a sharing begins with: seats, lookers, and the contents of its board.
+
+ghost use Rattle.std.specs.Prelude.{◌<◌, ◌≡◌, [], All, IfOk, length};
+ghost use Rattle.argus_board.specs.Effects.{plain_contents};
+ghost use Rattle.argus_board.specs.Keeper.{StartsHistory};
+ghost use Rattle.argus_contents.specs.Content.{plain_option};
+ghost use Rattle.argus_journal.specs.Objects.{declared};
+ghost use Rattle.argus_journal.specs.Opening.{content_in};
+ghost use Rattle.argus_journal.specs.JournalFacts.{base_of};
+ghost use Rattle.argus_sharing.specs.Following.{journal_bases, journal_effects};
+
+use crate::seat::Seat;
+use crate::sharing::Sharing;
+use argus_board::{BoardWriter, Keeper, Looker};
+use argus_contents::{Content, ObjId};
+use argus_core::Guardian;
+use argus_memory::{Heap, OutOfMemory, Room};
+use std::sync::Wait;
+use std::sync::ledger::Share;
+
+/// So many seats, each with one part of the share.
+pub(crate) fn seats_over<N: Sharing>(
+    heap: Heap,
+    mut share: Share<N>,
+    count: u32,
+) -> Result<Vec<Seat<N>, Room>, OutOfMemory>
+    requires { (share.amount ≡ 0) × (share.parts ≡ count) }
+    ensures { IfOk result (λ seats. All (λ seat. seat.made ≡ 0) seats.items
+        × (length seats.items ≡ count)) }
+{
+    let mut seats = Vec::new(heap.room());
+    for _i in 0..count {
+        seats.push(Seat::over(share.split_off(1, 0)))?;
+    }
+    Ok(seats)
+}
+
+/// So many places at the board.
+pub(crate) fn lookers_at<N: Sharing, R: Wait + Drop>(
+    heap: Heap,
+    board: &BoardWriter<N, R>,
+    count: u32,
+) -> Result<Vec<Looker<N>, Room>, OutOfMemory>
+    ensures { IfOk result (λ lookers. All (λ looker. looker ≡ N.before) lookers.items
+        × (length lookers.items ≡ count)) }
+{
+    let mut lookers = Vec::new(heap.room());
+    for _i in 0..count {
+        lookers.push(board.looker()?)?;
+    }
+    Ok(lookers)
+}
+
+/// The board of a sharing, with what is in the guardian's objects for good.
+pub(crate) fn board_of<N: Sharing, R: Wait + Drop>(
+    rt: R,
+    heap: Heap,
+    guardian: &Guardian,
+    keeper: Keeper,
+    lookers: u32,
+) -> Result<BoardWriter<N, R>, OutOfMemory>
+    requires lookers { lookers < 4294967295 }
+    requires keeper { StartsHistory N.history N.root keeper }
+    requires before { N.before ≡ journal_effects guardian.now }
+    requires opening { N.opening_contents ≡ content_in guardian.now.opening.objects }
+    requires first { N.first ≡ journal_bases guardian.now }
+    ensures published { IfOk result (λ board. board.published ≡ N.before) }
+    ensures pending { IfOk result (λ board. board.pending ≡ []) }
+{
+    guardian.journal_is_legal();
+    guardian.contents_fit();
+    let bases = bases_of(heap, guardian)?;
+    BoardWriter::<N, R>::new(rt, heap, bases, keeper, lookers)
+}
+
+/// What is in the guardian's objects for good, in the order of their numbers.
+fn bases_of(heap: Heap, guardian: &Guardian) -> Result<Vec<Option<Content>, Room>, OutOfMemory>
+    ensures { IfOk result (λ bases. plain_contents bases.items ≡ journal_bases guardian.now) }
+{
+    let mut bases = Vec::with_capacity(heap.room(), guardian.objects() as usize)?;
+    for number in 0..guardian.objects() {
+        let base = duplicate_base(heap, guardian, ObjId(number))?;
+        bases.push(base)?;
+    }
+    Ok(bases)
+}
+
+/// What is in a declared object for good.
+fn duplicate_base(
+    heap: Heap,
+    guardian: &Guardian,
+    object: ObjId,
+) -> Result<Option<Content>, OutOfMemory>
+    requires { object.0 < declared guardian.now.opening guardian.now.entries }
+    ensures { IfOk result (λ base. plain_option base
+        ≡ base_of guardian.now.opening guardian.now.entries object.0) }
+{
+    match guardian.base(object) {
+        Some(base) => Content::duplicate_option(heap, base),
+        None => Ok(None),
+    }
+}

@@ -1,4 +1,0 @@
-pub mod Laws
-pub mod Order
-pub mod Shown
-pub mod State
