@@ -1,5 +1,5 @@
--- Names, types, shapes, values, contents, changes, queries and answers may cross to another thread, and be looked at
--- from there: as a set for `search`, `crosses`.
+-- Names, types, shapes, values, contents, changes, queries and answers, small ones too, may cross to another thread,
+-- and be looked at from there: as a set for `search`, `crosses`.
 use denote.Param.Send.{IsSend, IsSync, recorded_send, recorded_sync, sendable, struct_send, struct_sync}
 use denote.RattleType.{RattleType}
 use denote.Struct.Declared.{shape}
@@ -12,6 +12,7 @@ use Rattle.argus_contents.specs.contracts.content.Content.{the_field as content_
 use Rattle.argus_contents.specs.contracts.answer.Answer.{the_field as answer_field, the_row as answer_row}
 use Rattle.argus_contents.specs.contracts.change.Change.{the_field as change_field, the_row as change_row}
 use Rattle.argus_contents.specs.contracts.query.Query.{the_field as query_field, the_row as query_row}
+use Rattle.argus_contents.specs.contracts.small_answer.SmallAnswer.{the_field as small_field, the_row as small_row}
 use Rattle.argus_contents.specs.contracts.shape.Shape.{the_row as shape_row}
 use Rattle.argus_contents.specs.contracts.name.Name.{the_row as name_row}
 use Rattle.argus_contents.specs.contracts.ty.Ty.{the_row as ty_row, the_field as ty_field}
@@ -113,6 +114,18 @@ answer_sends = search (sendable, answer_field_sends)
 pub answer_syncs : IsSync answer_row
 answer_syncs = search (sendable, answer_field_syncs)
 
+pub small_field_sends : IsSend small_field.row
+small_field_sends = search (sendable) depth 40
+
+pub small_field_syncs : IsSync small_field.row
+small_field_syncs = search (sendable) depth 40
+
+pub small_sends : IsSend small_row
+small_sends = search (sendable, small_field_sends)
+
+pub small_syncs : IsSync small_row
+small_syncs = search (sendable, small_field_syncs)
+
 pub ruleset crosses = (
   memory.crosses,
   value_field_sends,
@@ -143,4 +156,8 @@ pub ruleset crosses = (
   answer_field_syncs,
   answer_sends,
   answer_syncs,
+  small_field_sends,
+  small_field_syncs,
+  small_sends,
+  small_syncs,
 )

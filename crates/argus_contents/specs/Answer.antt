@@ -28,3 +28,8 @@ plain_answer (answer.Signal s) = signal s
 abbrev pub value_or : Signal → Option PlainValue → PlainAnswer
 value_or s (Some v) = val v
 value_or s None = signal s
+
+-- done, unless there is a signal
+abbrev pub done_or : Option Signal → PlainAnswer
+done_or None = done
+done_or (Some s) = signal s

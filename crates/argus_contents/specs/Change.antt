@@ -3,11 +3,12 @@ use Rattle.std.specs.Prelude.{◌≡◌, ℕ, ℤ, Bool, pos, ◌+ℤ◌, ◌-�
 use Rattle.std.specs.Prelude.{nat_le, ◌||◌}
 use Rattle.std.specs.Prelude.{if◌then◌else◌, List, [], ◌∷◌, ◌++◌, length, take, drop, slice_get}
 use Rattle.std.specs.Prelude.{slice_set, Option}
-use Rattle.std.specs.Prelude.{Some, None}
+use Rattle.std.specs.Prelude.{Some, None, true, false}
 use Rattle.std.specs.Ordering.{int_eq}
 use Rattle.argus_contents.specs.Value.{PlainValue, plain_list, plain_value}
 use Rattle.argus_contents.specs.Content.{PlainContent, rec, arr, var, plain_content, KeepsLimits}
-use Rattle.argus_contents.specs.Answer.{PlainAnswer, done, plain_answer, val, signal, value_or}
+use Rattle.argus_contents.specs.Answer.{PlainAnswer, done, done_or, plain_answer, val, signal}
+use Rattle.argus_contents.specs.Answer.{value_or}
 use Rattle.argus_contents.specs.Place.{place_of, high_of}
 use Rattle.argus_contents.specs.declared.limits.TheConstants.{MIN_BOUND, MAX_BOUND, MAX_ITEMS}
 use Rattle.argus_contents.specs.declared.value.Value.{Value}
@@ -45,6 +46,20 @@ plain_change (change.SetLow i) = set_low i
 plain_change (change.Trim from count) = trim from count
 plain_change (change.ChangeTag t v) = change_tag t (plain_value v)
 plain_change change.Touch = touch
+
+-- a change may answer a value: one that removes an item
+abbrev pub gives_value : PlainChange → Bool
+gives_value (create c) = false
+gives_value (set_field i v) = false
+gives_value (store i v) = false
+gives_value (addh v) = false
+gives_value (addl v) = false
+gives_value remh = true
+gives_value reml = true
+gives_value (set_low i) = false
+gives_value (trim from count) = false
+gives_value (change_tag t v) = false
+gives_value touch = false
 
 -- the content after a change, and its answer
 abbrev pub Outcome : Type 0
@@ -123,6 +138,11 @@ abbrev pub Leaves : PlainChange → ℤ → List Value → ℤ → List Value �
 Leaves c low vs left_low left answer =
     (Some (arr left_low (plain_list left)), plain_answer answer)
     ≡ array_outcome c low (plain_list vs)
+
+-- the same, of a change that answers done or a signal
+abbrev pub LeavesOr : PlainChange → ℤ → List Value → ℤ → List Value → Option Signal → Type 0
+LeavesOr c low vs left_low left refusal =
+    (Some (arr left_low (plain_list left)), done_or refusal) ≡ array_outcome c low (plain_list vs)
 
 -- what a change does to a record
 abbrev pub record_outcome : PlainChange → List PlainValue → Outcome

@@ -25,6 +25,12 @@ abbrev pub plain_option : Option Content → Option PlainContent
 plain_option None = None
 plain_option (Some c) = Some (plain_content c)
 
+-- an array begins at this bound instead
+abbrev pub with_low : ℤ → PlainContent → PlainContent
+with_low bound (rec vs) = rec vs
+with_low bound (arr low vs) = arr bound vs
+with_low bound (var tag v) = var tag v
+
 -- an array with this low bound and so many items keeps the limits
 pub record KeepsBounds (low : ℤ) (size : ℕ) : Type 0 where
   pub from : MIN_BOUND ≤ℤ low

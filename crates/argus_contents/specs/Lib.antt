@@ -11,6 +11,7 @@ pub mod Shape
 pub mod ShapeCode
 pub mod ShapeKind
 pub mod ShapeView
+pub mod SmallAnswer
 pub mod Ty
 pub mod Typing
 pub mod Value

@@ -129,7 +129,8 @@ fn fetch(
     }
 }
 
-fn item_at(items: &VecDeque<Value, Room>, place: usize) -> Option<&Value>
+/// The item at a place, if there is one.
+pub(crate) fn item_at(items: &VecDeque<Value, Room>, place: usize) -> Option<&Value>
     ensures { plain_found result ≡ slice_get (plain_list items.now.items) place }
 {
     items.get(place)

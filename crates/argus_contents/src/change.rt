@@ -2,7 +2,7 @@
 
 ghost use Rattle.std.specs.Prelude.{◌≡◌, ◌↔◌, true, IfOk, None, OnErr, Some, length};
 ghost use Rattle.argus_contents.specs.Answer.{plain_answer};
-ghost use Rattle.argus_contents.specs.Change.{absent_outcome, Leaves, plain_change};
+ghost use Rattle.argus_contents.specs.Change.{absent_outcome, gives_value, Leaves, plain_change};
 ghost use Rattle.argus_contents.specs.Change.{record_outcome, variant_outcome};
 ghost use Rattle.argus_contents.specs.Content.{KeepsBounds, plain_option, rec, var};
 ghost use Rattle.argus_contents.specs.Decided.{said_equivalence, change_decided};
@@ -109,6 +109,30 @@ impl Change {
             Change::Trim(from, count) => Ok(Change::Trim(*from, *count)),
             Change::ChangeTag(tag, value) => Ok(Change::ChangeTag(*tag, value.duplicate(heap)?)),
             Change::Touch => Ok(Change::Touch),
+        }
+    }
+
+    /// Whether the change may answer a value: `Remh` and `Reml` alone. Every other answers `Done`
+    /// or a signal, and [`alter_by_reference`](crate::alter_by_reference) makes it.
+    ///
+    /// ```text
+    /// assert_eq!(rt; Change::Remh.gives_value(), true);
+    /// ```
+    #[inline(always)]
+    pub fn gives_value(&self) -> bool
+        ensures { result ≡ gives_value (plain_change self.now) }
+    {
+        match self {
+            Change::Remh | Change::Reml => true,
+            Change::Create(_)
+            | Change::SetField(_, _)
+            | Change::Store(_, _)
+            | Change::Addh(_)
+            | Change::Addl(_)
+            | Change::SetLow(_)
+            | Change::Trim(_, _)
+            | Change::ChangeTag(_, _)
+            | Change::Touch => false,
         }
     }
 

@@ -2,6 +2,7 @@
 #![tactic(auto)]
 
 mod altering;
+mod altering_by_reference;
 mod answer;
 mod answering;
 mod array;
@@ -20,11 +21,13 @@ mod shape_kind;
 mod shape_view;
 mod shaping;
 mod signal;
+mod small_answer;
 mod ty;
 mod typing;
 mod value;
 
 pub use altering::{alter, alter_copy, alter_in_place};
+pub use altering_by_reference::alter_by_reference;
 pub use answer::Answer;
 pub use answering::change_answer;
 pub use argus_memory::{Heap, OutOfMemory, Room};
@@ -39,6 +42,7 @@ pub use shape::Shape;
 pub use shape_fault::ShapeFault;
 pub use shape_view::ShapeView;
 pub use signal::Signal;
+pub use small_answer::{SmallAnswer, ask_small};
 pub use ty::Ty;
 pub use typing::{change_fits, fits, query_fits, typed};
 pub use value::Value;

@@ -18,9 +18,8 @@ use Rattle.argus_entries.specs.Entry.{PlainEntry}
 use Rattle.argus_entries.specs.Reply.{PlainReply, refused}
 use Rattle.argus_entries.specs.declared.refusal.Refusal.{Refusal}
 use Rattle.argus_entries.specs.declared.refusal.Refusal.TheVariants.{Conflict, IllTyped, NoObject}
-use Rattle.argus_core.specs.Accessing.{access_refusal, refused_at, seen_at}
+use Rattle.argus_core.specs.Accessing.{IsFree, access_refusal, refused_at, seen_at}
 use Rattle.argus_core.specs.GuardianState.{journal_view_of}
-use Rattle.argus_core.specs.Prepared.{IsFree}
 use Rattle.argus_core.specs.StateRefinement.{StateRefinesJournal}
 use Rattle.argus_core.specs.declared.engine.atomic_object.AtomicObject.{AtomicObject}
 use Rattle.argus_core.specs.declared.engine.guardian_state.GuardianState.{GuardianState}

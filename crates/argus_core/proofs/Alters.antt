@@ -1,5 +1,5 @@
 -- Changes, as the guardian refuses and grants them.
-use Rattle.std.proofs.Common.{None, ap, length, sym, ◌+◌, ◌∙◌, ◌≡◌}
+use Rattle.std.proofs.Common.{List, None, ap, length, refl, sym, ◌+◌, ◌∙◌, ◌∷◌, ◌≡◌}
 use Rattle.std.specs.Prelude.{slice_get}
 use Rattle.argus_actions.specs.declared.action_id.ActionId.{ActionId}
 use Rattle.argus_contents.specs.Fitting.{change_suits}
@@ -7,25 +7,29 @@ use Rattle.argus_contents.specs.Change.{PlainChange, outcome}
 use Rattle.argus_contents.specs.Answer.{PlainAnswer}
 use Rattle.argus_contents.specs.declared.obj_id.ObjId.{ObjId}
 use Rattle.argus_entries.specs.Call.{alter}
+use Rattle.argus_entries.specs.Entry.{PlainEntry}
 use Rattle.argus_entries.specs.Reply.{answered}
 use Rattle.argus_entries.specs.declared.refusal.Refusal.TheVariants.{Conflict, IllTyped}
-use Rattle.argus_core.specs.Accessing.{access_refusal, seen_at}
+use Rattle.argus_core.specs.Accessing.{IsAccessed, IsAltered, IsFree, access_refusal, seen_at}
+use Rattle.argus_core.specs.StateRefinement.{StateRefinesJournal}
 use Rattle.argus_core.specs.GuardianState.{StateInvariant, journal_view_of}
-use Rattle.argus_core.specs.Prepared.{IsFree}
 use Rattle.argus_core.specs.declared.engine.atomic_object.AtomicObject.{AtomicObject}
 use Rattle.argus_core.specs.declared.engine.guardian_state.GuardianState.{GuardianState}
 use Rattle.argus_core.proofs.Accesses.{IsAccess, access_free, access_granted, access_is, acts, count, seen_is}
 use Rattle.argus_core.proofs.Accesses.{writes_agree}
 use Rattle.argus_core.proofs.Ends.{some_object}
 use Rattle.argus_core.proofs.FreeLocks.{writer_reads}
+use Rattle.argus_core.proofs.MadeAccesses.{made_change}
 use Rattle.argus_journal.specs.Answers.{if_declared, if_free, suits, unless}
 use Rattle.argus_journal.specs.Entries.{entries}
 use Rattle.argus_journal.specs.Events.{history}
-use Rattle.argus_journal.specs.JournalView.{reply_to}
+use Rattle.argus_journal.specs.JournalView.{entry_with, reply_to}
 use Rattle.argus_journal.specs.LegalJournal.{entries_in, opening_in}
 use Rattle.argus_journal.specs.Objects.{shapes}
+use Rattle.argus_journal.specs.Opening.{Opening}
 use Rattle.argus_model.specs.Holders as model
 use Rattle.argus_objects.specs.Rules.{may_read, may_write}
+use Rattle.argus_objects.specs.declared.holdings.Holdings.{Holdings}
 
 module _ (p : GuardianState) (k : StateInvariant p) (a : ActionId) (o : ObjId) (change : PlainChange) where
   pub alters : IsAccess p a o (alter a.0 o.0 change) (λ shape. change_suits shape (length p.objects.items) change)
@@ -64,3 +68,21 @@ module _ (p : GuardianState) (k : StateInvariant p) (a : ActionId) (o : ObjId) (
         (acts p.tree p.objects.items p.holdings s j k a o.0 alter_free.accepted) d alter_free.low
         (alter_reads.opens d)))
         ∙ sym (access_granted alters e)
+
+    -- also where a journal says the same
+    pub alter_still : (x : PlainAnswer)
+        → ((d : AtomicObject) → x ≡ (outcome change (seen_at p.tree a p.objects.items o.0 d)).1)
+        → (s : Opening) (j : List PlainEntry) → s ≡ opening_in p.journal → j ≡ entries_in p.journal
+        → answered x ≡ reply_to (record { opening = s; entries = j }) (alter a.0 o.0 change)
+    alter_still x f s j same_opening same_entries = rw (same_opening, same_entries) (alter_told x f)
+
+    -- and once it is made, the parts are what the journal says that has the entry
+    pub alter_made : (x : PlainAnswer)
+        → ((d : AtomicObject) → x ≡ (outcome change (seen_at p.tree a p.objects.items o.0 d)).1)
+        → (objects' : List AtomicObject) (holdings' : Holdings)
+        → IsAccessed (IsAltered p.tree a change) a o p.objects.items objects' p.holdings holdings'
+        → StateRefinesJournal p.tree objects' holdings' (opening_in p.journal)
+        (entry_with (alter a.0 o.0 change) (answered x) ∷ entries_in p.journal)
+    alter_made x f objects' holdings' moved =
+        made_change p (entry_with (alter a.0 o.0 change) (answered x)) a o k objects' holdings' change
+        (alter_told x f) alter_free (record { event = refl; object = refl; write = refl }) (λ seen. refl) moved

@@ -1,5 +1,5 @@
 -- Queries, as the guardian refuses and grants them.
-use Rattle.std.proofs.Common.{None, ap, sym, ◌+◌, ◌∙◌, ◌≡◌}
+use Rattle.std.proofs.Common.{List, None, ap, refl, sym, ◌+◌, ◌∙◌, ◌∷◌, ◌≡◌}
 use Rattle.argus_actions.specs.declared.action_id.ActionId.{ActionId}
 use Rattle.argus_contents.specs.Fitting.{query_suits}
 use Rattle.argus_contents.specs.Query.{reply}
@@ -8,20 +8,23 @@ use Rattle.argus_contents.specs.declared.obj_id.ObjId.{ObjId}
 use Rattle.argus_contents.specs.declared.query.Query.{Query}
 use Rattle.argus_entries.specs.Call.{ask}
 use Rattle.argus_entries.specs.Reply.{answered}
-use Rattle.argus_core.specs.Accessing.{seen_at}
+use Rattle.argus_core.specs.Accessing.{IsAccessed, IsFree, seen_at}
+use Rattle.argus_core.specs.Moving.{IsRead}
+use Rattle.argus_core.specs.StateRefinement.{StateRefinesJournal}
 use Rattle.argus_core.specs.GuardianState.{StateInvariant, journal_view_of}
-use Rattle.argus_core.specs.Prepared.{IsFree}
 use Rattle.argus_core.specs.declared.engine.atomic_object.AtomicObject.{AtomicObject}
 use Rattle.argus_core.specs.declared.engine.guardian_state.GuardianState.{GuardianState}
 use Rattle.argus_core.proofs.Accesses.{IsAccess, access_free, access_granted, access_is, acts, reads_agree}
 use Rattle.argus_core.proofs.Accesses.{seen_is}
 use Rattle.argus_core.proofs.Ends.{some_object}
+use Rattle.argus_core.proofs.MadeAccesses.{made_read}
 use Rattle.argus_journal.specs.Entries.{entries}
 use Rattle.argus_journal.specs.Events.{history}
-use Rattle.argus_journal.specs.JournalView.{refusal_to, reply_to}
+use Rattle.argus_journal.specs.JournalView.{entry_with, refusal_to, reply_to}
 use Rattle.argus_journal.specs.LegalJournal.{entries_in, opening_in}
 use Rattle.argus_model.specs.Holders as model
 use Rattle.argus_objects.specs.Rules.{may_read}
+use Rattle.argus_objects.specs.declared.holdings.Holdings.{Holdings}
 
 module _ (p : GuardianState) (k : StateInvariant p) (a : ActionId) (o : ObjId) (query : Query) where
   pub asks : IsAccess p a o (ask a.0 o.0 query) (λ shape. query_suits shape query) (λ c. may_read p.tree c a)
@@ -48,3 +51,13 @@ module _ (p : GuardianState) (k : StateInvariant p) (a : ActionId) (o : ObjId) (
         ap answered (f d ∙ ap (reply query) (seen_is p.tree p.objects.items p.holdings s j k a o.0
         (acts p.tree p.objects.items p.holdings s j k a o.0 ask_free.accepted) d ask_free.low (ask_free.opens d)))
         ∙ sym (access_granted asks (asks.refuses ∙ granted))
+
+    -- and once the action is a reader, the parts are what the journal says that has the entry
+    pub ask_made : (x : PlainAnswer) → ((d : AtomicObject) → x ≡ reply query (seen_at p.tree a p.objects.items o.0 d))
+        → (objects' : List AtomicObject) (holdings' : Holdings)
+        → IsAccessed (IsRead p.tree a) a o p.objects.items objects' p.holdings holdings'
+        → StateRefinesJournal p.tree objects' holdings' (opening_in p.journal)
+        (entry_with (ask a.0 o.0 query) (answered x) ∷ entries_in p.journal)
+    ask_made x f objects' holdings' moved =
+        made_read p (entry_with (ask a.0 o.0 query) (answered x)) a o k objects' holdings' (ask_told x f) ask_free
+        (record { event = refl; object = refl; write = refl }) moved

@@ -18,7 +18,7 @@ use Rattle.argus_journal.specs.Events.{happens, history}
 use Rattle.argus_journal.specs.Objects.{declared_by, shapes}
 use Rattle.argus_journal.specs.Opening.{Opening, model_opening}
 use Rattle.argus_journal.proofs.Legal.{lawful}
-use Rattle.argus_journal.proofs.NextEntry.{by_event, same_history}
+use Rattle.argus_journal.proofs.NextEntry.{by_event}
 use Rattle.argus_refinement.specs.TreeRefinement.{history_origin, journal_refusal, journal_refusal_if_any}
 use Rattle.argus_refinement.proofs.CellBegins.{begin_cell}
 use Rattle.argus_refinement.proofs.CellHolders.{cell_same, orderly}
@@ -47,13 +47,6 @@ pub granted_reply : (s : Opening) (j : List PlainEntry) (call : PlainCall) (q : 
 granted_reply s j call q e is =
     ap (λ r. or_refused r (granted s (history s j) (shapes s j) call)) (sym e ∙ ap journal_refusal_if_any is)
 
--- the entry may be told in other words
-pub as_told : {t : Tree} {objects : List AtomicObject} {holdings : Holdings} {s : Opening} {j : List PlainEntry}
-    {e told : PlainEntry} → e ≡ told → StateRefinesJournal t objects holdings s (told ∷ j)
-    → StateRefinesJournal t objects holdings s (e ∷ j)
-as_told {t} {objects} {holdings} {s} {j} same k =
-    subst (λ e. StateRefinesJournal t objects holdings s (e ∷ j)) (sym same) k
-
 -- one more entry that declares nothing: the parts stand to the history with its event
 module _ (s : Opening) (e : PlainEntry) (j : List PlainEntry) (t t' : Tree) (objects objects' : List AtomicObject)
     (holdings holdings' : Holdings) (k : StateRefinesJournal t objects holdings s j) (right : e.reply
@@ -74,17 +67,6 @@ module _ (s : Opening) (e : PlainEntry) (j : List PlainEntry) (t t' : Tree) (obj
     few = subst (λ n. n ≤ MAX_OBJECTS) (sym few) k.few;
     shapes = declares_none;
     state = by_event s e j event (StateRefinesHistory t' objects' holdings' s) (right, k.legal) q f;
-  }
-
-  pub kept_nothing : happens s e j ≡ None → StateRefinesHistory t' objects' holdings' s (history s j)
-      → StateRefinesJournal t' objects' holdings' s (e ∷ j)
-  kept_nothing q f = record {
-    legal = (right, k.legal);
-    sound = k.sound;
-    limits = k.limits;
-    few = subst (λ n. n ≤ MAX_OBJECTS) (sym few) k.few;
-    shapes = declares_none;
-    state = subst (StateRefinesHistory t' objects' holdings' s) (sym (same_history s e j q)) f;
   }
 
 -- the history of what is kept

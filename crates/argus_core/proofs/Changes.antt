@@ -23,8 +23,8 @@ pub listed_at : (list : List ObjId) (i : ℕ) (d : ObjId) → i < length list �
 listed_at list i d lt =
     list_any_at (λ x. eqb x.0 (get_or list i d).0) list i d lt (eq-eqb (get_or list i d).0 (get_or list i d).0 refl)
 
-not_before : (list : List ObjId) (i : ℕ) (d : ObjId) → IsDistinct (λ x y. eqb x.0 y.0) list → i < length list → (j : ℕ)
-    → j ≤ i → is_listed (take j list) (get_or list i d).0 ≡ false
+pub not_before : (list : List ObjId) (i : ℕ) (d : ObjId) → IsDistinct (λ x y. eqb x.0 y.0) list → i < length list
+    → (j : ℕ) → j ≤ i → is_listed (take j list) (get_or list i d).0 ≡ false
 not_before list i d once lt zero le = refl
 not_before list i d once lt (suc j) le =
     let k : ℕ = (get_or list i d).0 in

@@ -1,5 +1,5 @@
 -- What a commit adds to the effects.
-use Rattle.std.proofs.Common.{Bool, List, None, Option, Some, [], ap, arith, cond, false, refl, sym, true, ℕ, ◌+◌, ◌==◌}
+use Rattle.std.proofs.Common.{List, None, Some, [], ap, arith, false, sym, true, ℕ, ◌+◌, ◌==◌}
 use Rattle.std.proofs.Common.{◌∙◌, ◌∷◌, ◌≡◌}
 use Rattle.std.proofs.lemmas.Bool.Decides.{nat_tests}
 use Rattle.std.specs.Option.{option_to_list}
@@ -7,15 +7,11 @@ use Rattle.std.specs.Prelude.{Err, IfOk, Ok, Result, if◌then◌else◌}
 use Rattle.argus_actions.specs.Refusals.{commit_refusal}
 use Rattle.argus_actions.specs.Tree.{Tree, parent_of}
 use Rattle.argus_actions.specs.declared.action_id.ActionId.{ActionId}
-use Rattle.argus_contents.specs.Answer.{done}
-use Rattle.argus_contents.specs.Content.{PlainContent}
 use Rattle.argus_entries.specs.Call.{commit}
 use Rattle.argus_entries.specs.Entry.{PlainEntry}
-use Rattle.argus_entries.specs.Reply.{PlainReply, answered}
+use Rattle.argus_entries.specs.Reply.{PlainReply}
 use Rattle.argus_core.specs.ReadyCommit.{added_by_call}
 use Rattle.argus_core.specs.Effect.{effect_if_live, effect_of}
-use Rattle.argus_actions.specs.declared.action_refusal.ActionRefusal.{ActionRefusal}
-use Rattle.argus_journal.specs.Answers.{or_refused}
 use Rattle.argus_journal.specs.Effects.{added_by}
 use Rattle.argus_journal.specs.Events.{event_if, history, is_answered}
 use Rattle.argus_journal.specs.Opening.{Opening}
@@ -36,15 +32,6 @@ use Rattle.argus_core.specs.declared.engine.atomic_object.AtomicObject.{AtomicOb
 pub if_ok : {A B : Type 0} {P Q : A → Type 0} (r : Result A B) → IfOk r P → ((x : A) → P x → Q x) → IfOk r Q
 if_ok (Ok x) p f = f x p
 if_ok (Err e) p f = tt
-
--- a refused commit adds nothing
-pub refused_adds : (t : Tree) (objects : List AtomicObject) (holdings : Holdings) (s : Opening) (j : List PlainEntry)
-    → StateRefinesJournal t objects holdings s j → (a : ActionId) (why : ActionRefusal) → commit_refusal t a.0
-    ≡ Some why
-    → added_by_call (let journal : JournalView = record { opening = s; entries = j } in journal) (commit a.0) ≡ []
-refused_adds t objects holdings s j k a why is =
-    ap (λ q. added_by s (event_if (is_answered (or_refused q (answered done))) (Committed (a.0 + 1))) j)
-    (sym (commit_refused t objects holdings s j k a) ∙ ap journal_refusal_if_any is)
 
 module _ (t : Tree) (objects : List AtomicObject) (holdings : Holdings) (s : Opening) (j : List PlainEntry)
     (k : StateRefinesJournal t objects holdings s j) (a : ActionId) (free : commit_refusal t a.0 ≡ None) where

@@ -37,7 +37,7 @@ use Rattle.argus_model.proofs.Numbers.{any_found, any_from}
 use Rattle.argus_model.proofs.Siblings.{live_begun}
 use Rattle.argus_model.proofs.Standing.{Orderly}
 use Rattle.argus_objects.specs.Holdings.{objects_held_by}
-use Rattle.argus_objects.specs.CellChanges.{has_version}
+use Rattle.argus_objects.specs.CellChanges.{has_version, is_reader}
 use Rattle.argus_objects.specs.declared.holdings.Holdings.{Holdings}
 
 -- ended says of each live action whether it stands under one of those that the event names; t' is the tree after it
@@ -155,11 +155,17 @@ module _ (h : History PlainEntry) (t : Tree) (is : IsTree t h) (w : Orderly h) (
 -- who holds an object has it on its list
 module _ (s : Opening) (h : History PlainEntry) (t : Tree) (objects : List AtomicObject) (holdings : Holdings)
     (k : StateRefinesHistory t objects holdings s h) where
-  pub parts_cover : AreCovered objects holdings
-  parts_cover = λ x o d lt e.
+  -- and nobody else has
+  pub listed_if_held : (x : ActionId) (o : ℕ) (d : AtomicObject) → o < length objects
+      → is_listed (objects_held_by holdings x) o
+      ≡ (is_reader x (slice_index_or objects o d).cell.readers
+      || has_version x (slice_index_or objects o d).cell.versions)
+  listed_if_held x o d lt =
       let c = k.each o d lt in
       k.held x o
       ∙ sym (ap (λ b. b || has_version x (slice_index_or objects o d).cell.versions)
       (reader_said x (slice_index_or objects o d).cell.readers ∙ ap (λ rs. contains rs (x.0 + 1)) c.readers)
       ∙ ap (λ b. contains (readers entries h o) (x.0 + 1) || b) (c.writers x))
-      ∙ e
+
+  pub parts_cover : AreCovered objects holdings
+  parts_cover = λ x o d lt e. listed_if_held x o d lt ∙ e

@@ -1,5 +1,5 @@
 -- What a test that says yes tells of the lock, and what a free lock is good for.
-use Rattle.std.proofs.Common.{Bool, None, Option, Some, refl, sym, true, ◌∙◌, ◌≡◌}
+use Rattle.std.proofs.Common.{Bool, None, Option, Some, length, refl, sym, true, ◌<◌, ◌∙◌, ◌≡◌}
 use Rattle.std.specs.Prelude.{slice_index_or}
 use Rattle.std.proofs.lemmas.Bool.{and_parts}
 use Rattle.argus_actions.specs.declared.action_id.ActionId.{ActionId}
@@ -9,15 +9,16 @@ use Rattle.argus_contents.specs.declared.obj_id.ObjId.{ObjId}
 use Rattle.argus_entries.specs.Call.{PlainCall}
 use Rattle.argus_entries.specs.Reply.{PlainReply, answered}
 use Rattle.argus_entries.specs.declared.refusal.Refusal.{Refusal}
-use Rattle.argus_core.specs.Accessing.{seen_at}
+use Rattle.argus_core.specs.Accessing.{IsFree, IsListedIfHeld, seen_at}
 use Rattle.argus_core.specs.GuardianState.{StateInvariant, journal_view_of}
-use Rattle.argus_core.specs.Prepared.{IsFree}
 use Rattle.argus_journal.specs.JournalView.{refusal_to, reply_to}
 use Rattle.argus_core.specs.declared.engine.atomic_object.AtomicObject.{AtomicObject}
 use Rattle.argus_core.specs.declared.engine.guardian_state.GuardianState.{GuardianState}
 use Rattle.argus_core.proofs.Accesses.{acts, granted_to, seen_limits}
+use Rattle.argus_core.proofs.EndedState.{listed_if_held}
 use Rattle.argus_core.proofs.Tests.{IsTest, test_free, test_lock, tests}
 use Rattle.argus_journal.specs.Answers.{or_refused}
+use Rattle.argus_journal.specs.Events.{history}
 use Rattle.argus_journal.specs.LegalJournal.{entries_in, opening_in}
 use Rattle.argus_objects.specs.Object.{Object, holders}
 use Rattle.argus_objects.specs.Rules.{all_above, may_read, may_write}
@@ -45,6 +46,12 @@ said_free {p} {call = call} test says =
     (λ d. test_lock test e d ∙ same_flag test.lock true (sym test.grants ∙ w.reply))
 
 module _ (p : GuardianState) (k : StateInvariant p) (a : ActionId) (o : ObjId) where
+  -- the action's list has the object exactly if the cell says that the action holds it
+  pub listed_held : o.0 < length p.objects.items → IsListedIfHeld p.objects.items p.holdings a o
+  listed_held low d =
+      let s = opening_in p.journal in
+      listed_if_held s (history s (entries_in p.journal)) p.tree p.objects.items p.holdings k.state a o.0 d low
+
   -- what is seen keeps the limits
   pub reader_limits : IsFree p.tree p.objects.items a o (λ cell. may_read p.tree cell a) → (d : AtomicObject)
       → KeepsLimits (seen_at p.tree a p.objects.items o.0 d)

@@ -10,7 +10,6 @@ pub mod Sweeps
 pub mod SweepSiblings
 pub mod Begun
 pub mod Begins
-pub mod Made
 pub mod Noted
 pub mod CommittedState
 pub mod EndedState

@@ -1,5 +1,5 @@
--- What making a prepared access leaves.
-use Rattle.std.proofs.Common.{List, Option, [], ap, sym, true, ◌+◌, ◌∙◌, ◌∷◌, ◌≡◌}
+-- What a granted access leaves.
+use Rattle.std.proofs.Common.{List, Option, [], ap, false, sym, true, ◌+◌, ◌∙◌, ◌∷◌, ◌≡◌}
 use Rattle.std.specs.Prelude.{slice_index_or}
 use Rattle.std.proofs.lemmas.Bool.{and_parts}
 use Rattle.argus_actions.specs.declared.action_id.ActionId.{ActionId}
@@ -7,11 +7,10 @@ use Rattle.argus_contents.specs.Change.{PlainChange, outcome}
 use Rattle.argus_contents.specs.Content.{PlainContent}
 use Rattle.argus_contents.specs.declared.obj_id.ObjId.{ObjId}
 use Rattle.argus_entries.specs.Entry.{PlainEntry}
-use Rattle.argus_core.specs.Accessing.{IsAccessed, IsAltered}
+use Rattle.argus_core.specs.Accessing.{IsAccessEntry, IsAccessed, IsAltered, IsFree}
 use Rattle.argus_core.specs.StateRefinement.{StateRefinesJournal}
 use Rattle.argus_core.specs.Moving.{IsRead}
 use Rattle.argus_core.specs.GuardianState.{StateInvariant, journal_view_of}
-use Rattle.argus_core.specs.Prepared.{CanRead, HasPlace, IsFree, IsAccessEntry}
 use Rattle.argus_journal.specs.JournalView.{reply_to}
 use Rattle.argus_core.specs.declared.engine.atomic_object.AtomicObject.{AtomicObject}
 use Rattle.argus_core.specs.declared.engine.guardian_state.GuardianState.{GuardianState}
@@ -34,23 +33,23 @@ use Rattle.argus_objects.specs.Object.{holders}
 use Rattle.argus_objects.specs.Rules.{all_above, may_read, may_write}
 use Rattle.argus_objects.specs.declared.holdings.Holdings.{Holdings}
 
-module _ (p : GuardianState) (e : PlainEntry) (a : ActionId) (o : ObjId) (k : StateInvariant p) (place : HasPlace p e)
-    (objects' : List AtomicObject) (holdings' : Holdings) where
-  pub made_read : CanRead p e a o
-      → IsAccessed (IsRead p.tree a) a o p.objects.items objects' p.holdings holdings'
-      → StateRefinesJournal p.tree objects' holdings' (opening_in p.journal) (e ∷ entries_in p.journal)
-  made_read can moved =
-      let s = opening_in p.journal in
-      let h = history s (entries_in p.journal) in
-      kept_event s e (entries_in p.journal) p.tree p.tree p.objects.items objects' p.holdings holdings' k place.right
-      can.told.object (shapes_kept (IsRead p.tree a) (o ∷ []) p.objects.items objects' moved.objects)
-      moved.objects.count
-      (Accessed (a.0 + 1) o.0 e) can.told.event
-      (λ l. parts_accessed (IsRead p.tree a) s h p.tree p.objects.items objects' p.holdings holdings' k.state a o e l
-      can.free.low
-      (λ c c' i r. read_cell s h p.tree k.state.actions a o.0 e l can.told.write c c' i r.base r.readers r.versions
-      r.lawful)
-      moved)
+-- the action is a reader, and the entry tells it
+pub made_read : (p : GuardianState) (e : PlainEntry) (a : ActionId) (o : ObjId) (k : StateInvariant p)
+    (objects' : List AtomicObject) (holdings' : Holdings)
+    → e.reply ≡ reply_to (journal_view_of p) e.call
+    → IsFree p.tree p.objects.items a o (λ cell. may_read p.tree cell a) → IsAccessEntry p e a o false
+    → IsAccessed (IsRead p.tree a) a o p.objects.items objects' p.holdings holdings'
+    → StateRefinesJournal p.tree objects' holdings' (opening_in p.journal) (e ∷ entries_in p.journal)
+made_read p e a o k objects' holdings' right free told moved =
+    let s = opening_in p.journal in
+    let h = history s (entries_in p.journal) in
+    kept_event s e (entries_in p.journal) p.tree p.tree p.objects.items objects' p.holdings holdings' k right
+    told.object (shapes_kept (IsRead p.tree a) (o ∷ []) p.objects.items objects' moved.objects)
+    moved.objects.count (Accessed (a.0 + 1) o.0 e) told.event
+    (λ l. parts_accessed (IsRead p.tree a) s h p.tree p.objects.items objects' p.holdings holdings' k.state a o e l
+    free.low
+    (λ c c' i r. read_cell s h p.tree k.state.actions a o.0 e l told.write c c' i r.base r.readers r.versions r.lawful)
+    moved)
 
 -- a change in one go: what it leaves of what a sees is what the entry tells
 pub made_change : (p : GuardianState) (e : PlainEntry) (a : ActionId) (o : ObjId) (k : StateInvariant p)

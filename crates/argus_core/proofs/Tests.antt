@@ -12,9 +12,8 @@ use Rattle.argus_entries.specs.Call.{PlainCall, test_read, test_write}
 use Rattle.argus_entries.specs.Reply.{answered}
 use Rattle.argus_entries.specs.declared.refusal.Refusal.{Refusal}
 use Rattle.argus_entries.specs.declared.refusal.Refusal.TheVariants.{Conflict, IllTyped, NoObject}
-use Rattle.argus_core.specs.Accessing.{access_refusal}
+use Rattle.argus_core.specs.Accessing.{IsFree, access_refusal}
 use Rattle.argus_core.specs.GuardianState.{StateInvariant, journal_view_of}
-use Rattle.argus_core.specs.Prepared.{IsFree}
 use Rattle.argus_core.specs.declared.engine.atomic_object.AtomicObject.{AtomicObject}
 use Rattle.argus_core.specs.declared.engine.guardian_state.GuardianState.{GuardianState}
 use Rattle.argus_core.proofs.Accesses.{IsAccess, access_free, access_granted, access_is, acts, granted_to}
@@ -22,7 +21,7 @@ use Rattle.argus_core.proofs.Accesses.{history_of, reads_agree, shapes_of, write
 use Rattle.argus_core.proofs.Ends.{some_object}
 use Rattle.argus_journal.specs.Answers.{if_declared, if_free, suits, unless}
 use Rattle.argus_journal.specs.Entries.{entries}
-use Rattle.argus_journal.specs.JournalView.{refusal_to, reply_to}
+use Rattle.argus_journal.specs.JournalView.{JournalView, refusal_to, reply_to}
 use Rattle.argus_journal.specs.LegalJournal.{entries_in, opening_in}
 use Rattle.argus_model.specs.Holders as model
 use Rattle.argus_model.specs.Status.{is_live}
@@ -109,6 +108,12 @@ module _ {p : GuardianState} {a : ActionId} {o : ObjId} {call : PlainCall} {free
     test_right b f =
         let d : AtomicObject = some_object p.objects.items o.0 test_low in
         ap (λ b. answered (flag b)) (f d ∙ test_lock d) ∙ sym test.grants ∙ sym (access_granted tests e)
+
+    -- also where a journal says the same
+    pub test_still : (b : Bool) → ((d : AtomicObject) → b ≡ free (slice_index_or p.objects.items o.0 d).cell)
+        → (new : GuardianState) → journal_view_of new ≡ journal_view_of p
+        → answered (flag b) ≡ reply_to (journal_view_of new) call
+    test_still b f new same = test_right b f ∙ ap (λ (x : JournalView). reply_to x call) (sym same)
 
     -- a lock that is free, of an action that may act, at an object that is there
     pub test_free : ((d : AtomicObject) → free (slice_index_or p.objects.items o.0 d).cell ≡ true)

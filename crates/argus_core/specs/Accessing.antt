@@ -1,6 +1,7 @@
--- Why an access is refused, as the state says it, and what a granted access does to them.
+-- Why an access is refused, as the state says it, what a granted one needs, and what it does.
 use Rattle.std.specs.Option.{option_or}
-use Rattle.std.specs.Prelude.{Bool, List, None, Option, Some, [], slice_get, slice_index_or, ◌∷◌, ℕ}
+use Rattle.std.specs.Prelude.{Bool, List, None, Option, Some, [], length, not, slice_get}
+use Rattle.std.specs.Prelude.{slice_index_or, true, ℕ, ◌+◌, ◌<◌, ◌||◌, ◌∷◌, ◌≡◌}
 use Rattle.argus_actions.specs.Refusals.{commit_refusal}
 use Rattle.argus_actions.specs.Tree.{Tree}
 use Rattle.argus_actions.specs.declared.action_id.ActionId.{ActionId}
@@ -8,14 +9,21 @@ use Rattle.argus_contents.specs.Change.{PlainChange}
 use Rattle.argus_contents.specs.Content.{PlainContent}
 use Rattle.argus_contents.specs.Shape.{PlainShape}
 use Rattle.argus_contents.specs.declared.obj_id.ObjId.{ObjId}
+use Rattle.argus_entries.specs.Entry.{PlainEntry}
 use Rattle.argus_entries.specs.declared.refusal.Refusal.{Refusal}
 use Rattle.argus_entries.specs.declared.refusal.Refusal.TheVariants.{Conflict, IllTyped, NoObject}
-use Rattle.argus_core.specs.Moving.{AreChanged, IsWritten}
+use Rattle.argus_core.specs.Moving.{AreChanged, IsWritten, is_listed}
 use Rattle.argus_core.specs.declared.engine.atomic_object.AtomicObject.{AtomicObject}
+use Rattle.argus_core.specs.declared.engine.guardian_state.GuardianState.{GuardianState}
 use Rattle.argus_journal.specs.Answers.{unless}
+use Rattle.argus_journal.specs.Entries.{is_write}
+use Rattle.argus_journal.specs.Events.{happens}
+use Rattle.argus_journal.specs.LegalJournal.{entries_in, opening_in}
+use Rattle.argus_journal.specs.Objects.{declared_by}
+use Rattle.argus_model.specs.Event.{Accessed}
 use Rattle.argus_refinement.specs.TreeRefinement.{journal_refusal_if_any}
-use Rattle.argus_objects.specs.Holdings.{Lists, SameLists, objects_held_by, noted}
-use Rattle.argus_objects.specs.CellChanges.{changed}
+use Rattle.argus_objects.specs.Holdings.{Lists, SameLists, holdings_room_of, noted, objects_held_by}
+use Rattle.argus_objects.specs.CellChanges.{changed, has_version, is_reader}
 use Rattle.argus_objects.specs.Object.{Object, SameLocks}
 use Rattle.argus_objects.specs.Rules.{visible_content}
 use Rattle.argus_objects.specs.declared.holdings.Holdings.{Holdings}
@@ -33,6 +41,40 @@ abbrev pub access_refusal : Tree → List AtomicObject → ℕ → ℕ → (Plai
 access_refusal t objects a o suits free =
     option_or (journal_refusal_if_any (commit_refusal t a)) (refused_at
     (slice_get objects o) suits free)
+
+-- the object is new on the action's list, which has room for it, or it stands there
+pub record HasListRoom (holdings : Holdings) (a : ActionId) (o : ObjId)
+    (is_new : Bool) : Type 0 where
+  pub listed : is_listed (objects_held_by holdings a) o.0 ≡ not is_new
+  pub room : is_new ≡ true → 0 < holdings_room_of holdings a
+
+-- the object's cell has room for one more grant, and the action's list for the object
+pub record HasGrantRoom (objects : List AtomicObject) (holdings : Holdings)
+    (a : ActionId) (o : ObjId) (is_new : Bool) : Type 0 where
+  pub cell : (d : AtomicObject) → 0 < (slice_index_or objects o.0 d).cell.room
+  pub list : HasListRoom holdings a o is_new
+
+-- the action's list has the object exactly if the action holds it
+abbrev pub IsListedIfHeld : List AtomicObject → Holdings → ActionId → ObjId → Type 0
+IsListedIfHeld objects holdings a o =
+    (d : AtomicObject) → is_listed (objects_held_by holdings a) o.0
+    ≡ (is_reader a (slice_index_or objects o.0 d).cell.readers
+    || has_version a (slice_index_or objects o.0 d).cell.versions)
+
+-- the action may act, the object is there, and its lock is free
+pub record IsFree (tree : Tree) (objects : List AtomicObject) (a : ActionId) (o : ObjId)
+    (free : Object → Bool) : Type 0 where
+  pub accepted : commit_refusal tree a.0 ≡ None
+  pub low : o.0 < length objects
+  pub opens : (d : AtomicObject) → free (slice_index_or objects o.0 d).cell ≡ true
+
+-- the entry is an access of a at o, which needs a write lock or not
+pub record IsAccessEntry (state : GuardianState) (e : PlainEntry) (a : ActionId) (o : ObjId)
+    (writes : Bool) : Type 0 where
+  pub event : happens (opening_in state.journal) e (entries_in state.journal)
+      ≡ Some (Accessed (a.0 + 1) o.0 e)
+  pub object : declared_by e.call e.reply ≡ []
+  pub write : is_write e.call ≡ writes
 
 -- what the action sees in the object of this number
 abbrev pub seen_at : Tree → ActionId → List AtomicObject → ℕ → AtomicObject → Option PlainContent

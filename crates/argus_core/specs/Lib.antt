@@ -6,5 +6,5 @@ pub mod Accessing
 pub mod StateRefinement
 pub mod Moving
 pub mod GuardianState
-pub mod Prepared
+pub mod CommitStep
 pub mod Sweeping

@@ -6,9 +6,8 @@ ghost use Rattle.argus_entries.specs.Call.{alter, ask};
 ghost use Rattle.argus_entries.specs.Reply.{plain_reply};
 ghost use Rattle.argus_journal.specs.JournalView.{after, reply_to};
 
-use crate::engine::accessing::prepare_ask;
-use crate::engine::making::make;
-use crate::engine::writing::alter_at_once;
+use crate::engine::accessing::ask;
+use crate::engine::writing::alter;
 use crate::guardian::Guardian;
 use argus_actions::ActionId;
 use argus_contents::{Change, ObjId, Query};
@@ -27,8 +26,7 @@ impl Guardian {
         ensures ok { OnOk result (self.new ≡ after self.old (ask a.0 o.0 query)) }
         ensures err { OnErr result (self.new ≡ self.old) }
     {
-        let prepared = prepare_ask(&mut self.state, a, o, query)?;
-        Ok(make(&mut self.state, prepared))
+        ask(&mut self.state, a, o, query)
     }
 
     /// Changes the object for the action, and makes it a writer; the answer may be a signal, which
@@ -44,6 +42,6 @@ impl Guardian {
             ≡ after self.old (alter a.0 o.0 (plain_change change))) }
         ensures err { OnErr result (self.new ≡ self.old) }
     {
-        alter_at_once(&mut self.state, a, o, change)
+        alter(&mut self.state, a, o, change)
     }
 }

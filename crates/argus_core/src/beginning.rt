@@ -5,8 +5,7 @@ ghost use Rattle.argus_entries.specs.Call.{begin_nested, begin_sub, begin_top};
 ghost use Rattle.argus_entries.specs.Reply.{plain_reply};
 ghost use Rattle.argus_journal.specs.JournalView.{after, reply_to};
 
-use crate::engine::beginning::{prepare_begin_nested, prepare_begin_sub, prepare_begin_top};
-use crate::engine::making::make;
+use crate::engine::beginning::{begin_nested, begin_sub, begin_top};
 use crate::guardian::Guardian;
 use argus_actions::ActionId;
 use argus_entries::Reply;
@@ -21,8 +20,7 @@ impl Guardian {
         ensures ok { OnOk result (self.new ≡ after self.old begin_top) }
         ensures err { OnErr result (self.new ≡ self.old) }
     {
-        let prepared = prepare_begin_top(&mut self.state)?;
-        Ok(make(&mut self.state, prepared))
+        begin_top(&mut self.state)
     }
 
     /// Begins a subaction of this parent, and answers its number.
@@ -35,8 +33,7 @@ impl Guardian {
         ensures ok { OnOk result (self.new ≡ after self.old (begin_sub parent.0)) }
         ensures err { OnErr result (self.new ≡ self.old) }
     {
-        let prepared = prepare_begin_sub(&mut self.state, parent)?;
-        Ok(make(&mut self.state, prepared))
+        begin_sub(&mut self.state, parent)
     }
 
     /// Begins a nested topaction that this action creates, and answers its number. It has no
@@ -49,7 +46,6 @@ impl Guardian {
         ensures ok { OnOk result (self.new ≡ after self.old (begin_nested creator.0)) }
         ensures err { OnErr result (self.new ≡ self.old) }
     {
-        let prepared = prepare_begin_nested(&mut self.state, creator)?;
-        Ok(make(&mut self.state, prepared))
+        begin_nested(&mut self.state, creator)
     }
 }

@@ -22,6 +22,7 @@ impl Guardian {
     /// | `Commit`, `Abort`, `AbortOthers` | `commit`, `abort`, `abort_others` |
     /// | `Ask`, `Alter` | `ask`, `alter` |
     /// | `TestRead`, `TestWrite` | `test_read`, `test_write` |
+    #[inline(always)]
     pub fn call(&mut self, call: Call) -> Result<Reply, OutOfMemory>
         ensures reply { IfOk result (λ reply. plain_reply reply
             ≡ reply_to self.old (plain_call call)) }

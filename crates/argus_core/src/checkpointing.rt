@@ -88,7 +88,7 @@ fn fold_past(state: &mut GuardianState) -> Result<(), CheckpointError>
             let first = state.tree.len();
             state.journal.fold(objects, first);
             state.tree = ActionTree::starting_at(state.heap, first);
-            state.holdings = Holdings::new(state.heap);
+            state.holdings = Holdings::starting_at(state.heap, first);
             Ok(())
         }
     }

@@ -5,8 +5,7 @@ ghost use Rattle.argus_entries.specs.Call.{declare};
 ghost use Rattle.argus_entries.specs.Reply.{plain_reply};
 ghost use Rattle.argus_journal.specs.JournalView.{after, reply_to};
 
-use crate::engine::declaring::prepare_declare;
-use crate::engine::making::make;
+use crate::engine::declaring::declare;
 use crate::guardian::Guardian;
 use argus_contents::Shape;
 use argus_entries::Reply;
@@ -23,7 +22,6 @@ impl Guardian {
         ensures ok { OnOk result (self.new ≡ after self.old (declare shape)) }
         ensures err { OnErr result (self.new ≡ self.old) }
     {
-        let prepared = prepare_declare(&mut self.state, shape)?;
-        Ok(make(&mut self.state, prepared))
+        declare(&mut self.state, shape)
     }
 }

@@ -5,8 +5,7 @@ ghost use Rattle.argus_entries.specs.Call.{abort, abort_others, commit};
 ghost use Rattle.argus_entries.specs.Reply.{plain_reply};
 ghost use Rattle.argus_journal.specs.JournalView.{after, reply_to};
 
-use crate::engine::ending::{prepare_abort, prepare_abort_others, prepare_commit};
-use crate::engine::making::make;
+use crate::engine::ending::{abort, abort_others, commit};
 use crate::guardian::Guardian;
 use argus_actions::ActionId;
 use argus_entries::Reply;
@@ -23,8 +22,7 @@ impl Guardian {
         ensures ok { OnOk result (self.new ≡ after self.old (commit a.0)) }
         ensures err { OnErr result (self.new ≡ self.old) }
     {
-        let prepared = prepare_commit(&mut self.state, a)?;
-        Ok(make(&mut self.state, prepared))
+        commit(&mut self.state, a)
     }
 
     /// Aborts an action with all its subactions, theirs, and so on, whether they have committed or
@@ -37,8 +35,7 @@ impl Guardian {
         ensures ok { OnOk result (self.new ≡ after self.old (abort a.0)) }
         ensures err { OnErr result (self.new ≡ self.old) }
     {
-        let prepared = prepare_abort(&mut self.state, a)?;
-        Ok(make(&mut self.state, prepared))
+        abort(&mut self.state, a)
     }
 
     /// Aborts all live siblings of an action, each with its subactions, theirs, and so on. A
@@ -53,7 +50,6 @@ impl Guardian {
         ensures ok { OnOk result (self.new ≡ after self.old (abort_others a.0)) }
         ensures err { OnErr result (self.new ≡ self.old) }
     {
-        let prepared = prepare_abort_others(&mut self.state, a)?;
-        Ok(make(&mut self.state, prepared))
+        abort_others(&mut self.state, a)
     }
 }

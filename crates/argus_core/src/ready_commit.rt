@@ -9,10 +9,9 @@ ghost use Rattle.argus_contents.specs.Effect.{plain_effect};
 ghost use Rattle.argus_journal.specs.JournalView.{after, reply_to};
 
 use crate::effect::effect_in;
-use crate::engine::ending::prepare_commit;
+use crate::engine::commit_step::CommitStep;
+use crate::engine::ending::{make_commit, ready_commit};
 use crate::engine::guardian_state::GuardianState;
-use crate::engine::making::make;
-use crate::engine::prepared::Prepared;
 use crate::guardian::Guardian;
 use argus_actions::ActionId;
 use argus_contents::{Content, ObjId};
@@ -32,16 +31,14 @@ use std::marker::Model;
 #[derive(Drop)]
 pub struct ReadyCommit {
     state: GuardianState,
-    prepared: Prepared,
+    step: CommitStep,
     action: ActionId,
 }
 
 impl Model for ReadyCommit {
-    ghost use Rattle.std.specs.Prelude.{◌≡◌};
-    ghost use Rattle.argus_entries.specs.Call.{commit, plain_call};
     ghost use Rattle.argus_core.specs.ReadyCommit.{Committing, committing_coded};
     ghost use Rattle.argus_core.specs.GuardianState.{StateInvariant, journal_view_of};
-    ghost use Rattle.argus_core.specs.Prepared.{IsReady};
+    ghost use Rattle.argus_core.specs.CommitStep.{CanCommit};
 
     ghost Value = { Committing };
 
@@ -49,8 +46,7 @@ impl Model for ReadyCommit {
 
     ghost view = { λ r. record { journal = journal_view_of r.state; action = r.action.0 } };
 
-    ghost invariant = { λ r. StateInvariant r.state × IsReady r.state r.prepared
-        × (plain_call r.prepared.entry.call ≡ commit r.action.0) };
+    ghost invariant = { λ r. StateInvariant r.state × CanCommit r.state r.action r.step };
 }
 
 impl Guardian {
@@ -62,10 +58,10 @@ impl Guardian {
         ensures err { IfErr result (λ guardian. guardian ≡ self) }
     {
         let mut state = self.into_parts();
-        match prepare_commit(&mut state, a) {
-            Ok(prepared) => Ok(ReadyCommit {
+        match ready_commit(&mut state, a) {
+            Ok(step) => Ok(ReadyCommit {
                 state,
-                prepared,
+                step,
                 action: a,
             }),
             Err(OutOfMemory) => Err(Guardian { state }),
@@ -99,10 +95,10 @@ impl ReadyCommit {
     {
         let ReadyCommit {
             mut state,
-            prepared,
-            action: _,
+            step,
+            action,
         } = self;
-        let reply = make(&mut state, prepared);
+        let reply = make_commit(&mut state, action, step);
         (Guardian { state }, reply)
     }
 
@@ -112,7 +108,7 @@ impl ReadyCommit {
     {
         let ReadyCommit {
             state,
-            prepared: _,
+            step: _,
             action: _,
         } = self;
         Guardian { state }

@@ -5,9 +5,8 @@ ghost use Rattle.argus_entries.specs.Call.{test_read, test_write};
 ghost use Rattle.argus_entries.specs.Reply.{plain_reply};
 ghost use Rattle.argus_journal.specs.JournalView.{after, reply_to};
 
-use crate::engine::making::make;
-use crate::engine::testing::prepare_test_read;
-use crate::engine::writing::test_write_at_once;
+use crate::engine::testing::test_read;
+use crate::engine::writing::test_write;
 use crate::guardian::Guardian;
 use argus_actions::ActionId;
 use argus_contents::ObjId;
@@ -25,8 +24,7 @@ impl Guardian {
         ensures ok { OnOk result (self.new ≡ after self.old (test_read a.0 o.0)) }
         ensures err { OnErr result (self.new ≡ self.old) }
     {
-        let prepared = prepare_test_read(&mut self.state, a, o)?;
-        Ok(make(&mut self.state, prepared))
+        test_read(&mut self.state, a, o)
     }
 
     /// Whether the action may have the object's write lock; where it may, it has it then, and a
@@ -40,6 +38,6 @@ impl Guardian {
         ensures ok { OnOk result (self.new ≡ after self.old (test_write a.0 o.0)) }
         ensures err { OnErr result (self.new ≡ self.old) }
     {
-        test_write_at_once(&mut self.state, a, o)
+        test_write(&mut self.state, a, o)
     }
 }

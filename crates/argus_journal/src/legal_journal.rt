@@ -76,6 +76,7 @@ impl LegalJournal {
 
     /// Makes room for one more entry. The room that was there stays, and after `OutOfMemory` all is
     /// as before.
+    #[inline(always)]
     pub fn reserve(&mut self) -> Result<(), OutOfMemory>
         ensures opening { opening_in self.new ≡ opening_in self.old }
         ensures entries { entries_in self.new ≡ entries_in self.old }
@@ -87,6 +88,7 @@ impl LegalJournal {
 
     /// Puts an entry at the end whose reply is the answer, in the room that is there. It takes no
     /// memory.
+    #[inline(always)]
     pub fn push(&mut self, entry: Entry)
         requires room { 0 < room_in self.old }
         requires answered { (plain_entry entry).reply

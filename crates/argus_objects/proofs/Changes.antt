@@ -1,21 +1,24 @@
 -- What a change leaves of the versions, where it succeeds and where it finds no memory.
-use Rattle.std.proofs.Common.{◌≡◌, ℕ, ◌+◌, ◌<◌, true, List, [], ◌∷◌, length, take, get_or, set, Option, refl, sym, ◌∙◌}
-use Rattle.std.proofs.Common.{ap, arith}
+use Rattle.std.proofs.Common.{◌≡◌, ℕ, ◌+◌, ◌<◌, true, false, eqb, ltb, ◌&&◌, ◌||◌, inl, inr, List, [], ◌∷◌, ◌++◌}
+use Rattle.std.proofs.Common.{length, take, get_or, set, Option, refl, sym, ◌∙◌, ap, arith}
 use Rattle.std.specs.Prelude.{IfOk, OnOk, OnErr, Result, Ok, Err}
-use Rattle.std.proofs.lemmas.Bool.{cond-true, and_parts}
+use Rattle.std.specs.List.{list_all, list_any}
+use Rattle.std.proofs.lemmas.Bool.{cond-true, and_parts, cases_eq, eq-eqb, ne_eqb, ltb-true}
 use Rattle.std.proofs.lemmas.List.{take_all, take_more}
 use Rattle.argus_actions.specs.declared.action_id.ActionId.{ActionId}
 use Rattle.argus_actions.specs.Tree.{Tree, is_ancestor}
 use Rattle.argus_memory.specs.declared.out_of_memory.OutOfMemory.{OutOfMemory}
-use Rattle.argus_contents.specs.declared.answer.Answer.{Answer}
-use Rattle.argus_contents.specs.Answer.{plain_answer}
-use Rattle.argus_contents.specs.Change.{Outcome}
+use Rattle.argus_contents.specs.Answer.{PlainAnswer}
+use Rattle.argus_contents.specs.Change.{Outcome, PlainChange, outcome}
 use Rattle.argus_contents.specs.Content.{PlainContent, plain_option}
 use Rattle.argus_objects.specs.declared.version.Version.{Version}
-use Rattle.argus_objects.specs.Object.{PlainVersion, plain_version, versions_newest_first, holders, writers}
-use Rattle.argus_objects.specs.Rules.{all_above, is_ascending, visible_content}
-use Rattle.argus_objects.specs.CellChanges.{newest_content, with_version}
-use Rattle.argus_objects.proofs.Stacks.{newest_push, newest_set, version_set}
+use Rattle.argus_objects.specs.Object.{Object, PlainVersion, plain_version, versions_newest_first, holders, writers}
+use Rattle.argus_objects.specs.Rules.{all_above, are_up_to, is_ascending, may_write, visible_content}
+use Rattle.argus_objects.specs.CellChanges.{changed_top, has_version, newest_content, with_version}
+use Rattle.argus_objects.proofs.InOrder.{any_default}
+use Rattle.argus_objects.proofs.Ascending.{above_up_to}
+use Rattle.argus_objects.proofs.Stacks.{all_holders, all_lower, has_newest, newest_push, newest_set, same_id}
+use Rattle.argus_objects.proofs.Stacks.{version_pushed, version_set}
 
 -- the newest version and those below it
 pub newest_top : (vs : List Version) (k : ℕ) (d : Version) → k + 1 ≡ length vs
@@ -29,25 +32,59 @@ pub content_on_top : (base : Option PlainContent) (vs : List Version) (k : ℕ) 
     → newest_content base (versions_newest_first vs) ≡ plain_option (get_or vs k d).content
 content_on_top base vs k d last = ap (newest_content base) (newest_top vs k d last)
 
--- the newest version, changed in place, or as it was
-pub changed_in_place : (r : Result Answer OutOfMemory) (a : ActionId) (o : Outcome) (vs : List Version) (k : ℕ)
-    (d v : Version)
-    → k + 1 ≡ length vs → is_ascending (writers vs) ≡ true → (get_or vs k d).holder.0 ≡ a.0
-    → v.holder ≡ a → v.holder ≡ (get_or vs k d).holder
-    → IfOk r (λ answer. (plain_option v.content, plain_answer answer) ≡ o)
-    → OnErr r (plain_option v.content ≡ plain_option (get_or vs k d).content)
-    → OnOk r (versions_newest_first (set vs k v) ≡ with_version a o.0 (versions_newest_first vs))
-    × OnErr r (versions_newest_first (set vs k v) ≡ versions_newest_first vs)
-changed_in_place (Ok answer) a o vs k d v last asc here mine same ok err =
-    (version_set a o.0 vs k d v last asc here mine (ap (λ (p : Outcome). p.0) ok), tt)
-changed_in_place (Err refused) a o vs k d v last asc here mine same ok err = (
-  tt,
-  newest_set vs k v last
-      ∙ (ap (λ (w : PlainVersion). w ∷ versions_newest_first (take k vs))
-      (ap (λ (x : ActionId). let u : PlainVersion = record { holder = x; content = plain_option v.content } in u) same
-      ∙ ap (λ c. let u : PlainVersion = record { holder = (get_or vs k d).holder; content = c } in u) err)
-      ∙ sym (newest_top vs k d last)),
-)
+-- the newest version, which is the action's, changed in place, or as it was
+module _ {R : Type 0} (answer_of : R → PlainAnswer) (change : PlainChange) (base : Option PlainContent) (a : ActionId)
+    (vs : List Version) (k : ℕ) (d old v : Version) (last : k + 1 ≡ length vs) (asc : is_ascending (writers vs) ≡ true)
+    (found : d ≡ get_or vs k d) (mine : d.holder.0 ≡ a.0) (item : old ≡ get_or vs k old) (same : v.holder ≡ old.holder)
+  where
+    before : old ≡ get_or vs k d
+    before = item ∙ any_default vs k old d (omega arith)
+
+    held : old.holder.0 ≡ a.0
+    held = ap (λ (w : Version). w.holder.0) (before ∙ sym found) ∙ mine
+
+    pub changed_in_place : (r : Result R OutOfMemory)
+        → IfOk r (λ answer. (plain_option v.content, answer_of answer) ≡ outcome change (plain_option old.content))
+        → OnErr r (plain_option v.content ≡ plain_option old.content)
+        → OnOk r (versions_newest_first (set vs k v) ≡ with_version a (changed_top change base (versions_newest_first
+        vs)).0
+        (versions_newest_first vs))
+        × IfOk r (λ answer. answer_of answer ≡ (changed_top change base (versions_newest_first vs)).1)
+        × OnErr r (versions_newest_first (set vs k v) ≡ versions_newest_first vs)
+    changed_in_place (Ok answer) ok err =
+        let seen : newest_content base (versions_newest_first vs) ≡ plain_option old.content =
+        content_on_top base vs k d last ∙ ap (λ (w : Version). plain_option w.content) (sym before) in
+        let made : (plain_option v.content, answer_of answer) ≡ changed_top change base (versions_newest_first vs) =
+        ok ∙ ap (outcome change) (sym seen) in (
+          version_set a (changed_top change base (versions_newest_first vs)).0 vs k d v last asc
+              (ap (λ (w : Version). w.holder.0) (sym found) ∙ mine) (same ∙ same_id old.holder a held)
+              (ap (λ (p : Outcome). p.0) made),
+          ap (λ (p : Outcome). p.1) made,
+          tt,
+        )
+    changed_in_place (Err refused) ok err = (
+      tt,
+      tt,
+      newest_set vs k v last
+          ∙ (ap (λ (w : PlainVersion). w ∷ versions_newest_first (take k vs))
+          (ap (λ (x : ActionId). let u : PlainVersion = record { holder = x; content = plain_option v.content } in u)
+          same
+          ∙ (ap (λ c. let u : PlainVersion = record { holder = old.holder; content = c } in u) err
+          ∙ ap plain_version before))
+          ∙ sym (newest_top vs k d last)),
+    )
+
+-- a changed copy of what is on top, pushed
+pub changed_copy : (change : PlainChange) (base : Option PlainContent) (a : ActionId) (vs vs' : List Version)
+    (v : Version) (answer : PlainAnswer) (top : Option PlainContent)
+    → vs' ≡ vs ++ v ∷ [] → v.holder ≡ a → list_all (λ x. ltb x.0 a.0) (holders (versions_newest_first vs)) ≡ true
+    → (plain_option v.content, answer) ≡ outcome change top → top ≡ newest_content base (versions_newest_first vs)
+    → versions_newest_first vs' ≡ with_version a (changed_top change base (versions_newest_first vs)).0
+    (versions_newest_first vs)
+changed_copy change base a vs vs' v answer top pushed mine low made seen =
+    ap versions_newest_first pushed
+    ∙ (version_pushed a vs v mine low
+    ∙ ap (λ (p : Outcome). with_version a p.0 (versions_newest_first vs)) (made ∙ ap (outcome change) seen))
 
 -- an action that may read sees what is on top
 pub seen_on_top : (t : Tree) (a : ActionId) (base : Option PlainContent) (vs : List PlainVersion)
@@ -56,7 +93,47 @@ seen_on_top t a base [] up = refl
 seen_on_top t a base (v ∷ older) up =
     sym (cond-true _ _ _ (and_parts (is_ancestor t v.holder.0 a.0) (all_above t a (holders older)) up).0)
 
+pub seen_by_writer : (t : Tree) (a : ActionId) (o : Object) → may_write t o a ≡ true
+    → newest_content o.base o.versions ≡ visible_content t a o.base o.versions
+seen_by_writer t a o up = seen_on_top t a o.base o.versions (and_parts (all_above t a (holders o.versions))
+    (all_above t a o.readers) up).0
+
+-- no holder is past an action that may read, nor past one that may write
+pub holders_up_to : (t : Tree) (a : ActionId) (vs : List Version)
+    → all_above t a (holders (versions_newest_first vs)) ≡ true → are_up_to a (writers vs) ≡ true
+holders_up_to t a vs up =
+    above_up_to t a (writers vs) (sym (all_holders (λ (x : ActionId). is_ancestor t x.0 a.0) vs) ∙ up)
+
+pub writers_up_to : (t : Tree) (a : ActionId) (readers : List ActionId) (vs : List Version)
+    → (all_above t a (holders (versions_newest_first vs)) && all_above t a readers) ≡ true
+    → are_up_to a (writers vs) ≡ true
+writers_up_to t a readers vs up = holders_up_to t a vs
+    (and_parts (all_above t a (holders (versions_newest_first vs))) (all_above t a readers) up).0
+
 -- what holds in any case holds on Ok
-pub on_ok : (r : Result Answer OutOfMemory) (P : Type 0) → P → OnOk r P
+pub on_ok : {R : Type 0} (r : Result R OutOfMemory) (P : Type 0) → P → OnOk r P
 on_ok (Ok answer) P p = p
 on_ok (Err refused) P p = tt
+
+-- lower holders are all other actions
+none_of_lower : (a : ActionId) (vs : List PlainVersion) → list_all (λ x. ltb x.0 a.0) (holders vs) ≡ true
+    → has_version a vs ≡ false
+none_of_lower a [] low = refl
+none_of_lower a (v ∷ vs) low =
+    let parts : (ltb v.holder.0 a.0 ≡ true) × (list_all (λ x. ltb x.0 a.0) (holders vs) ≡ true) =
+    and_parts (ltb v.holder.0 a.0) (list_all (λ x. ltb x.0 a.0) (holders vs)) low in
+    let lt : v.holder.0 < a.0 = ltb-true v.holder.0 a.0 parts.0 in
+    ap (λ b. b || has_version a vs) (ne_eqb v.holder.0 a.0 (λ e. omega arith)) ∙ none_of_lower a vs parts.1
+
+-- where no holder is past the action, the newest decides whether it has a version
+pub newest_decides : (a : ActionId) (vs : List Version) (k : ℕ) (d : Version) → k + 1 ≡ length vs
+    → is_ascending (writers vs) ≡ true → are_up_to a (writers vs) ≡ true
+    → list_any (λ (v : Version). eqb v.holder.0 a.0) vs ≡ eqb (get_or vs k d).holder.0 a.0
+newest_decides a vs k d last asc up =
+    sym (has_newest a vs) ∙ elim (cases_eq (get_or vs k d).holder.0 a.0) [
+      | inl e ↦ ap (has_version a) (newest_top vs k d last)
+          ∙ (ap (λ b. b || has_version a (versions_newest_first (take k vs)))
+          (eq-eqb (get_or vs k d).holder.0 a.0 e) ∙ sym (eq-eqb (get_or vs k d).holder.0 a.0 e))
+      | inr ne ↦ none_of_lower a (versions_newest_first vs) (all_lower a vs k d last asc up ne)
+          ∙ sym (ne_eqb (get_or vs k d).holder.0 a.0 ne)
+    ]

@@ -5,7 +5,9 @@ use Rattle.std.proofs.Common.{◌-◌}
 use Rattle.std.specs.List.{list_all}
 use Rattle.std.proofs.lemmas.Bool.{eq-eqb, ne_eqb, lt-ltb, le-ltb, ltb-true, cases_eq, cases_lt, cases_Bool, cond-true}
 use Rattle.std.proofs.lemmas.Bool.{cond-false, and_parts, and_from, false≢true}
-use Rattle.std.proofs.lemmas.List.{take_more, drop_more, append_assoc}
+use Rattle.std.proofs.lemmas.List.{take_more, drop_more, append_assoc, take-append-drop}
+use Rattle.std.proofs.lemmas.List.Folds.{list_any-append}
+use Rattle.std.proofs.Math.Bool.{or-false}
 use Rattle.argus_actions.specs.declared.action_id.ActionId.{ActionId}
 use Rattle.argus_objects.specs.Rules.{is_ascending}
 use Rattle.argus_objects.specs.CellChanges.{is_reader, with_reader, without_reader, readers_inherited}
@@ -167,3 +169,30 @@ ascending_inherited s p xs asc = cases (is_reader s xs)
     cases : (b : Bool) → is_ascending (cond b (with_reader p (without_reader s xs)) xs) ≡ true
     cases true = ascending_with p (without_reader s xs) (ascending_filter (λ x. not (eqb x.0 s.0)) xs asc)
     cases false = asc
+
+-- one reader more that is past the action
+pub past_reader : (a : ActionId) (xs : List ActionId) (k : ℕ) (d : ActionId) → k < length xs → a.0 < (get_or xs k d).0
+    → is_reader a (drop (k + 1) xs) ≡ false → is_reader a (drop k xs) ≡ false
+past_reader a xs k d below lt none =
+    ap (is_reader a) (drop_more xs k d below)
+    ∙ (ap (λ b. b || is_reader a (drop (k + 1) xs)) (ne_eqb (get_or xs k d).0 a.0 (λ e. omega arith)) ∙ none)
+
+-- where none past a place is the action, and the one in it is not past the action, it decides
+pub reader_here : (a : ActionId) (xs : List ActionId) (k : ℕ) (d : ActionId) → is_ascending xs ≡ true → k < length xs
+    → (get_or xs k d).0 ≤ a.0 → is_reader a (drop (k + 1) xs) ≡ false → is_reader a xs ≡ eqb (get_or xs k d).0 a.0
+reader_here a xs k d asc below le none =
+    ap (is_reader a) (sym (take-append-drop (k + 1) xs) ∙ ap (λ ys. ys ++ drop (k + 1) xs) (take_more xs k d below))
+    ∙ (list_any-append (λ (x : ActionId). eqb x.0 a.0) (take k xs ++ get_or xs k d ∷ []) (drop (k + 1) xs)
+    ∙ (ap (λ b. is_reader a (take k xs ++ get_or xs k d ∷ []) || b) none
+    ∙ (or-false (is_reader a (take k xs ++ get_or xs k d ∷ []))
+    ∙ (list_any-append (λ (x : ActionId). eqb x.0 a.0) (take k xs) (get_or xs k d ∷ [])
+    ∙ (ap (λ b. b || (eqb (get_or xs k d).0 a.0 || false)) (no_reader a (take k xs) (lower_than a xs k d asc below le))
+    ∙ or-false (eqb (get_or xs k d).0 a.0))))))
+  where
+    no_reader : (a : ActionId) (ys : List ActionId) → list_all (λ y. ltb y.0 a.0) ys ≡ true → is_reader a ys ≡ false
+    no_reader a [] low = refl
+    no_reader a (y ∷ ys) low =
+        let parts : (ltb y.0 a.0 ≡ true) × (list_all (λ y. ltb y.0 a.0) ys ≡ true) =
+        and_parts (ltb y.0 a.0) (list_all (λ y. ltb y.0 a.0) ys) low in
+        let lt : y.0 < a.0 = ltb-true y.0 a.0 parts.0 in
+        ap (λ b. b || is_reader a ys) (ne_eqb y.0 a.0 (λ e. omega arith)) ∙ no_reader a ys parts.1

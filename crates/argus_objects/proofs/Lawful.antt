@@ -9,7 +9,6 @@ use Rattle.std.proofs.lemmas.List.{reverse-reverse}
 use Rattle.argus_actions.specs.declared.action_id.ActionId.{ActionId}
 use Rattle.argus_actions.specs.Tree.{Tree, is_ancestor}
 use Rattle.argus_memory.specs.declared.out_of_memory.OutOfMemory.{OutOfMemory}
-use Rattle.argus_contents.specs.declared.answer.Answer.{Answer}
 use Rattle.argus_contents.specs.Content.{PlainContent}
 use Rattle.argus_objects.specs.declared.version.Version.{Version}
 use Rattle.argus_objects.specs.Object.{PlainVersion, versions_newest_first, holders, writers}
@@ -252,7 +251,7 @@ module _ (t : Tree) (rs rs' : List ActionId) (vs vs' : List Version) (asc : is_a
         (ap holders f ∙ holders_filter keep' (versions_newest_first vs))
         (ascending_filter keep rs asc) (lawful_less t keep keep' rs (holders (versions_newest_first vs)) before)
 
-    pub kept_change : (r : Result Answer OutOfMemory) (a : ActionId) (content : Option PlainContent)
+    pub kept_change : {R : Type 0} (r : Result R OutOfMemory) (a : ActionId) (content : Option PlainContent)
         → (all_above t a (holders (versions_newest_first vs)) && all_above t a rs) ≡ true → rs' ≡ rs
         → OnOk r (versions_newest_first vs' ≡ with_version a content (versions_newest_first vs))
         → OnErr r (versions_newest_first vs' ≡ versions_newest_first vs) → Kept t rs' vs'

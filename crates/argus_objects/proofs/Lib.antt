@@ -1,3 +1,5 @@
+pub mod Distinct
+pub mod Places
 pub mod Chains
 pub mod Lawful
 pub mod Ascending

@@ -12,7 +12,6 @@ use Rattle.std.proofs.lemmas.List.Elements.{filter-append}
 use Rattle.std.proofs.lemmas.List.Folds.{list_any-append, list_all-map}
 use Rattle.std.proofs.lemmas.Grind.{reverse_onto}
 use Rattle.std.proofs.lemmas.Simd.{map-map}
-use Rattle.indexmap.proofs.ReorderLemmas.{map-reverse}
 use Rattle.argus_actions.specs.declared.action_id.ActionId.{ActionId}
 use Rattle.argus_actions.specs.Tree.{Tree}
 use Rattle.argus_contents.specs.Content.{PlainContent}
@@ -32,9 +31,16 @@ newest_push vs v =
 pub same_id : (x y : ActionId) → x.0 ≡ y.0 → x ≡ y
 same_id x y e = ap (λ n. let z : ActionId = record { 0 = n } in z) e
 
+-- a list turned round, seen element by element
+pub map_reverse : {X Y : Type 0} (f : X → Y) (xs : List X) → map f (reverse xs) ≡ reverse (map f xs)
+map_reverse f [] = refl
+map_reverse f (x ∷ xs) =
+    ap (map f) (reverse_onto xs x []) ∙ (map-append f (reverse xs) (x ∷ [])
+    ∙ (ap (λ ys. ys ++ f x ∷ []) (map_reverse f xs) ∙ sym (reverse_onto (map f xs) (f x) [])))
+
 -- the holders from descendant to ancestor are those from ancestor to descendant, turned round
 pub holders_newest : (vs : List Version) → holders (versions_newest_first vs) ≡ reverse (writers vs)
-holders_newest vs = map-reverse (λ (v : PlainVersion). v.holder) (map plain_version vs)
+holders_newest vs = map_reverse (λ (v : PlainVersion). v.holder) (map plain_version vs)
     ∙ ap reverse (map-map (λ (v : PlainVersion). v.holder) plain_version vs)
 
 pub all_holders : (p : ActionId → Bool) (vs : List Version)

@@ -1,39 +1,34 @@
 -- The list of each action's objects.
-use Rattle.std.specs.Prelude.{◌≡◌, ℕ, ◌+◌, ◌≤◌, ◌==◌, nat_eq, if◌then◌else◌, List, [], ◌∷◌, ◌++◌}
-use Rattle.std.specs.Prelude.{Option, Some, None}
-use Rattle.std.specs.List.{list_any}
-use Rattle.std.specs.HashMap.{get}
-use Rattle.indexmap.specs.IndexSet.{IndexSet, spare}
+pub use Rattle.argus_objects.specs.ObjectList.{noted, passed, no_objects}
+use Rattle.std.specs.Prelude.{◌≡◌, ℕ, ◌+◌, ◌-◌, ◌<◌, ◌≤◌, ◌==◌, nat_lt, if◌then◌else◌}
+use Rattle.std.specs.Prelude.{List, [], length, slice_index_or}
 use Rattle.argus_actions.specs.declared.action_id.ActionId.{ActionId}
 use Rattle.argus_contents.specs.declared.obj_id.ObjId.{ObjId}
 use Rattle.argus_objects.specs.declared.holdings.Holdings.{Holdings}
+use Rattle.argus_objects.specs.ObjectList.{NotedObjects}
 
--- the objects of a list that may not be there
-abbrev pub keys_of : {S : Type 0} → Option (IndexSet ObjId S) → List ObjId
-keys_of None = []
-keys_of (Some set) = set.keys
-
--- how many more objects fit
-abbrev pub room_in : {S : Type 0} → Option (IndexSet ObjId S) → ℕ
-room_in None = 0
-room_in (Some set) = spare set
+-- the list of the action of this number, in lists of the actions from `first` on
+unfoldable pub list_of : ℕ → List NotedObjects → ℕ → NotedObjects
+list_of first lists n =
+    if nat_lt n first then no_objects else slice_index_or lists (n - first) no_objects
 
 -- the list of an action, empty where nothing was noted
 abbrev pub objects_held_by : Holdings → ActionId → List ObjId
-objects_held_by holdings a = keys_of (get nat_eq holdings.lists a.0)
+objects_held_by holdings a = (list_of holdings.first holdings.lists.items a.0).objects
 
 -- for how many more objects there is room in the action's list
 abbrev pub holdings_room_of : Holdings → ActionId → ℕ
-holdings_room_of holdings a = room_in (get nat_eq holdings.lists a.0)
+holdings_room_of holdings a = (list_of holdings.first holdings.lists.items a.0).room
 
--- an object noted at the end of a list, unless it is there
-abbrev pub noted : ObjId → List ObjId → List ObjId
-noted o list = if list_any (λ x. x.0 == o.0) list then list else list ++ o ∷ []
+-- there is a place for the action's list, so that another list can be put there
+pub record HasPlace (holdings : Holdings) (a : ActionId) : Type 0 where
+  pub from : holdings.first ≤ a.0
+  pub to : a.0 < holdings.first + length holdings.lists.items
 
--- these objects noted, in their order
-abbrev pub passed : List ObjId → List ObjId → List ObjId
-passed [] list = list
-passed (o ∷ os) list = passed os (noted o list)
+-- this is the place of the list of the action of this number, past the end where there is none
+pub record IsPlace (first : ℕ) (lists : List NotedObjects) (n place : ℕ) : Type 0 where
+  pub none : n < first → length lists ≤ place
+  pub some : first ≤ n → first + place ≡ n
 
 -- the list of this action is another one, and all other lists stay
 abbrev pub Lists : Holdings → ActionId → List ObjId → Holdings → Type 0

@@ -1,4 +1,5 @@
 pub mod Object
 pub mod Rules
 pub mod CellChanges
+pub mod ObjectList
 pub mod Holdings

@@ -1,31 +1,34 @@
 //! `Cell`: one object, with its base, its readers and its versions.
 
-ghost use Rattle.std.specs.Prelude.{◌≡◌, ◌<◌, ◌≤◌, true, [], None, Some, IfOk, OnErr, OnOk};
+ghost use Rattle.std.specs.Prelude.{◌≡◌, ◌<◌, ◌≤◌, false, true, [], None, Some, IfOk, OnErr};
+ghost use Rattle.std.specs.Prelude.{◌||◌, OnOk};
 ghost use Rattle.std.specs.Option.{unwrap_or};
 ghost use Rattle.argus_actions.specs.Refusals.{commit_refusal};
 ghost use Rattle.argus_actions.specs.Tree.{parent_of};
-ghost use Rattle.argus_contents.specs.Answer.{plain_answer};
-ghost use Rattle.argus_contents.specs.Change.{CreatesWithin, plain_change};
+ghost use Rattle.argus_contents.specs.Answer.{done_or, plain_answer};
+ghost use Rattle.argus_contents.specs.Change.{CreatesWithin, gives_value, plain_change};
 ghost use Rattle.argus_contents.specs.Content.{KeepsLimits, plain_option};
 ghost use Rattle.argus_objects.specs.Object.{versions_newest_first, SameLocks};
 ghost use Rattle.argus_objects.specs.Rules.{is_lawful, may_read, may_write, visible_content};
-ghost use Rattle.argus_objects.specs.CellChanges.{changed, newest_content, version_of};
+ghost use Rattle.argus_objects.specs.CellChanges.{changed, has_version, is_reader, newest_content};
 ghost use Rattle.argus_objects.specs.CellChanges.{readers_discarded, readers_inherited};
-ghost use Rattle.argus_objects.specs.CellChanges.{with_reader};
+ghost use Rattle.argus_objects.specs.CellChanges.{version_of, with_reader};
 ghost use Rattle.argus_objects.specs.CellChanges.{without_reader};
 ghost use Rattle.argus_objects.specs.CellChanges.{versions_discarded, versions_inherited};
 ghost use Rattle.argus_objects.specs.CellChanges.{with_version};
 ghost use Rattle.argus_objects.specs.CellChanges.{without_version};
 
-use crate::changing::{change_version, content_on_top};
-use crate::readers::{add_reader, all_readers_above, discard_readers, drop_reader, inherit_reader};
+use crate::changing::{change_version, change_version_by_reference, content_on_top};
+use crate::readers::{
+    add_reader, all_readers_above, discard_readers, drop_reader, inherit_reader, is_among,
+};
 use crate::version::Version;
 use crate::versions::{
-    all_writers_above, are_all_related, are_chained, discard_versions, inherit_version,
-    put_version, settle_version,
+    all_writers_above, are_all_related, are_chained, discard_versions, has_version,
+    inherit_version, is_newest, put_version, settle_version,
 };
 use argus_actions::{ActionId, ActionTree};
-use argus_contents::{Answer, Change, Content};
+use argus_contents::{Answer, Change, Content, Signal};
 use argus_memory::{Heap, OutOfMemory, Room};
 use std::marker::Model;
 
@@ -33,8 +36,8 @@ use std::marker::Model;
 /// of those that hold write locks.
 ///
 /// Contracts see these three, and for how many more grants there is room. Readers stand in
-/// increasing number, versions from ancestor to descendant. Only `reserve_grant` and
-/// `grant_change` take memory.
+/// increasing number, versions from ancestor to descendant. Only `reserve_grant`, `grant_change`
+/// and `grant_change_by_reference` take memory.
 ///
 /// ```text
 /// let mut cell = Cell::new(heap, None);
@@ -120,6 +123,7 @@ impl Cell {
     }
 
     /// Whether `a` may have a read lock: all holders of versions are ancestors of `a`.
+    #[inline(always)]
     pub fn may_read(&self, tree: &ActionTree, a: ActionId) -> bool
         ensures { result ≡ may_read tree.now self.now a }
     {
@@ -128,14 +132,36 @@ impl Cell {
 
     /// Whether `a` may have a write lock: all readers and all holders of versions are ancestors of
     /// `a`.
+    #[inline(always)]
     pub fn may_write(&self, tree: &ActionTree, a: ActionId) -> bool
         ensures { result ≡ may_write tree.now self.now a }
     {
         self.may_read(tree, a) && all_readers_above(self.readers.as_slice(), tree, a)
     }
 
+    /// Whether `a` is a reader or has a version. Of the versions only the newest is looked at, and
+    /// of the readers those past `a` and the next one.
+    ///
+    /// Condition: the read lock is granted, so that a version of `a` is the newest.
+    #[inline(always)]
+    pub fn is_held_by(&self, tree: &ActionTree, a: ActionId) -> bool
+        requires { may_read tree.now self.now a ≡ true }
+        ensures { result ≡ (is_reader a self.now.readers || has_version a self.now.versions) }
+    {
+        is_newest(self.versions.as_slice(), a) || is_among(self.readers.as_slice(), a)
+    }
+
+    /// Whether `a` is a reader or has a version, which need not be the newest.
+    #[inline(always)]
+    pub fn has_holder(&self, a: ActionId) -> bool
+        ensures { result ≡ (is_reader a self.now.readers || has_version a self.now.versions) }
+    {
+        is_among(self.readers.as_slice(), a) || has_version(self.versions.as_slice(), a)
+    }
+
     /// Makes room for one more reader and one more version. After `OutOfMemory` the lists stay, and
     /// in any case the room that was there.
+    #[inline(always)]
     pub fn reserve_grant(&mut self) -> Result<(), OutOfMemory>
         ensures same { SameLocks self.old self.new }
         ensures ok { OnOk result (0 < self.new.room) }
@@ -150,6 +176,7 @@ impl Cell {
     ///
     /// Condition: the cell is lawful, `a` is live and has no live child, the read lock is granted,
     /// and there is room.
+    #[inline(always)]
     pub fn grant_read(&mut self, tree: &ActionTree, a: ActionId)
         requires lawful { is_lawful tree.now self.old ≡ true }
         requires free { commit_refusal tree.now a.0 ≡ None }
@@ -216,10 +243,47 @@ impl Cell {
         change_version(&self.base, &mut self.versions, a, change)
     }
 
+    /// Makes a change that gives no value in `a`'s version, which is pushed if `a` had none, with
+    /// the meaning of `grant_change`: None where that answers `Done`, else the signal.
+    ///
+    /// The change stays, so that it can be moved to where it is kept; only the value that it leaves
+    /// is copied, and for the first write of an action what it sees. After `OutOfMemory` the cell
+    /// is as before.
+    ///
+    /// Condition: that of `grant_change`, and the change is another than `Remh` and `Reml`.
+    #[inline(always)]
+    pub fn grant_change_by_reference(
+        &mut self,
+        tree: &ActionTree,
+        a: ActionId,
+        change: &Change,
+    ) -> Result<Option<Signal>, OutOfMemory>
+        requires lawful { is_lawful tree.now self.old ≡ true }
+        requires free { commit_refusal tree.now a.0 ≡ None }
+        requires granted { may_write tree.now self.old a ≡ true }
+        requires limits { KeepsLimits (visible_content tree.now a self.old.base self.old.versions) }
+        requires gives_none { gives_value (plain_change change.now) ≡ false }
+        ensures base { self.new.base ≡ self.old.base }
+        ensures readers { self.new.readers ≡ self.old.readers }
+        ensures versions { OnOk result (self.new.versions
+            ≡ with_version a (changed tree.now a (plain_change change.now) self.old).0
+            self.old.versions) }
+        ensures answer { IfOk result (λ refusal. done_or refusal
+            ≡ (changed tree.now a (plain_change change.now) self.old).1) }
+        ensures kept { CreatesWithin (plain_change change.now)
+            → OnOk result (KeepsLimits
+            (changed tree.now a (plain_change change.now) self.old).0) }
+        ensures err { OnErr result (self.new.versions ≡ self.old.versions) }
+        ensures lawful { is_lawful tree.now self.new ≡ true }
+    {
+        change_version_by_reference(&self.base, &mut self.versions, a, change)
+    }
+
     /// The content that `a` sees: the version of its nearest ancestor that has one, else the base.
     /// As all holders of versions are its ancestors, that is the newest version.
     ///
     /// Condition: the read lock is free for `a`.
+    #[inline(always)]
     pub fn visible(&self, tree: &ActionTree, a: ActionId) -> &Option<Content>
         requires { may_read tree.now self.now a ≡ true }
         ensures nearest { plain_option result.now ≡ visible_content tree.now a self.now.base
@@ -233,6 +297,7 @@ impl Cell {
     ///
     /// Call it before the tree commits `s`. Condition: the cell is lawful, `s` is live and has no
     /// live child, and `parent` is its parent.
+    #[inline(always)]
     pub fn inherit(&mut self, tree: &ActionTree, s: ActionId, parent: ActionId)
         requires lawful { is_lawful tree.now self.old ≡ true }
         requires parent { parent_of tree.now s.0 ≡ Some parent }
@@ -251,6 +316,7 @@ impl Cell {
     ///
     /// Call it before the tree commits `t`. Condition: the cell is lawful, and `t` is live and has
     /// no live child.
+    #[inline(always)]
     pub fn settle_top(&mut self, tree: &ActionTree, t: ActionId)
         requires lawful { is_lawful tree.now self.old ≡ true }
         requires free { commit_refusal tree.now t.0 ≡ None }

@@ -1,8 +1,8 @@
 //! A change of an object's version: in place where the action has one, otherwise on a copy.
 
-ghost use Rattle.std.specs.Prelude.{◌≡◌, true, IfOk, OnErr, OnOk};
-ghost use Rattle.argus_contents.specs.Answer.{plain_answer};
-ghost use Rattle.argus_contents.specs.Change.{plain_change};
+ghost use Rattle.std.specs.Prelude.{◌≡◌, false, true, IfOk, OnErr, OnOk};
+ghost use Rattle.argus_contents.specs.Answer.{done_or, plain_answer};
+ghost use Rattle.argus_contents.specs.Change.{gives_value, plain_change};
 ghost use Rattle.argus_contents.specs.Content.{KeepsLimits, plain_option};
 ghost use Rattle.argus_objects.specs.Object.{versions_newest_first, writers};
 ghost use Rattle.argus_objects.specs.Rules.{are_up_to, is_ascending};
@@ -10,7 +10,9 @@ ghost use Rattle.argus_objects.specs.CellChanges.{changed_top, newest_content, w
 
 use crate::version::Version;
 use argus_actions::ActionId;
-use argus_contents::{Answer, Change, Content, alter_copy, alter_in_place};
+use argus_contents::{
+    Answer, Change, Content, Signal, alter_by_reference, alter_copy, alter_in_place,
+};
 use argus_memory::{OutOfMemory, Room};
 
 /// The content of the newest version, or the base.
@@ -57,4 +59,40 @@ pub(crate) fn change_version(
     let (content, answer) = alter_copy(heap, content_on_top(base, versions.as_slice()), change)?;
     versions.push(Version { holder: a, content })?;
     Ok(answer)
+}
+
+/// [`change_version`] of a change that gives no value and stays where it is: None where that
+/// answers `Done`, else the signal.
+///
+/// After `OutOfMemory` the versions are as before.
+pub(crate) fn change_version_by_reference(
+    base: &Option<Content>,
+    versions: &mut Vec<Version, Room>,
+    a: ActionId,
+    change: &Change,
+) -> Result<Option<Signal>, OutOfMemory>
+    requires ascending { is_ascending (writers versions.old.items) ≡ true }
+    requires newest { are_up_to a (writers versions.old.items) ≡ true }
+    requires limits { KeepsLimits (newest_content (plain_option base.now)
+        (versions_newest_first versions.old.items)) }
+    requires gives_none { gives_value (plain_change change.now) ≡ false }
+    ensures versions { OnOk result (versions_newest_first versions.new.items
+        ≡ with_version a (changed_top (plain_change change.now) (plain_option base.now)
+        (versions_newest_first versions.old.items)).0 (versions_newest_first versions.old.items)) }
+    ensures answer { IfOk result (λ refusal. done_or refusal
+        ≡ (changed_top (plain_change change.now) (plain_option base.now)
+        (versions_newest_first versions.old.items)).1) }
+    ensures err { OnErr result (versions_newest_first versions.new.items
+        ≡ versions_newest_first versions.old.items) }
+{
+    let held = versions.len();
+    let heap = versions.allocator().heap();
+    if held > 0 && versions[held - 1].holder.0 == a.0 {
+        return alter_by_reference(heap, &mut versions[held - 1].content, change);
+    }
+    versions.reserve(1)?;
+    let mut content = Content::duplicate_option(heap, content_on_top(base, versions.as_slice()))?;
+    let refusal = alter_by_reference(heap, &mut content, change)?;
+    versions.push_reserved(Version { holder: a, content });
+    Ok(refusal)
 }

@@ -10,6 +10,7 @@ mod cell;
 mod changing;
 mod holdings;
 pub mod laws;
+mod object_list;
 mod readers;
 mod version;
 mod versions;

@@ -9,14 +9,22 @@ ghost use Rattle.argus_objects.specs.CellChanges.{readers_inherited, readers_dis
 use argus_actions::{ActionId, ActionTree};
 use argus_memory::Room;
 
-pub(crate) fn has_reader(readers: &[ActionId], a: ActionId) -> bool
+/// Whether `a` is a reader. Only readers past it are looked at, and the next one.
+#[inline(always)]
+pub(crate) fn is_among(readers: &[ActionId], a: ActionId) -> bool
+    requires { is_ascending readers.now ≡ true }
     ensures { result ≡ is_reader a readers.now }
 {
-    readers.iter().any(|x| *x == a)
+    let mut at = readers.len();
+    while at > 0 && a.0 < readers[at - 1].0 {
+        at -= 1;
+    }
+    at > 0 && readers[at - 1].0 == a.0
 }
 
 /// Whether all readers are ancestors of `a`. The climb goes on where the last one ended, so it
 /// costs the readers and the depth of `a`.
+#[inline(always)]
 pub(crate) fn all_readers_above(readers: &[ActionId], tree: &ActionTree, a: ActionId) -> bool
     requires { is_ascending readers.now ≡ true }
     ensures { result ≡ all_above tree.now a readers.now }
@@ -35,6 +43,7 @@ pub(crate) fn all_readers_above(readers: &[ActionId], tree: &ActionTree, a: Acti
 }
 
 /// Puts `a` in its place in the room that is there, if it isn't a reader.
+#[inline(always)]
 pub(crate) fn add_reader(readers: &mut Vec<ActionId, Room>, a: ActionId)
     requires room { vec_len readers.old < vec_capacity readers.old }
     requires ascending { is_ascending readers.old.items ≡ true }
@@ -57,11 +66,12 @@ pub(crate) fn drop_reader(readers: &mut Vec<ActionId, Room>, a: ActionId)
 }
 
 /// Puts the parent in the place of `s`.
+#[inline(always)]
 pub(crate) fn inherit_reader(readers: &mut Vec<ActionId, Room>, s: ActionId, parent: ActionId)
     requires { is_ascending readers.old.items ≡ true }
     ensures { readers.new.items ≡ readers_inherited s parent readers.old.items }
 {
-    if has_reader(readers.as_slice(), s) {
+    if is_among(readers.as_slice(), s) {
         drop_reader(readers, s);
         add_reader(readers, parent);
     }

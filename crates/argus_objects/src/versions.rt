@@ -24,8 +24,20 @@ pub(crate) fn has_version(versions: &[Version], a: ActionId) -> bool
     versions.iter().any(|version| version.holder == a)
 }
 
+/// Whether the newest version is that of `a`, where no holder is past `a`: then no other is.
+#[inline(always)]
+pub(crate) fn is_newest(versions: &[Version], a: ActionId) -> bool
+    requires ascending { is_ascending (writers versions.now) ≡ true }
+    requires newest { are_up_to a (writers versions.now) ≡ true }
+    ensures { result ≡ list_any (λ v. v.holder.0 == a.0) versions.now }
+{
+    let held = versions.len();
+    held > 0 && versions[held - 1].holder.0 == a.0
+}
+
 /// Whether all holders are ancestors of `a`. The climb goes on where the last one ended, so it
 /// costs no more than the depth of `a`.
+#[inline(always)]
 pub(crate) fn all_writers_above(versions: &[Version], tree: &ActionTree, a: ActionId) -> bool
     requires { is_ascending (writers versions.now) ≡ true }
     ensures { result ≡ all_above tree.now a (holders (versions_newest_first versions.now)) }
@@ -116,6 +128,7 @@ fn take_version(versions: &mut Vec<Version, Room>, t: ActionId) -> Option<Option
 }
 
 /// Makes the version of `t`, if it has one, the base.
+#[inline(always)]
 pub(crate) fn settle_version(
     base: &mut Option<Content>,
     versions: &mut Vec<Version, Room>,
@@ -152,6 +165,7 @@ fn inherit_holder(versions: &mut [Version], s: ActionId, parent: ActionId)
 }
 
 /// Makes the version of `s`, if it has one, the parent's only one.
+#[inline(always)]
 pub(crate) fn inherit_version(versions: &mut Vec<Version, Room>, s: ActionId, parent: ActionId)
     ensures { versions_newest_first versions.new.items ≡ versions_inherited s parent
         (versions_newest_first versions.old.items) }

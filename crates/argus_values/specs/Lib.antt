@@ -8,6 +8,7 @@ pub use Rattle.argus_contents.specs.Place
 pub use Rattle.argus_contents.specs.Query
 pub use Rattle.argus_contents.specs.Shape
 pub use Rattle.argus_contents.specs.ShapeView
+pub use Rattle.argus_contents.specs.SmallAnswer
 pub use Rattle.argus_contents.specs.Ty
 pub use Rattle.argus_contents.specs.Typing
 pub use Rattle.argus_contents.specs.Value

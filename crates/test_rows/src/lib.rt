@@ -29,8 +29,8 @@ pub use setting::Setting;
 pub use spelling::{spell, spell_line, spelled_row};
 pub use subject::Subject;
 pub use telling::{
-    tell_action, tell_answer, tell_content, tell_flag, tell_marked, tell_number, tell_object,
-    tell_word,
+    tell_action, tell_answer, tell_content, tell_done_or, tell_flag, tell_marked, tell_number,
+    tell_object, tell_word,
 };
 pub use tester::Tester;
 pub use tight_answer::TightAnswer;

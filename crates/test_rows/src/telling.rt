@@ -71,11 +71,21 @@ pub fn tell_answer(answer: &Answer, out: &mut String<Room>) -> Result<(), OutOfM
             out.push_str(" body ")?;
             write_content(content, out)
         }
-        Answer::Signal(signal) => {
-            out.push_str(" signal")?;
-            tell_word(signal_name(*signal), out)
-        }
+        Answer::Signal(signal) => tell_signal(*signal, out),
     }
+}
+
+/// Adds `done`, or the signal where there is one.
+pub fn tell_done_or(signal: Option<Signal>, out: &mut String<Room>) -> Result<(), OutOfMemory> {
+    match signal {
+        None => tell_word("done", out),
+        Some(signal) => tell_signal(signal, out),
+    }
+}
+
+fn tell_signal(signal: Signal, out: &mut String<Room>) -> Result<(), OutOfMemory> {
+    out.push_str(" signal")?;
+    tell_word(signal_name(signal), out)
 }
 
 fn signal_name(signal: Signal) -> &'static str {

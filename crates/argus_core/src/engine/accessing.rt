@@ -1,70 +1,118 @@
 //! How actions read objects.
 
-ghost use Rattle.std.specs.Prelude.{◌≡◌, ◌<◌, None, IfOk};
-ghost use Rattle.argus_entries.specs.Call.{ask, plain_call};
+ghost use Rattle.std.specs.Prelude.{◌≡◌, ◌<◌, None, IfOk, OnErr, OnOk};
+ghost use Rattle.argus_contents.specs.Query.{reply};
+ghost use Rattle.argus_contents.specs.SmallAnswer.{plain_small};
+ghost use Rattle.argus_core.specs.declared.engine.atomic_object.AtomicObject.{AtomicObject};
+ghost use Rattle.argus_entries.specs.Call.{ask};
+ghost use Rattle.argus_entries.specs.Reply.{plain_reply};
+ghost use Rattle.argus_core.specs.Accessing.{HasGrantRoom, seen_at};
 ghost use Rattle.argus_core.specs.GuardianState.{StateInvariant, journal_view_of};
-ghost use Rattle.argus_core.specs.Prepared.{HasGrantRoom, IsReady};
-ghost use Rattle.argus_journal.specs.JournalView.{refusal_to};
+ghost use Rattle.argus_journal.specs.JournalView.{after, refusal_to, reply_to};
 ghost use Rattle.argus_journal.specs.LegalJournal.{room_in};
 
-use crate::engine::answering::{query_answer, reply_twice};
-use crate::engine::granting::reserve_access;
+use crate::engine::answering::{query_answer, reply_twice, small_answer};
+use crate::engine::granting::{grant_read, reserve_access};
 use crate::engine::guardian_state::GuardianState;
-use crate::engine::prepared::Prepared;
-use crate::engine::preparing::prepare_refused;
-use crate::engine::refusing::ask_refusal;
-use crate::engine::transition::Transition;
+use crate::engine::refusing::{ask_refusal, refuse};
 use argus_actions::ActionId;
-use argus_contents::{ObjId, Query};
-use argus_entries::{Call, Entry};
+use argus_contents::{ObjId, Query, SmallAnswer};
+use argus_entries::{Call, Entry, Reply};
 use argus_memory::OutOfMemory;
 
-/// Prepares a query, or its refusal. The journal stays, whatever is answered.
+/// Answers a query at what the action sees, and makes it a reader; or records the refusal.
 ///
-/// `OutOfMemory`: there was no memory for its entry, its lock or its answer.
-pub(crate) fn prepare_ask(
+/// `OutOfMemory` may come in place of any reply: the journal stays, and the query is spent.
+pub(crate) fn ask(
     state: &mut GuardianState,
     a: ActionId,
     o: ObjId,
     query: Query,
-) -> Result<Prepared, OutOfMemory>
+) -> Result<Reply, OutOfMemory>
     requires { StateInvariant state.old }
     ensures kept { StateInvariant state.new }
-    ensures journal { journal_view_of state.new ≡ journal_view_of state.old }
-    ensures ready { IfOk result (λ prepared. IsReady state.new prepared) }
-    ensures call { IfOk result (λ prepared. plain_call prepared.entry.call ≡ ask a.0 o.0 query) }
+    ensures reply { IfOk result (λ reply. plain_reply reply
+        ≡ reply_to (journal_view_of state.old) (ask a.0 o.0 query)) }
+    ensures ok { OnOk result (journal_view_of state.new
+        ≡ after (journal_view_of state.old) (ask a.0 o.0 query)) }
+    ensures err { OnErr result (journal_view_of state.new ≡ journal_view_of state.old) }
 {
     match ask_refusal(state.objects.as_slice(), &state.tree, a, o, &query) {
-        Some(why) => return prepare_refused(state, Call::Ask(a, o, query), why),
+        Some(why) => return refuse(state, Call::Ask(a, o, query), why),
         None => {}
     }
-    reserve_access(state, a, o)?;
-    answered_query(state, a, o, query)
+    let is_new = reserve_access(state, a, o)?;
+    match small_answer(state.objects.as_slice(), &state.tree, a, o, &query) {
+        Some(answer) => Ok(record_answer(state, a, o, query, answer, is_new)),
+        None => answer_with_memory(state, a, o, query, is_new),
+    }
 }
 
-// The step of a query for which there is room, with its answer.
-fn answered_query(
-    state: &GuardianState,
+// A query that is granted, for which there is room, and whose answer takes no memory.
+#[inline(always)]
+fn record_answer(
+    state: &mut GuardianState,
     a: ActionId,
     o: ObjId,
     query: Query,
-) -> Result<Prepared, OutOfMemory>
-    requires kept { StateInvariant state.now }
-    requires free { refusal_to (journal_view_of state.now) (ask a.0 o.0 query) ≡ None }
-    requires place { 0 < room_in state.now.journal }
-    requires room { HasGrantRoom state.now.objects.items state.now.holdings a o }
-    ensures ready { IfOk result (λ prepared. IsReady state.now prepared) }
-    ensures call { IfOk result (λ prepared. plain_call prepared.entry.call ≡ ask a.0 o.0 query) }
+    answer: SmallAnswer,
+    is_new: bool,
+) -> Reply
+    requires kept { StateInvariant state.old }
+    requires free { refusal_to (journal_view_of state.old) (ask a.0 o.0 query) ≡ None }
+    requires right { (d : AtomicObject) → plain_small answer
+        ≡ reply query (seen_at state.old.tree a state.old.objects.items o.0 d) }
+    requires place { 0 < room_in state.old.journal }
+    requires room { HasGrantRoom state.old.objects.items state.old.holdings a o is_new }
+    ensures kept { StateInvariant state.new }
+    ensures reply { plain_reply result
+        ≡ reply_to (journal_view_of state.old) (ask a.0 o.0 query) }
+    ensures journal { journal_view_of state.new
+        ≡ after (journal_view_of state.old) (ask a.0 o.0 query) }
 {
-    let objects = state.objects.as_slice();
-    let answer = query_answer(state.heap, objects, &state.tree, a, o, &query)?;
+    grant_read(
+        state.objects.as_mut_slice(),
+        &mut state.holdings,
+        &state.tree,
+        a,
+        o,
+        is_new,
+    );
+    state.journal.push(Entry {
+        call: Call::Ask(a, o, query),
+        reply: Reply::Answered(answer.answer()),
+    });
+    Reply::Answered(answer.answer())
+}
+
+// A query that is granted, and for which there is room. Its answer may take memory.
+#[inline(never)]
+fn answer_with_memory(
+    state: &mut GuardianState,
+    a: ActionId,
+    o: ObjId,
+    query: Query,
+    is_new: bool,
+) -> Result<Reply, OutOfMemory>
+    requires kept { StateInvariant state.old }
+    requires free { refusal_to (journal_view_of state.old) (ask a.0 o.0 query) ≡ None }
+    requires place { 0 < room_in state.old.journal }
+    requires room { HasGrantRoom state.old.objects.items state.old.holdings a o is_new }
+    ensures kept { StateInvariant state.new }
+    ensures reply { IfOk result (λ reply. plain_reply reply
+        ≡ reply_to (journal_view_of state.old) (ask a.0 o.0 query)) }
+    ensures ok { OnOk result (journal_view_of state.new
+        ≡ after (journal_view_of state.old) (ask a.0 o.0 query)) }
+    ensures err { OnErr result (journal_view_of state.new ≡ journal_view_of state.old) }
+{
+    let seen = state.objects.as_slice();
+    let answer = query_answer(state.heap, seen, &state.tree, a, o, &query)?;
     let (reply, again) = reply_twice(state.heap, answer)?;
-    Ok(Prepared {
-        transition: Transition::Read(a, o),
-        entry: Entry {
-            call: Call::Ask(a, o, query),
-            reply: again,
-        },
-        reply,
-    })
+    let objects = state.objects.as_mut_slice();
+    grant_read(objects, &mut state.holdings, &state.tree, a, o, is_new);
+    state.journal.push(Entry {
+        call: Call::Ask(a, o, query),
+        reply: again,
+    });
+    Ok(reply)
 }

@@ -1,10 +1,11 @@
 //! What granted accesses are answered, before anything is changed.
 
-ghost use Rattle.std.specs.Prelude.{◌≡◌, ◌<◌, length, slice_index_or, true, IfOk};
+ghost use Rattle.std.specs.Prelude.{◌≡◌, ◌<◌, length, slice_index_or, true, IfOk, IfSome};
 ghost use Rattle.argus_contents.specs.Answer.{plain_answer};
 ghost use Rattle.argus_contents.specs.Change.{outcome, plain_change};
 ghost use Rattle.argus_contents.specs.Content.{KeepsLimits};
 ghost use Rattle.argus_contents.specs.Query.{reply};
+ghost use Rattle.argus_contents.specs.SmallAnswer.{plain_small};
 ghost use Rattle.argus_entries.specs.Reply.{answered, plain_reply};
 ghost use Rattle.argus_core.specs.Accessing.{seen_at};
 ghost use Rattle.argus_core.specs.declared.engine.atomic_object.AtomicObject.{AtomicObject};
@@ -12,7 +13,9 @@ ghost use Rattle.argus_objects.specs.Rules.{may_read, may_write};
 
 use crate::engine::atomic_object::AtomicObject;
 use argus_actions::{ActionId, ActionTree};
-use argus_contents::{Answer, Change, ObjId, Query, ask, change_answer as answer_of_change};
+use argus_contents::{
+    Answer, Change, ObjId, Query, SmallAnswer, ask, ask_small, change_answer as answer_of_change,
+};
 use argus_entries::Reply;
 use argus_memory::{Heap, OutOfMemory};
 
@@ -34,6 +37,26 @@ pub(crate) fn query_answer(
 {
     let object = &objects[o.0 as usize];
     ask(heap, object.cell.visible(tree, a), query)
+}
+
+/// What a query of the object is answered, at what the action sees there, if that takes no memory.
+#[inline(always)]
+pub(crate) fn small_answer(
+    objects: &[AtomicObject],
+    tree: &ActionTree,
+    a: ActionId,
+    o: ObjId,
+    query: &Query,
+) -> Option<SmallAnswer>
+    requires low { o.0 < length objects.now }
+    requires granted { (d : AtomicObject)
+        → may_read tree.now (slice_index_or objects.now o.0 d).cell a ≡ true }
+    requires limits { (d : AtomicObject) → KeepsLimits (seen_at tree.now a objects.now o.0 d) }
+    ensures { (d : AtomicObject) → IfSome result (λ small. plain_small small
+        ≡ reply query.now (seen_at tree.now a objects.now o.0 d)) }
+{
+    let object = &objects[o.0 as usize];
+    ask_small(object.cell.visible(tree, a), query)
 }
 
 /// What a change of the object is answered, at what the action sees there.

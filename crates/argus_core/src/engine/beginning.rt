@@ -1,109 +1,105 @@
 //! How actions begin.
 
-ghost use Rattle.std.specs.Prelude.{◌≡◌, IfOk};
-ghost use Rattle.argus_entries.specs.Call.{begin_nested, begin_sub, begin_top, plain_call};
+ghost use Rattle.std.specs.Prelude.{IfOk, OnErr, OnOk, ◌<◌, ◌≡◌};
+ghost use Rattle.argus_entries.specs.Call.{begin_nested, begin_sub, begin_top};
+ghost use Rattle.argus_entries.specs.Reply.{plain_reply};
 ghost use Rattle.argus_core.specs.GuardianState.{StateInvariant, journal_view_of};
-ghost use Rattle.argus_core.specs.Prepared.{IsReady};
+ghost use Rattle.argus_journal.specs.JournalView.{after, reply_to};
+ghost use Rattle.argus_journal.specs.LegalJournal.{room_in};
 
 use crate::engine::guardian_state::GuardianState;
-use crate::engine::prepared::Prepared;
-use crate::engine::preparing::prepare_refused;
-use crate::engine::refusing::refusal_of;
-use crate::engine::transition::Transition;
+use crate::engine::refusing::{refusal_of, refuse};
 use argus_actions::ActionId;
 use argus_entries::{Call, Entry, Reply};
 use argus_memory::OutOfMemory;
 
-/// Prepares the begin of a topaction, or its refusal. The journal stays, whatever is answered.
+/// Begins a topaction, or records the refusal.
 ///
-/// `OutOfMemory`: there was no memory for its entry or for the action.
-pub(crate) fn prepare_begin_top(state: &mut GuardianState) -> Result<Prepared, OutOfMemory>
+/// `OutOfMemory` may come in place of any reply: the journal stays.
+pub(crate) fn begin_top(state: &mut GuardianState) -> Result<Reply, OutOfMemory>
     requires { StateInvariant state.old }
     ensures kept { StateInvariant state.new }
-    ensures journal { journal_view_of state.new ≡ journal_view_of state.old }
-    ensures ready { IfOk result (λ prepared. IsReady state.new prepared) }
-    ensures call { IfOk result (λ prepared. plain_call prepared.entry.call ≡ begin_top) }
+    ensures reply { IfOk result (λ reply. plain_reply reply
+        ≡ reply_to (journal_view_of state.old) begin_top) }
+    ensures ok { OnOk result (journal_view_of state.new
+        ≡ after (journal_view_of state.old) begin_top) }
+    ensures err { OnErr result (journal_view_of state.new ≡ journal_view_of state.old) }
 {
     match state.tree.begin_top_refusal() {
-        Some(refusal) => return prepare_refused(state, Call::BeginTop, refusal_of(refusal)),
+        Some(why) => return refuse(state, Call::BeginTop, refusal_of(why)),
         None => {}
     }
-    state.journal.reserve()?;
-    state.tree.reserve()?;
-    let a = ActionId(state.tree.len());
-    Ok(Prepared {
-        transition: Transition::BeginTop,
-        entry: Entry {
-            call: Call::BeginTop,
-            reply: Reply::Begun(a),
-        },
+    reserve_begin(state)?;
+    let a = state.tree.begin_top_reserved();
+    state.journal.push(Entry {
+        call: Call::BeginTop,
         reply: Reply::Begun(a),
-    })
+    });
+    Ok(Reply::Begun(a))
 }
 
-/// Prepares the begin of a subaction, or its refusal. The journal stays, whatever is answered.
+/// Begins a subaction of this parent, or records the refusal.
 ///
-/// `OutOfMemory`: there was no memory for its entry or for the action.
-pub(crate) fn prepare_begin_sub(
-    state: &mut GuardianState,
-    parent: ActionId,
-) -> Result<Prepared, OutOfMemory>
+/// `OutOfMemory` may come in place of any reply: the journal stays.
+pub(crate) fn begin_sub(state: &mut GuardianState, parent: ActionId) -> Result<Reply, OutOfMemory>
     requires { StateInvariant state.old }
     ensures kept { StateInvariant state.new }
-    ensures journal { journal_view_of state.new ≡ journal_view_of state.old }
-    ensures ready { IfOk result (λ prepared. IsReady state.new prepared) }
-    ensures call { IfOk result (λ prepared. plain_call prepared.entry.call
-        ≡ begin_sub parent.0) }
+    ensures reply { IfOk result (λ reply. plain_reply reply
+        ≡ reply_to (journal_view_of state.old) (begin_sub parent.0)) }
+    ensures ok { OnOk result (journal_view_of state.new
+        ≡ after (journal_view_of state.old) (begin_sub parent.0)) }
+    ensures err { OnErr result (journal_view_of state.new ≡ journal_view_of state.old) }
 {
     match state.tree.begin_sub_refusal(parent) {
-        Some(refusal) => {
-            return prepare_refused(state, Call::BeginSub(parent), refusal_of(refusal));
-        }
+        Some(why) => return refuse(state, Call::BeginSub(parent), refusal_of(why)),
         None => {}
     }
-    state.journal.reserve()?;
-    state.tree.reserve()?;
-    let a = ActionId(state.tree.len());
-    Ok(Prepared {
-        transition: Transition::BeginSub(parent),
-        entry: Entry {
-            call: Call::BeginSub(parent),
-            reply: Reply::Begun(a),
-        },
+    reserve_begin(state)?;
+    let a = state.tree.begin_sub_reserved(parent);
+    state.journal.push(Entry {
+        call: Call::BeginSub(parent),
         reply: Reply::Begun(a),
-    })
+    });
+    Ok(Reply::Begun(a))
 }
 
-/// Prepares the begin of a nested topaction, or its refusal. The journal stays, whatever is
-/// answered.
+/// Begins a nested topaction of this creator, or records the refusal.
 ///
-/// `OutOfMemory`: there was no memory for its entry or for the action.
-pub(crate) fn prepare_begin_nested(
+/// `OutOfMemory` may come in place of any reply: the journal stays.
+pub(crate) fn begin_nested(
     state: &mut GuardianState,
     creator: ActionId,
-) -> Result<Prepared, OutOfMemory>
+) -> Result<Reply, OutOfMemory>
+    requires { StateInvariant state.old }
+    ensures kept { StateInvariant state.new }
+    ensures reply { IfOk result (λ reply. plain_reply reply
+        ≡ reply_to (journal_view_of state.old) (begin_nested creator.0)) }
+    ensures ok { OnOk result (journal_view_of state.new
+        ≡ after (journal_view_of state.old) (begin_nested creator.0)) }
+    ensures err { OnErr result (journal_view_of state.new ≡ journal_view_of state.old) }
+{
+    match state.tree.begin_nested_refusal(creator) {
+        Some(why) => return refuse(state, Call::BeginNested(creator), refusal_of(why)),
+        None => {}
+    }
+    reserve_begin(state)?;
+    let a = state.tree.begin_nested_reserved(creator);
+    state.journal.push(Entry {
+        call: Call::BeginNested(creator),
+        reply: Reply::Begun(a),
+    });
+    Ok(Reply::Begun(a))
+}
+
+// Makes room for one more entry and one more action.
+#[inline(always)]
+fn reserve_begin(state: &mut GuardianState) -> Result<(), OutOfMemory>
     requires { StateInvariant state.old }
     ensures kept { StateInvariant state.new }
     ensures journal { journal_view_of state.new ≡ journal_view_of state.old }
-    ensures ready { IfOk result (λ prepared. IsReady state.new prepared) }
-    ensures call { IfOk result (λ prepared. plain_call prepared.entry.call
-        ≡ begin_nested creator.0) }
+    ensures place { OnOk result (0 < room_in state.new.journal) }
+    ensures room { OnOk result (0 < state.new.tree.room) }
 {
-    match state.tree.begin_nested_refusal(creator) {
-        Some(refusal) => {
-            return prepare_refused(state, Call::BeginNested(creator), refusal_of(refusal));
-        }
-        None => {}
-    }
     state.journal.reserve()?;
-    state.tree.reserve()?;
-    let a = ActionId(state.tree.len());
-    Ok(Prepared {
-        transition: Transition::BeginNested(creator),
-        entry: Entry {
-            call: Call::BeginNested(creator),
-            reply: Reply::Begun(a),
-        },
-        reply: Reply::Begun(a),
-    })
+    state.tree.reserve()
 }

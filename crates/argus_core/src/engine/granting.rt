@@ -1,78 +1,163 @@
 //! How a granted access takes its lock: first all that can run out is had, then the lock is taken.
+//! The cell says whether the action holds the object, so the list of a holder is left alone.
 
-ghost use Rattle.std.specs.Prelude.{◌≡◌, ◌<◌, length, OnErr, OnOk};
-ghost use Rattle.argus_contents.specs.Change.{plain_change};
+ghost use Rattle.std.specs.Prelude.{◌≡◌, ◌<◌, false, length, IfOk, OnErr, OnOk};
+ghost use Rattle.std.specs.Prelude.{slice_index_or, true};
+ghost use Rattle.argus_contents.specs.Answer.{done_or};
+ghost use Rattle.argus_contents.specs.Change.{gives_value, outcome, plain_change};
 ghost use Rattle.argus_contents.specs.Content.{KeepsLimits};
-ghost use Rattle.argus_core.specs.Accessing.{IsAccessed, IsAltered, IsAsBefore, seen_at};
+ghost use Rattle.argus_core.specs.Accessing.{HasGrantRoom, HasListRoom, IsAccessed, IsAltered};
+ghost use Rattle.argus_core.specs.Accessing.{IsAsBefore, IsFree, IsListedIfHeld, seen_at};
 ghost use Rattle.argus_core.specs.Moving.{AreLawful, IsRead};
 ghost use Rattle.argus_core.specs.GuardianState.{StateInvariant, journal_view_of};
-ghost use Rattle.argus_core.specs.Prepared.{HasGrantRoom, IsFree};
 ghost use Rattle.argus_core.specs.declared.engine.atomic_object.AtomicObject.{AtomicObject};
 ghost use Rattle.argus_journal.specs.LegalJournal.{room_in};
+ghost use Rattle.argus_objects.specs.Holdings.{Lists, SameLists, TakesOnePlace, noted};
+ghost use Rattle.argus_objects.specs.Holdings.{objects_held_by};
 ghost use Rattle.argus_objects.specs.Rules.{may_read, may_write};
 
 use crate::engine::atomic_object::AtomicObject;
 use crate::engine::guardian_state::GuardianState;
 use argus_actions::{ActionId, ActionTree};
-use argus_contents::{Change, ObjId};
+use argus_contents::{Change, ObjId, Signal};
 use argus_memory::OutOfMemory;
 use argus_objects::Holdings;
 
-/// Makes room for one more grant of the object, and for the object on the action's list.
-pub(crate) fn reserve_grant(
-    objects: &mut [AtomicObject],
+/// Makes room for one more object on the action's list, unless the action holds the object, and
+/// says whether it is new.
+#[inline(always)]
+fn reserve_list(
+    objects: &[AtomicObject],
     holdings: &mut Holdings,
+    tree: &ActionTree,
     a: ActionId,
     o: ObjId,
-) -> Result<(), OutOfMemory>
-    requires { o.0 < length objects.old }
-    ensures same { IsAsBefore o objects.old objects.new holdings.old holdings.new }
-    ensures ok { OnOk result (HasGrantRoom objects.new holdings.new a o) }
+) -> Result<bool, OutOfMemory>
+    requires low { o.0 < length objects.now }
+    requires granted { (d : AtomicObject)
+        → may_read tree.now (slice_index_or objects.now o.0 d).cell a ≡ true }
+    requires listed { IsListedIfHeld objects.now holdings.old a o }
+    ensures same { SameLists holdings.old holdings.new }
+    ensures ok { IfOk result (λ is_new. HasListRoom holdings.new a o is_new) }
 {
+    let object = &objects[o.0 as usize];
+    if object.cell.is_held_by(tree, a) {
+        return Ok(false);
+    }
     holdings.reserve(a)?;
-    let object = &mut objects[o.0 as usize];
-    object.cell.reserve_grant()?;
-    Ok(())
+    Ok(true)
 }
 
-/// Makes room for all that a granted access of the object needs.
+/// Puts the object on the action's list, if it is new there.
+#[inline(always)]
+pub(crate) fn note_if(is_new: bool, holdings: &mut Holdings, a: ActionId, o: ObjId)
+    requires { HasListRoom holdings.old a o is_new }
+    ensures list { Lists holdings.old a (noted o (objects_held_by holdings.old a)) holdings.new }
+    ensures rooms { TakesOnePlace holdings.old a holdings.new }
+{
+    if is_new {
+        holdings.note_new(a, o);
+    }
+}
+
+/// Makes room for one more grant of the object, and for the object on the action's list, and says
+/// whether it is new there.
+#[inline(always)]
+fn reserve_grant(
+    objects: &mut [AtomicObject],
+    holdings: &mut Holdings,
+    tree: &ActionTree,
+    a: ActionId,
+    o: ObjId,
+) -> Result<bool, OutOfMemory>
+    requires low { o.0 < length objects.old }
+    requires granted { (d : AtomicObject)
+        → may_read tree.now (slice_index_or objects.old o.0 d).cell a ≡ true }
+    requires listed { IsListedIfHeld objects.old holdings.old a o }
+    ensures same { IsAsBefore o objects.old objects.new holdings.old holdings.new }
+    ensures ok { IfOk result (λ is_new. HasGrantRoom objects.new holdings.new a o is_new) }
+{
+    let is_new = reserve_list(objects, holdings, tree, a, o)?;
+    let object = &mut objects[o.0 as usize];
+    object.cell.reserve_grant()?;
+    Ok(is_new)
+}
+
+/// Makes room for all that a granted access of the object needs, and says whether the object is new
+/// on the action's list.
+#[inline(always)]
 pub(crate) fn reserve_access(
     state: &mut GuardianState,
     a: ActionId,
     o: ObjId,
-) -> Result<(), OutOfMemory>
+) -> Result<bool, OutOfMemory>
     requires kept { StateInvariant state.old }
     requires low { o.0 < length state.old.objects.items }
+    requires granted { (d : AtomicObject)
+        → may_read state.old.tree (slice_index_or state.old.objects.items o.0 d).cell a ≡ true }
     ensures kept { StateInvariant state.new }
     ensures journal { journal_view_of state.new ≡ journal_view_of state.old }
     ensures place { OnOk result (0 < room_in state.new.journal) }
-    ensures room { OnOk result (HasGrantRoom state.new.objects.items state.new.holdings a o) }
+    ensures room { IfOk result (λ is_new.
+        HasGrantRoom state.new.objects.items state.new.holdings a o is_new) }
 {
     state.journal.reserve()?;
-    reserve_grant(state.objects.as_mut_slice(), &mut state.holdings, a, o)
+    let objects = state.objects.as_mut_slice();
+    reserve_grant(objects, &mut state.holdings, &state.tree, a, o)
 }
 
-/// Makes an action a reader of the object, which is noted on its list.
+/// Makes an action a reader of the object, which is noted on its list if it is new there.
+#[inline(always)]
 pub(crate) fn grant_read(
     objects: &mut [AtomicObject],
     holdings: &mut Holdings,
     tree: &ActionTree,
     a: ActionId,
     o: ObjId,
+    is_new: bool,
 )
     requires lawful { AreLawful tree.now objects.old }
     requires free { IsFree tree.now objects.old a o (λ cell. may_read tree.now cell a) }
-    requires room { HasGrantRoom objects.old holdings.old a o }
+    requires room { HasGrantRoom objects.old holdings.old a o is_new }
     ensures { IsAccessed (IsRead tree.now a) a o objects.old objects.new holdings.old holdings.new }
 {
     let object = &mut objects[o.0 as usize];
     object.cell.grant_read(tree, a);
-    holdings.note(a, o);
+    note_if(is_new, holdings, a, o);
 }
 
-/// Makes a change in an action's version of the object, which is noted on its list: in place where
-/// the action has a version, otherwise on a copy.
+/// Makes a change that gives no value in an action's version of the object, which is noted on its
+/// list: in place where the action has a version, otherwise on a copy. None where it is made, else
+/// the signal.
+#[inline(always)]
 pub(crate) fn grant_change(
+    objects: &mut [AtomicObject],
+    holdings: &mut Holdings,
+    tree: &ActionTree,
+    a: ActionId,
+    o: ObjId,
+    change: &Change,
+) -> Result<Option<Signal>, OutOfMemory>
+    requires lawful { AreLawful tree.now objects.old }
+    requires free { IsFree tree.now objects.old a o (λ cell. may_write tree.now cell a) }
+    requires limits { (d : AtomicObject) → KeepsLimits (seen_at tree.now a objects.old o.0 d) }
+    requires listed { IsListedIfHeld objects.old holdings.old a o }
+    requires gives_none { gives_value (plain_change change.now) ≡ false }
+    ensures ok { OnOk result (IsAccessed (IsAltered tree.now a (plain_change change.now)) a o
+        objects.old objects.new holdings.old holdings.new) }
+    ensures answer { (d : AtomicObject) → IfOk result (λ refusal. done_or refusal
+        ≡ (outcome (plain_change change.now) (seen_at tree.now a objects.old o.0 d)).1) }
+    ensures err { OnErr result (IsAsBefore o objects.old objects.new holdings.old holdings.new) }
+{
+    let is_new = reserve_list(objects, holdings, tree, a, o)?;
+    let object = &mut objects[o.0 as usize];
+    let refusal = object.cell.grant_change_by_reference(tree, a, change)?;
+    note_if(is_new, holdings, a, o);
+    Ok(refusal)
+}
+
+/// [`grant_change`] of any change, for which the answer is at hand.
+pub(crate) fn grant_removal(
     objects: &mut [AtomicObject],
     holdings: &mut Holdings,
     tree: &ActionTree,
@@ -83,13 +168,14 @@ pub(crate) fn grant_change(
     requires lawful { AreLawful tree.now objects.old }
     requires free { IsFree tree.now objects.old a o (λ cell. may_write tree.now cell a) }
     requires limits { (d : AtomicObject) → KeepsLimits (seen_at tree.now a objects.old o.0 d) }
+    requires listed { IsListedIfHeld objects.old holdings.old a o }
     ensures ok { OnOk result (IsAccessed (IsAltered tree.now a (plain_change change)) a o
         objects.old objects.new holdings.old holdings.new) }
     ensures err { OnErr result (IsAsBefore o objects.old objects.new holdings.old holdings.new) }
 {
-    holdings.reserve(a)?;
+    let is_new = reserve_list(objects, holdings, tree, a, o)?;
     let object = &mut objects[o.0 as usize];
     object.cell.grant_change(tree, a, change)?;
-    holdings.note(a, o);
+    note_if(is_new, holdings, a, o);
     Ok(())
 }

@@ -14,6 +14,7 @@ use argus_actions::{ActionId, ActionTree};
 use argus_contents::ObjId;
 
 /// Hands what a subaction holds to its parent, in each object on the list.
+#[inline(always)]
 pub(crate) fn inherit_all(
     objects: &mut [AtomicObject],
     listed: &[ObjId],
@@ -35,6 +36,7 @@ pub(crate) fn inherit_all(
 }
 
 /// Makes a topaction's versions the bases, in each object on the list.
+#[inline(always)]
 pub(crate) fn settle_all(
     objects: &mut [AtomicObject],
     listed: &[ObjId],

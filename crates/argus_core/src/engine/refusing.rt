@@ -1,19 +1,68 @@
-//! Why calls are refused.
+//! Why calls are refused, and how one is that is.
 
-ghost use Rattle.std.specs.Prelude.{◌≡◌, ◌≤◌, length, true};
+ghost use Rattle.std.specs.Prelude.{IfOk, OnErr, OnOk, length, true, ◌<◌, ◌≡◌, ◌≤◌};
 ghost use Rattle.argus_contents.specs.Change.{plain_change};
 ghost use Rattle.argus_contents.specs.declared.limits.TheConstants.{MAX_OBJECTS};
 ghost use Rattle.argus_contents.specs.Fitting.{change_suits, query_suits};
 ghost use Rattle.argus_core.specs.Accessing.{access_refusal};
+ghost use Rattle.argus_core.specs.GuardianState.{StateInvariant, journal_view_of};
+ghost use Rattle.argus_entries.specs.Call.{plain_call};
+ghost use Rattle.argus_entries.specs.Reply.{plain_reply, refused};
+ghost use Rattle.argus_journal.specs.JournalView.{after, reply_to};
+ghost use Rattle.argus_journal.specs.LegalJournal.{room_in};
 ghost use Rattle.argus_refinement.specs.TreeRefinement.{journal_refusal};
 ghost use Rattle.argus_objects.specs.Rules.{may_read, may_write};
 
 use crate::engine::atomic_object::AtomicObject;
+use crate::engine::guardian_state::GuardianState;
 use argus_actions::{ActionId, ActionRefusal, ActionTree};
 use argus_contents::{Change, ObjId, Query, change_fits, query_fits};
-use argus_entries::Refusal;
+use argus_entries::{Call, Entry, Refusal, Reply};
+use argus_memory::OutOfMemory;
+
+/// Refuses a call, and records it. It is rare, so it is kept out of the way of the calls.
+///
+/// `OutOfMemory`: there was no memory for its entry. The journal stays, and the call is spent.
+#[cold]
+#[inline(never)]
+pub(crate) fn refuse(
+    state: &mut GuardianState,
+    call: Call,
+    why: Refusal,
+) -> Result<Reply, OutOfMemory>
+    requires kept { StateInvariant state.old }
+    requires right { reply_to (journal_view_of state.old) (plain_call call) ≡ refused why }
+    ensures kept { StateInvariant state.new }
+    ensures reply { IfOk result (λ reply. plain_reply reply
+        ≡ reply_to (journal_view_of state.old) (plain_call call)) }
+    ensures ok { OnOk result (journal_view_of state.new
+        ≡ after (journal_view_of state.old) (plain_call call)) }
+    ensures err { OnErr result (journal_view_of state.new ≡ journal_view_of state.old) }
+{
+    state.journal.reserve()?;
+    Ok(record_refusal(state, call, why))
+}
+
+/// Records a refused call, in the room that is there, and gives its reply. It takes no memory.
+pub(crate) fn record_refusal(state: &mut GuardianState, call: Call, why: Refusal) -> Reply
+    requires kept { StateInvariant state.old }
+    requires place { 0 < room_in state.old.journal }
+    requires right { reply_to (journal_view_of state.old) (plain_call call) ≡ refused why }
+    ensures kept { StateInvariant state.new }
+    ensures reply { plain_reply result
+        ≡ reply_to (journal_view_of state.old) (plain_call call) }
+    ensures journal { journal_view_of state.new
+        ≡ after (journal_view_of state.old) (plain_call call) }
+{
+    state.journal.push(Entry {
+        call,
+        reply: Reply::Refused(why),
+    });
+    Reply::Refused(why)
+}
 
 /// The refusal of a call that the tree refuses.
+#[inline(always)]
 pub(crate) fn refusal_of(refusal: ActionRefusal) -> Refusal
     ensures { result ≡ journal_refusal refusal }
 {
@@ -28,6 +77,7 @@ pub(crate) fn refusal_of(refusal: ActionRefusal) -> Refusal
 }
 
 /// Why a query is refused, if it is.
+#[inline(always)]
 pub(crate) fn ask_refusal(
     objects: &[AtomicObject],
     tree: &ActionTree,
@@ -57,6 +107,7 @@ pub(crate) fn ask_refusal(
 }
 
 /// Why a change is refused, if it is.
+#[inline(always)]
 pub(crate) fn alter_refusal(
     objects: &[AtomicObject],
     tree: &ActionTree,
@@ -88,6 +139,7 @@ pub(crate) fn alter_refusal(
 }
 
 /// Why a test of a lock is refused, if it is.
+#[inline(always)]
 pub(crate) fn test_refusal(
     objects: &[AtomicObject],
     tree: &ActionTree,

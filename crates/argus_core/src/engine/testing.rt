@@ -1,45 +1,55 @@
 //! How actions test read locks.
 
-ghost use Rattle.std.specs.Prelude.{◌≡◌, IfOk};
-ghost use Rattle.argus_entries.specs.Call.{plain_call, test_read};
+ghost use Rattle.std.specs.Prelude.{◌≡◌, IfOk, OnErr, OnOk};
+ghost use Rattle.argus_entries.specs.Call.{test_read};
+ghost use Rattle.argus_entries.specs.Reply.{plain_reply};
 ghost use Rattle.argus_core.specs.GuardianState.{StateInvariant, journal_view_of};
-ghost use Rattle.argus_core.specs.Prepared.{IsReady};
+ghost use Rattle.argus_journal.specs.JournalView.{after, reply_to};
 
 use crate::engine::answering::is_readable;
-use crate::engine::granting::reserve_access;
+use crate::engine::granting::{grant_read, reserve_access};
 use crate::engine::guardian_state::GuardianState;
-use crate::engine::prepared::Prepared;
-use crate::engine::preparing::{flagged, prepare_refused};
-use crate::engine::refusing::test_refusal;
-use crate::engine::transition::Transition;
+use crate::engine::refusing::{refuse, test_refusal};
 use argus_actions::ActionId;
-use argus_contents::ObjId;
-use argus_entries::Call;
+use argus_contents::{Answer, ObjId};
+use argus_entries::{Call, Entry, Reply};
 use argus_memory::OutOfMemory;
 
-/// Prepares a test of a read lock, or its refusal. The journal stays, whatever is answered.
+/// Tests whether the action may read the object, and makes it a reader if so; or records the
+/// refusal.
 ///
-/// `OutOfMemory`: there was no memory for its entry or for the lock.
-pub(crate) fn prepare_test_read(
+/// `OutOfMemory` may come in place of any reply: the journal stays.
+pub(crate) fn test_read(
     state: &mut GuardianState,
     a: ActionId,
     o: ObjId,
-) -> Result<Prepared, OutOfMemory>
+) -> Result<Reply, OutOfMemory>
     requires { StateInvariant state.old }
     ensures kept { StateInvariant state.new }
-    ensures journal { journal_view_of state.new ≡ journal_view_of state.old }
-    ensures ready { IfOk result (λ prepared. IsReady state.new prepared) }
-    ensures call { IfOk result (λ prepared. plain_call prepared.entry.call
-        ≡ test_read a.0 o.0) }
+    ensures reply { IfOk result (λ reply. plain_reply reply
+        ≡ reply_to (journal_view_of state.old) (test_read a.0 o.0)) }
+    ensures ok { OnOk result (journal_view_of state.new
+        ≡ after (journal_view_of state.old) (test_read a.0 o.0)) }
+    ensures err { OnErr result (journal_view_of state.new ≡ journal_view_of state.old) }
 {
     match test_refusal(state.objects.as_slice(), &state.tree, a, o) {
-        Some(why) => return prepare_refused(state, Call::TestRead(a, o), why),
+        Some(why) => return refuse(state, Call::TestRead(a, o), why),
         None => {}
     }
     if !is_readable(state.objects.as_slice(), &state.tree, a, o) {
         state.journal.reserve()?;
-        return Ok(flagged(Transition::Nothing, Call::TestRead(a, o), false));
+        state.journal.push(Entry {
+            call: Call::TestRead(a, o),
+            reply: Reply::Answered(Answer::Flag(false)),
+        });
+        return Ok(Reply::Answered(Answer::Flag(false)));
     }
-    reserve_access(state, a, o)?;
-    Ok(flagged(Transition::Read(a, o), Call::TestRead(a, o), true))
+    let is_new = reserve_access(state, a, o)?;
+    let objects = state.objects.as_mut_slice();
+    grant_read(objects, &mut state.holdings, &state.tree, a, o, is_new);
+    state.journal.push(Entry {
+        call: Call::TestRead(a, o),
+        reply: Reply::Answered(Answer::Flag(true)),
+    });
+    Ok(Reply::Answered(Answer::Flag(true)))
 }

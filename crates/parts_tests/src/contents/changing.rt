@@ -3,9 +3,22 @@
 ghost use Rattle.argus_contents.specs.Content.{KeepsLimits, plain_option};
 
 use crate::contents::array_limits::kept_of;
-use argus_contents::{Answer, Change, Content, alter, alter_copy, alter_in_place, change_answer};
+use argus_contents::{
+    Answer, Change, Content, alter, alter_by_reference, alter_copy, alter_in_place, change_answer,
+};
 use argus_memory::{Heap, OutOfMemory, Room};
-use test_rows::{RowFault, Setting, change_of, first_word, tell_answer, tell_content, tell_word};
+use test_rows::{
+    RowFault, Setting, change_of, first_word, tell_answer, tell_content, tell_done_or, tell_flag,
+    tell_word,
+};
+
+/// Whether the change may give a value.
+pub(crate) fn answer_gives_value(setting: Setting, text: &str) -> Result<String<Room>, RowFault> {
+    let change = change_of(setting.texts, text)?;
+    let mut out = String::new(setting.texts.room());
+    tell_flag(change.gives_value(), &mut out)?;
+    Ok(out)
+}
 
 /// What the change in the row answers and leaves, made in the way of this word.
 pub(crate) fn answer_change(
@@ -36,6 +49,7 @@ fn made(
         "alter" => altered(setting, content, &change),
         "alter_copy" => altered_copy(setting, content, change),
         "alter_in_place" => altered_in_place(setting, full, change),
+        "alter_by_reference" => altered_by_reference(setting, full, &change),
         _ => Err(RowFault::NotSpelled),
     }
 }
@@ -51,6 +65,9 @@ fn in_each_way(
     requires full { KeepsLimits (plain_option full) }
 {
     let mut out = as_foreseen(setting, content, &change)?;
+    if !is_so_by_reference(setting, content, &change, out.as_str())? {
+        tell_other(&mut out)?;
+    }
     let other = copied_and_in_place(setting, content, full, change)?;
     if out != other {
         tell_other(&mut out)?;
@@ -72,6 +89,23 @@ fn as_foreseen(
         tell_other(&mut out)?;
     }
     Ok(out)
+}
+
+// By reference, on a copy, where the change gives no value.
+fn is_so_by_reference(
+    setting: Setting,
+    content: &Option<Content>,
+    change: &Change,
+    told: &str,
+) -> Result<bool, RowFault>
+    requires { KeepsLimits (plain_option content.now) }
+{
+    if change.gives_value() {
+        return Ok(true);
+    }
+    let copy = Content::duplicate_option(setting.heap, content)?;
+    let out = altered_by_reference(setting, copy, change)?;
+    Ok(out.as_str() == told)
 }
 
 fn copied_and_in_place(
@@ -150,6 +184,32 @@ fn altered_in_place(
     }
 }
 
+// Where memory is refused all has to be as before.
+fn altered_by_reference(
+    setting: Setting,
+    mut content: Option<Content>,
+    change: &Change,
+) -> Result<String<Room>, RowFault>
+    requires { KeepsLimits (plain_option content) }
+{
+    if change.gives_value() {
+        return Err(RowFault::NotSpelled);
+    }
+    let before = content_text(setting.texts, &content)?;
+    match alter_by_reference(setting.heap, &mut content, change) {
+        Ok(signal) => {
+            let mut out = String::new(setting.texts.room());
+            tell_done_or(signal, &mut out)?;
+            tell_left(&content, &mut out)?;
+            Ok(out)
+        }
+        Err(OutOfMemory) if content_text(setting.texts, &content)? == before => {
+            Err(RowFault::OutOfMemory)
+        }
+        Err(OutOfMemory) => Err(RowFault::Changed),
+    }
+}
+
 fn content_text(texts: Heap, content: &Option<Content>) -> Result<String<Room>, OutOfMemory> {
     let mut out = String::new(texts.room());
     tell_content(content, &mut out)?;
@@ -160,7 +220,11 @@ fn content_text(texts: Heap, content: &Option<Content>) -> Result<String<Room>, 
 fn told(texts: Heap, answer: &Answer, left: &Option<Content>) -> Result<String<Room>, OutOfMemory> {
     let mut out = String::new(texts.room());
     tell_answer(answer, &mut out)?;
-    tell_word("leaves", &mut out)?;
-    tell_content(left, &mut out)?;
+    tell_left(left, &mut out)?;
     Ok(out)
+}
+
+fn tell_left(left: &Option<Content>, out: &mut String<Room>) -> Result<(), OutOfMemory> {
+    tell_word("leaves", out)?;
+    tell_content(left, out)
 }

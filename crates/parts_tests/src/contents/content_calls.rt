@@ -1,7 +1,7 @@
 //! `ContentCalls`: the calls of `argus_contents` that rows make.
 
-use crate::contents::asking::answer_query;
-use crate::contents::changing::answer_change;
+use crate::contents::asking::{answer_query, answer_small_query};
+use crate::contents::changing::{answer_change, answer_gives_value};
 use crate::contents::comparing::answer_comparison;
 use crate::contents::copying::answer_copy;
 use crate::contents::fitting::{answer_change_fit, answer_fit, answer_query_fit, answer_type};
@@ -28,6 +28,8 @@ impl Subject for ContentCalls {
         let (word, rest) = first_word(asked);
         match word {
             "ask" => answer_query(setting, rest),
+            "ask_small" => answer_small_query(setting, rest),
+            "gives_value" => answer_gives_value(setting, rest),
             "name" => answer_name(setting, rest),
             "record" | "array" | "variant" => answer_shape(setting, word, rest),
             "typed" => answer_type(setting, rest),

@@ -18,12 +18,28 @@ pub(crate) fn answer_question(
         "lawful" => tell_flag(cell.lawful(tree), out)?,
         "may_read" => tell_flag(cell.may_read(tree, action(rest)?), out)?,
         "may_write" => tell_flag(cell.may_write(tree, action(rest)?), out)?,
+        "is_held_by" => tell_held(cell, tree, action(rest)?, out)?,
+        "has_holder" => tell_flag(cell.has_holder(action(rest)?), out)?,
         "base" => tell_content(cell.base(), out)?,
         "readers" => tell_readers(cell.readers(), out)?,
         "versions" => tell_versions(cell.versions(), out)?,
         "visible" => tell_visible(cell, tree, action(rest)?, out)?,
         _ => return Err(RowFault::NotSpelled),
     }
+    Ok(())
+}
+
+// Asked of an action that may read.
+fn tell_held(
+    cell: &Cell,
+    tree: &ActionTree,
+    a: ActionId,
+    out: &mut String<Room>,
+) -> Result<(), RowFault> {
+    if !cell.may_read(tree, a) {
+        return Err(RowFault::NotSpelled);
+    }
+    tell_flag(cell.is_held_by(tree, a), out)?;
     Ok(())
 }
 

@@ -6,7 +6,9 @@ use argus_contents::{Change, Content};
 use argus_memory::Room;
 use argus_objects::Cell;
 use argus_texts::read_content;
-use test_rows::{RowFault, Setting, action, change_of, first_word, tell_answer, tell_word};
+use test_rows::{
+    RowFault, Setting, action, change_of, first_word, tell_answer, tell_done_or, tell_word,
+};
 
 /// Makes room, or grants a lock, as the row says. After a refused allocation the cell has to be as
 /// before.
@@ -46,6 +48,11 @@ fn grant(
             let change = change_of(setting.texts, rest)?;
             setting.limit();
             return grant_change(cell, tree, action(actor)?, change, out);
+        }
+        "grant_change_by_reference" => {
+            let change = change_of(setting.texts, rest)?;
+            setting.limit();
+            return grant_change_by_reference(cell, tree, action(actor)?, &change, out);
         }
         _ => return Err(RowFault::NotSpelled),
     }
@@ -118,6 +125,36 @@ fn grant_change(
         None => {
             let answer = cell.grant_change(tree, a, change)?;
             tell_answer(&answer, out)?;
+            Ok(())
+        }
+        Some(_) => Err(RowFault::NotSpelled),
+    }
+}
+
+// Of a record, too, and a change that gives no value.
+fn grant_change_by_reference(
+    cell: &mut Cell,
+    tree: &ActionTree,
+    a: ActionId,
+    change: &Change,
+    out: &mut String<Room>,
+) -> Result<(), RowFault> {
+    if change.gives_value() {
+        return Err(RowFault::NotSpelled);
+    }
+    if !cell.lawful(tree) || !cell.may_read(tree, a) || !cell.may_write(tree, a) {
+        return Err(RowFault::NotSpelled);
+    }
+    match cell.visible(tree, a) {
+        Some(Content::Rec(_)) => {}
+        Some(Content::Arr { .. }) | Some(Content::Var { .. }) | None => {
+            return Err(RowFault::NotSpelled);
+        }
+    }
+    match tree.commit_refusal(a) {
+        None => {
+            let signal = cell.grant_change_by_reference(tree, a, change)?;
+            tell_done_or(signal, out)?;
             Ok(())
         }
         Some(_) => Err(RowFault::NotSpelled),

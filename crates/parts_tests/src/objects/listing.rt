@@ -1,5 +1,8 @@
 //! Each action's list of objects.
 
+ghost use Rattle.std.specs.List.{list_any};
+ghost use Rattle.std.specs.Prelude.{◌==◌, ◌≡◌};
+
 use crate::objects::picture::{lists_picture, tell_objects};
 use argus_actions::ActionId;
 use argus_contents::ObjId;
@@ -38,13 +41,26 @@ fn change(
             lists.reserve(action(rest)?)?;
             tell_word("done", out)?;
         }
-        "note" => {
+        "note" | "note_new" => {
             let (a, o) = pair(rest)?;
-            note(lists, setting, a, o)?;
+            note(lists, setting, word, a, o)?;
             tell_number(lists.of(a).len() as u64, out)?;
         }
         "clear" => {
             lists.clear(action(rest)?);
+            tell_word("done", out)?;
+        }
+        "starting_at" => {
+            *lists = Holdings::starting_at(setting.heap, action(rest)?.0);
+            tell_word("done", out)?;
+        }
+        "reserve_hand_up" => {
+            lists.reserve_hand_up(action(rest)?)?;
+            tell_word("done", out)?;
+        }
+        "hand_up" => {
+            let (s, parent) = first_word(rest);
+            hand_up(lists, setting, action(s)?, action(parent)?)?;
             tell_word("done", out)?;
         }
         _ => {
@@ -56,11 +72,47 @@ fn change(
     Ok(())
 }
 
-// The note itself takes no memory.
-fn note(lists: &mut Holdings, setting: Setting, a: ActionId, o: ObjId) -> Result<(), RowFault> {
+// The note itself takes no memory. An object that is noted as a new one may not be on the list.
+fn note(
+    lists: &mut Holdings,
+    setting: Setting,
+    word: &str,
+    a: ActionId,
+    o: ObjId,
+) -> Result<(), RowFault> {
     lists.reserve(a)?;
     setting.allowing(0).limit();
-    lists.note(a, o);
+    if word == "note" {
+        lists.note(a, o);
+        return Ok(());
+    }
+    if is_listed(lists.of(a), o) {
+        return Err(RowFault::NotSpelled);
+    }
+    lists.note_new(a, o);
+    Ok(())
+}
+
+fn is_listed(list: &[ObjId], o: ObjId) -> bool
+    ensures { result ≡ list_any (λ x. x.0 == o.0) list.now }
+{
+    list.iter().any(|x| *x == o)
+}
+
+// Makes a place for the list of a parent that has none, and hands the list up, which takes no
+// memory.
+fn hand_up(
+    lists: &mut Holdings,
+    setting: Setting,
+    s: ActionId,
+    parent: ActionId,
+) -> Result<(), RowFault> {
+    if s.0 == parent.0 || !lists.of(parent).is_empty() {
+        return Err(RowFault::NotSpelled);
+    }
+    lists.reserve_hand_up(parent)?;
+    setting.allowing(0).limit();
+    lists.hand_up(s, parent);
     Ok(())
 }
 

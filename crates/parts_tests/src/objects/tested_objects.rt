@@ -39,10 +39,23 @@ impl Subject for TestedObjects {
             "begin_top" | "begin_sub" => tell_action(self.begin(word, rest)?, &mut out)?,
             "commit" => self.commit(action(rest)?, &mut out)?,
             "cell" => self.make_cell(setting, rest, &mut out)?,
-            "list" | "reserve" | "note" | "reserve_pass" | "pass" | "clear" => {
+            "list"
+            | "starting_at"
+            | "reserve"
+            | "note"
+            | "note_new"
+            | "reserve_pass"
+            | "pass"
+            | "reserve_hand_up"
+            | "hand_up"
+            | "clear" => {
                 answer_list(&mut self.lists, setting, word, rest, &mut out)?;
             }
-            "reserve_grant" | "grant_read" | "grant_write" | "grant_change" => {
+            "reserve_grant"
+            | "grant_read"
+            | "grant_write"
+            | "grant_change"
+            | "grant_change_by_reference" => {
                 answer_grant(&mut self.cell, &self.tree, setting, asked, &mut out)?;
             }
             "inherit" | "settle_top" | "discard" => {

@@ -68,8 +68,8 @@ returns-in-Ok-clause-kept c =
     c.first_action.result
     (c.first_action.ensures.first ∙ ap (λ (o : Opening). o.first_action) c.journal.ensures.opening)
     (c.if-is_busy.ensures.quiet refl)
-    c.starting_at.result c.new.result (c.starting_at.ensures.folded ∙ c.len-first.ensures) c.starting_at.ensures.rows
-    c.new.ensures (omega (arith, count, within)))
+    c.starting_at.result c.starting_at-in-Ok.result (c.starting_at.ensures.folded ∙ c.len-first.ensures)
+    c.starting_at.ensures.rows c.starting_at-in-Ok.ensures (omega (arith, count, within)))
 
 pub returns-in-Err-clause-busy : goal.returns-in-Err-clause-busy
 returns-in-Err-clause-busy c =

@@ -10,8 +10,8 @@ pub add_reader-requires : goal.add_reader-requires
 add_reader-requires c =
     let xs = c.args.readers.now.items in
     let fewer : length (without_reader c.args.s xs) < length xs =
-    fewer_readers c.args.s xs (sym (c.has_reader.ensures ∙ ap (is_reader c.args.s) c.as_slice.ensures.value)
-    ∙ c.if-has_reader.true) in
+    fewer_readers c.args.s xs (sym (c.is_among.ensures ∙ ap (is_reader c.args.s) c.as_slice.ensures.value)
+    ∙ c.if-is_among.true) in
     let same = ap length c.drop_reader.ensures.readers in
     record {
       room = omega (
@@ -27,5 +27,5 @@ add_reader-requires c =
           xs c.requires);
     }
 
-pub returns-then-has_reader : goal.returns-then-has_reader
-returns-then-has_reader c = search rules
+pub returns-then-is_among : goal.returns-then-is_among
+returns-then-is_among c = search rules

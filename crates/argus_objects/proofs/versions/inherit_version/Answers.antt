@@ -6,8 +6,7 @@ use Rattle.std.proofs.lemmas.List.{drop_all, take_all, append-nil}
 use Rattle.argus_objects.specs.declared.version.Version.{Version}
 use Rattle.argus_objects.specs.Object.{plain_version, versions_newest_first}
 use Rattle.argus_objects.specs.CellChanges.{version_inherited, has_version}
-use Rattle.indexmap.proofs.ReorderLemmas.{map-reverse}
-use Rattle.argus_objects.proofs.Stacks.{has_newest}
+use Rattle.argus_objects.proofs.Stacks.{has_newest, map_reverse}
 use Rattle.argus_objects.proofs.versions.inherit_version.Goals as goal
 
 pub returns-then-has_version : goal.returns-then-has_version
@@ -31,7 +30,7 @@ returns-then-has_version c =
     ap versions_newest_first whole
     ∙ (ap reverse (c.inherit_holder.ensures ∙ ap (λ (ws : List Version). map (version_inherited c.args.s c.args.parent)
     (map plain_version ws)) c.as_mut_slice.ensures.value)
-    ∙ (sym (map-reverse (version_inherited c.args.s c.args.parent) (map plain_version kept))
+    ∙ (sym (map_reverse (version_inherited c.args.s c.args.parent) (map plain_version kept))
     ∙ (ap (map (version_inherited c.args.s c.args.parent)) c.drop_version.ensures
     ∙ sym (cond-true _ _ _ there))))
 

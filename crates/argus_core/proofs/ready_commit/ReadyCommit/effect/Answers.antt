@@ -1,5 +1,5 @@
 -- The commit of a subaction adds no effect, that of a topaction the action's own.
-use Rattle.std.proofs.Common.{None, ap, subst, sym, ◌∙◌}
+use Rattle.std.proofs.Common.{ap, sym, ◌∙◌}
 use Rattle.std.specs.Option.{option_to_list}
 use Rattle.argus_entries.specs.Call.{commit}
 use Rattle.argus_core.proofs.Commits.{if_ok, sub_adds, top_adds}

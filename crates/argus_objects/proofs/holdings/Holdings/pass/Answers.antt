@@ -2,5 +2,5 @@
 use Rattle.std.proofs.Common.{rules}
 use Rattle.argus_objects.proofs.holdings.Holdings.pass.Goals as goal
 
-pub returns-in-Some-get_mut : goal.returns-in-Some-get_mut
-returns-in-Some-get_mut c = search rules
+pub returns : goal.returns
+returns c = search rules

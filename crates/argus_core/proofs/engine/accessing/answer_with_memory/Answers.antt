@@ -1,0 +1,48 @@
+-- What a granted query is answered, at what the action sees, is the reply that the journal gives.
+use Rattle.std.proofs.Common.{arith, length, ◌∙◌, ◌≡◌}
+use Rattle.std.proofs.lemmas.List.{with_items_is}
+use Rattle.argus_core.proofs.Asks.{ask_free, ask_made, ask_told}
+use Rattle.argus_core.proofs.FreeLocks.{reader_limits}
+use Rattle.argus_core.proofs.engine.accessing.answer_with_memory.Goals as goal
+
+pub query_answer-requires-clause-low : goal.query_answer-requires-clause-low
+query_answer-requires-clause-low c =
+    rw (c.as_slice-seen.ensures.value)
+    (ask_free c.args.state.now c.requires.kept c.args.a c.args.o c.args.query c.requires.free).low
+
+pub query_answer-requires-clause-granted : goal.query_answer-requires-clause-granted
+query_answer-requires-clause-granted c =
+    rw (c.as_slice-seen.ensures.value)
+    (ask_free c.args.state.now c.requires.kept c.args.a c.args.o c.args.query c.requires.free).opens
+
+pub query_answer-requires-clause-limits : goal.query_answer-requires-clause-limits
+query_answer-requires-clause-limits c =
+    rw (c.as_slice-seen.ensures.value)
+    (reader_limits c.args.state.now c.requires.kept c.args.a c.args.o
+    (ask_free c.args.state.now c.requires.kept c.args.a c.args.o c.args.query c.requires.free))
+
+pub grant_read-requires-clause-free : goal.grant_read-requires-clause-free
+grant_read-requires-clause-free c =
+    rw (c.as_mut_slice-objects.ensures.value)
+    (ask_free c.args.state.now c.requires.kept c.args.a c.args.o c.args.query c.requires.free)
+
+pub push-requires-clause-answered : goal.push-requires-clause-answered
+push-requires-clause-answered c =
+    c.in_ok-reply.ensures.second
+    ∙ ask_told c.args.state.now c.requires.kept c.args.a c.args.o c.args.query c.requires.free _
+    (rw (c.as_slice-seen.ensures.value) at c.in_ok-answer.ensures)
+
+pub returns-clause-kept : goal.returns-clause-kept
+returns-clause-kept c =
+    let p = c.args.state.now in
+    let new = c.grant_read.new.objects in
+    let fits : length new ≡ p.objects.len = omega arith in
+    rw (
+      with_items_is p.objects new fits,
+      c.push.ensures.entries,
+      c.push.ensures.opening,
+      c.in_ok-reply.ensures.second,
+    )
+    (ask_made p c.requires.kept c.args.a c.args.o c.args.query c.requires.free _
+    (rw (c.as_slice-seen.ensures.value) at c.in_ok-answer.ensures) new c.grant_read.new.holdings
+    (rw (c.as_mut_slice-objects.ensures.value) at c.grant_read.ensures))

@@ -1,0 +1,65 @@
+-- A query is refused as the journal refuses it; else its object is there, and making room changes nothing of that.
+use Rattle.std.proofs.Common.{None, subst, sym, ◌∙◌, ◌≡◌}
+use Rattle.argus_actions.specs.declared.action_id.ActionId.{ActionId}
+use Rattle.argus_contents.specs.declared.obj_id.ObjId.{ObjId}
+use Rattle.argus_contents.specs.declared.query.Query.{Query}
+use Rattle.argus_entries.specs.Call.{ask}
+use Rattle.argus_journal.specs.JournalView.{JournalView, refusal_to}
+use Rattle.argus_core.specs.Accessing.{access_refusal}
+use Rattle.argus_core.specs.GuardianState.{StateInvariant, journal_view_of}
+use Rattle.argus_core.specs.declared.engine.guardian_state.GuardianState.{GuardianState}
+use Rattle.argus_core.proofs.Accesses.{access_free, access_refused}
+use Rattle.argus_core.proofs.Asks.{ask_free, asks}
+use Rattle.argus_core.proofs.FreeLocks.{reader_limits}
+use Rattle.argus_core.proofs.engine.accessing.ask.Goals as goal
+use Rattle.argus_contents.specs.Fitting.{query_suits}
+use Rattle.argus_objects.specs.Rules.{may_read}
+
+-- what isn't refused isn't refused where the journal is the same
+still : (p new : GuardianState) (k : StateInvariant p) (a : ActionId) (o : ObjId) (query : Query)
+    → access_refusal p.tree p.objects.items a.0 o.0 (λ shape. query_suits shape query) (λ c. may_read p.tree c a) ≡ None
+    → journal_view_of new ≡ journal_view_of p → refusal_to (journal_view_of new) (ask a.0 o.0 query) ≡ None
+still p new k a o query e same =
+    subst (λ (x : JournalView). refusal_to x (ask a.0 o.0 query) ≡ None) (sym same)
+    (sym (asks p k a o query).refuses ∙ e)
+
+pub refuse-requires-clause-right : goal.refuse-requires-clause-right
+refuse-requires-clause-right c =
+    access_refused (asks c.args.state.now c.requires c.args.a c.args.o c.args.query) c.in-Some.why
+    (sym (rw (c.as_slice.ensures.value) at c.ask_refusal.ensures) ∙ c.in-Some.is)
+
+pub reserve_access-requires-clause-low : goal.reserve_access-requires-clause-low
+reserve_access-requires-clause-low c =
+    (access_free (asks c.args.state.now c.requires c.args.a c.args.o c.args.query)
+    (sym (rw (c.as_slice.ensures.value) at c.ask_refusal.ensures) ∙ c.in-None.is)).low
+
+pub reserve_access-requires-clause-granted : goal.reserve_access-requires-clause-granted
+reserve_access-requires-clause-granted c =
+    (access_free (asks c.args.state.now c.requires c.args.a c.args.o c.args.query)
+    (sym (rw (c.as_slice.ensures.value) at c.ask_refusal.ensures) ∙ c.in-None.is)).opens
+
+pub small_answer-requires-clause-granted : goal.small_answer-requires-clause-granted
+small_answer-requires-clause-granted c =
+    rw (c.as_slice-2.ensures.value)
+    (ask_free c.reserve_access.new.state c.reserve_access.ensures.kept c.args.a c.args.o c.args.query
+    (still c.args.state.now c.reserve_access.new.state c.requires c.args.a c.args.o c.args.query
+    (sym (rw (c.as_slice.ensures.value) at c.ask_refusal.ensures) ∙ c.in-None.is)
+    c.reserve_access.ensures.journal)).opens
+
+pub small_answer-requires-clause-limits : goal.small_answer-requires-clause-limits
+small_answer-requires-clause-limits c =
+    rw (c.as_slice-2.ensures.value)
+    (reader_limits c.reserve_access.new.state c.reserve_access.ensures.kept c.args.a c.args.o
+    (ask_free c.reserve_access.new.state c.reserve_access.ensures.kept c.args.a c.args.o c.args.query
+    (still c.args.state.now c.reserve_access.new.state c.requires c.args.a c.args.o c.args.query
+    (sym (rw (c.as_slice.ensures.value) at c.ask_refusal.ensures) ∙ c.in-None.is) c.reserve_access.ensures.journal)))
+
+pub record_answer-requires-clause-free : goal.record_answer-requires-clause-free
+record_answer-requires-clause-free c =
+    still c.args.state.now c.reserve_access.new.state c.requires c.args.a c.args.o c.args.query
+    (sym (rw (c.as_slice.ensures.value) at c.ask_refusal.ensures) ∙ c.in-None.is) c.reserve_access.ensures.journal
+
+pub answer_with_memory-requires-clause-free : goal.answer_with_memory-requires-clause-free
+answer_with_memory-requires-clause-free c =
+    still c.args.state.now c.reserve_access.new.state c.requires c.args.a c.args.o c.args.query
+    (sym (rw (c.as_slice.ensures.value) at c.ask_refusal.ensures) ∙ c.in-None.is) c.reserve_access.ensures.journal

@@ -1,0 +1,102 @@
+-- A granted change is answered at what the action sees, as the journal answers it, and then made.
+use Rattle.std.proofs.Common.{None, arith, length, ◌∙◌, ◌≡◌}
+use Rattle.std.proofs.lemmas.List.{with_items_is}
+use Rattle.argus_actions.specs.declared.action_id.ActionId.{ActionId}
+use Rattle.argus_contents.specs.Change.{PlainChange, plain_change}
+use Rattle.argus_contents.specs.Fitting.{change_suits}
+use Rattle.argus_contents.specs.declared.obj_id.ObjId.{ObjId}
+use Rattle.argus_entries.specs.Call.{alter}
+use Rattle.argus_core.specs.Accessing.{access_refusal}
+use Rattle.argus_core.specs.GuardianState.{StateInvariant, journal_view_of}
+use Rattle.argus_core.specs.declared.engine.guardian_state.GuardianState.{GuardianState}
+use Rattle.argus_core.proofs.Accessed.{kept_locks}
+use Rattle.argus_core.proofs.Alters.{alter_free, alter_made, alter_still, alters}
+use Rattle.argus_core.proofs.FreeLocks.{listed_held, reader_limits, writer_limits, writer_reads}
+use Rattle.argus_core.proofs.engine.writing.alter_with_value.Goals as goal
+use Rattle.argus_journal.specs.JournalView.{refusal_to}
+use Rattle.argus_journal.specs.LegalJournal.{entries_in, opening_in}
+use Rattle.argus_objects.specs.Rules.{may_write}
+
+-- what the journal doesn't refuse isn't refused
+refused_not : (p : GuardianState) (k : StateInvariant p) (a : ActionId) (o : ObjId) (change : PlainChange)
+    → refusal_to (journal_view_of p) (alter a.0 o.0 change) ≡ None
+    → access_refusal p.tree p.objects.items a.0 o.0 (λ shape. change_suits shape (length p.objects.items) change)
+    (λ c. may_write p.tree c a) ≡ None
+refused_not p k a o change free = (alters p k a o change).refuses ∙ free
+
+pub change_answer-requires-clause-low : goal.change_answer-requires-clause-low
+change_answer-requires-clause-low c =
+    rw (c.as_slice-seen.ensures.value)
+    (alter_free c.args.state.now c.requires.kept c.args.a c.args.o (plain_change c.args.change)
+    (refused_not c.args.state.now c.requires.kept c.args.a c.args.o (plain_change c.args.change) c.requires.free)).low
+
+pub change_answer-requires-clause-granted : goal.change_answer-requires-clause-granted
+change_answer-requires-clause-granted c =
+    rw (c.as_slice-seen.ensures.value)
+    (writer_reads c.args.state.now c.requires.kept c.args.a c.args.o
+    (alter_free c.args.state.now c.requires.kept c.args.a c.args.o (plain_change c.args.change)
+    (refused_not c.args.state.now c.requires.kept c.args.a c.args.o (plain_change c.args.change)
+    c.requires.free))).opens
+
+pub change_answer-requires-clause-limits : goal.change_answer-requires-clause-limits
+change_answer-requires-clause-limits c =
+    rw (c.as_slice-seen.ensures.value)
+    (writer_limits c.args.state.now c.requires.kept c.args.a c.args.o
+    (alter_free c.args.state.now c.requires.kept c.args.a c.args.o (plain_change c.args.change)
+    (refused_not c.args.state.now c.requires.kept c.args.a c.args.o (plain_change c.args.change) c.requires.free)))
+
+pub grant_removal-requires-clause-free : goal.grant_removal-requires-clause-free
+grant_removal-requires-clause-free c =
+    rw (c.as_mut_slice-objects.ensures.value)
+    (alter_free c.args.state.now c.requires.kept c.args.a c.args.o (plain_change c.args.change)
+    (refused_not c.args.state.now c.requires.kept c.args.a c.args.o (plain_change c.args.change) c.requires.free))
+
+pub grant_removal-requires-clause-limits : goal.grant_removal-requires-clause-limits
+grant_removal-requires-clause-limits c =
+    rw (c.as_mut_slice-objects.ensures.value)
+    (writer_limits c.args.state.now c.requires.kept c.args.a c.args.o
+    (alter_free c.args.state.now c.requires.kept c.args.a c.args.o (plain_change c.args.change)
+    (refused_not c.args.state.now c.requires.kept c.args.a c.args.o (plain_change c.args.change) c.requires.free)))
+
+pub grant_removal-requires-clause-listed : goal.grant_removal-requires-clause-listed
+grant_removal-requires-clause-listed c =
+    rw (c.as_mut_slice-objects.ensures.value)
+    (listed_held c.args.state.now c.requires.kept c.args.a c.args.o
+    (alter_free c.args.state.now c.requires.kept c.args.a c.args.o (plain_change c.args.change)
+    (refused_not c.args.state.now c.requires.kept c.args.a c.args.o (plain_change c.args.change) c.requires.free)).low)
+
+pub returns-in_err-grant_removal-clause-kept : goal.returns-in_err-grant_removal-clause-kept
+returns-in_err-grant_removal-clause-kept c =
+    let p = c.args.state.now in
+    let new = c.grant_removal.new.objects in
+    let fits : length new ≡ p.objects.len = omega arith in
+    rw (with_items_is p.objects new fits, c.reserve.ensures.entries, c.reserve.ensures.opening)
+    (kept_locks p.tree p.objects.items new p.holdings c.grant_removal.new.holdings (opening_in p.journal)
+    (entries_in p.journal) c.args.o c.requires.kept
+    (rw (c.as_mut_slice-objects.ensures.value) at c.in_err-grant_removal.ensures.err))
+
+pub push-requires-clause-answered : goal.push-requires-clause-answered
+push-requires-clause-answered c =
+    c.in_ok-reply.ensures.second
+    ∙ alter_still c.args.state.now c.requires.kept c.args.a c.args.o (plain_change c.args.change)
+    (refused_not c.args.state.now c.requires.kept c.args.a c.args.o (plain_change c.args.change) c.requires.free) _
+    (rw (c.as_slice-seen.ensures.value) at c.in_ok-answer.ensures)
+    (opening_in c.reserve.new.self) (entries_in c.reserve.new.self) c.reserve.ensures.opening c.reserve.ensures.entries
+
+pub returns-clause-kept : goal.returns-clause-kept
+returns-clause-kept c =
+    let p = c.args.state.now in
+    let new = c.grant_removal.new.objects in
+    let fits : length new ≡ p.objects.len = omega arith in
+    rw (
+      with_items_is p.objects new fits,
+      c.push.ensures.entries,
+      c.push.ensures.opening,
+      c.reserve.ensures.entries,
+      c.reserve.ensures.opening,
+      c.in_ok-reply.ensures.second,
+    )
+    (alter_made p c.requires.kept c.args.a c.args.o (plain_change c.args.change)
+    (refused_not c.args.state.now c.requires.kept c.args.a c.args.o (plain_change c.args.change) c.requires.free) _
+    (rw (c.as_slice-seen.ensures.value) at c.in_ok-answer.ensures) new c.grant_removal.new.holdings
+    (rw (c.as_mut_slice-objects.ensures.value, c.in_ok-made.ensures) at c.in_ok-grant_removal.ensures.ok))

@@ -1,0 +1,64 @@
+-- Lists in which each object stands once.
+use Rattle.std.proofs.Common.{◌≡◌, Bool, true, false, eqb, ◌||◌, if◌then◌else◌, List, [], ◌∷◌, ◌++◌}
+use Rattle.std.proofs.Common.{refl, sym, ◌∙◌, ap, subst}
+use Rattle.std.specs.List.{list_any, AllByRecursion, IsDistinct}
+use Rattle.std.proofs.lemmas.Bool.{cond-false}
+use Rattle.std.proofs.lemmas.List.{append_assoc, append-nil}
+use Rattle.argus_contents.specs.declared.obj_id.ObjId.{ObjId}
+use Rattle.argus_objects.specs.ObjectList.{noted, passed}
+
+pub distinct_none : IsDistinct (λ (x y : ObjId). eqb x.0 y.0) []
+unfolding IsDistinct
+distinct_none = tt
+
+-- another object than all of these and one more
+apart_push : (x : ObjId) (xs : List ObjId) (o : ObjId) → AllByRecursion (λ (y : ObjId). eqb x.0 y.0 ≡ false) xs
+    → eqb x.0 o.0 ≡ false → AllByRecursion (λ (y : ObjId). eqb x.0 y.0 ≡ false) (xs ++ o ∷ [])
+apart_push x [] o all e = (e, tt)
+apart_push x (y ∷ ys) o all e = (all.0, apart_push x ys o all.1 e)
+
+neither : (b c : Bool) → (b || c) ≡ false → (b ≡ false) × (c ≡ false)
+neither true c e = let bad : true ≡ false = e in cc
+neither false c e = (refl, e)
+
+-- an object that is not in the list, at its end
+distinct_push : (xs : List ObjId) (o : ObjId) → IsDistinct (λ (x y : ObjId). eqb x.0 y.0) xs
+    → list_any (λ (x : ObjId). eqb x.0 o.0) xs ≡ false → IsDistinct (λ (x y : ObjId). eqb x.0 y.0) (xs ++ o ∷ [])
+unfolding IsDistinct
+distinct_push [] o d absent = (tt, tt)
+distinct_push (x ∷ xs) o d absent =
+    let parts : (eqb x.0 o.0 ≡ false) × (list_any (λ (y : ObjId). eqb y.0 o.0) xs ≡ false) =
+    neither (eqb x.0 o.0) (list_any (λ (y : ObjId). eqb y.0 o.0) xs) absent in
+    (apart_push x xs o d.0 parts.0, distinct_push xs o d.1 parts.1)
+
+-- the same, whether it was put there or not
+pub distinct_pushed : (put : Bool) (xs : List ObjId) (o : ObjId) → IsDistinct (λ (x y : ObjId). eqb x.0 y.0) xs
+    → list_any (λ (x : ObjId). eqb x.0 o.0) xs ≡ false
+    → IsDistinct (λ (x y : ObjId). eqb x.0 y.0) (if put then xs ++ o ∷ [] else xs)
+distinct_pushed true xs o d absent = distinct_push xs o d absent
+distinct_pushed false xs o d absent = d
+
+apart_at : (x : ObjId) (xs : List ObjId) (o : ObjId) (os : List ObjId)
+    → AllByRecursion (λ (y : ObjId). eqb x.0 y.0 ≡ false) (xs ++ o ∷ os) → eqb x.0 o.0 ≡ false
+apart_at x [] o os all = all.0
+apart_at x (y ∷ ys) o os all = apart_at x ys o os all.1
+
+-- what stands after a list is not in it
+absent_before : (xs : List ObjId) (o : ObjId) (os : List ObjId)
+    → IsDistinct (λ (x y : ObjId). eqb x.0 y.0) (xs ++ o ∷ os) → list_any (λ (x : ObjId). eqb x.0 o.0) xs ≡ false
+unfolding IsDistinct
+absent_before [] o os d = refl
+absent_before (x ∷ xs) o os d = rw (apart_at x xs o os d.0) (absent_before xs o os d.1)
+
+passed_onto : (os list : List ObjId) → IsDistinct (λ (x y : ObjId). eqb x.0 y.0) (list ++ os)
+    → passed os list ≡ list ++ os
+passed_onto [] list d = sym (append-nil list)
+passed_onto (o ∷ os) list d =
+    let put : noted o list ≡ list ++ o ∷ [] = cond-false _ _ _ (absent_before list o os d) in
+    let same : (list ++ o ∷ []) ++ os ≡ list ++ o ∷ os = append_assoc list (o ∷ []) os in
+    ap (passed os) put ∙ (passed_onto os (list ++ o ∷ [])
+    (subst (λ l. IsDistinct (λ (x y : ObjId). eqb x.0 y.0) l) (sym same) d) ∙ same)
+
+-- objects passed to who has none are that list
+pub passed_to_none : (os : List ObjId) → IsDistinct (λ (x y : ObjId). eqb x.0 y.0) os → passed os [] ≡ os
+passed_to_none os d = passed_onto os [] d
