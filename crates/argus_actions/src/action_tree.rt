@@ -259,10 +259,23 @@ impl ActionTree {
         let _ = self.nodes.len();
     }
 
-    /// Makes room for one more action, so that the next begin can't want memory.
-    ///
-    /// `OutOfMemory` comes where a growth is refused; the tree is then as before.
+    /// Makes room for one more action, so that the next begin can't want memory. After
+    /// `OutOfMemory` the tree is as before.
+    #[inline(always)]
     pub fn reserve(&mut self) -> Result<(), OutOfMemory>
+        ensures same { SameActions self.old self.new }
+        ensures ok { OnOk result (0 < self.new.room) }
+        ensures err { OnErr result (self.new ≡ self.old) }
+    {
+        if self.nodes.len() < self.nodes.capacity() {
+            return Ok(());
+        }
+        self.grow()
+    }
+
+    // The same where there is no room: seldom, so it stands out of line.
+    #[inline(never)]
+    fn grow(&mut self) -> Result<(), OutOfMemory>
         ensures same { SameActions self.old self.new }
         ensures ok { OnOk result (0 < self.new.room) }
         ensures err { OnErr result (self.new ≡ self.old) }
@@ -273,9 +286,7 @@ impl ActionTree {
         }
     }
 
-    /// Begins a topaction, and gives its number.
-    ///
-    /// Refusals: `TooMany`, then `OutOfMemory`.
+    /// Begins a topaction, and gives its number. Refusals: `TooMany`, then `OutOfMemory`.
     pub fn begin_top(&mut self) -> Result<ActionId, ActionError>
         ensures refused { IsRefusedBy (begin_top_refusal self.old) result }
         ensures number { IfOk result (λ a. a.0 ≡ next self.old) }
@@ -291,10 +302,8 @@ impl ActionTree {
         }
     }
 
-    /// Begins a subaction of a live parent, and gives its number.
-    ///
-    /// Refusals: `NoAction`, `Over`, `TooDeep` where the parent has 64 ancestors, `TooMany`, then
-    /// `OutOfMemory`.
+    /// Begins a subaction of a live parent, and gives its number. Refusals: `NoAction`, `Over`,
+    /// `TooDeep` where the parent has 64 ancestors, `TooMany`, then `OutOfMemory`.
     pub fn begin_sub(&mut self, parent: ActionId) -> Result<ActionId, ActionError>
         ensures refused { IsRefusedBy (begin_sub_refusal self.old parent.0) result }
         ensures number { IfOk result (λ a. a.0 ≡ next self.old) }
@@ -311,9 +320,7 @@ impl ActionTree {
     }
 
     /// Begins a nested topaction of a live creator, and gives its number. It has no ancestor but
-    /// itself.
-    ///
-    /// Refusals: `NoAction`, `Over`, `TooMany`, then `OutOfMemory`.
+    /// itself. Refusals: `NoAction`, `Over`, `TooMany`, then `OutOfMemory`.
     pub fn begin_nested(&mut self, creator: ActionId) -> Result<ActionId, ActionError>
         ensures refused { IsRefusedBy (begin_nested_refusal self.old creator.0) result }
         ensures number { IfOk result (λ a. a.0 ≡ next self.old) }

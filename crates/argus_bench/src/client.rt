@@ -133,7 +133,7 @@ impl<K: Callee> Client<K> {
 
     // Creates the object, and commits.
     fn create(&mut self, a: ActionId, o: ObjId, content: Content) -> Result<(), BenchError> {
-        self.have_done(Call::Alter(a, o, Change::Create(content)))?;
+        self.have_done(Call::Alter(a, o, Change::create(self.heap, content)?))?;
         self.commit(a)
     }
 }

@@ -26,6 +26,7 @@ pub(crate) enum ReplySummary {
 
 impl ReplySummary {
     /// What the reply says, which ends with that.
+    #[inline(always)]
     pub(crate) fn by(reply: Reply) -> ReplySummary {
         match &reply {
             Reply::Object(o) => ReplySummary::Object(*o),

@@ -6,6 +6,8 @@ use denote.Struct.Declared.{shape}
 use denote.Struct.Struct.{Struct}
 use denote.Struct.Tuple.{Tuple, tuple_type}
 use Rattle.std.proofs.Common.{[], ◌∷◌}
+use Rattle.std.specs.contracts.boxed.Box.{the_row as box_row}
+use Rattle.std.specs.contracts.vec.Vec.{the_row as list_row}
 use Rattle.argus_memory.proofs.Crossing as memory
 use Rattle.argus_contents.specs.contracts.value.Value.{the_row as value_row, the_field as value_field}
 use Rattle.argus_contents.specs.contracts.content.Content.{the_field as content_field, the_row as content_row}
@@ -19,13 +21,23 @@ use Rattle.argus_contents.specs.contracts.ty.Ty.{the_row as ty_row, the_field as
 use Rattle.argus_contents.proofs.ty.Ty.TheLaws.TheKnot.{send-Ty, sync-Ty}
 use Rattle.argus_contents.proofs.value.Value.TheLaws.TheKnot.{send-Value, sync-Value}
 
+-- a list behind a box
+abbrev boxed_list : RattleType → RattleType
+boxed_list h = box_row (list_row h memory.room memory.rests) memory.room memory.rests
+
+boxed_list_sends : (h : RattleType) → IsSend h → IsSend (boxed_list h)
+boxed_list_sends h s = memory.box_sends (list_row h memory.room memory.rests) (memory.list_sends h s)
+
+boxed_list_syncs : (h : RattleType) → IsSync h → IsSync (boxed_list h)
+boxed_list_syncs h s = memory.box_syncs (list_row h memory.room memory.rests) (memory.list_syncs h s)
+
 pub value_field_sends : IsSend value_field.row
 value_field_sends = send-Value (search sendable) (search sendable) (search (sendable, memory.crosses)) (search sendable)
-    memory.list_sends (search sendable) memory.box_sends
+    boxed_list_sends (search sendable) memory.box_sends
 
 pub value_field_syncs : IsSync value_field.row
 value_field_syncs = sync-Value (search sendable) (search sendable) (search (sendable, memory.crosses)) (search sendable)
-    memory.list_syncs (search sendable) memory.box_syncs
+    boxed_list_syncs (search sendable) memory.box_syncs
 
 pub value_sends : IsSend value_row
 value_sends = search (sendable, value_field_sends)
@@ -79,10 +91,10 @@ pub shape_syncs : IsSync shape_row
 shape_syncs = search (sendable, memory.crosses, name_syncs, ty_field_syncs, ty_syncs) depth 40
 
 pub change_field_sends : IsSend change_field.row
-change_field_sends = search (sendable, value_field_sends, content_field_sends) depth 40
+change_field_sends = search (sendable, memory.crosses, value_field_sends, content_sends) depth 40
 
 pub change_field_syncs : IsSync change_field.row
-change_field_syncs = search (sendable, value_field_syncs, content_field_syncs) depth 40
+change_field_syncs = search (sendable, memory.crosses, value_field_syncs, content_syncs) depth 40
 
 pub change_sends : IsSend change_row
 change_sends = search (sendable, change_field_sends)
@@ -103,10 +115,10 @@ pub query_syncs : IsSync query_row
 query_syncs = search (sendable, query_field_syncs)
 
 pub answer_field_sends : IsSend answer_field.row
-answer_field_sends = search (sendable, value_field_sends, content_field_sends) depth 40
+answer_field_sends = search (sendable, memory.crosses, value_field_sends, content_sends) depth 40
 
 pub answer_field_syncs : IsSync answer_field.row
-answer_field_syncs = search (sendable, value_field_syncs, content_field_syncs) depth 40
+answer_field_syncs = search (sendable, memory.crosses, value_field_syncs, content_syncs) depth 40
 
 pub answer_sends : IsSend answer_row
 answer_sends = search (sendable, answer_field_sends)

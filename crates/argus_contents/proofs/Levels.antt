@@ -21,8 +21,9 @@ plain_ty-Fields fs = search (rules, the_lemmas)
 pub plain_ty-Choice : (fs : Vec (Name × Ty) Heap) → plain_ty (T.Choice fs) ≡ plain.choice (plain_fields fs.items)
 plain_ty-Choice fs = search (rules, the_lemmas)
 
-pub plain_value-Fields : (vs : Vec Value Heap) → plain_value (V.Fields vs) ≡ said.fields (listed (plain_list vs.items))
-plain_value-Fields vs = search (rules, V.the_lemmas)
+pub plain_value-Fields : (b : Box (Vec Value Heap) Heap) → plain_value (V.Fields b)
+    ≡ said.fields (listed (plain_list b.value.items))
+plain_value-Fields b = search (rules, V.the_lemmas)
 
 pub plain_value-Choice : (t : ℕ) (b : Box Value Heap) → plain_value (V.Choice t b) ≡ said.choice t (plain_value b.value)
 plain_value-Choice t b = search (rules, V.the_lemmas)

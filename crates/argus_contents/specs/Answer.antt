@@ -21,7 +21,7 @@ plain_answer answer.Done = done
 plain_answer (answer.Val v) = val (plain_value v)
 plain_answer (answer.Num n) = num n
 plain_answer (answer.Flag b) = flag b
-plain_answer (answer.Body c) = body (plain_content c)
+plain_answer (answer.Body c) = body (plain_content c.value)
 plain_answer (answer.Signal s) = signal s
 
 -- the value, or the signal where there is none

@@ -35,7 +35,7 @@ pub data PlainChange : Type 0 where
 
 -- what a change says
 abbrev pub plain_change : Change → PlainChange
-plain_change (change.Create c) = create (plain_content c)
+plain_change (change.Create c) = create (plain_content c.value)
 plain_change (change.SetField i v) = set_field i (plain_value v)
 plain_change (change.Store i v) = store i (plain_value v)
 plain_change (change.Addh v) = addh (plain_value v)

@@ -31,10 +31,10 @@ abbrev pub plain_level : Value-F PlainValue → PlainValue
 plain_level Value-F.Null = null
 plain_level (Value-F.Bool b) = bool b
 plain_level (Value-F.Int n) = int n
-plain_level (Value-F.Text s) = text (string_bytes s)
+plain_level (Value-F.Text s) = text (string_bytes s.value)
 plain_level (Value-F.Atomic o) = atomic o.0
-plain_level (Value-F.Sequence vs) = sequence (listed vs.items)
-plain_level (Value-F.Fields vs) = fields (listed vs.items)
+plain_level (Value-F.Sequence vs) = sequence (listed vs.value.items)
+plain_level (Value-F.Fields vs) = fields (listed vs.value.items)
 plain_level (Value-F.Choice t v) = choice t v.value
 
 -- what a value says

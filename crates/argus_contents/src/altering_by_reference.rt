@@ -30,6 +30,7 @@ use std::collections::VecDeque;
 /// ```text
 /// if let Some(signal) = alter_by_reference(heap, &mut content, &Change::SetLow(1))? { .. }
 /// ```
+#[inline(always)]
 pub fn alter_by_reference(
     heap: Heap,
     content: &mut Option<Content>,

@@ -1,13 +1,15 @@
 //! `Answer`: what an operation answers.
 
-ghost use Rattle.std.specs.Prelude.{◌≡◌, ◌↔◌, true};
-ghost use Rattle.argus_contents.specs.Answer.{plain_answer};
+ghost use Rattle.std.specs.Prelude.{◌≡◌, ◌↔◌, true, IfOk};
+ghost use Rattle.argus_contents.specs.Answer.{body, plain_answer};
+ghost use Rattle.argus_contents.specs.Content.{plain_content};
 ghost use Rattle.argus_contents.specs.Decided.{said_equivalence, answer_decided};
 ghost use Rattle.argus_contents.specs.Same.{same_answer};
 
-use crate::content::Content;
+use crate::content::{self, Content};
 use crate::signal::Signal;
 use crate::value::Value;
+use argus_memory::{Heap, OutOfMemory, Room};
 
 /// What an operation answers.
 ///
@@ -29,19 +31,34 @@ pub enum Answer {
     /// Whether the variant has the tag.
     Flag(bool),
     /// The whole content.
-    Body(Content),
+    Body(Box<Content, Room>),
     /// Nothing was changed, for this reason.
     Signal(Signal),
 }
 
-// By hand, so that each place where an answer ends is one call; a derived one is written out there.
+// By hand, so that each place where an answer ends is short: most answers hold nothing, and what a
+// value or a content holds goes by one call.
 impl Drop for Answer {
+    #[inline(always)]
     fn drop(self) {
         match self {
             Answer::Done | Answer::Num(_) | Answer::Flag(_) | Answer::Signal(_) => {}
             Answer::Val(_) => {}
             Answer::Body(_) => {}
         }
+    }
+}
+
+impl Answer {
+    /// The whole content as an answer. `OutOfMemory`: nothing is made, and the content is spent.
+    ///
+    /// ```text
+    /// let answer = Answer::body(heap, content.duplicate(heap)?)?;
+    /// ```
+    pub fn body(heap: Heap, content: Content) -> Result<Answer, OutOfMemory>
+        ensures { IfOk result (λ made. plain_answer made ≡ body (plain_content content)) }
+    {
+        Ok(Answer::Body(Box::new(heap.room(), content)?))
     }
 }
 
@@ -66,7 +83,7 @@ fn is_same(a: &Answer, b: &Answer) -> bool
         (Answer::Val(a), Answer::Val(b)) => a == b,
         (Answer::Num(a), Answer::Num(b)) => a == b,
         (Answer::Flag(a), Answer::Flag(b)) => a == b,
-        (Answer::Body(a), Answer::Body(b)) => a == b,
+        (Answer::Body(a), Answer::Body(b)) => content::is_same(a, b),
         (Answer::Signal(a), Answer::Signal(b)) => a == b,
         _ => false,
     }

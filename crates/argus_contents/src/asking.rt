@@ -40,7 +40,7 @@ fn ask_record(heap: Heap, fields: &[Value], query: &Query) -> Result<Answer, Out
         ≡ record_reply query.now (plain_list fields.now)) }
 {
     match query {
-        Query::Whole => Ok(Answer::Body(Content::Rec(duplicate_all(heap, fields)?))),
+        Query::Whole => Answer::body(heap, Content::Rec(duplicate_all(heap, fields)?)),
         Query::Field(field) => {
             value_or_signal(heap, fields.get(*field as usize), Signal::Absent)
         }
@@ -84,7 +84,7 @@ fn whole_array(heap: Heap, low: i64, items: &VecDeque<Value, Room>) -> Result<An
         ≡ body (arr low (plain_list items.now.items))) }
 {
     let items = duplicate_items(heap, items)?;
-    Ok(Answer::Body(Content::Arr { low, items }))
+    Answer::body(heap, Content::Arr { low, items })
 }
 
 fn ask_variant(heap: Heap, tag: u8, value: &Value, query: &Query) -> Result<Answer, OutOfMemory>
@@ -99,10 +99,10 @@ fn ask_variant(heap: Heap, tag: u8, value: &Value, query: &Query) -> Result<Answ
             }
             Ok(Answer::Val(value.duplicate(heap)?))
         }
-        Query::Whole => Ok(Answer::Body(Content::Var {
-            tag,
-            value: value.duplicate(heap)?,
-        })),
+        Query::Whole => {
+            let value = value.duplicate(heap)?;
+            Answer::body(heap, Content::Var { tag, value })
+        }
         Query::Field(_)
         | Query::Low
         | Query::High

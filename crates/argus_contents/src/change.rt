@@ -2,16 +2,17 @@
 
 ghost use Rattle.std.specs.Prelude.{◌≡◌, ◌↔◌, true, IfOk, None, OnErr, Some, length};
 ghost use Rattle.argus_contents.specs.Answer.{plain_answer};
-ghost use Rattle.argus_contents.specs.Change.{absent_outcome, gives_value, Leaves, plain_change};
+ghost use Rattle.argus_contents.specs.Change.{absent_outcome, create, gives_value, Leaves};
+ghost use Rattle.argus_contents.specs.Change.{plain_change};
 ghost use Rattle.argus_contents.specs.Change.{record_outcome, variant_outcome};
-ghost use Rattle.argus_contents.specs.Content.{KeepsBounds, plain_option, rec, var};
+ghost use Rattle.argus_contents.specs.Content.{KeepsBounds, plain_content, plain_option, rec, var};
 ghost use Rattle.argus_contents.specs.Decided.{said_equivalence, change_decided};
 ghost use Rattle.argus_contents.specs.Same.{same_change};
 ghost use Rattle.argus_contents.specs.Value.{plain_list, plain_value};
 
 use crate::answer::Answer;
 use crate::array::{add_high, add_low, move_low, remove_high, remove_low, store_item, trim_items};
-use crate::content::Content;
+use crate::content::{self, Content};
 use crate::record::set_field;
 use crate::signal::Signal;
 use crate::value::Value;
@@ -65,7 +66,7 @@ use std::collections::VecDeque;
 /// ```
 #[derive(Debug)]
 pub enum Change {
-    Create(Content),
+    Create(Box<Content, Room>),
     SetField(u8, Value),
     Store(i64, Value),
     Addh(Value),
@@ -93,12 +94,23 @@ impl Drop for Change {
 }
 
 impl Change {
+    /// The change that makes this content. `OutOfMemory`: nothing is made, and the content is spent.
+    ///
+    /// ```text
+    /// let create = Change::create(heap, Content::Rec(vec![in heap.room(); Value::Int(5)]?))?;
+    /// ```
+    pub fn create(heap: Heap, content: Content) -> Result<Change, OutOfMemory>
+        ensures { IfOk result (λ made. plain_change made ≡ create (plain_content content)) }
+    {
+        Ok(Change::Create(Box::new(heap.room(), content)?))
+    }
+
     /// A change equal to this one. `OutOfMemory`: nothing was copied.
     pub fn duplicate(&self, heap: Heap) -> Result<Change, OutOfMemory>
         ensures { IfOk result (λ copy. plain_change copy ≡ plain_change self.now) }
     {
         match self {
-            Change::Create(content) => Ok(Change::Create(content.duplicate(heap)?)),
+            Change::Create(content) => Change::create(heap, content.duplicate(heap)?),
             Change::SetField(field, value) => Ok(Change::SetField(*field, value.duplicate(heap)?)),
             Change::Store(index, value) => Ok(Change::Store(*index, value.duplicate(heap)?)),
             Change::Addh(value) => Ok(Change::Addh(value.duplicate(heap)?)),
@@ -146,7 +158,7 @@ impl Change {
     {
         match self {
             Change::Create(made) => {
-                *content = Some(made);
+                *content = Some(Box::into_inner(made));
                 Answer::Done
             }
             Change::Touch => Answer::Done,
@@ -250,7 +262,7 @@ fn is_same(a: &Change, b: &Change) -> bool
     ensures { result ≡ same_change (plain_change a.now) (plain_change b.now) }
 {
     match (a, b) {
-        (Change::Create(a), Change::Create(b)) => a == b,
+        (Change::Create(a), Change::Create(b)) => content::is_same(a, b),
         (Change::SetField(i, a), Change::SetField(j, b)) => i == j && a == b,
         (Change::Store(i, a), Change::Store(j, b)) => i == j && a == b,
         (Change::Addh(a), Change::Addh(b)) => a == b,

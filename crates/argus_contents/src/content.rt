@@ -128,7 +128,8 @@ impl PartialEq for Content {
     }
 }
 
-fn is_same(a: &Content, b: &Content) -> bool
+/// Whether both say the same, for what holds a content in a box.
+pub(crate) fn is_same(a: &Content, b: &Content) -> bool
     ensures { result ≡ same_content (plain_content a.now) (plain_content b.now) }
 {
     match (a, b) {

@@ -187,6 +187,7 @@ fn have_number(names: &[(Name, Ty)], number: u8) -> bool
 /// Whether the change suits the shape, where so many objects are declared: it is one of the shape's
 /// kind, there is a field or a tag with its number, and its value is of the type or its content
 /// fits. `Touch` suits every shape. After a change that suits, an array keeps the limits still.
+#[inline(always)]
 pub fn change_fits(shape: &Shape, declared: u32, change: &Change) -> bool
     ensures exact { result ≡ change_suits shape.now declared (plain_change change.now) }
     ensures keeps { result ≡ true → CreatesWithin (plain_change change.now) }

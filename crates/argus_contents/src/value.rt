@@ -2,7 +2,9 @@
 
 ghost use Rattle.std.specs.Prelude.{◌≡◌, ◌↔◌, true, ◌++◌, IfOk, OnOk};
 ghost use Rattle.argus_contents.specs.Same.{same_value, same_values};
+ghost use Rattle.std.specs.Prelude.{string_bytes};
 ghost use Rattle.argus_contents.specs.Value.{plain_value, plain_list, listed};
+ghost use Rattle.argus_contents.specs.Value as said;
 ghost use Rattle.argus_contents.specs.Decided.{said_equivalence, value_decided};
 
 use crate::obj_id::ObjId;
@@ -21,6 +23,10 @@ use argus_memory::{Heap, OutOfMemory, Room};
 /// | `Fields` | `struct[..]` | a value for each name of the type, in order |
 /// | `Choice` | `oneof[..]` | the number of a tag from 0, and a value of the tag's type |
 ///
+/// A text, a list and the value of a choice lie in a box, so that a value has 24 bytes. They are
+/// made by [`text`](Value::text), [`sequence`](Value::sequence), [`fields`](Value::fields) and
+/// [`choice`](Value::choice).
+///
 /// It isn't taken apart by a pattern outside this crate: a part is taken out by `&mut`, with an
 /// empty one in its place.
 ///
@@ -29,23 +35,24 @@ use argus_memory::{Heap, OutOfMemory, Room};
 /// ```text
 /// let mut fields = Vec::new(heap.room());
 /// fields.push(Value::Int(5))?;
-/// fields.push(Value::Text(String::from_str(heap.room(), "five")?))?;
-/// let pair = Value::Fields(fields);
+/// fields.push(Value::text(heap, String::from_str(heap.room(), "five")?)?)?;
+/// let pair = Value::fields(heap, fields)?;
 /// ```
 #[derive(Debug)]
 pub enum Value {
     Null,
     Bool(bool),
     Int(i64),
-    Text(String<Room>),
+    Text(Box<String<Room>, Room>),
     Atomic(ObjId),
-    Sequence(Vec<Value, Room>),
-    Fields(Vec<Value, Room>),
+    Sequence(Box<Vec<Value, Room>, Room>),
+    Fields(Box<Vec<Value, Room>, Room>),
     Choice(u8, Box<Value, Room>),
 }
 
-// A tag, with what is small behind it, and the widest owner: a text or a list.
-const _: () = prove!(size_of::<Value>() == 40);
+// A tag with what is small behind it, and a box: texts and lists lie in one, so that an integer in a
+// list takes no more room for their sake.
+const _: () = prove!(size_of::<Value>() == 24);
 
 // By hand, so that each place where a value ends is one call; a derived one is written out there.
 impl Drop for Value {
@@ -60,6 +67,55 @@ impl Drop for Value {
 }
 
 impl Value {
+    /// The text as a value. `OutOfMemory`: nothing is made, and the text is spent.
+    ///
+    /// ```text
+    /// let five = Value::text(heap, String::from_str(heap.room(), "five")?)?;
+    /// ```
+    pub fn text(heap: Heap, text: String<Room>) -> Result<Value, OutOfMemory>
+        ensures { IfOk result (λ made. plain_value made ≡ said.text (string_bytes text)) }
+    {
+        Ok(Value::Text(Box::new(heap.room(), text)?))
+    }
+
+    /// The sequence of these values, in their order. `OutOfMemory`: nothing is made, and the values
+    /// are spent.
+    ///
+    /// ```text
+    /// let digits = Value::sequence(heap, vec![in heap.room(); Value::Int(1), Value::Int(2)]?)?;
+    /// ```
+    pub fn sequence(heap: Heap, items: Vec<Value, Room>) -> Result<Value, OutOfMemory>
+        ensures { IfOk result (λ made. plain_value made
+            ≡ said.sequence (listed (plain_list items.items))) }
+    {
+        Ok(Value::Sequence(Box::new(heap.room(), items)?))
+    }
+
+    /// The struct of these values, one for each name of its type, in order. `OutOfMemory`: nothing
+    /// is made, and the values are spent.
+    ///
+    /// ```text
+    /// let point = Value::fields(heap, vec![in heap.room(); Value::Int(3), Value::Int(4)]?)?;
+    /// ```
+    pub fn fields(heap: Heap, fields: Vec<Value, Room>) -> Result<Value, OutOfMemory>
+        ensures { IfOk result (λ made. plain_value made
+            ≡ said.fields (listed (plain_list fields.items))) }
+    {
+        Ok(Value::Fields(Box::new(heap.room(), fields)?))
+    }
+
+    /// The choice of the tag with this number, and its value. `OutOfMemory`: nothing is made, and the
+    /// value is spent.
+    ///
+    /// ```text
+    /// let second = Value::choice(heap, 1, Value::Int(5))?;
+    /// ```
+    pub fn choice(heap: Heap, tag: u8, value: Value) -> Result<Value, OutOfMemory>
+        ensures { IfOk result (λ made. plain_value made ≡ said.choice tag (plain_value value)) }
+    {
+        Ok(Value::Choice(tag, Box::new(heap.room(), value)?))
+    }
+
     /// A value equal to this one. `OutOfMemory`: nothing was copied.
     pub fn duplicate(&self, heap: Heap) -> Result<Value, OutOfMemory>
         ensures { IfOk result (λ copy. plain_value copy ≡ plain_value self.now) }
@@ -122,19 +178,17 @@ fn duplicate_value(heap: Heap, value: &Value) -> Result<Value, OutOfMemory>
         Value::Null => Ok(Value::Null),
         Value::Bool(truth) => Ok(Value::Bool(*truth)),
         Value::Int(number) => Ok(Value::Int(*number)),
-        Value::Text(text) => Ok(Value::Text(String::from_str(heap.room(), text.as_str())?)),
+        Value::Text(text) => Value::text(heap, String::from_str(heap.room(), text.as_str())?),
         Value::Atomic(object) => Ok(Value::Atomic(*object)),
-        Value::Sequence(items) => Ok(Value::Sequence(duplicate_all(heap, items)?)),
-        Value::Fields(fields) => Ok(Value::Fields(duplicate_all(heap, fields)?)),
-        Value::Choice(tag, part) => {
-            let copy = duplicate_value(heap, part)?;
-            Ok(Value::Choice(*tag, Box::new(heap.room(), copy)?))
-        }
+        Value::Sequence(items) => Value::sequence(heap, duplicate_all(heap, items)?),
+        Value::Fields(fields) => Value::fields(heap, duplicate_all(heap, fields)?),
+        Value::Choice(tag, part) => Value::choice(heap, *tag, duplicate_value(heap, part)?),
     }
 }
 
 /// Values equal to these, in the same order.
 #[cycle(duplicate)]
+#[inline(always)]
 pub(crate) fn duplicate_all(heap: Heap, values: &[Value]) -> Result<Vec<Value, Room>, OutOfMemory>
     ensures { IfOk result (λ copies. plain_list copies.items ≡ plain_list values.now) }
 {

@@ -86,7 +86,7 @@ module _ (t : Tree) (objects : List AtomicObject) (holdings : Holdings) (s : Ope
 
   -- an object with neither content nor holder
   abbrev fresh : Object
-  fresh = record { base = None; readers = []; versions = []; room = 0 }
+  fresh = record { base = None; readers = []; versions = []; reader_room = 0; version_room = 0 }
 
   fresh_cell : (c : Object) → c.base ≡ None → c.readers ≡ [] → c.versions ≡ []
       → IsCell s (history s j) t (length objects) c

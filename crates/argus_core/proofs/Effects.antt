@@ -70,7 +70,7 @@ map_where f g (x ∷ xs) same =
 pub any_object : AtomicObject
 any_object = record {
   shape = shape.arr ty.null;
-  cell = record { base = None; readers = []; versions = []; room = 0 };
+  cell = record { base = None; readers = []; versions = []; reader_room = 0; version_room = 0 };
 }
 
 -- what stands in a list is a member

@@ -48,10 +48,10 @@ pub record HasListRoom (holdings : Holdings) (a : ActionId) (o : ObjId)
   pub listed : is_listed (objects_held_by holdings a) o.0 ≡ not is_new
   pub room : is_new ≡ true → 0 < holdings_room_of holdings a
 
--- the object's cell has room for one more grant, and the action's list for the object
-pub record HasGrantRoom (objects : List AtomicObject) (holdings : Holdings)
+-- the object's cell has room for one more reader, and the action's list for the object
+pub record HasReadRoom (objects : List AtomicObject) (holdings : Holdings)
     (a : ActionId) (o : ObjId) (is_new : Bool) : Type 0 where
-  pub cell : (d : AtomicObject) → 0 < (slice_index_or objects o.0 d).cell.room
+  pub cell : (d : AtomicObject) → 0 < (slice_index_or objects o.0 d).cell.reader_room
   pub list : HasListRoom holdings a o is_new
 
 -- the action's list has the object exactly if the action holds it

@@ -90,7 +90,7 @@ fn change_of(heap: Heap, request: &Request, text: &str) -> Result<Change, EmbedE
     ensures unread { IfErr result (λ e. IsUnread request.now text.now e) }
 {
     match request.kind {
-        19 => Ok(Change::Create(content_of(heap, request, text)?)),
+        19 => Ok(Change::create(heap, content_of(heap, request, text)?)?),
         20 => {
             let field = part_of(request)?;
             Ok(Change::SetField(field, value_of(heap, request, text)?))

@@ -24,7 +24,7 @@ fn main(rt: HostRuntime) -> Result<()> {
     let heap = Heap::new(rt.alloc())?;
     let mut guardian = Guardian::new(heap);
     let items = VecDeque::new(heap.room());
-    let empty = Change::Create(Content::Arr { low: 1, items });
+    let empty = Change::create(heap, Content::Arr { low: 1, items })?;
     guardian.call(Call::Declare(Shape::arr(Ty::Int)?))?;
     guardian.call(Call::BeginTop)?;
     guardian.call(Call::Alter(ActionId(0), ACCOUNT, empty))?;

@@ -24,7 +24,8 @@ use argus_memory::{Heap, OutOfMemory};
 /// | `Ask`, `Alter` | a query, a change of this object by this action |
 /// | `TestRead`, `TestWrite` | whether the action may have the lock, and the lock where it may |
 ///
-/// All of it lies in line, so a call is made without memory of its own.
+/// It lies in line but for what is behind a box: texts, lists, the value of a choice and the content
+/// of a `Create`. A call of none of these is made without memory.
 ///
 /// Source: actions, `enter` and the tests of locks of the Argus Reference Manual (MIT/LCS/TR-400,
 /// 1987).
@@ -49,7 +50,7 @@ pub enum Call {
 }
 
 // A tag, an action, an object and the widest rest: a change.
-const _: () = prove!(size_of::<Call>() == 88);
+const _: () = prove!(size_of::<Call>() == 56);
 
 impl Call {
     /// A call equal to this one. `OutOfMemory`: nothing was copied.

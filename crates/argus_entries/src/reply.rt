@@ -35,7 +35,7 @@ pub enum Reply {
 }
 
 // A tag and an answer.
-const _: () = prove!(size_of::<Reply>() == 80);
+const _: () = prove!(size_of::<Reply>() == 40);
 
 impl Reply {
     /// A reply equal to this one. `OutOfMemory`: nothing was copied.
@@ -84,7 +84,7 @@ fn duplicate_answer(heap: Heap, answer: &Answer) -> Result<Answer, OutOfMemory>
         Answer::Val(value) => Ok(Answer::Val(value.duplicate(heap)?)),
         Answer::Num(number) => Ok(Answer::Num(*number)),
         Answer::Flag(truth) => Ok(Answer::Flag(*truth)),
-        Answer::Body(content) => Ok(Answer::Body(content.duplicate(heap)?)),
+        Answer::Body(content) => Answer::body(heap, content.duplicate(heap)?),
         Answer::Signal(signal) => Ok(Answer::Signal(*signal)),
     }
 }

@@ -108,7 +108,22 @@ impl Journal {
 
     /// Makes room for one more entry. The room that was there stays, and after `OutOfMemory` all is
     /// as before.
+    #[inline(always)]
     pub fn reserve(&mut self) -> Result<(), OutOfMemory>
+        ensures opening { opening_of self.new ≡ opening_of self.old }
+        ensures entries { entries_of self.new ≡ entries_of self.old }
+        ensures room { room_of self.old ≤ room_of self.new }
+        ensures ok { OnOk result (0 < room_of self.new) }
+    {
+        if self.entries.len() < self.entries.capacity() {
+            return Ok(());
+        }
+        self.grow()
+    }
+
+    // The same where there is no room: seldom, so it stands out of line.
+    #[inline(never)]
+    fn grow(&mut self) -> Result<(), OutOfMemory>
         ensures opening { opening_of self.new ≡ opening_of self.old }
         ensures entries { entries_of self.new ≡ entries_of self.old }
         ensures room { room_of self.old ≤ room_of self.new }

@@ -65,7 +65,7 @@ fn any_step(heap: Heap, object: u32, operation: AnyOperation<'_>) -> Result<Step
     match operation {
         AnyOperation::Create(text) => {
             let content = content_in(heap, text)?;
-            Ok(Step::Alter(object, Change::Create(content)))
+            Ok(Step::Alter(object, Change::create(heap, content)?))
         }
         AnyOperation::Read => Ok(Step::Ask(object, Query::Whole)),
         AnyOperation::Touch => Ok(Step::Alter(object, Change::Touch)),

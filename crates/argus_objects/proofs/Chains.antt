@@ -1,12 +1,12 @@
 -- Chains of holders, and who is related to them.
-use Rattle.std.proofs.Common.{◌≡◌, ◌≢◌, ℕ, ◌+◌, ◌<◌, ◌≤◌, Bool, true, not, cond, eqb, ◌||◌, List, [], ◌∷◌, map, filter}
-use Rattle.std.proofs.Common.{length, Some, subst, refl, sym, ◌∙◌, ap, arith, inl, inr}
+use Rattle.std.proofs.Common.{◌≡◌, ◌≢◌, ℕ, ◌+◌, ◌<◌, ◌≤◌, Bool, true, not, cond, eqb, ◌&&◌, ◌||◌, List, [], ◌∷◌, map}
+use Rattle.std.proofs.Common.{filter, length, Some, subst, refl, sym, ◌∙◌, ap, arith, inl, inr}
 use Rattle.std.specs.List.{list_all}
 use Rattle.std.proofs.lemmas.Bool.{eq-eqb, ne_eqb, eqb-false, cases_eq, cases_Bool, and_parts, and_from, or_left}
 use Rattle.std.proofs.lemmas.Bool.{or_right, or_cases, not-true, not_from_false}
 use Rattle.argus_actions.specs.declared.action_id.ActionId.{ActionId}
 use Rattle.argus_actions.specs.Tree.{Tree, is_ancestor, parent_of}
-use Rattle.argus_objects.specs.Rules.{is_strictly_above, is_chain, are_related}
+use Rattle.argus_objects.specs.Rules.{all_above, is_strictly_above, is_chain, are_related}
 use Rattle.argus_actions.proofs.Above.{above_le, above_self, above_trans, above_up}
 
 pub all_imp : {X : Type 0} (p q : X → Bool) → ((x : X) → p x ≡ true → q x ≡ true) → (xs : List X) → list_all p xs ≡ true
@@ -64,6 +64,18 @@ pub strictly_from : (t : Tree) (x y : ActionId) → is_ancestor t x.0 y.0 ≡ tr
     → is_strictly_above t x y ≡ true
 strictly_from t x y up ne =
     and_from (is_ancestor t x.0 y.0) (not (eqb x.0 y.0)) up (not_from_false (eqb x.0 y.0) (ne_eqb x.0 y.0 ne))
+
+-- of a chain the newest decides whether all are ancestors
+pub newest_above : (t : Tree) (a y : ActionId) (older : List ActionId) → is_chain t (y ∷ older) ≡ true
+    → is_ancestor t y.0 a.0 ≡ all_above t a (y ∷ older)
+newest_above t a y older chain =
+    elim (cases_Bool (is_ancestor t y.0 a.0)) [
+      | inl up ↦ up ∙ sym (and_from (is_ancestor t y.0 a.0) (all_above t a older) up
+          (all_imp (λ x. is_strictly_above t x y) (λ x. is_ancestor t x.0 a.0)
+          (λ x h. above_trans t.folded t.rows x.0 y.0 a.0 (strictly_parts t x y h).0 up) older
+          (and_parts (list_all (λ x. is_strictly_above t x y) older) (is_chain t older) chain).0))
+      | inr off ↦ off ∙ sym (ap (λ b. b && all_above t a older) off)
+    ]
 
 pub strictly_lt : (t : Tree) (x y : ActionId) → is_strictly_above t x y ≡ true → x.0 < y.0
 strictly_lt t x y h =

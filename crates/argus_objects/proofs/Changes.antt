@@ -1,9 +1,11 @@
 -- What a change leaves of the versions, where it succeeds and where it finds no memory.
 use Rattle.std.proofs.Common.{◌≡◌, ℕ, ◌+◌, ◌<◌, true, false, eqb, ltb, ◌&&◌, ◌||◌, inl, inr, List, [], ◌∷◌, ◌++◌}
-use Rattle.std.proofs.Common.{length, take, get_or, set, Option, refl, sym, ◌∙◌, ap, arith}
+use Rattle.std.proofs.Common.{cond, not, map, length, take, get_or, set, Option, refl, sym, ◌∙◌, ap, arith}
 use Rattle.std.specs.Prelude.{IfOk, OnOk, OnErr, Result, Ok, Err}
 use Rattle.std.specs.List.{list_all, list_any}
-use Rattle.std.proofs.lemmas.Bool.{cond-true, and_parts, cases_eq, eq-eqb, ne_eqb, ltb-true}
+use Rattle.std.proofs.lemmas.Bool.{cond-true, and_from, and_parts, and_right, cases_Bool, cases_eq, eq-eqb, lt-ltb}
+use Rattle.std.proofs.lemmas.Bool.{ne_eqb, ltb-true}
+use Rattle.std.proofs.lemmas.List.Folds.{list_all-append}
 use Rattle.std.proofs.lemmas.List.{take_all, take_more}
 use Rattle.argus_actions.specs.declared.action_id.ActionId.{ActionId}
 use Rattle.argus_actions.specs.Tree.{Tree, is_ancestor}
@@ -14,11 +16,13 @@ use Rattle.argus_contents.specs.Content.{PlainContent, plain_option}
 use Rattle.argus_objects.specs.declared.version.Version.{Version}
 use Rattle.argus_objects.specs.Object.{Object, PlainVersion, plain_version, versions_newest_first, holders, writers}
 use Rattle.argus_objects.specs.Rules.{all_above, are_up_to, is_ascending, may_write, visible_content}
-use Rattle.argus_objects.specs.CellChanges.{changed_top, has_version, newest_content, with_version}
+use Rattle.argus_objects.specs.CellChanges.{changed_top, has_version, newest_content, version_inherited}
+use Rattle.argus_objects.specs.CellChanges.{versions_inherited, with_version, without_version}
 use Rattle.argus_objects.proofs.InOrder.{any_default}
 use Rattle.argus_objects.proofs.Ascending.{above_up_to}
-use Rattle.argus_objects.proofs.Stacks.{all_holders, all_lower, has_newest, newest_push, newest_set, same_id}
-use Rattle.argus_objects.proofs.Stacks.{version_pushed, version_set}
+use Rattle.argus_objects.proofs.Chains.{all_imp}
+use Rattle.argus_objects.proofs.Stacks.{all_holders, all_lower, all_versions, has_newest, lower_newest, newest_push}
+use Rattle.argus_objects.proofs.Stacks.{newest_set, same_id, version_pushed, version_set, without_lower}
 
 -- the newest version and those below it
 pub newest_top : (vs : List Version) (k : ℕ) (d : Version) → k + 1 ≡ length vs
@@ -137,3 +141,67 @@ newest_decides a vs k d last asc up =
       | inr ne ↦ none_of_lower a (versions_newest_first vs) (all_lower a vs k d last asc up ne)
           ∙ sym (ne_eqb (get_or vs k d).holder.0 a.0 ne)
     ]
+
+-- of holders in increasing number the last decides whether all are lower
+pub last_decides : (p : ActionId) (vs : List Version) (k : ℕ) (d : Version) → is_ascending (writers vs) ≡ true
+    → k < length vs
+    → list_all (λ (v : Version). ltb v.holder.0 p.0) (take (k + 1) vs) ≡ ltb (get_or vs k d).holder.0 p.0
+last_decides p vs k d asc below =
+    ap (list_all (λ (v : Version). ltb v.holder.0 p.0)) (take_more vs k d below)
+    ∙ (list_all-append (λ (v : Version). ltb v.holder.0 p.0) (take k vs) (get_or vs k d ∷ [])
+    ∙ elim (cases_Bool (ltb (get_or vs k d).holder.0 p.0)) [
+      | inl lt ↦
+          let lt' : (get_or vs k d).holder.0 < p.0 = ltb-true (get_or vs k d).holder.0 p.0 lt in
+          let low : list_all (λ (v : Version). ltb v.holder.0 (get_or vs k d).holder.0) (take k vs) ≡ true =
+          sym (all_versions (λ x. ltb x.0 (get_or vs k d).holder.0) (take k vs)) ∙ lower_newest vs k d asc below in
+          and_from _ _ (all_imp (λ (v : Version). ltb v.holder.0 (get_or vs k d).holder.0)
+          (λ (v : Version). ltb v.holder.0 p.0)
+          (λ v h. let less : v.holder.0 < (get_or vs k d).holder.0 =
+          ltb-true v.holder.0 (get_or vs k d).holder.0 h in lt-ltb v.holder.0 p.0 (omega arith)) (take k vs) low)
+          (and_from _ _ lt refl)
+          ∙ sym lt
+      | inr ge ↦ and_right (list_all (λ (v : Version). ltb v.holder.0 p.0) (take k vs)) _ (ap (λ b. b && true) ge)
+          ∙ sym ge
+    ])
+
+-- none of lower holders is s, so nothing is handed over
+handed_lower : (s p : ActionId) (vs : List PlainVersion) → list_all (λ x. ltb x.0 s.0) (holders vs) ≡ true
+    → map (version_inherited s p) vs ≡ vs
+handed_lower s p [] low = refl
+handed_lower s p (v ∷ vs) low =
+    let parts : (ltb v.holder.0 s.0 ≡ true) × (list_all (λ x. ltb x.0 s.0) (holders vs) ≡ true) =
+    and_parts (ltb v.holder.0 s.0) (list_all (λ x. ltb x.0 s.0) (holders vs)) low in
+    let lt : v.holder.0 < s.0 = ltb-true v.holder.0 s.0 parts.0 in
+    ap (λ b. cond b (let w : PlainVersion = record { holder = p; content = v.content } in w) v
+    ∷ map (version_inherited s p) vs) (ne_eqb v.holder.0 s.0 (λ e. omega arith))
+    ∙ ap (λ ws. v ∷ ws) (handed_lower s p vs parts.1)
+
+-- the newest version, which is that of s, is the parent's, where all others stand before the parent
+pub handed_in_place : (s p : ActionId) (vs : List Version) (k : ℕ) (d v : Version) → k + 1 ≡ length vs
+    → (get_or vs k d).holder.0 ≡ s.0 → p.0 < s.0
+    → list_all (λ (w : Version). ltb w.holder.0 p.0) (take k vs) ≡ true
+    → v.holder ≡ p → v.content ≡ (get_or vs k d).content
+    → versions_newest_first (set vs k v) ≡ versions_inherited s p (versions_newest_first vs)
+handed_in_place s p vs k d v last here before low holder_is content_is =
+    let top : PlainVersion = plain_version (get_or vs k d) in
+    let rest : List PlainVersion = versions_newest_first (take k vs) in
+    let mine : eqb (get_or vs k d).holder.0 s.0 ≡ true = eq-eqb (get_or vs k d).holder.0 s.0 here in
+    let low_p : list_all (λ x. ltb x.0 p.0) (holders rest) ≡ true =
+    all_versions (λ x. ltb x.0 p.0) (take k vs) ∙ low in
+    let low_s : list_all (λ x. ltb x.0 s.0) (holders rest) ≡ true =
+    all_imp (λ x. ltb x.0 p.0) (λ x. ltb x.0 s.0)
+    (λ x h. let less : x.0 < p.0 = ltb-true x.0 p.0 h in lt-ltb x.0 s.0 (omega arith)) (holders rest) low_p in
+    let kept : without_version p (top ∷ rest) ≡ top ∷ rest =
+    ap (λ b. cond (not b) (top ∷ without_version p rest) (without_version p rest))
+    (ne_eqb (get_or vs k d).holder.0 p.0 (λ e. omega arith))
+    ∙ ap (λ ws. top ∷ ws) (without_lower p rest low_p) in
+    let moved : version_inherited s p top ≡ plain_version v =
+    cond-true _ _ _ mine
+    ∙ (ap (λ x. let w : PlainVersion = record { holder = x; content = top.content } in w) (sym holder_is)
+    ∙ ap (λ x. let w : PlainVersion = record { holder = v.holder; content = plain_option x } in w) (sym content_is)) in
+    newest_set vs k v last
+    ∙ sym (ap (versions_inherited s p) (newest_top vs k d last)
+    ∙ (cond-true _ _ _ (ap (λ b. b || has_version s rest) mine)
+    ∙ (ap (map (version_inherited s p)) kept
+    ∙ (ap (λ w. w ∷ map (version_inherited s p) rest) moved
+    ∙ ap (λ ws. plain_version v ∷ ws) (handed_lower s p rest low_s)))))

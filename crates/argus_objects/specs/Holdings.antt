@@ -1,34 +1,85 @@
 -- The list of each action's objects.
 pub use Rattle.argus_objects.specs.ObjectList.{noted, passed, no_objects}
-use Rattle.std.specs.Prelude.{◌≡◌, ℕ, ◌+◌, ◌-◌, ◌<◌, ◌≤◌, ◌==◌, nat_lt, if◌then◌else◌}
-use Rattle.std.specs.Prelude.{List, [], length, slice_index_or}
+use Rattle.std.specs.Prelude.{◌≡◌, ◌≢◌, ℕ, ◌+◌, ◌-◌, ◌<◌, ◌≤◌, ◌==◌, ◌&&◌, nat_lt}
+use Rattle.std.specs.Prelude.{List, [], length, slice_index_or, if◌then◌else◌, Option, None, Some}
 use Rattle.argus_actions.specs.declared.action_id.ActionId.{ActionId}
 use Rattle.argus_contents.specs.declared.obj_id.ObjId.{ObjId}
+use Rattle.argus_objects.specs.declared.held_list.HeldList.{HeldList}
 use Rattle.argus_objects.specs.declared.holdings.Holdings.{Holdings}
 use Rattle.argus_objects.specs.ObjectList.{NotedObjects}
 
--- the list of the action of this number, in lists of the actions from `first` on
-unfoldable pub list_of : ℕ → List NotedObjects → ℕ → NotedObjects
-list_of first lists n =
-    if nat_lt n first then no_objects else slice_index_or lists (n - first) no_objects
+-- a list that nobody was given
+abbrev pub no_list : HeldList
+no_list = record { holder = record { 0 = 0 }; objects = no_objects }
 
--- the list of an action, empty where nothing was noted
+-- what the action of this number has in a list: all that is in it, if it is its own
+abbrev pub own_objects : ℕ → HeldList → NotedObjects
+own_objects n list = if list.holder.0 == n then list.objects else no_objects
+
+-- what the action of this number has in the list whose number stands in its place
+unfoldable pub placed_objects : List HeldList → ℕ → Option ℕ → NotedObjects
+placed_objects lists n None = no_objects
+placed_objects lists n (Some index) = own_objects n (slice_index_or lists index no_list)
+
+-- what stands in the place of the action of this number, in places of the actions from `first` on
+unfoldable pub place_at : ℕ → List (Option ℕ) → ℕ → Option ℕ
+place_at first places n = if nat_lt n first then None else slice_index_or places (n - first) None
+
+-- what the action of this number has, in these places and lists
+abbrev pub list_of : ℕ → List (Option ℕ) → List HeldList → ℕ → NotedObjects
+list_of first places lists n = placed_objects lists n (place_at first places n)
+
+-- what stands in the action's place
+abbrev pub placed_at : Holdings → ActionId → Option ℕ
+placed_at holdings a = place_at holdings.first holdings.places.items a.0
+
+-- the list of an action
+abbrev pub noted_by : Holdings → ActionId → NotedObjects
+noted_by holdings a = list_of holdings.first holdings.places.items holdings.lists.items a.0
+
+-- the objects in it; none where nothing was noted
 abbrev pub objects_held_by : Holdings → ActionId → List ObjId
-objects_held_by holdings a = (list_of holdings.first holdings.lists.items a.0).objects
+objects_held_by holdings a = (noted_by holdings a).objects
 
 -- for how many more objects there is room in the action's list
 abbrev pub holdings_room_of : Holdings → ActionId → ℕ
-holdings_room_of holdings a = (list_of holdings.first holdings.lists.items a.0).room
+holdings_room_of holdings a = (noted_by holdings a).room
 
 -- there is a place for the action's list, so that another list can be put there
 pub record HasPlace (holdings : Holdings) (a : ActionId) : Type 0 where
   pub from : holdings.first ≤ a.0
-  pub to : a.0 < holdings.first + length holdings.lists.items
+  pub to : a.0 < holdings.first + length holdings.places.items
 
--- this is the place of the list of the action of this number, past the end where there is none
-pub record IsPlace (first : ℕ) (lists : List NotedObjects) (n place : ℕ) : Type 0 where
-  pub none : n < first → length lists ≤ place
+-- of so many places this is that of the action of this number, past the end where there is none
+pub record IsPlace (first count n place : ℕ) : Type 0 where
+  pub none : n < first → count ≤ place
   pub some : first ≤ n → first + place ≡ n
+
+-- the number in an action's place, if it is that of a list which is the action's own
+unfoldable pub owned_index : List HeldList → ℕ → Option ℕ → Option ℕ
+owned_index lists n None = None
+owned_index lists n (Some index) =
+    if nat_lt index (length lists) && ((slice_index_or lists index no_list).holder.0 == n) then Some index else None
+
+-- the number of the action's list, if it has one
+abbrev pub list_number : Holdings → ActionId → Option ℕ
+list_number holdings a = owned_index holdings.lists.items a.0 (placed_at holdings a)
+
+-- this is the number of the action's list
+pub record IsListOf (holdings : Holdings) (a : ActionId) (index : ℕ) : Type 0 where
+  pub placed : placed_at holdings a ≡ Some index
+  pub there : index < length holdings.lists.items
+  pub own : (slice_index_or holdings.lists.items index no_list).holder.0 ≡ a.0
+
+-- no action but this one has the list of this number
+abbrev pub IsOfNoOther : Holdings → ActionId → ℕ → Type 0
+IsOfNoOther holdings a index =
+    (x : ActionId) → x.0 ≢ a.0 → placed_at holdings x ≡ Some index
+    → (slice_index_or holdings.lists.items index no_list).holder.0 ≢ x.0
+
+-- each action has what it had, in a list with the same room
+abbrev pub SameNoted : Holdings → Holdings → Type 0
+SameNoted old new = (x : ActionId) → noted_by new x ≡ noted_by old x
 
 -- the list of this action is another one, and all other lists stay
 abbrev pub Lists : Holdings → ActionId → List ObjId → Holdings → Type 0

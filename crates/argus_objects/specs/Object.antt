@@ -24,12 +24,13 @@ abbrev pub writers : List Version → List ActionId
 writers versions = map (λ v. v.holder) versions
 
 -- the base, the readers in increasing number, the versions from descendant to ancestor, and for how
--- many more grants there is room
+-- many more readers and for how many more versions there is room
 pub record Object : Type 0 where
   pub base : Option PlainContent
   pub readers : List ActionId
   pub versions : List PlainVersion
-  pub room : ℕ
+  pub reader_room : ℕ
+  pub version_room : ℕ
 
 -- the holders of versions, from descendant to ancestor
 abbrev pub holders : List PlainVersion → List ActionId
@@ -51,11 +52,17 @@ version_coded =
     code_by (ActionId × Option PlainContent) (coded× action_coded (coded_option content_coded))
     (λ v. (v.holder, v.content)) (λ p. record { holder = p.0; content = p.1 }) (λ _. refl)
 
--- an object is stored as its base, readers, versions and room
+-- an object is stored as its base, readers, versions and rooms
 abbrev pub object_coded : Coded Object
 object_coded =
-    code_by (Option PlainContent × (List ActionId × (List PlainVersion × ℕ)))
+    code_by (Option PlainContent × (List ActionId × (List PlainVersion × (ℕ × ℕ))))
     (coded× (coded_option content_coded) (coded× (coded_list action_coded)
-    (coded× (coded_list version_coded) coded_ℕ)))
-    (λ o. (o.base, (o.readers, (o.versions, o.room))))
-    (λ p. record { base = p.0; readers = p.1.0; versions = p.1.1.0; room = p.1.1.1 }) (λ _. refl)
+    (coded× (coded_list version_coded) (coded× coded_ℕ coded_ℕ))))
+    (λ o. (o.base, (o.readers, (o.versions, (o.reader_room, o.version_room)))))
+    (λ p. record {
+      base = p.0;
+      readers = p.1.0;
+      versions = p.1.1.0;
+      reader_room = p.1.1.1.0;
+      version_room = p.1.1.1.1;
+    }) (λ _. refl)

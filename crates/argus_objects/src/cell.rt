@@ -1,7 +1,7 @@
 //! `Cell`: one object, with its base, its readers and its versions.
 
 ghost use Rattle.std.specs.Prelude.{◌≡◌, ◌<◌, ◌≤◌, false, true, [], None, Some, IfOk, OnErr};
-ghost use Rattle.std.specs.Prelude.{◌||◌, OnOk};
+ghost use Rattle.std.specs.Prelude.{◌||◌, ◌+◌, OnOk};
 ghost use Rattle.std.specs.Option.{unwrap_or};
 ghost use Rattle.argus_actions.specs.Refusals.{commit_refusal};
 ghost use Rattle.argus_actions.specs.Tree.{parent_of};
@@ -25,7 +25,7 @@ use crate::readers::{
 use crate::version::Version;
 use crate::versions::{
     all_writers_above, are_all_related, are_chained, discard_versions, has_version,
-    inherit_version, is_newest, put_version, settle_version,
+    inherit_version, is_newest, is_newest_above, put_version, reserve_version, settle_version,
 };
 use argus_actions::{ActionId, ActionTree};
 use argus_contents::{Answer, Change, Content, Signal};
@@ -35,9 +35,9 @@ use std::marker::Model;
 /// One object: its base, which no action holds, the actions that hold read locks, and the versions
 /// of those that hold write locks.
 ///
-/// Contracts see these three, and for how many more grants there is room. Readers stand in
-/// increasing number, versions from ancestor to descendant. Only `reserve_grant`, `grant_change`
-/// and `grant_change_by_reference` take memory.
+/// Contracts see these three, and for how many more readers and versions there is room. Readers
+/// stand in increasing number, versions from ancestor to descendant. Only `reserve_grant`,
+/// `reserve_read`, `grant_change` and `grant_change_by_reference` take memory.
 ///
 /// ```text
 /// let mut cell = Cell::new(heap, None);
@@ -54,7 +54,7 @@ pub struct Cell {
 }
 
 impl Model for Cell {
-    ghost use Rattle.std.specs.Prelude.{◌-◌, min, vec_len};
+    ghost use Rattle.std.specs.Prelude.{◌-◌, vec_len};
     ghost use Rattle.std.specs.Vec.{vec_capacity};
     ghost use Rattle.argus_contents.specs.Content.{plain_option};
     ghost use Rattle.argus_objects.specs.Object.{Object, object_coded, versions_newest_first};
@@ -70,8 +70,8 @@ impl Model for Cell {
       readers = c.readers.items;
       versions =
           versions_newest_first c.versions.items;
-      room = min (vec_capacity c.readers - vec_len c.readers)
-          (vec_capacity c.versions - vec_len c.versions);
+      reader_room = vec_capacity c.readers - vec_len c.readers;
+      version_room = vec_capacity c.versions - vec_len c.versions;
     } };
 
     ghost invariant = { λ c. AreInOrder c.readers.items c.versions.items };
@@ -130,6 +130,18 @@ impl Cell {
         all_writers_above(self.versions.as_slice(), tree, a)
     }
 
+    /// Whether `a` may have a read lock, which is what `may_read` says. Of the holders of versions
+    /// only the newest one is looked at, since the others are its ancestors.
+    ///
+    /// Condition: the cell is lawful.
+    #[inline(always)]
+    pub fn is_readable(&self, tree: &ActionTree, a: ActionId) -> bool
+        requires lawful { is_lawful tree.now self.now ≡ true }
+        ensures { result ≡ may_read tree.now self.now a }
+    {
+        is_newest_above(self.versions.as_slice(), tree, a)
+    }
+
     /// Whether `a` may have a write lock: all readers and all holders of versions are ancestors of
     /// `a`.
     #[inline(always)]
@@ -137,6 +149,18 @@ impl Cell {
         ensures { result ≡ may_write tree.now self.now a }
     {
         self.may_read(tree, a) && all_readers_above(self.readers.as_slice(), tree, a)
+    }
+
+    /// Whether `a` may have a write lock, which is what `may_write` says. Of the holders of versions
+    /// only the newest one is looked at, and all readers.
+    ///
+    /// Condition: the cell is lawful.
+    #[inline(always)]
+    pub fn is_writable(&self, tree: &ActionTree, a: ActionId) -> bool
+        requires lawful { is_lawful tree.now self.now ≡ true }
+        ensures { result ≡ may_write tree.now self.now a }
+    {
+        self.is_readable(tree, a) && all_readers_above(self.readers.as_slice(), tree, a)
     }
 
     /// Whether `a` is a reader or has a version. Of the versions only the newest is looked at, and
@@ -159,33 +183,50 @@ impl Cell {
         is_among(self.readers.as_slice(), a) || has_version(self.versions.as_slice(), a)
     }
 
-    /// Makes room for one more reader and one more version. After `OutOfMemory` the lists stay, and
-    /// in any case the room that was there.
+    /// Makes room for one more reader and one more version. Whatever comes, the lists stay, and no
+    /// room is lost.
     #[inline(always)]
     pub fn reserve_grant(&mut self) -> Result<(), OutOfMemory>
         ensures same { SameLocks self.old self.new }
-        ensures ok { OnOk result (0 < self.new.room) }
-        ensures room { self.old.room ≤ self.new.room }
+        ensures reader { OnOk result (0 < self.new.reader_room) }
+        ensures version { OnOk result (0 < self.new.version_room) }
+        ensures reader_room { self.old.reader_room ≤ self.new.reader_room }
+        ensures version_room { self.old.version_room ≤ self.new.version_room }
+    {
+        self.reserve_read()?;
+        reserve_version(&mut self.versions)?;
+        Ok(())
+    }
+
+    /// Makes room for one more reader, and none for a version. Whatever comes, the lists stay, and
+    /// no room is lost.
+    #[inline(always)]
+    pub fn reserve_read(&mut self) -> Result<(), OutOfMemory>
+        ensures same { SameLocks self.old self.new }
+        ensures ok { OnOk result (0 < self.new.reader_room) }
+        ensures reader_room { self.old.reader_room ≤ self.new.reader_room }
+        ensures version_room { self.new.version_room ≡ self.old.version_room }
     {
         self.readers.reserve(1)?;
-        self.versions.reserve(1)?;
         Ok(())
     }
 
     /// Makes `a` a reader, if it isn't one.
     ///
     /// Condition: the cell is lawful, `a` is live and has no live child, the read lock is granted,
-    /// and there is room.
+    /// and there is room for a reader.
     #[inline(always)]
     pub fn grant_read(&mut self, tree: &ActionTree, a: ActionId)
         requires lawful { is_lawful tree.now self.old ≡ true }
         requires free { commit_refusal tree.now a.0 ≡ None }
         requires granted { may_read tree.now self.old a ≡ true }
-        requires room { 0 < self.old.room }
+        requires room { 0 < self.old.reader_room }
         ensures base { self.new.base ≡ self.old.base }
         ensures readers { self.new.readers ≡ with_reader a self.old.readers }
         ensures versions { self.new.versions ≡ self.old.versions }
         ensures lawful { is_lawful tree.now self.new ≡ true }
+        ensures reader_room { self.old.reader_room ≤ self.new.reader_room + 1 }
+        ensures version_room { self.new.version_room ≡ self.old.version_room }
     {
         add_reader(&mut self.readers, a);
     }
@@ -193,17 +234,19 @@ impl Cell {
     /// Makes this the content of `a`'s version, which is pushed if `a` had none.
     ///
     /// Condition: the cell is lawful, `a` is live and has no live child, the write lock is granted,
-    /// and there is room.
+    /// and there is room for a version.
     pub fn grant_write(&mut self, tree: &ActionTree, a: ActionId, new_content: Option<Content>)
         requires lawful { is_lawful tree.now self.old ≡ true }
         requires free { commit_refusal tree.now a.0 ≡ None }
         requires granted { may_write tree.now self.old a ≡ true }
-        requires room { 0 < self.old.room }
+        requires room { 0 < self.old.version_room }
         ensures base { self.new.base ≡ self.old.base }
         ensures readers { self.new.readers ≡ self.old.readers }
         ensures versions { self.new.versions ≡ with_version a (plain_option new_content)
             self.old.versions }
         ensures lawful { is_lawful tree.now self.new ≡ true }
+        ensures reader_room { self.new.reader_room ≡ self.old.reader_room }
+        ensures version_room { self.old.version_room ≤ self.new.version_room + 1 }
     {
         put_version(&mut self.versions, a, new_content);
     }
@@ -213,8 +256,8 @@ impl Cell {
     ///
     /// It means what `grant_write` does with the content that the change leaves of what `a` sees. A
     /// version that is there is changed in place, so only the first write of an action copies.
-    /// After `OutOfMemory` the cell is as before. What is left keeps the limits of arrays where a
-    /// content that the change creates does.
+    /// After `OutOfMemory` base, readers and versions are as before. What is left keeps the limits
+    /// of arrays where a content that the change creates does.
     ///
     /// Condition: the cell is lawful, `a` is live and has no live child, the write lock is granted,
     /// and what `a` sees keeps the limits of arrays.
@@ -239,6 +282,8 @@ impl Cell {
             → OnOk result (KeepsLimits (changed tree.now a (plain_change change) self.old).0) }
         ensures err { OnErr result (self.new.versions ≡ self.old.versions) }
         ensures lawful { is_lawful tree.now self.new ≡ true }
+        ensures reader_room { self.new.reader_room ≡ self.old.reader_room }
+        ensures version_room { self.old.version_room ≤ self.new.version_room + 1 }
     {
         change_version(&self.base, &mut self.versions, a, change)
     }
@@ -247,8 +292,8 @@ impl Cell {
     /// the meaning of `grant_change`: None where that answers `Done`, else the signal.
     ///
     /// The change stays, so that it can be moved to where it is kept; only the value that it leaves
-    /// is copied, and for the first write of an action what it sees. After `OutOfMemory` the cell
-    /// is as before.
+    /// is copied, and for the first write of an action what it sees. After `OutOfMemory` base,
+    /// readers and versions are as before.
     ///
     /// Condition: that of `grant_change`, and the change is another than `Remh` and `Reml`.
     #[inline(always)]
@@ -275,6 +320,8 @@ impl Cell {
             (changed tree.now a (plain_change change.now) self.old).0) }
         ensures err { OnErr result (self.new.versions ≡ self.old.versions) }
         ensures lawful { is_lawful tree.now self.new ≡ true }
+        ensures reader_room { self.new.reader_room ≡ self.old.reader_room }
+        ensures version_room { self.old.version_room ≤ self.new.version_room + 1 }
     {
         change_version_by_reference(&self.base, &mut self.versions, a, change)
     }
@@ -306,6 +353,8 @@ impl Cell {
         ensures readers { self.new.readers ≡ readers_inherited s parent self.old.readers }
         ensures versions { self.new.versions ≡ versions_inherited s parent self.old.versions }
         ensures lawful { is_lawful tree.now self.new ≡ true }
+        ensures reader_room { self.old.reader_room ≤ self.new.reader_room }
+        ensures version_room { self.old.version_room ≤ self.new.version_room }
     {
         tree.parent_is_ancestor(parent, s);
         inherit_reader(&mut self.readers, s, parent);
@@ -324,6 +373,8 @@ impl Cell {
         ensures readers { self.new.readers ≡ without_reader t self.old.readers }
         ensures versions { self.new.versions ≡ without_version t self.old.versions }
         ensures lawful { is_lawful tree.now self.new ≡ true }
+        ensures reader_room { self.old.reader_room ≤ self.new.reader_room }
+        ensures version_room { self.old.version_room ≤ self.new.version_room }
     {
         drop_reader(&mut self.readers, t);
         settle_version(&mut self.base, &mut self.versions, t);
@@ -338,6 +389,8 @@ impl Cell {
         ensures readers { self.new.readers ≡ readers_discarded tree.now a self.old.readers }
         ensures versions { self.new.versions ≡ versions_discarded tree.now a self.old.versions }
         ensures lawful { is_lawful tree.now self.new ≡ true }
+        ensures reader_room { self.old.reader_room ≤ self.new.reader_room }
+        ensures version_room { self.old.version_room ≤ self.new.version_room }
     {
         discard_readers(&mut self.readers, tree, a);
         discard_versions(&mut self.versions, tree, a);

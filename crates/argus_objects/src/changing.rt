@@ -1,6 +1,8 @@
 //! A change of an object's version: in place where the action has one, otherwise on a copy.
 
-ghost use Rattle.std.specs.Prelude.{◌≡◌, false, true, IfOk, OnErr, OnOk};
+ghost use Rattle.std.specs.Prelude.{◌≡◌, ◌≤◌, ◌+◌, ◌-◌, false, true, vec_len};
+ghost use Rattle.std.specs.Prelude.{IfOk, OnErr, OnOk};
+ghost use Rattle.std.specs.Vec.{vec_capacity};
 ghost use Rattle.argus_contents.specs.Answer.{done_or, plain_answer};
 ghost use Rattle.argus_contents.specs.Change.{gives_value, plain_change};
 ghost use Rattle.argus_contents.specs.Content.{KeepsLimits, plain_option};
@@ -9,6 +11,7 @@ ghost use Rattle.argus_objects.specs.Rules.{are_up_to, is_ascending};
 ghost use Rattle.argus_objects.specs.CellChanges.{changed_top, newest_content, with_version};
 
 use crate::version::Version;
+use crate::versions::reserve_version;
 use argus_actions::ActionId;
 use argus_contents::{
     Answer, Change, Content, Signal, alter_by_reference, alter_copy, alter_in_place,
@@ -50,6 +53,8 @@ pub(crate) fn change_version(
         (versions_newest_first versions.old.items)).1) }
     ensures err { OnErr result (versions_newest_first versions.new.items
         ≡ versions_newest_first versions.old.items) }
+    ensures room { vec_capacity versions.old - vec_len versions.old
+        ≤ vec_capacity versions.new - vec_len versions.new + 1 }
 {
     let held = versions.len();
     if held > 0 && versions[held - 1].holder.0 == a.0 {
@@ -84,13 +89,15 @@ pub(crate) fn change_version_by_reference(
         (versions_newest_first versions.old.items)).1) }
     ensures err { OnErr result (versions_newest_first versions.new.items
         ≡ versions_newest_first versions.old.items) }
+    ensures room { vec_capacity versions.old - vec_len versions.old
+        ≤ vec_capacity versions.new - vec_len versions.new + 1 }
 {
     let held = versions.len();
     let heap = versions.allocator().heap();
     if held > 0 && versions[held - 1].holder.0 == a.0 {
         return alter_by_reference(heap, &mut versions[held - 1].content, change);
     }
-    versions.reserve(1)?;
+    reserve_version(versions)?;
     let mut content = Content::duplicate_option(heap, content_on_top(base, versions.as_slice()))?;
     let refusal = alter_by_reference(heap, &mut content, change)?;
     versions.push_reserved(Version { holder: a, content });

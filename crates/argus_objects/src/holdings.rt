@@ -1,56 +1,48 @@
 //! `Holdings`: for each action, the objects on which it has locks.
 
-ghost use Rattle.std.specs.Prelude.{◌≡◌, ◌≢◌, ◌<◌, ◌≤◌, ◌==◌, false, [], ◌∷◌, ◌++◌, length, OnOk};
-ghost use Rattle.std.specs.Prelude.{if◌then◌else◌};
+ghost use Rattle.std.specs.Prelude.{◌≡◌, ◌≢◌, ◌<◌, ◌≤◌, ◌==◌, false, [], ◌∷◌, ◌++◌, length, ℕ};
+ghost use Rattle.std.specs.Prelude.{if◌then◌else◌, IfOk, IfSome, None, OnOk, Some};
 ghost use Rattle.std.specs.List.{list_any, IsDistinct};
 ghost use Rattle.argus_objects.specs.Holdings.{KeepsRooms, objects_held_by, Lists, noted, passed};
-ghost use Rattle.argus_objects.specs.Holdings.{PassedOn, HasPlace, IsPlace, list_of, no_objects};
-ghost use Rattle.argus_objects.specs.Holdings.{holdings_room_of, SameLists, TakesOnePlace};
+ghost use Rattle.argus_objects.specs.Holdings.{PassedOn, HasPlace, IsListOf, IsOfNoOther, IsPlace};
+ghost use Rattle.argus_objects.specs.Holdings.{holdings_room_of, list_number, no_objects, noted_by};
+ghost use Rattle.argus_objects.specs.Holdings.{placed_at, SameLists, SameNoted, TakesOnePlace};
 
+use crate::held_list::HeldList;
 use crate::object_list::ObjectList;
 use argus_actions::ActionId;
 use argus_contents::ObjId;
 use argus_memory::{Heap, OutOfMemory, Room};
 use std::mem::replace;
 
-// Keeps the memory of a small list, where that takes none; else it goes back.
-fn keep_unused(unused: &mut Vec<ObjectList, Room>, list: ObjectList) {
-    if list.has_memory() && list.is_small() && unused.len() < unused.capacity() {
-        let _ = unused.push(list);
+// Empties a list, and keeps its memory where it is small.
+fn empty(list: &mut ObjectList, heap: Heap)
+    ensures { list.new.objects ≡ [] }
+{
+    if list.is_small() {
+        list.clear();
+    } else {
+        *list = ObjectList::new(heap);
     }
 }
 
-// Makes room for so many more objects. A list that has no memory gets that of one that is no longer
-// used; where there is none, there is room then to keep that of one.
-fn reserve_in(
-    list: &mut ObjectList,
-    unused: &mut Vec<ObjectList, Room>,
-    additional: usize,
-) -> Result<(), OutOfMemory>
-    ensures same { list.new.objects ≡ list.old.objects }
-    ensures ok { OnOk result (additional ≤ list.new.room) }
-    ensures room { list.old.room ≤ list.new.room }
-{
-    if list.has_memory() {
-        return list.reserve(additional);
+// Keeps the number of a list that is nobody's, where there is one and room for it.
+fn keep_unused(unused: &mut Vec<u32, Room>, index: Option<u32>) {
+    if let Some(index) = index
+        && unused.len() < unused.capacity()
+    {
+        unused.push_reserved(index);
     }
-    match unused.pop() {
-        Some(mut taken) => {
-            taken.clear();
-            *list = taken;
-        }
-        None => unused.reserve(1)?,
-    }
-    list.reserve(additional)
 }
 
 /// For each action a list of objects, in the order in which they were noted, each once. So a commit
 /// or an abort visits the objects of the actions that it ends, and no others.
 ///
-/// The lists stand in the order of the actions' numbers, so that a list is found with no search;
-/// each number between has a place, whether its action holds anything or not. A list is a plain
-/// vector. The memory of a small list that was passed on or cleared is used again for the next one.
-/// `note` looks through the action's list, `note_new` and `hand_up` look through none.
+/// Each action from the first on has a place, where the number of its list stands if it has one. So a
+/// list is found with no search, and an action that never held anything takes eight bytes. A list is
+/// a plain vector. One that was passed on or cleared is used again for the next action, with its
+/// memory where it has room for 64 objects at most. `note` looks through the action's list,
+/// `note_new` and `hand_up` look through none.
 ///
 /// ```text
 /// let mut holdings = Holdings::starting_at(heap, top.0);
@@ -63,13 +55,14 @@ fn reserve_in(
 #[derive(Drop)]
 pub struct Holdings {
     heap: Heap,
-    // The action whose list stands first.
+    // The action whose place stands first.
     first: u32,
-    // The lists of the actions from `first` on. One that holds nothing may have a list with no
-    // memory.
-    lists: Vec<ObjectList, Room>,
-    // Lists whose memory is used again. They are emptied then.
-    unused: Vec<ObjectList, Room>,
+    // For each action from `first` on the number of a list, if it was given one.
+    places: Vec<Option<u32>, Room>,
+    // The lists. One is the action's whose it says that it is, if it stands in that action's place.
+    lists: Vec<HeldList, Room>,
+    // Numbers of lists that may be given to another action.
+    unused: Vec<u32, Room>,
 }
 
 impl Holdings {
@@ -81,14 +74,15 @@ impl Holdings {
     }
 
     /// As `new`, for actions from this number on. It takes no memory. Where an earlier action gets
-    /// a list all the same, `reserve` moves all lists up place by place, each of which costs their
-    /// number.
+    /// a list all the same, `reserve`, `reserve_pass` and `reserve_hand_up` move all places up by one
+    /// for each number between, which costs their count each time.
     pub fn starting_at(heap: Heap, first: u32) -> Holdings
         ensures { (x : ActionId) → objects_held_by result x ≡ [] }
     {
         Holdings {
             heap,
             first,
+            places: Vec::new(heap.room()),
             lists: Vec::new(heap.room()),
             unused: Vec::new(heap.room()),
         }
@@ -100,15 +94,15 @@ impl Holdings {
         ensures list { result.now ≡ objects_held_by self.now a }
         ensures once { IsDistinct (λ x y. x.0 == y.0) result.now }
     {
-        let place = self.place_of(a);
-        match self.lists.get(place) {
-            Some(list) => list.as_slice(),
+        match self.index_of(a) {
+            Some(index) => self.lists[index as usize].objects.as_slice(),
             None => &[],
         }
     }
 
-    /// Makes room for one more object in the action's list. After `OutOfMemory` the lists are as
-    /// before, and all room that was there stays.
+    /// Makes room for one more object in the action's list. `OutOfMemory`, also where there are
+    /// 4,294,967,296 lists: the lists are as before. Whatever comes, no room is lost. The room of a
+    /// list that is then passed on, handed up or cleared is gone.
     #[inline(always)]
     pub fn reserve(&mut self, a: ActionId) -> Result<(), OutOfMemory>
         ensures same { SameLists self.old self.new }
@@ -127,9 +121,8 @@ impl Holdings {
         ensures list { Lists self.old a (noted o (objects_held_by self.old a)) self.new }
         ensures rooms { TakesOnePlace self.old a self.new }
     {
-        let place = self.place_of(a);
-        if let Some(list) = self.lists.get_mut(place) {
-            list.note(o);
+        if let Some(index) = self.index_of(a) {
+            self.lists[index as usize].objects.note(o);
         }
     }
 
@@ -144,14 +137,13 @@ impl Holdings {
         ensures list { Lists self.old a (objects_held_by self.old a ++ o ∷ []) self.new }
         ensures rooms { TakesOnePlace self.old a self.new }
     {
-        let place = self.place_of(a);
-        if let Some(list) = self.lists.get_mut(place) {
-            list.note_new(o);
+        if let Some(index) = self.index_of(a) {
+            self.lists[index as usize].objects.note_new(o);
         }
     }
 
-    /// Makes room in the parent's list for all objects of `s`. After `OutOfMemory` the lists are as
-    /// before, and all room that was there stays.
+    /// Makes room in the parent's list for all objects of `s`, as `reserve` does for one. After
+    /// `OutOfMemory` the lists are as before. Whatever comes, no room is lost.
     pub fn reserve_pass(&mut self, s: ActionId, parent: ActionId) -> Result<(), OutOfMemory>
         ensures same { SameLists self.old self.new }
         ensures ok { OnOk result (length (objects_held_by self.new s) ≤ holdings_room_of self.new
@@ -166,7 +158,8 @@ impl Holdings {
     }
 
     /// Puts the objects of `s` that the parent's list lacks at its end, in their order, and empties
-    /// the list of `s`. It takes no memory, and keeps that of the list of `s` where it is small.
+    /// the list of `s`. It takes no memory, and keeps that of the list of `s` where it is small, with
+    /// room for 64 objects at most.
     ///
     /// Condition: the two are different actions, and the parent's list has room for all of them, as
     /// `reserve_pass` makes it.
@@ -177,7 +170,7 @@ impl Holdings {
     {
         let list = self.take_list(s);
         self.note_all(parent, list.as_slice());
-        keep_unused(&mut self.unused, list);
+        self.give_back(s, list);
     }
 
     /// Makes a place for the parent's list, so that `hand_up` can put another list there. After
@@ -188,7 +181,7 @@ impl Holdings {
         ensures ok { OnOk result (HasPlace self.new parent) }
         ensures rooms { KeepsRooms self.old self.new }
     {
-        if self.place_of(parent) < self.lists.len() {
+        if self.place_of(parent) < self.places.len() {
             return Ok(());
         }
         self.reserve_place(parent)
@@ -206,33 +199,35 @@ impl Holdings {
         ensures { PassedOn self.old s parent self.new }
     {
         if self.of(s).is_empty() {
+            self.clear(s);
             return;
         }
-        let from = self.place_of(s);
-        let into = self.place_of(parent);
-        if from < self.lists.len() && into < self.lists.len() {
-            self.lists.swap(from, into);
-        }
+        let Some(index) = self.index_of(s) else {
+            return;
+        };
+        let own = self.index_of(parent);
+        keep_unused(&mut self.unused, own);
+        self.lists[index as usize].holder = parent;
+        self.put(parent, Some(index));
     }
 
-    /// Empties the action's list. It takes no memory, and keeps that of the list where it is small.
+    /// Empties the action's list. It takes no memory, and keeps that of the list where it is small,
+    /// with room for 64 objects at most.
     pub fn clear(&mut self, a: ActionId)
         ensures { Lists self.old a [] self.new }
     {
-        let place = self.place_of(a);
-        let Some(list) = self.lists.get_mut(place) else {
+        let Some(index) = self.index_of(a) else {
             return;
         };
-        if list.has_memory() {
-            let list = replace(list, ObjectList::new(self.heap));
-            keep_unused(&mut self.unused, list);
-        }
+        empty(&mut self.lists[index as usize].objects, self.heap);
+        self.put(a, None);
+        keep_unused(&mut self.unused, Some(index));
     }
 
     // The place of the action's list, one past the end where it has none.
     #[inline(always)]
     fn place_of(&self, a: ActionId) -> usize
-        ensures { IsPlace self.now.first self.now.lists.items a.0 result }
+        ensures { IsPlace self.now.first (length self.now.places.items) a.0 result }
     {
         if a.0 < self.first {
             usize::MAX
@@ -243,14 +238,13 @@ impl Holdings {
 
     // The action's list, in whose place an empty one stands then.
     fn take_list(&mut self, a: ActionId) -> ObjectList
-        ensures list { result ≡ list_of self.old.first self.old.lists.items a.0 }
-        ensures left { (x : ActionId) → list_of self.new.first self.new.lists.items x.0 ≡ (if x.0
-            == a.0 then no_objects else list_of self.old.first self.old.lists.items x.0) }
+        ensures list { result ≡ noted_by self.old a }
+        ensures left { (x : ActionId) → noted_by self.new x ≡ (if x.0 == a.0 then no_objects else
+            noted_by self.old x) }
     {
-        let place = self.place_of(a);
         let empty = ObjectList::new(self.heap);
-        match self.lists.get_mut(place) {
-            Some(list) => replace(list, empty),
+        match self.index_of(a) {
+            Some(index) => replace(&mut self.lists[index as usize].objects, empty),
             None => empty,
         }
     }
@@ -260,9 +254,8 @@ impl Holdings {
         requires { length objects.now ≤ holdings_room_of self.old a }
         ensures { Lists self.old a (passed objects.now (objects_held_by self.old a)) self.new }
     {
-        let place = self.place_of(a);
-        if let Some(list) = self.lists.get_mut(place) {
-            list.note_all(objects);
+        if let Some(index) = self.index_of(a) {
+            self.lists[index as usize].objects.note_all(objects);
         }
     }
 
@@ -273,55 +266,158 @@ impl Holdings {
         ensures ok { OnOk result (additional ≤ holdings_room_of self.new a) }
         ensures rooms { KeepsRooms self.old self.new }
     {
-        let place = self.place_of(a);
-        if let Some(list) = self.lists.get_mut(place)
-            && list.has_memory()
-        {
-            return list.reserve(additional);
+        match self.index_of(a) {
+            Some(index) => self.lists[index as usize].objects.reserve(additional),
+            None => self.reserve_first(a, additional),
         }
-        self.reserve_first(a, additional)
     }
 
     // The same where the action's list has no place or no memory: it gets both.
     #[inline(never)]
     fn reserve_first(&mut self, a: ActionId, additional: usize) -> Result<(), OutOfMemory>
+        requires { noted_by self.old a ≡ no_objects }
         ensures same { SameLists self.old self.new }
         ensures ok { OnOk result (additional ≤ holdings_room_of self.new a) }
         ensures rooms { KeepsRooms self.old self.new }
     {
         self.reserve_place(a)?;
-        let place = self.place_of(a);
-        match self.lists.get_mut(place) {
-            Some(list) => reserve_in(list, &mut self.unused, additional),
-            None => Ok(()),
-        }
+        let index = self.unused_list(a)?;
+        self.give(a, index);
+        self.lists[index as usize].objects.reserve(additional)
     }
 
     // Makes a place for the action's list.
     #[inline(never)]
     fn reserve_place(&mut self, a: ActionId) -> Result<(), OutOfMemory>
-        ensures same { SameLists self.old self.new }
+        ensures same { SameNoted self.old self.new }
         ensures ok { OnOk result (HasPlace self.new a) }
-        ensures rooms { KeepsRooms self.old self.new }
     {
         self.begin_at(a)?;
         let place = self.place_of(a);
-        while self.lists.len() <= place {
-            self.lists.push(ObjectList::new(self.heap))?;
+        while self.places.len() <= place {
+            self.places.push(None)?;
         }
         Ok(())
     }
 
-    // Moves the lists up until the first is of this action, or of an earlier one.
+    // Moves the places up until the first is of this action, or of an earlier one.
     fn begin_at(&mut self, a: ActionId) -> Result<(), OutOfMemory>
-        ensures same { SameLists self.old self.new }
+        ensures same { SameNoted self.old self.new }
         ensures ok { OnOk result (self.new.first ≤ a.0) }
-        ensures rooms { KeepsRooms self.old self.new }
     {
         while a.0 < self.first {
-            self.lists.insert(0, ObjectList::new(self.heap))?;
+            self.places.insert(0, None)?;
             self.first -= 1;
         }
         Ok(())
+    }
+
+    // The number of the action's list, if it has one.
+    #[inline(always)]
+    fn index_of(&self, a: ActionId) -> Option<u32>
+        ensures { result ≡ list_number self.now a }
+    {
+        let place = self.place_of(a);
+        let Some(Some(index)) = self.places.get(place) else {
+            return None;
+        };
+        match self.lists.get(*index as usize) {
+            Some(list) if list.holder.0 == a.0 => Some(*index),
+            _ => None,
+        }
+    }
+
+    // Puts this number of a list, or none, in the action's place.
+    fn put(&mut self, a: ActionId, index: Option<u32>)
+        requires { HasPlace self.old a }
+        ensures first { self.new.first ≡ self.old.first }
+        ensures lists { self.new.lists.items ≡ self.old.lists.items }
+        ensures places { (x : ActionId) → placed_at self.new x ≡ (if x.0 == a.0 then index else
+            placed_at self.old x) }
+    {
+        let place = self.place_of(a);
+        if let Some(placed) = self.places.get_mut(place) {
+            *placed = index;
+        }
+    }
+
+    // Gives the action a list that no other has, as an empty one.
+    fn give(&mut self, a: ActionId, index: u32)
+        requires place { HasPlace self.old a }
+        requires none { noted_by self.old a ≡ no_objects }
+        requires there { index < length self.old.lists.items }
+        requires free { IsOfNoOther self.old a index }
+        ensures own { IsListOf self.new a index }
+        ensures same { SameLists self.old self.new }
+        ensures rooms { KeepsRooms self.old self.new }
+    {
+        let list = &mut self.lists[index as usize];
+        list.objects.clear();
+        list.holder = a;
+        self.put(a, Some(index));
+    }
+
+    // Gives a list back that was taken from this action, as an empty one, and clears it.
+    fn give_back(&mut self, s: ActionId, mut taken: ObjectList)
+        requires { objects_held_by self.old s ≡ [] }
+        ensures { SameLists self.old self.new }
+    {
+        if let Some(index) = self.index_of(s) {
+            taken.clear();
+            self.lists[index as usize].objects = taken;
+            self.clear(s);
+        }
+    }
+
+    // A list that no other action has.
+    fn unused_list(&mut self, a: ActionId) -> Result<u32, OutOfMemory>
+        ensures first { self.new.first ≡ self.old.first }
+        ensures places { self.new.places.items ≡ self.old.places.items }
+        ensures same { SameNoted self.old self.new }
+        ensures there { IfOk result (λ index. index < length self.new.lists.items) }
+        ensures free { IfOk result (λ index. IsOfNoOther self.new a index) }
+    {
+        match self.take_unused() {
+            Some(index) => Ok(index),
+            None => self.new_list(a),
+        }
+    }
+
+    // The last unused list, if it is really nobody's. No invariant says so, so it is looked up.
+    fn take_unused(&mut self) -> Option<u32>
+        ensures first { self.new.first ≡ self.old.first }
+        ensures places { self.new.places.items ≡ self.old.places.items }
+        ensures lists { self.new.lists.items ≡ self.old.lists.items }
+        ensures there { IfSome result (λ index. index < length self.new.lists.items) }
+        ensures free { IfSome result (λ index. (a : ActionId) → IsOfNoOther self.new a index) }
+    {
+        let index = self.unused.pop()?;
+        match self.lists.get(index as usize) {
+            Some(list) => match self.index_of(list.holder) {
+                Some(own) if own == index => None,
+                _ => Some(index),
+            },
+            None => None,
+        }
+    }
+
+    // A list more, for this action, and room to keep its number once it is no longer used.
+    fn new_list(&mut self, a: ActionId) -> Result<u32, OutOfMemory>
+        ensures first { self.new.first ≡ self.old.first }
+        ensures places { self.new.places.items ≡ self.old.places.items }
+        ensures same { SameNoted self.old self.new }
+        ensures there { IfOk result (λ index. index < length self.new.lists.items) }
+        ensures free { IfOk result (λ index. IsOfNoOther self.new a index) }
+    {
+        let count = self.lists.len();
+        if count > u32::MAX as usize {
+            return Err(OutOfMemory);
+        }
+        self.unused.reserve(count + 1)?;
+        self.lists.push(HeldList {
+            holder: a,
+            objects: ObjectList::new(self.heap),
+        })?;
+        Ok(count as u32)
     }
 }

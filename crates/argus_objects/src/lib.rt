@@ -8,6 +8,7 @@
 
 mod cell;
 mod changing;
+mod held_list;
 mod holdings;
 pub mod laws;
 mod object_list;

@@ -51,14 +51,6 @@ impl ObjectList {
         self.objects.as_slice()
     }
 
-    /// Whether the list has memory. One that has none has no objects, and room for none.
-    #[inline(always)]
-    pub fn has_memory(&self) -> bool
-        ensures { result ≡ false → self.now ≡ no_objects }
-    {
-        self.objects.capacity() != 0
-    }
-
     /// Whether there is room for so few objects in all that the list's memory is worth keeping.
     pub fn is_small(&self) -> bool {
         self.objects.capacity() <= 64
@@ -84,7 +76,7 @@ impl ObjectList {
         ensures list { self.new.objects ≡ self.old.objects ++ o ∷ [] }
         ensures room { self.old.room ≤ self.new.room + 1 }
     {
-        let _ = self.objects.push(o);
+        self.objects.push_reserved(o);
     }
 
     /// Puts the object at the end, in the room that is there, unless it is in the list.

@@ -1,6 +1,6 @@
 //! Work on the readers of a cell, which stand in increasing number.
 
-ghost use Rattle.std.specs.Prelude.{◌≡◌, ◌<◌, true, vec_len};
+ghost use Rattle.std.specs.Prelude.{◌≡◌, ◌<◌, ◌≤◌, ◌+◌, ◌-◌, true, vec_len};
 ghost use Rattle.std.specs.Vec.{vec_capacity};
 ghost use Rattle.argus_objects.specs.Rules.{all_above, is_ascending};
 ghost use Rattle.argus_objects.specs.CellChanges.{is_reader, with_reader, without_reader};
@@ -47,7 +47,9 @@ pub(crate) fn all_readers_above(readers: &[ActionId], tree: &ActionTree, a: Acti
 pub(crate) fn add_reader(readers: &mut Vec<ActionId, Room>, a: ActionId)
     requires room { vec_len readers.old < vec_capacity readers.old }
     requires ascending { is_ascending readers.old.items ≡ true }
-    ensures { readers.new.items ≡ with_reader a readers.old.items }
+    ensures readers { readers.new.items ≡ with_reader a readers.old.items }
+    ensures room { vec_capacity readers.old - vec_len readers.old
+        ≤ vec_capacity readers.new - vec_len readers.new + 1 }
 {
     let mut at = readers.len();
     while at > 0 && a.0 < readers[at - 1].0 {
@@ -60,6 +62,7 @@ pub(crate) fn add_reader(readers: &mut Vec<ActionId, Room>, a: ActionId)
 
 pub(crate) fn drop_reader(readers: &mut Vec<ActionId, Room>, a: ActionId)
     ensures readers { readers.new.items ≡ without_reader a readers.old.items }
+    ensures len { vec_len readers.new ≤ vec_len readers.old }
     ensures capacity { vec_capacity readers.new ≡ vec_capacity readers.old }
 {
     readers.retain(|x| *x != a);
@@ -69,7 +72,9 @@ pub(crate) fn drop_reader(readers: &mut Vec<ActionId, Room>, a: ActionId)
 #[inline(always)]
 pub(crate) fn inherit_reader(readers: &mut Vec<ActionId, Room>, s: ActionId, parent: ActionId)
     requires { is_ascending readers.old.items ≡ true }
-    ensures { readers.new.items ≡ readers_inherited s parent readers.old.items }
+    ensures readers { readers.new.items ≡ readers_inherited s parent readers.old.items }
+    ensures room { vec_capacity readers.old - vec_len readers.old
+        ≤ vec_capacity readers.new - vec_len readers.new }
 {
     if is_among(readers.as_slice(), s) {
         drop_reader(readers, s);
@@ -78,7 +83,9 @@ pub(crate) fn inherit_reader(readers: &mut Vec<ActionId, Room>, s: ActionId, par
 }
 
 pub(crate) fn discard_readers(readers: &mut Vec<ActionId, Room>, tree: &ActionTree, a: ActionId)
-    ensures { readers.new.items ≡ readers_discarded tree.now a readers.old.items }
+    ensures readers { readers.new.items ≡ readers_discarded tree.now a readers.old.items }
+    ensures room { vec_capacity readers.old - vec_len readers.old
+        ≤ vec_capacity readers.new - vec_len readers.new }
 {
     readers.retain(|x| !tree.is_ancestor(a, *x));
 }

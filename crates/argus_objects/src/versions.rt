@@ -1,6 +1,7 @@
 //! Work on the versions of a cell, which stand from ancestor to descendant.
 
-ghost use Rattle.std.specs.Prelude.{◌≡◌, ◌<◌, ◌==◌, true, map, vec_len};
+ghost use Rattle.std.specs.Prelude.{◌≡◌, ◌<◌, ◌≤◌, ◌==◌, ◌+◌, ◌-◌, true, length, map, nat_lt};
+ghost use Rattle.std.specs.Prelude.{take, vec_len, OnOk};
 ghost use Rattle.std.specs.List.{list_all, list_any};
 ghost use Rattle.std.specs.Option.{option_map, unwrap_or};
 ghost use Rattle.std.specs.Vec.{vec_capacity};
@@ -16,7 +17,7 @@ ghost use Rattle.argus_objects.specs.CellChanges.{versions_inherited, versions_d
 use crate::version::Version;
 use argus_actions::{ActionId, ActionTree};
 use argus_contents::Content;
-use argus_memory::Room;
+use argus_memory::{OutOfMemory, Room};
 
 pub(crate) fn has_version(versions: &[Version], a: ActionId) -> bool
     ensures { result ≡ list_any (λ v. v.holder.0 == a.0) versions.now }
@@ -53,6 +54,17 @@ pub(crate) fn all_writers_above(versions: &[Version], tree: &ActionTree, a: Acti
         at = holder;
     }
     true
+}
+
+/// Whether all holders are ancestors of `a`, where each is an ancestor of the next: then the newest
+/// decides.
+#[inline(always)]
+pub(crate) fn is_newest_above(versions: &[Version], tree: &ActionTree, a: ActionId) -> bool
+    requires { is_chain tree.now (holders (versions_newest_first versions.now)) ≡ true }
+    ensures { result ≡ all_above tree.now a (holders (versions_newest_first versions.now)) }
+{
+    let held = versions.len();
+    held == 0 || tree.is_ancestor(versions[held - 1].holder, a)
 }
 
 // Whether `a` is below all holders, and none of them.
@@ -98,8 +110,10 @@ pub(crate) fn put_version(versions: &mut Vec<Version, Room>, a: ActionId, conten
     requires room { vec_len versions.old < vec_capacity versions.old }
     requires ascending { is_ascending (writers versions.old.items) ≡ true }
     requires newest { are_up_to a (writers versions.old.items) ≡ true }
-    ensures { versions_newest_first versions.new.items ≡ with_version a (plain_option content)
-        (versions_newest_first versions.old.items) }
+    ensures versions { versions_newest_first versions.new.items ≡ with_version a
+        (plain_option content) (versions_newest_first versions.old.items) }
+    ensures room { vec_capacity versions.old - vec_len versions.old
+        ≤ vec_capacity versions.new - vec_len versions.new + 1 }
 {
     let held = versions.len();
     if held > 0 && versions[held - 1].holder.0 == a.0 {
@@ -109,13 +123,15 @@ pub(crate) fn put_version(versions: &mut Vec<Version, Room>, a: ActionId, conten
     }
 }
 
-// Takes the version of `t` out, and gives its content.
-fn take_version(versions: &mut Vec<Version, Room>, t: ActionId) -> Option<Option<Content>>
+// Looks for the version of `t`, takes it out, and gives its content.
+fn remove_version(versions: &mut Vec<Version, Room>, t: ActionId) -> Option<Option<Content>>
     requires { is_ascending (writers versions.old.items) ≡ true }
     ensures content { option_map plain_option result
         ≡ version_of t (versions_newest_first versions.old.items) }
     ensures versions { versions_newest_first versions.new.items
         ≡ without_version t (versions_newest_first versions.old.items) }
+    ensures room { vec_capacity versions.old - vec_len versions.old
+        ≤ vec_capacity versions.new - vec_len versions.new }
 {
     let mut at = versions.len();
     while at > 0 {
@@ -125,6 +141,43 @@ fn take_version(versions: &mut Vec<Version, Room>, t: ActionId) -> Option<Option
         }
     }
     None
+}
+
+/// Makes room for one more version, the first time for exactly one: most objects never have two
+/// versions at once. Whatever comes, the versions stay, and no room is lost.
+#[inline(always)]
+pub(crate) fn reserve_version(versions: &mut Vec<Version, Room>) -> Result<(), OutOfMemory>
+    ensures items { versions.new.items ≡ versions.old.items }
+    ensures ok { OnOk result (vec_len versions.new < vec_capacity versions.new) }
+    ensures capacity { vec_capacity versions.old ≤ vec_capacity versions.new }
+{
+    if versions.capacity() == 0 {
+        versions.reserve_exact(1)?;
+    } else {
+        versions.reserve(1)?;
+    }
+    Ok(())
+}
+
+// Takes the version of `t` out, and gives its content. The newest is looked at first.
+#[inline(always)]
+fn take_version(versions: &mut Vec<Version, Room>, t: ActionId) -> Option<Option<Content>>
+    requires { is_ascending (writers versions.old.items) ≡ true }
+    ensures content { option_map plain_option result
+        ≡ version_of t (versions_newest_first versions.old.items) }
+    ensures versions { versions_newest_first versions.new.items
+        ≡ without_version t (versions_newest_first versions.old.items) }
+    ensures room { vec_capacity versions.old - vec_len versions.old
+        ≤ vec_capacity versions.new - vec_len versions.new }
+{
+    let held = versions.len();
+    if held > 0 && versions[held - 1].holder.0 == t.0 {
+        return match versions.pop() {
+            Some(newest) => Some(newest.content),
+            None => None,
+        };
+    }
+    remove_version(versions, t)
 }
 
 /// Makes the version of `t`, if it has one, the base.
@@ -139,6 +192,8 @@ pub(crate) fn settle_version(
         (version_of t (versions_newest_first versions.old.items)) (plain_option base.old) }
     ensures versions { versions_newest_first versions.new.items
         ≡ without_version t (versions_newest_first versions.old.items) }
+    ensures room { vec_capacity versions.old - vec_len versions.old
+        ≤ vec_capacity versions.new - vec_len versions.new }
 {
     if let Some(content) = take_version(versions, t) {
         *base = content;
@@ -146,8 +201,10 @@ pub(crate) fn settle_version(
 }
 
 fn drop_version(versions: &mut Vec<Version, Room>, a: ActionId)
-    ensures { versions_newest_first versions.new.items ≡ without_version a
+    ensures versions { versions_newest_first versions.new.items ≡ without_version a
         (versions_newest_first versions.old.items) }
+    ensures room { vec_capacity versions.old - vec_len versions.old
+        ≤ vec_capacity versions.new - vec_len versions.new }
 {
     versions.retain(|version| version.holder != a);
 }
@@ -164,11 +221,12 @@ fn inherit_holder(versions: &mut [Version], s: ActionId, parent: ActionId)
     }
 }
 
-/// Makes the version of `s`, if it has one, the parent's only one.
-#[inline(always)]
-pub(crate) fn inherit_version(versions: &mut Vec<Version, Room>, s: ActionId, parent: ActionId)
-    ensures { versions_newest_first versions.new.items ≡ versions_inherited s parent
+// Looks for the version of `s`, and makes it, if there is one, the parent's only one.
+fn hand_over(versions: &mut Vec<Version, Room>, s: ActionId, parent: ActionId)
+    ensures versions { versions_newest_first versions.new.items ≡ versions_inherited s parent
         (versions_newest_first versions.old.items) }
+    ensures room { vec_capacity versions.old - vec_len versions.old
+        ≤ vec_capacity versions.new - vec_len versions.new }
 {
     if has_version(versions.as_slice(), s) {
         drop_version(versions, parent);
@@ -176,9 +234,44 @@ pub(crate) fn inherit_version(versions: &mut Vec<Version, Room>, s: ActionId, pa
     }
 }
 
-pub(crate) fn discard_versions(versions: &mut Vec<Version, Room>, tree: &ActionTree, a: ActionId)
-    ensures { versions_newest_first versions.new.items ≡ versions_discarded tree.now a
+// Whether the parent is past all holders but the newest: it is past the one below the newest.
+#[inline(always)]
+fn is_past_older(versions: &[Version], parent: ActionId) -> bool
+    requires { is_ascending (writers versions.now) ≡ true }
+    ensures { result ≡ list_all (λ v. nat_lt v.holder.0 parent.0)
+        (take (length versions.now - 1) versions.now) }
+{
+    let held = versions.len();
+    held < 2 || versions[held - 2].holder.0 < parent.0
+}
+
+/// Makes the version of `s`, if it has one, the parent's only one. Where it is the newest, and the
+/// one below isn't the parent's, only its holder changes.
+#[inline(always)]
+pub(crate) fn inherit_version(versions: &mut Vec<Version, Room>, s: ActionId, parent: ActionId)
+    requires { is_ascending (writers versions.old.items) ≡ true }
+    ensures versions { versions_newest_first versions.new.items ≡ versions_inherited s parent
         (versions_newest_first versions.old.items) }
+    ensures room { vec_capacity versions.old - vec_len versions.old
+        ≤ vec_capacity versions.new - vec_len versions.new }
+{
+    let held = versions.len();
+    if held > 0
+        && versions[held - 1].holder.0 == s.0
+        && parent.0 < s.0
+        && is_past_older(versions.as_slice(), parent)
+    {
+        versions[held - 1].holder = parent;
+    } else {
+        hand_over(versions, s, parent);
+    }
+}
+
+pub(crate) fn discard_versions(versions: &mut Vec<Version, Room>, tree: &ActionTree, a: ActionId)
+    ensures versions { versions_newest_first versions.new.items ≡ versions_discarded tree.now a
+        (versions_newest_first versions.old.items) }
+    ensures room { vec_capacity versions.old - vec_len versions.old
+        ≤ vec_capacity versions.new - vec_len versions.new }
 {
     versions.retain(|version| !tree.is_ancestor(a, version.holder));
 }

@@ -11,7 +11,7 @@ use argus_texts::{read_content, read_value};
 pub(crate) fn read_change(heap: Heap, text: &str) -> Result<Change, LineError> {
     let (word, rest) = text.split_once(' ').unwrap_or((text, ""));
     match word {
-        "create" => Ok(Change::Create(read_content(heap, rest)?)),
+        "create" => Ok(Change::create(heap, read_content(heap, rest)?)?),
         "addh" => Ok(Change::Addh(read_value(heap, rest)?)),
         "addl" => Ok(Change::Addl(read_value(heap, rest)?)),
         "remh" => Ok(Change::Remh),

@@ -76,7 +76,7 @@ pub(crate) fn one_value(heap: Heap, text: &str, levels: usize) -> Result<(Value,
     }
     if first == b'"' {
         let (read, rest) = quoted(heap, others)?;
-        return Ok((Value::Text(read), rest));
+        return Ok((Value::text(heap, read)?, rest));
     }
     if first == b'@' {
         let (object, rest) = number(others, 0, 4_294_967_295)?;
@@ -108,11 +108,11 @@ fn compound(heap: Heap, text: &str, levels: usize) -> Result<(Value, &str), Stop
     };
     if first == b'[' {
         let (items, rest) = inside(heap, others, levels - 1, b']')?;
-        return Ok((Value::Sequence(items), rest));
+        return Ok((Value::sequence(heap, items)?, rest));
     }
     if first == b'{' {
         let (fields, rest) = inside(heap, others, levels - 1, b'}')?;
-        return Ok((Value::Fields(fields), rest));
+        return Ok((Value::fields(heap, fields)?, rest));
     }
     if first != b'<' {
         return Err(Stop::Left(text.len()));
@@ -121,7 +121,7 @@ fn compound(heap: Heap, text: &str, levels: usize) -> Result<(Value, &str), Stop
         return Err(Stop::Left(text.len()));
     }
     let (tag, part, rest) = choice(heap, others, levels - 1)?;
-    Ok((Value::Choice(tag, Box::new(heap.room(), part)?), rest))
+    Ok((Value::choice(heap, tag, part)?, rest))
 }
 
 /// The tag and the value behind an opening angle, and what is behind the closing one.

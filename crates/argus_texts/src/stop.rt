@@ -1,5 +1,6 @@
 //! `Stop`: why a part of a text wasn't read.
 
+use argus_memory::OutOfMemory;
 use std::alloc::{AllocError, AllocFailed};
 
 // The bytes that are left are counted, and not those that were read: so a part hands on what a part
@@ -9,6 +10,17 @@ pub(crate) enum Stop {
     // So many bytes are left where the text stops being the beginning of a form.
     Left(usize),
     Memory,
+}
+
+impl From<OutOfMemory> for Stop {
+    ghost use Rattle.std.specs.Prelude.{◌≡◌};
+    ghost use Rattle.argus_texts.specs.declared.stop.Stop.TheVariants as stop;
+
+    ghost from_gives = { λ _ given. given ≡ stop.Memory };
+
+    fn from(_refused: OutOfMemory) -> Stop {
+        Stop::Memory
+    }
 }
 
 impl From<AllocError> for Stop {

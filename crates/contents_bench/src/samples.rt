@@ -29,14 +29,14 @@ fn ints(heap: Heap, size: u16) -> Result<Vec<Value, Room>, OutOfMemory> {
 fn nested(heap: Heap, size: u16) -> Result<Vec<Value, Room>, OutOfMemory> {
     let mut fields = Vec::with_capacity(heap.room(), 4)?;
     fields.push(Value::Int(1))?;
-    fields.push(Value::Sequence(ints(heap, size)?))?;
+    fields.push(Value::sequence(heap, ints(heap, size)?)?)?;
     push_text_and_choice(heap, &mut fields)?;
     Ok(fields)
 }
 
 fn push_text_and_choice(heap: Heap, fields: &mut Vec<Value, Room>) -> Result<(), OutOfMemory> {
-    fields.push(Value::Text(String::from_str(heap.room(), "a text")?))?;
-    fields.push(Value::Choice(1, Box::new(heap.room(), Value::Null)?))?;
+    fields.push(Value::text(heap, String::from_str(heap.room(), "a text")?)?)?;
+    fields.push(Value::choice(heap, 1, Value::Null)?)?;
     Ok(())
 }
 

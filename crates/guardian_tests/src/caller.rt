@@ -58,7 +58,7 @@ impl<'a, N: Sharing, R: Wait + Drop> Caller<'a, N, R> {
         };
         let count = self.count;
         let zero = zero(self.heap)?;
-        self.make(Call::Alter(a, count, Change::Create(zero)))?;
+        self.make(Call::Alter(a, count, Change::create(self.heap, zero)?))?;
         self.make(Call::Commit(a))
     }
 

@@ -5,6 +5,7 @@
 mod appending;
 mod array_limits;
 mod asking;
+mod boxing;
 mod changing;
 mod comparing;
 mod content_calls;

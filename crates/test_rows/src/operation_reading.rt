@@ -29,7 +29,7 @@ pub fn query_of(text: &str) -> Result<Query, RowFault> {
 pub fn change_of(heap: Heap, text: &str) -> Result<Change, RowFault> {
     let (word, rest) = first_word(text);
     match word {
-        "create" => Ok(Change::Create(read_content(heap, rest)?)),
+        "create" => Ok(Change::create(heap, read_content(heap, rest)?)?),
         "addh" => Ok(Change::Addh(read_value(heap, rest)?)),
         "addl" => Ok(Change::Addl(read_value(heap, rest)?)),
         "remh" => Ok(Change::Remh),

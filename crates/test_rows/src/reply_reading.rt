@@ -31,7 +31,7 @@ pub fn answer_of(heap: Heap, text: &str) -> Result<Answer, RowFault> {
         "val" => Ok(Answer::Val(read_value(heap, rest)?)),
         "num" => Ok(Answer::Num(place(rest)?)),
         "flag" => Ok(Answer::Flag(rest == "true")),
-        "body" => Ok(Answer::Body(read_content(heap, rest)?)),
+        "body" => Ok(Answer::body(heap, read_content(heap, rest)?)?),
         "signal" => Ok(Answer::Signal(signal_of(rest)?)),
         _ => Err(RowFault::NotSpelled),
     }

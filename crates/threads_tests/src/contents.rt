@@ -25,7 +25,7 @@ fn a_content_crosses_to_another_thread_and_back(rt: HostRuntime) -> Result<(), F
     let mut items = Vec::new(heap.room());
     items.push(Value::Int(1))?;
     let mut fields = Vec::new(heap.room());
-    fields.push(Value::Sequence(items))?;
+    fields.push(Value::sequence(heap, items)?)?;
     let content = Content::Rec(fields);
     let wanted = content.duplicate(heap)?;
     assert!(rt; copied_elsewhere(&rt, heap, content)? == wanted);

@@ -41,7 +41,7 @@ fn with_room(mut journal: LegalJournal) -> Result<LegalJournal, OutOfMemory> {
 
 // alter a1 o0 set_field 0 "x" -> done
 fn entry(heap: Heap) -> Result<Entry, OutOfMemory> {
-    let value = Value::Text(String::from_str(heap.room(), "x")?);
+    let value = Value::text(heap, String::from_str(heap.room(), "x")?)?;
     Ok(Entry {
         call: Call::Alter(ActionId(1), ObjId(0), Change::SetField(0, value)),
         reply: Reply::Answered(Answer::Done),

@@ -6,13 +6,13 @@ ghost use Rattle.argus_contents.specs.SmallAnswer.{plain_small};
 ghost use Rattle.argus_core.specs.declared.engine.atomic_object.AtomicObject.{AtomicObject};
 ghost use Rattle.argus_entries.specs.Call.{ask};
 ghost use Rattle.argus_entries.specs.Reply.{plain_reply};
-ghost use Rattle.argus_core.specs.Accessing.{HasGrantRoom, seen_at};
+ghost use Rattle.argus_core.specs.Accessing.{HasReadRoom, seen_at};
 ghost use Rattle.argus_core.specs.GuardianState.{StateInvariant, journal_view_of};
 ghost use Rattle.argus_journal.specs.JournalView.{after, refusal_to, reply_to};
 ghost use Rattle.argus_journal.specs.LegalJournal.{room_in};
 
 use crate::engine::answering::{query_answer, reply_twice, small_answer};
-use crate::engine::granting::{grant_read, reserve_access};
+use crate::engine::granting::{grant_read, reserve_granted_read};
 use crate::engine::guardian_state::GuardianState;
 use crate::engine::refusing::{ask_refusal, refuse};
 use argus_actions::ActionId;
@@ -41,7 +41,7 @@ pub(crate) fn ask(
         Some(why) => return refuse(state, Call::Ask(a, o, query), why),
         None => {}
     }
-    let is_new = reserve_access(state, a, o)?;
+    let is_new = reserve_granted_read(state, a, o)?;
     match small_answer(state.objects.as_slice(), &state.tree, a, o, &query) {
         Some(answer) => Ok(record_answer(state, a, o, query, answer, is_new)),
         None => answer_with_memory(state, a, o, query, is_new),
@@ -63,7 +63,7 @@ fn record_answer(
     requires right { (d : AtomicObject) → plain_small answer
         ≡ reply query (seen_at state.old.tree a state.old.objects.items o.0 d) }
     requires place { 0 < room_in state.old.journal }
-    requires room { HasGrantRoom state.old.objects.items state.old.holdings a o is_new }
+    requires room { HasReadRoom state.old.objects.items state.old.holdings a o is_new }
     ensures kept { StateInvariant state.new }
     ensures reply { plain_reply result
         ≡ reply_to (journal_view_of state.old) (ask a.0 o.0 query) }
@@ -97,7 +97,7 @@ fn answer_with_memory(
     requires kept { StateInvariant state.old }
     requires free { refusal_to (journal_view_of state.old) (ask a.0 o.0 query) ≡ None }
     requires place { 0 < room_in state.old.journal }
-    requires room { HasGrantRoom state.old.objects.items state.old.holdings a o is_new }
+    requires room { HasReadRoom state.old.objects.items state.old.holdings a o is_new }
     ensures kept { StateInvariant state.new }
     ensures reply { IfOk result (λ reply. plain_reply reply
         ≡ reply_to (journal_view_of state.old) (ask a.0 o.0 query)) }

@@ -8,6 +8,7 @@ ghost use Rattle.argus_contents.specs.Query.{reply};
 ghost use Rattle.argus_contents.specs.SmallAnswer.{plain_small};
 ghost use Rattle.argus_entries.specs.Reply.{answered, plain_reply};
 ghost use Rattle.argus_core.specs.Accessing.{seen_at};
+ghost use Rattle.argus_core.specs.Moving.{AreLawful};
 ghost use Rattle.argus_core.specs.declared.engine.atomic_object.AtomicObject.{AtomicObject};
 ghost use Rattle.argus_objects.specs.Rules.{may_read, may_write};
 
@@ -96,12 +97,13 @@ pub(crate) fn is_readable(
     a: ActionId,
     o: ObjId,
 ) -> bool
-    requires { o.0 < length objects.now }
+    requires lawful { AreLawful tree.now objects.now }
+    requires low { o.0 < length objects.now }
     ensures { (d : AtomicObject)
         → result ≡ may_read tree.now (slice_index_or objects.now o.0 d).cell a }
 {
     let object = &objects[o.0 as usize];
-    object.cell.may_read(tree, a)
+    object.cell.is_readable(tree, a)
 }
 
 /// Whether the action may have the object's write lock.
@@ -111,10 +113,11 @@ pub(crate) fn is_writable(
     a: ActionId,
     o: ObjId,
 ) -> bool
-    requires { o.0 < length objects.now }
+    requires lawful { AreLawful tree.now objects.now }
+    requires low { o.0 < length objects.now }
     ensures { (d : AtomicObject)
         → result ≡ may_write tree.now (slice_index_or objects.now o.0 d).cell a }
 {
     let object = &objects[o.0 as usize];
-    object.cell.may_write(tree, a)
+    object.cell.is_writable(tree, a)
 }

@@ -6,7 +6,7 @@ ghost use Rattle.std.specs.Prelude.{slice_index_or, true};
 ghost use Rattle.argus_contents.specs.Answer.{done_or};
 ghost use Rattle.argus_contents.specs.Change.{gives_value, outcome, plain_change};
 ghost use Rattle.argus_contents.specs.Content.{KeepsLimits};
-ghost use Rattle.argus_core.specs.Accessing.{HasGrantRoom, HasListRoom, IsAccessed, IsAltered};
+ghost use Rattle.argus_core.specs.Accessing.{HasReadRoom, HasListRoom, IsAccessed, IsAltered};
 ghost use Rattle.argus_core.specs.Accessing.{IsAsBefore, IsFree, IsListedIfHeld, seen_at};
 ghost use Rattle.argus_core.specs.Moving.{AreLawful, IsRead};
 ghost use Rattle.argus_core.specs.GuardianState.{StateInvariant, journal_view_of};
@@ -60,10 +60,10 @@ pub(crate) fn note_if(is_new: bool, holdings: &mut Holdings, a: ActionId, o: Obj
     }
 }
 
-/// Makes room for one more grant of the object, and for the object on the action's list, and says
+/// Makes room for one more reader of the object, and for the object on the action's list, and says
 /// whether it is new there.
 #[inline(always)]
-fn reserve_grant(
+fn reserve_read(
     objects: &mut [AtomicObject],
     holdings: &mut Holdings,
     tree: &ActionTree,
@@ -75,18 +75,18 @@ fn reserve_grant(
         → may_read tree.now (slice_index_or objects.old o.0 d).cell a ≡ true }
     requires listed { IsListedIfHeld objects.old holdings.old a o }
     ensures same { IsAsBefore o objects.old objects.new holdings.old holdings.new }
-    ensures ok { IfOk result (λ is_new. HasGrantRoom objects.new holdings.new a o is_new) }
+    ensures ok { IfOk result (λ is_new. HasReadRoom objects.new holdings.new a o is_new) }
 {
     let is_new = reserve_list(objects, holdings, tree, a, o)?;
     let object = &mut objects[o.0 as usize];
-    object.cell.reserve_grant()?;
+    object.cell.reserve_read()?;
     Ok(is_new)
 }
 
-/// Makes room for all that a granted access of the object needs, and says whether the object is new
-/// on the action's list.
+/// Makes room for all that a granted read of the object needs, and says whether the object is new on
+/// the action's list.
 #[inline(always)]
-pub(crate) fn reserve_access(
+pub(crate) fn reserve_granted_read(
     state: &mut GuardianState,
     a: ActionId,
     o: ObjId,
@@ -99,11 +99,11 @@ pub(crate) fn reserve_access(
     ensures journal { journal_view_of state.new ≡ journal_view_of state.old }
     ensures place { OnOk result (0 < room_in state.new.journal) }
     ensures room { IfOk result (λ is_new.
-        HasGrantRoom state.new.objects.items state.new.holdings a o is_new) }
+        HasReadRoom state.new.objects.items state.new.holdings a o is_new) }
 {
     state.journal.reserve()?;
     let objects = state.objects.as_mut_slice();
-    reserve_grant(objects, &mut state.holdings, &state.tree, a, o)
+    reserve_read(objects, &mut state.holdings, &state.tree, a, o)
 }
 
 /// Makes an action a reader of the object, which is noted on its list if it is new there.
@@ -118,7 +118,7 @@ pub(crate) fn grant_read(
 )
     requires lawful { AreLawful tree.now objects.old }
     requires free { IsFree tree.now objects.old a o (λ cell. may_read tree.now cell a) }
-    requires room { HasGrantRoom objects.old holdings.old a o is_new }
+    requires room { HasReadRoom objects.old holdings.old a o is_new }
     ensures { IsAccessed (IsRead tree.now a) a o objects.old objects.new holdings.old holdings.new }
 {
     let object = &mut objects[o.0 as usize];

@@ -6,6 +6,7 @@ ghost use Rattle.argus_contents.specs.declared.limits.TheConstants.{MAX_OBJECTS}
 ghost use Rattle.argus_contents.specs.Fitting.{change_suits, query_suits};
 ghost use Rattle.argus_core.specs.Accessing.{access_refusal};
 ghost use Rattle.argus_core.specs.GuardianState.{StateInvariant, journal_view_of};
+ghost use Rattle.argus_core.specs.Moving.{AreLawful};
 ghost use Rattle.argus_entries.specs.Call.{plain_call};
 ghost use Rattle.argus_entries.specs.Reply.{plain_reply, refused};
 ghost use Rattle.argus_journal.specs.JournalView.{after, reply_to};
@@ -85,6 +86,7 @@ pub(crate) fn ask_refusal(
     o: ObjId,
     query: &Query,
 ) -> Option<Refusal>
+    requires lawful { AreLawful tree.now objects.now }
     ensures { result ≡ access_refusal tree.now objects.now a.0 o.0
         (λ shape. query_suits shape query.now) (λ cell. may_read tree.now cell a) }
 {
@@ -97,7 +99,7 @@ pub(crate) fn ask_refusal(
         Some(object) => {
             if !query_fits(&object.shape, query) {
                 Some(Refusal::IllTyped)
-            } else if !object.cell.may_read(tree, a) {
+            } else if !object.cell.is_readable(tree, a) {
                 Some(Refusal::Conflict)
             } else {
                 None
@@ -115,7 +117,8 @@ pub(crate) fn alter_refusal(
     o: ObjId,
     change: &Change,
 ) -> Option<Refusal>
-    requires { length objects.now ≤ MAX_OBJECTS }
+    requires lawful { AreLawful tree.now objects.now }
+    requires declared { length objects.now ≤ MAX_OBJECTS }
     ensures { result ≡ access_refusal tree.now objects.now a.0 o.0
         (λ shape. change_suits shape (length objects.now) (plain_change change.now))
         (λ cell. may_write tree.now cell a) }
@@ -129,7 +132,7 @@ pub(crate) fn alter_refusal(
         Some(object) => {
             if !change_fits(&object.shape, objects.len() as u32, change) {
                 Some(Refusal::IllTyped)
-            } else if !object.cell.may_write(tree, a) {
+            } else if !object.cell.is_writable(tree, a) {
                 Some(Refusal::Conflict)
             } else {
                 None

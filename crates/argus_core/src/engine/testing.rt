@@ -7,7 +7,7 @@ ghost use Rattle.argus_core.specs.GuardianState.{StateInvariant, journal_view_of
 ghost use Rattle.argus_journal.specs.JournalView.{after, reply_to};
 
 use crate::engine::answering::is_readable;
-use crate::engine::granting::{grant_read, reserve_access};
+use crate::engine::granting::{grant_read, reserve_granted_read};
 use crate::engine::guardian_state::GuardianState;
 use crate::engine::refusing::{refuse, test_refusal};
 use argus_actions::ActionId;
@@ -44,7 +44,7 @@ pub(crate) fn test_read(
         });
         return Ok(Reply::Answered(Answer::Flag(false)));
     }
-    let is_new = reserve_access(state, a, o)?;
+    let is_new = reserve_granted_read(state, a, o)?;
     let objects = state.objects.as_mut_slice();
     grant_read(objects, &mut state.holdings, &state.tree, a, o, is_new);
     state.journal.push(Entry {

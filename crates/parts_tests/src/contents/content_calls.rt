@@ -1,6 +1,7 @@
 //! `ContentCalls`: the calls of `argus_contents` that rows make.
 
 use crate::contents::asking::{answer_query, answer_small_query};
+use crate::contents::boxing::answer_make;
 use crate::contents::changing::{answer_change, answer_gives_value};
 use crate::contents::comparing::answer_comparison;
 use crate::contents::copying::answer_copy;
@@ -38,6 +39,7 @@ impl Subject for ContentCalls {
             "change_fits" => answer_change_fit(setting, rest),
             "same" => answer_comparison(setting, rest),
             "copy" => answer_copy(setting, rest),
+            "make" => answer_make(setting, rest),
             _ => answer_change(setting, word, rest),
         }
     }

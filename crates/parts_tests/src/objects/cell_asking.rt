@@ -18,6 +18,8 @@ pub(crate) fn answer_question(
         "lawful" => tell_flag(cell.lawful(tree), out)?,
         "may_read" => tell_flag(cell.may_read(tree, action(rest)?), out)?,
         "may_write" => tell_flag(cell.may_write(tree, action(rest)?), out)?,
+        "is_readable" => tell_readable(cell, tree, action(rest)?, out)?,
+        "is_writable" => tell_writable(cell, tree, action(rest)?, out)?,
         "is_held_by" => tell_held(cell, tree, action(rest)?, out)?,
         "has_holder" => tell_flag(cell.has_holder(action(rest)?), out)?,
         "base" => tell_content(cell.base(), out)?,
@@ -26,6 +28,34 @@ pub(crate) fn answer_question(
         "visible" => tell_visible(cell, tree, action(rest)?, out)?,
         _ => return Err(RowFault::NotSpelled),
     }
+    Ok(())
+}
+
+// Asked of a lawful cell.
+fn tell_readable(
+    cell: &Cell,
+    tree: &ActionTree,
+    a: ActionId,
+    out: &mut String<Room>,
+) -> Result<(), RowFault> {
+    if !cell.lawful(tree) {
+        return Err(RowFault::NotSpelled);
+    }
+    tell_flag(cell.is_readable(tree, a), out)?;
+    Ok(())
+}
+
+// Asked of a lawful cell, too.
+fn tell_writable(
+    cell: &Cell,
+    tree: &ActionTree,
+    a: ActionId,
+    out: &mut String<Room>,
+) -> Result<(), RowFault> {
+    if !cell.lawful(tree) {
+        return Err(RowFault::NotSpelled);
+    }
+    tell_flag(cell.is_writable(tree, a), out)?;
     Ok(())
 }
 

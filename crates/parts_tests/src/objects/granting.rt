@@ -38,7 +38,8 @@ fn grant(
     let (word, rest) = first_word(asked);
     let (actor, rest) = first_word(rest);
     match word {
-        "reserve_grant" => reserve(cell, setting)?,
+        "reserve_grant" => reserve_grant(cell, setting)?,
+        "reserve_read" => reserve_read(cell, setting)?,
         "grant_read" => grant_read(cell, tree, setting, action(actor)?)?,
         "grant_write" => {
             let content = read_content(setting.heap, rest)?;
@@ -60,13 +61,19 @@ fn grant(
     Ok(())
 }
 
-fn reserve(cell: &mut Cell, setting: Setting) -> Result<(), RowFault> {
+fn reserve_grant(cell: &mut Cell, setting: Setting) -> Result<(), RowFault> {
     setting.limit();
     cell.reserve_grant()?;
     Ok(())
 }
 
-// The grant itself takes no memory.
+fn reserve_read(cell: &mut Cell, setting: Setting) -> Result<(), RowFault> {
+    setting.limit();
+    cell.reserve_read()?;
+    Ok(())
+}
+
+// In room for a reader. The grant itself takes no memory.
 fn grant_read(
     cell: &mut Cell,
     tree: &ActionTree,
@@ -74,7 +81,7 @@ fn grant_read(
     a: ActionId,
 ) -> Result<(), RowFault> {
     setting.limit();
-    cell.reserve_grant()?;
+    cell.reserve_read()?;
     setting.allowing(0).limit();
     match tree.commit_refusal(a) {
         None if cell.lawful(tree) && cell.may_read(tree, a) => {
@@ -85,6 +92,7 @@ fn grant_read(
     }
 }
 
+// In room for a version, too.
 fn grant_write(
     cell: &mut Cell,
     tree: &ActionTree,

@@ -52,6 +52,7 @@ impl Subject for TestedObjects {
                 answer_list(&mut self.lists, setting, word, rest, &mut out)?;
             }
             "reserve_grant"
+            | "reserve_read"
             | "grant_read"
             | "grant_write"
             | "grant_change"

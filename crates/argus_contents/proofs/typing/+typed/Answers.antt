@@ -16,8 +16,9 @@ has_type-returns-in-Fields-Fields t c =
       i.is-1,
       plain_ty-Fields i.names,
       plain_value-Fields i.fields,
-      ← c.deref-in-Fields-Fields.ensures.value,
+      ← c.deref-in-Fields-Fields.ensures,
       ← c.deref-in-Fields-Fields-2.ensures.value,
+      ← c.deref-in-Fields-Fields-3.ensures.value,
     ) c.each_has_type.ensures
 
 pub has_type-returns-in-Some : goal.has_type-returns-in-Some

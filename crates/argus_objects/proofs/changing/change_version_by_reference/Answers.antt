@@ -56,11 +56,11 @@ returns-clause-versions c =
       | else-held-gt0-via-else-held-gt0 w ↦ none_lower c.args.a vs (omega arith)
     ] in
     let v : Version = record { holder = c.args.a; content = c.alter_by_reference-2.new.content } in
-    let kept : c.as_slice.result.now ≡ vs = c.as_slice.ensures.value ∙ c.reserve.ensures.items in
+    let kept : c.as_slice.result.now ≡ vs = c.as_slice.ensures.value ∙ c.reserve_version.ensures.items in
     let seen : plain_option c.in_ok-content.content ≡ newest_content base (versions_newest_first vs) =
     c.in_ok-content.ensures ∙ (c.content_on_top.ensures
     ∙ ap (λ ws. newest_content base (versions_newest_first ws)) kept) in
     changed_copy (plain_change c.args.change.now) base c.args.a vs c.push_reserved.new.self.items v
     (done_or c.in_ok-refusal.refusal) (plain_option c.in_ok-content.content)
-    (c.push_reserved.ensures.items ∙ ap (λ ws. ws ++ v ∷ []) c.reserve.ensures.items) refl low
+    (c.push_reserved.ensures.items ∙ ap (λ ws. ws ++ v ∷ []) c.reserve_version.ensures.items) refl low
     c.in_ok-refusal.ensures.ok seen

@@ -21,8 +21,8 @@ loop-at-preserved c =
           ∙ (ap (λ n. with_reader c.args.a (take n xs) ++ drop n xs) more ∙ c.loop-at.invariant.place);
     }
 
-pub returns-then-at-eq0 : goal.returns-then-at-eq0
-returns-then-at-eq0 c =
+pub returns-then-at-eq0-clause-readers : goal.returns-then-at-eq0-clause-readers
+returns-then-at-eq0-clause-readers c =
     let xs = c.args.readers.now.items in
     let at = c.loop-at.at in
     let none : ActionId = record { 0 = 0 } in
@@ -47,8 +47,8 @@ returns-then-at-eq0 c =
     let put : c.insert.new.self.items ≡ take at xs ++ c.args.a ∷ drop at xs = search rules in
     put ∙ placed c.args.a xs at none c.requires.ascending c.loop-at.invariant.bound c.loop-at.invariant.place lower
 
-pub returns-else-index-a : goal.returns-else-index-a
-returns-else-index-a c =
+pub returns-else-index-a-clause-readers : goal.returns-else-index-a-clause-readers
+returns-else-index-a-clause-readers c =
     let xs = c.args.readers.now.items in
     let k : ℕ = c.loop-at.at - 1 in
     let some : 0 < c.loop-at.at = omega (arith, c.if-at-eq0.false) in

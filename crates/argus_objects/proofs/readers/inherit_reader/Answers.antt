@@ -27,5 +27,22 @@ add_reader-requires c =
           xs c.requires);
     }
 
-pub returns-then-is_among : goal.returns-then-is_among
-returns-then-is_among c = search rules
+pub returns-then-is_among-clause-readers : goal.returns-then-is_among-clause-readers
+returns-then-is_among-clause-readers c = search rules
+
+pub returns-then-is_among-clause-room : goal.returns-then-is_among-clause-room
+returns-then-is_among-clause-room c =
+    let xs = c.args.readers.now.items in
+    let fewer : length (without_reader c.args.s xs) < length xs =
+    fewer_readers c.args.s xs (sym (c.is_among.ensures ∙ ap (is_reader c.args.s) c.as_slice.ensures.value)
+    ∙ c.if-is_among.true) in
+    omega (
+      arith,
+      fewer,
+      ap length c.drop_reader.ensures.readers,
+      c.drop_reader.ensures.capacity,
+      c.args.readers.now.ok,
+      c.args.readers.now.small,
+      c.drop_reader.new.readers.ok,
+      c.add_reader.ensures.room,
+    )

@@ -8,8 +8,8 @@ use Rattle.argus_objects.specs.Object.{versions_newest_first}
 use Rattle.argus_objects.proofs.Stacks.{newest_filter}
 use Rattle.argus_objects.proofs.versions.discard_versions.Goals as goal
 
-pub returns : goal.returns
-returns c =
+pub returns-clause-versions : goal.returns-clause-versions
+returns-clause-versions c =
     ap versions_newest_first (filter_same _ (λ (v : Version). not (is_ancestor c.args.tree.now c.args.a.0 v.holder.0)) _
     (λ x b q k. search (rules, tests)) _ _ c.retain.ensures.filtered)
     ∙ sym (newest_filter (λ (x : ActionId). not (is_ancestor c.args.tree.now c.args.a.0 x.0)) c.args.versions.now.items)

@@ -1,43 +1,24 @@
--- With the version of the parent gone, that of the subaction takes its place.
-use Rattle.std.proofs.Common.{◌≡◌, List, ◌++◌, map, length, take, drop, reverse, eqb, true, false, sym, ◌∙◌, ap, arith}
-use Rattle.std.specs.List.{list_any}
-use Rattle.std.proofs.lemmas.Bool.{cond-true, cond-false}
-use Rattle.std.proofs.lemmas.List.{drop_all, take_all, append-nil}
+-- Where all others stand before the parent, the newest version gets another holder.
+use Rattle.std.proofs.Common.{◌≡◌, ℕ, ◌-◌, length, take, ltb, true, sym, ◌∙◌, refl, ap, arith}
+use Rattle.std.specs.List.{list_all}
 use Rattle.argus_objects.specs.declared.version.Version.{Version}
-use Rattle.argus_objects.specs.Object.{plain_version, versions_newest_first}
-use Rattle.argus_objects.specs.CellChanges.{version_inherited, has_version}
-use Rattle.argus_objects.proofs.Stacks.{has_newest, map_reverse}
+use Rattle.argus_objects.proofs.InOrder.{any_default}
+use Rattle.argus_objects.proofs.Changes.{handed_in_place}
 use Rattle.argus_objects.proofs.versions.inherit_version.Goals as goal
 
-pub returns-then-has_version : goal.returns-then-has_version
-returns-then-has_version c =
+pub returns-then-is_past_older-clause-versions : goal.returns-then-is_past_older-clause-versions
+returns-then-is_past_older-clause-versions c =
     let vs = c.args.versions.now.items in
-    let kept = c.drop_version.new.versions.items in
-    let new = c.inherit_holder.new.versions in
-    let as_long : length new ≡ length kept = omega (
-      arith,
-      c.inherit_holder.auto,
-      ap length
-          c.as_mut_slice.ensures.value,
-    ) in
-    let whole : take c.drop_version.new.versions.len (new ++ drop (length new) kept) ≡ new =
-    ap (λ ws. take c.drop_version.new.versions.len (new ++ ws)) (drop_all (length new) kept (omega arith))
-    ∙ (ap (take c.drop_version.new.versions.len) (append-nil new)
-    ∙ take_all c.drop_version.new.versions.len new (omega (arith, c.drop_version.new.versions.ok, as_long))) in
-    let there : has_version c.args.s (versions_newest_first vs) ≡ true =
-    has_newest c.args.s vs ∙ (ap (list_any (λ (v : Version). eqb v.holder.0 c.args.s.0)) (sym c.as_slice.ensures.value)
-    ∙ (sym c.has_version.ensures ∙ c.if-has_version.true)) in
-    ap versions_newest_first whole
-    ∙ (ap reverse (c.inherit_holder.ensures ∙ ap (λ (ws : List Version). map (version_inherited c.args.s c.args.parent)
-    (map plain_version ws)) c.as_mut_slice.ensures.value)
-    ∙ (sym (map_reverse (version_inherited c.args.s c.args.parent) (map plain_version kept))
-    ∙ (ap (map (version_inherited c.args.s c.args.parent)) c.drop_version.ensures
-    ∙ sym (cond-true _ _ _ there))))
-
-pub returns-else-has_version : goal.returns-else-has_version
-returns-else-has_version c =
-    let vs = c.args.versions.now.items in
-    let lacks : has_version c.args.s (versions_newest_first vs) ≡ false =
-    has_newest c.args.s vs ∙ (ap (list_any (λ (v : Version). eqb v.holder.0 c.args.s.0)) (sym c.as_slice.ensures.value)
-    ∙ (sym c.has_version.ensures ∙ c.if-has_version.false)) in
-    sym (cond-false _ _ _ lacks)
+    let d : Version = c.index.result.now in
+    let old : Version = c.index_mut.result.now in
+    let k : ℕ = c.len-held.result - 1 in
+    let v : Version = record { holder = c.args.parent; content = old.content } in
+    let as_many : c.len-held.result ≡ length vs = omega arith in
+    let low : list_all (λ (w : Version). ltb w.holder.0 c.args.parent.0) (take k vs) ≡ true =
+    ap (λ n. list_all (λ (w : Version). ltb w.holder.0 c.args.parent.0) (take (n - 1) vs)) as_many
+    ∙ (ap (λ ws. list_all (λ (w : Version). ltb w.holder.0 c.args.parent.0) (take (length ws - 1) ws))
+    (sym c.as_slice.ensures.value)
+    ∙ (sym c.is_past_older.ensures ∙ c.if-is_past_older.true)) in
+    handed_in_place c.args.s c.args.parent vs k d v (omega arith)
+    (sym (ap (λ (w : Version). w.holder.0) c.index.ensures) ∙ c.if-index-s.true) c.if-parent-s.true low refl
+    (ap (λ (w : Version). w.content) (c.index_mut.ensures.value ∙ any_default vs k old d (omega arith)))

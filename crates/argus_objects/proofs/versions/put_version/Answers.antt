@@ -11,8 +11,8 @@ use Rattle.argus_objects.proofs.versions.put_version.Goals as goal
 use Rattle.argus_objects.proofs.versions.put_version.Goals.{else-held-gt0-via-then-held-gt0+else-index-a}
 use Rattle.argus_objects.proofs.versions.put_version.Goals.{else-held-gt0-via-else-held-gt0}
 
-pub returns-then-index-a : goal.returns-then-index-a
-returns-then-index-a c =
+pub returns-then-index-a-clause-versions : goal.returns-then-index-a-clause-versions
+returns-then-index-a-clause-versions c =
     let vs = c.args.versions.now.items in
     let d : Version = c.index.result.now in
     let k : ℕ = c.len-held.result - 1 in
@@ -24,8 +24,8 @@ returns-then-index-a c =
     (c.index_mut.ensures.value ∙ any_default vs k c.index_mut.result.now d (omega arith)) ∙ held) in
     version_set c.args.a (plain_option c.args.content) vs k d v (omega arith) c.requires.ascending held mine refl
 
-pub returns-else-held-gt0 : goal.returns-else-held-gt0
-returns-else-held-gt0 c =
+pub returns-else-held-gt0-clause-versions : goal.returns-else-held-gt0-clause-versions
+returns-else-held-gt0-clause-versions c =
     let vs = c.args.versions.now.items in
     let v : Version = record { holder = c.args.a; content = c.args.content } in
     let low : list_all (λ (x : ActionId). ltb x.0 c.args.a.0) (holders (versions_newest_first vs)) ≡ true =

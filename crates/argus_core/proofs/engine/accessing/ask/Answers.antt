@@ -28,38 +28,38 @@ refuse-requires-clause-right c =
     access_refused (asks c.args.state.now c.requires c.args.a c.args.o c.args.query) c.in-Some.why
     (sym (rw (c.as_slice.ensures.value) at c.ask_refusal.ensures) ∙ c.in-Some.is)
 
-pub reserve_access-requires-clause-low : goal.reserve_access-requires-clause-low
-reserve_access-requires-clause-low c =
+pub reserve_granted_read-requires-clause-low : goal.reserve_granted_read-requires-clause-low
+reserve_granted_read-requires-clause-low c =
     (access_free (asks c.args.state.now c.requires c.args.a c.args.o c.args.query)
     (sym (rw (c.as_slice.ensures.value) at c.ask_refusal.ensures) ∙ c.in-None.is)).low
 
-pub reserve_access-requires-clause-granted : goal.reserve_access-requires-clause-granted
-reserve_access-requires-clause-granted c =
+pub reserve_granted_read-requires-clause-granted : goal.reserve_granted_read-requires-clause-granted
+reserve_granted_read-requires-clause-granted c =
     (access_free (asks c.args.state.now c.requires c.args.a c.args.o c.args.query)
     (sym (rw (c.as_slice.ensures.value) at c.ask_refusal.ensures) ∙ c.in-None.is)).opens
 
 pub small_answer-requires-clause-granted : goal.small_answer-requires-clause-granted
 small_answer-requires-clause-granted c =
     rw (c.as_slice-2.ensures.value)
-    (ask_free c.reserve_access.new.state c.reserve_access.ensures.kept c.args.a c.args.o c.args.query
-    (still c.args.state.now c.reserve_access.new.state c.requires c.args.a c.args.o c.args.query
+    (ask_free c.reserve_granted_read.new.state c.reserve_granted_read.ensures.kept c.args.a c.args.o c.args.query
+    (still c.args.state.now c.reserve_granted_read.new.state c.requires c.args.a c.args.o c.args.query
     (sym (rw (c.as_slice.ensures.value) at c.ask_refusal.ensures) ∙ c.in-None.is)
-    c.reserve_access.ensures.journal)).opens
+    c.reserve_granted_read.ensures.journal)).opens
 
 pub small_answer-requires-clause-limits : goal.small_answer-requires-clause-limits
 small_answer-requires-clause-limits c =
     rw (c.as_slice-2.ensures.value)
-    (reader_limits c.reserve_access.new.state c.reserve_access.ensures.kept c.args.a c.args.o
-    (ask_free c.reserve_access.new.state c.reserve_access.ensures.kept c.args.a c.args.o c.args.query
-    (still c.args.state.now c.reserve_access.new.state c.requires c.args.a c.args.o c.args.query
-    (sym (rw (c.as_slice.ensures.value) at c.ask_refusal.ensures) ∙ c.in-None.is) c.reserve_access.ensures.journal)))
+    (reader_limits c.reserve_granted_read.new.state c.reserve_granted_read.ensures.kept c.args.a c.args.o
+    (ask_free c.reserve_granted_read.new.state c.reserve_granted_read.ensures.kept c.args.a c.args.o c.args.query
+    (still c.args.state.now c.reserve_granted_read.new.state c.requires c.args.a c.args.o c.args.query
+    (sym (rw (c.as_slice.ensures.value) at c.ask_refusal.ensures) ∙ c.in-None.is) c.reserve_granted_read.ensures.journal)))
 
 pub record_answer-requires-clause-free : goal.record_answer-requires-clause-free
 record_answer-requires-clause-free c =
-    still c.args.state.now c.reserve_access.new.state c.requires c.args.a c.args.o c.args.query
-    (sym (rw (c.as_slice.ensures.value) at c.ask_refusal.ensures) ∙ c.in-None.is) c.reserve_access.ensures.journal
+    still c.args.state.now c.reserve_granted_read.new.state c.requires c.args.a c.args.o c.args.query
+    (sym (rw (c.as_slice.ensures.value) at c.ask_refusal.ensures) ∙ c.in-None.is) c.reserve_granted_read.ensures.journal
 
 pub answer_with_memory-requires-clause-free : goal.answer_with_memory-requires-clause-free
 answer_with_memory-requires-clause-free c =
-    still c.args.state.now c.reserve_access.new.state c.requires c.args.a c.args.o c.args.query
-    (sym (rw (c.as_slice.ensures.value) at c.ask_refusal.ensures) ∙ c.in-None.is) c.reserve_access.ensures.journal
+    still c.args.state.now c.reserve_granted_read.new.state c.requires c.args.a c.args.o c.args.query
+    (sym (rw (c.as_slice.ensures.value) at c.ask_refusal.ensures) ∙ c.in-None.is) c.reserve_granted_read.ensures.journal

@@ -16,8 +16,8 @@ refuse-requires-clause-right c =
     access_refused (tests (reads c.args.state.now c.requires c.args.a c.args.o)) c.in-Some.why
     (sym (rw (c.as_slice.ensures.value) at c.test_refusal.ensures) ∙ c.in-Some.is)
 
-pub is_readable-requires : goal.is_readable-requires
-is_readable-requires c =
+pub is_readable-requires-clause-low : goal.is_readable-requires-clause-low
+is_readable-requires-clause-low c =
     rw (c.as_slice-2.ensures.value) (test_low (reads c.args.state.now c.requires c.args.a c.args.o)
     (sym (rw (c.as_slice.ensures.value) at c.test_refusal.ensures) ∙ c.in-None.is))
 
@@ -28,13 +28,13 @@ push-requires-clause-answered c =
     (sym (rw (c.as_slice.ensures.value) at c.test_refusal.ensures) ∙ c.in-None.is) false
     (λ d. sym c.if-not-is_readable.true ∙ (rw (c.as_slice-2.ensures.value) at c.is_readable.ensures) d))
 
-pub reserve_access-requires-clause-low : goal.reserve_access-requires-clause-low
-reserve_access-requires-clause-low c =
+pub reserve_granted_read-requires-clause-low : goal.reserve_granted_read-requires-clause-low
+reserve_granted_read-requires-clause-low c =
     test_low (reads c.args.state.now c.requires c.args.a c.args.o)
     (sym (rw (c.as_slice.ensures.value) at c.test_refusal.ensures) ∙ c.in-None.is)
 
-pub reserve_access-requires-clause-granted : goal.reserve_access-requires-clause-granted
-reserve_access-requires-clause-granted c =
+pub reserve_granted_read-requires-clause-granted : goal.reserve_granted_read-requires-clause-granted
+reserve_granted_read-requires-clause-granted c =
     λ d. sym (sym c.if-not-is_readable.false ∙ (rw (c.as_slice-2.ensures.value) at c.is_readable.ensures) d)
 
 pub grant_read-requires-clause-free : goal.grant_read-requires-clause-free
@@ -43,28 +43,28 @@ grant_read-requires-clause-free c =
     test_still (reads c.args.state.now c.requires c.args.a c.args.o)
     (sym (rw (c.as_slice.ensures.value) at c.test_refusal.ensures) ∙ c.in-None.is) true
     (λ d. sym c.if-not-is_readable.false ∙ (rw (c.as_slice-2.ensures.value) at c.is_readable.ensures) d)
-    c.reserve_access.new.state c.reserve_access.ensures.journal in
+    c.reserve_granted_read.new.state c.reserve_granted_read.ensures.journal in
     rw (c.as_mut_slice-objects.ensures.value)
-    (said_free (reads c.reserve_access.new.state c.reserve_access.ensures.kept c.args.a c.args.o) (sym yes))
+    (said_free (reads c.reserve_granted_read.new.state c.reserve_granted_read.ensures.kept c.args.a c.args.o) (sym yes))
 
 pub push-requires-2-clause-answered : goal.push-requires-2-clause-answered
 push-requires-2-clause-answered c =
     test_still (reads c.args.state.now c.requires c.args.a c.args.o)
     (sym (rw (c.as_slice.ensures.value) at c.test_refusal.ensures) ∙ c.in-None.is) true
     (λ d. sym c.if-not-is_readable.false ∙ (rw (c.as_slice-2.ensures.value) at c.is_readable.ensures) d)
-    c.reserve_access.new.state c.reserve_access.ensures.journal
+    c.reserve_granted_read.new.state c.reserve_granted_read.ensures.journal
 
 pub returns-clause-kept : goal.returns-clause-kept
 returns-clause-kept c =
-    let p = c.reserve_access.new.state in
-    let k = c.reserve_access.ensures.kept in
+    let p = c.reserve_granted_read.new.state in
+    let k = c.reserve_granted_read.ensures.kept in
     let new = c.grant_read.new.objects in
     let fits : length new ≡ p.objects.len = omega arith in
     let yes =
     test_still (reads c.args.state.now c.requires c.args.a c.args.o)
     (sym (rw (c.as_slice.ensures.value) at c.test_refusal.ensures) ∙ c.in-None.is) true
     (λ d. sym c.if-not-is_readable.false ∙ (rw (c.as_slice-2.ensures.value) at c.is_readable.ensures) d)
-    c.reserve_access.new.state c.reserve_access.ensures.journal in
+    c.reserve_granted_read.new.state c.reserve_granted_read.ensures.journal in
     rw (with_items_is p.objects new fits, c.push-2.ensures.entries, c.push-2.ensures.opening)
     (made_read p (entry_with (test_read c.args.a.0 c.args.o.0) (answered (flag true))) c.args.a c.args.o k new
     c.grant_read.new.holdings yes (said_free (reads p k c.args.a c.args.o) (sym yes))

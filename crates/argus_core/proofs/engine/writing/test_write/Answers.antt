@@ -19,8 +19,8 @@ refuse-requires-clause-right c =
     access_refused (tests (writes c.args.state.now c.requires c.args.a c.args.o)) c.in-Some.why
     (sym (rw (c.as_slice.ensures.value) at c.test_refusal.ensures) ∙ c.in-Some.is)
 
-pub is_writable-requires : goal.is_writable-requires
-is_writable-requires c =
+pub is_writable-requires-clause-low : goal.is_writable-requires-clause-low
+is_writable-requires-clause-low c =
     rw (c.as_slice-2.ensures.value) (test_low (writes c.args.state.now c.requires c.args.a c.args.o)
     (sym (rw (c.as_slice.ensures.value) at c.test_refusal.ensures) ∙ c.in-None.is))
 

@@ -15,7 +15,7 @@ kept c =
     c.self.inside.versions.items
     c.discard_versions.new.versions.items c.self.invariant.readers_ascend
     (subst (λ (o : Object). is_lawful c.args.tree.now o ≡ true) (sym c.self.view_is) c.requires.lawful)
-    stays stays c.discard_readers.ensures c.discard_versions.ensures
+    stays stays c.discard_readers.ensures.readers c.discard_versions.ensures.versions
 
 pub invariant_of-self : goal.invariant_of-self
 invariant_of-self c = (kept c).order

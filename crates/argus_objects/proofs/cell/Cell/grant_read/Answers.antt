@@ -12,7 +12,7 @@ kept c =
     (subst (λ (o : Object). is_lawful c.args.tree.now o ≡ true) (sym c.self.view_is) c.requires.lawful)
     c.args.a (subst (λ (o : Object). may_read c.args.tree.now o c.args.a ≡ true) (sym c.self.view_is)
     c.requires.granted)
-    c.add_reader.ensures refl
+    c.add_reader.ensures.readers refl
 
 pub invariant_of-self : goal.invariant_of-self
 invariant_of-self c = (kept c).order

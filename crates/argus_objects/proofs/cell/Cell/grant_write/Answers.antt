@@ -19,7 +19,7 @@ kept c =
     (subst (λ (o : Object). is_lawful c.args.tree.now o ≡ true) (sym c.self.view_is) c.requires.lawful)
     c.args.a (plain_option c.args.new_content)
     (subst (λ (o : Object). may_write c.args.tree.now o c.args.a ≡ true) (sym c.self.view_is) c.requires.granted)
-    refl c.put_version.ensures
+    refl c.put_version.ensures.versions
 
 pub invariant_of-self : goal.invariant_of-self
 invariant_of-self c = (kept c).order

@@ -13,7 +13,7 @@ kept c =
     c.inherit_version.new.versions.items c.self.invariant.readers_ascend
     (subst (λ (o : Object). is_lawful c.args.tree.now o ≡ true) (sym c.self.view_is) c.requires.lawful)
     c.args.s c.args.parent (record { linked = c.requires.parent; above = c.parent_is_ancestor.ensures })
-    c.inherit_reader.ensures c.inherit_version.ensures
+    c.inherit_reader.ensures.readers c.inherit_version.ensures.versions
 
 pub invariant_of-self : goal.invariant_of-self
 invariant_of-self c = (kept c).order

@@ -2,5 +2,5 @@
 use Rattle.std.proofs.Common.{rules}
 use Rattle.argus_objects.proofs.cell.Cell.reserve_grant.Goals as goal
 
-pub returns-clause-ok : goal.returns-clause-ok
-returns-clause-ok c = search rules
+pub returns-clause-version : goal.returns-clause-version
+returns-clause-version c = search rules

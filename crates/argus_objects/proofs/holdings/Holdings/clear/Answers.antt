@@ -1,28 +1,31 @@
--- A list with no memory has no objects, and so has one that has no place.
-use Rattle.std.proofs.Common.{◌≡◌, ◌<◌, ◌≤◌, [], length, ◌∙◌, ap, refl, rules}
-use Rattle.argus_objects.specs.ObjectList.{NotedObjects, no_objects}
-use Rattle.argus_objects.proofs.Places.{list_past, objects_set, objects_same}
+-- The action's place is empty, and who had nothing in its list has nothing still.
+use Rattle.std.proofs.Common.{[], sym, ◌∙◌, ap, arith, refl}
+use Rattle.argus_objects.specs.Holdings.{place_at, placed_objects}
+use Rattle.argus_objects.specs.declared.held_list.HeldList.{HeldList}
+use Rattle.argus_objects.proofs.Places.{cleared_objects, has_place, holder_read, listed, none_set}
 use Rattle.argus_objects.proofs.holdings.Holdings.clear.Goals as goal
 
 pub returns-in_default : goal.returns-in_default
-returns-in_default c =
-    let lists = c.args.self.now.lists.items in
-    let past : length lists ≤ c.place_of-place.result = search rules in
-    let none = list_past c.args.self.now.first lists c.args.a.0 c.place_of-place.result c.place_of-place.ensures past in
-    objects_same c.args.self.now.first lists c.args.a.0 [] (ap (λ (l : NotedObjects). l.objects) none)
+returns-in_default c = none_set c.args.self.now c.args.a [] (sym c.index_of.ensures ∙ c.in_default.is) refl
 
-pub returns-then-has_memory : goal.returns-then-has_memory
-returns-then-has_memory c =
-    let lists = c.args.self.now.lists.items in
-    let within : c.place_of-place.result < length lists = search rules in
-    objects_set c.args.self.now.first lists c.args.a.0 c.place_of-place.result c.replace-list.new.dest
-    c.place_of-place.ensures within []
-    (ap (λ (l : NotedObjects). l.objects) (c.replace-list.ensures.after ∙ c.new.ensures))
+pub index_mut-requires : goal.index_mut-requires
+index_mut-requires c =
+    let is = listed c.args.self.now c.args.a c.in-Some.index (sym c.index_of.ensures ∙ c.in-Some.is) in
+    omega (arith, is.there)
 
-pub returns-else-has_memory : goal.returns-else-has_memory
-returns-else-has_memory c =
-    let lists = c.args.self.now.lists.items in
-    let within : c.place_of-place.result < length lists = search rules in
-    let none : c.in-Some.list.now ≡ no_objects = c.if-has_memory.ensures refl in
-    objects_set c.args.self.now.first lists c.args.a.0 c.place_of-place.result c.in-Some.list.now
-    c.place_of-place.ensures within [] (ap (λ (l : NotedObjects). l.objects) none)
+pub put-requires : goal.put-requires
+put-requires c =
+    let is = listed c.args.self.now c.args.a c.in-Some.index (sym c.index_of.ensures ∙ c.in-Some.is) in
+    let place = has_place c.args.self.now c.args.a c.in-Some.index is in
+    record { from = place.from; to = place.to }
+
+pub returns : goal.returns
+returns c =
+    let h = c.args.self.now in
+    let is = listed c.args.self.now c.args.a c.in-Some.index (sym c.index_of.ensures ∙ c.in-Some.is) in
+    let own = holder_read h c.args.a c.in-Some.index c.index_mut.result.now is c.index_mut.ensures.value in
+    let y : HeldList = (record { holder = c.index_mut.result.now.holder; objects = c.empty.new.list }) in
+    λ x. ap (λ ls. (placed_objects ls x.0 (place_at c.put.new.self.first c.put.new.self.places.items x.0)).objects)
+    c.put.ensures.lists
+    ∙ (cleared_objects h c.args.a c.in-Some.index y
+    (λ z. place_at c.put.new.self.first c.put.new.self.places.items z.0) is own c.put.ensures.places x)

@@ -1,37 +1,47 @@
--- Objects passed to who has none are that list, and the parent's list is the empty one.
-use Rattle.std.proofs.Common.{◌≡◌, ◌<◌, ◌≤◌, [], length, ap, rules}
-use Rattle.argus_objects.specs.Holdings.{list_of}
-use Rattle.argus_objects.specs.ObjectList.{passed}
+-- The parent's place has the number of the list, which is the parent's then.
+use Rattle.std.proofs.Common.{◌≡◌, ℕ, [], length, Option, cond, eqb, set, sym, ◌∙◌, ap, arith, refl}
+use Rattle.std.proofs.lemmas.Bool.{eqb-true}
+use Rattle.argus_actions.specs.declared.action_id.ActionId.{ActionId}
+use Rattle.argus_objects.specs.Holdings.{noted_by, place_at, placed_objects}
+use Rattle.argus_objects.specs.ObjectList.{NotedObjects, passed}
+use Rattle.argus_objects.specs.declared.held_list.HeldList.{HeldList}
 use Rattle.argus_objects.proofs.Distinct.{passed_to_none}
-use Rattle.argus_objects.proofs.Places.{list_past, list_swap, objects_handed, none_handed, place_of_one}
+use Rattle.argus_objects.proofs.Places.{handed_on, listed, none_handed, none_of_none, noted_read, nothing_handed, objects_handed, unlisted}
 use Rattle.argus_objects.proofs.holdings.Holdings.hand_up.Goals as goal
-use Rattle.argus_objects.proofs.holdings.Holdings.hand_up.Goals.{else-from-len-via-then-from-len+else-into-len}
-use Rattle.argus_objects.proofs.holdings.Holdings.hand_up.Goals.{else-from-len-via-else-from-len}
 
-pub returns-then-into-len : goal.returns-then-into-len
-returns-then-into-len c =
-    let first = c.args.self.now.first in
-    let lists = c.args.self.now.lists.items in
-    let low : c.place_of-from.result < length lists = search rules in
-    let high : c.place_of-into.result < length lists = search rules in
-    let all : passed (list_of first lists c.args.s.0).objects [] ≡ (list_of first lists c.args.s.0).objects =
+pub returns-then-is_empty : goal.returns-then-is_empty
+returns-then-is_empty c =
+    let h = c.args.self.now in
+    let few : length c.of.result.now ≡ 0 = eqb-true _ 0 (sym c.is_empty.ensures ∙ c.if-is_empty.true) in
+    let nothing : (noted_by h c.args.s).objects ≡ [] =
+    sym c.of.ensures.list ∙ none_of_none c.of.result.now (omega (arith, few)) in
+    λ x. c.clear.ensures x ∙ ap (cond (eqb x.0 c.args.s.0) [])
+    (nothing_handed h c.args.s c.args.parent nothing c.requires.none x)
+
+pub returns-in_default : goal.returns-in_default
+returns-in_default c =
+    let h = c.args.self.now in
+    none_handed h c.args.s c.args.parent
+    (ap (λ (l : NotedObjects). l.objects) (unlisted h c.args.s (sym c.index_of.ensures ∙ c.in_default.is)))
+    c.requires.none
+
+pub index_mut-requires : goal.index_mut-requires
+index_mut-requires c =
+    let is = listed c.args.self.now c.args.s c.in-Some.index (sym c.index_of.ensures ∙ c.in-Some.is) in
+    omega (arith, is.there)
+
+pub returns : goal.returns
+returns c =
+    let h = c.args.self.now in
+    let is = listed h c.args.s c.in-Some.index (sym c.index_of.ensures ∙ c.in-Some.is) in
+    let read = noted_read h c.args.s c.in-Some.index c.index_mut.result.now is c.index_mut.ensures.value in
+    let y : HeldList = record { holder = c.args.parent; objects = c.index_mut.result.now.objects } in
+    let place : ActionId → Option ℕ = λ z. place_at c.put.new.self.first c.put.new.self.places.items z.0 in
+    let handed = handed_on h c.args.s c.args.parent c.in-Some.index y place is refl (sym read) c.requires.other
+    c.put.ensures.places in
+    let all : passed (noted_by h c.args.s).objects [] ≡ (noted_by h c.args.s).objects =
     rw (← c.of.ensures.list) (passed_to_none c.of.result.now c.of.ensures.once) in
-    λ x. objects_handed first lists c.swap.new.self.items c.args.s.0 c.args.parent.0
-    (list_swap first lists c.swap.new.self.items c.args.s.0 c.args.parent.0
-    c.place_of-from.result c.place_of-into.result
-    c.place_of-from.ensures c.place_of-into.ensures low high c.swap.ensures.by_index c.requires.other)
-    c.requires.none all x
-
-pub returns-else-from-len : goal.returns-else-from-len
-returns-else-from-len c =
-    let first = c.args.self.now.first in
-    let lists = c.args.self.now.lists.items in
-    let past : length lists ≤ c.place_of-from.result =
-    elim c.else-from-len.branch [
-      | else-from-len-via-then-from-len+else-into-len w ↦ absurd (place_of_one first lists c.args.parent.0
-          c.place_of-into.result c.place_of-into.ensures c.requires.place.from c.requires.place.to (search rules))
-      | else-from-len-via-else-from-len w ↦ search rules
-    ] in
-    λ x. none_handed first lists c.args.s.0 c.args.parent.0
-    (ap (λ l. l.objects) (list_past first lists c.args.s.0 c.place_of-from.result c.place_of-from.ensures past))
-    c.requires.none x
+    λ x. ap (λ ls. (placed_objects ls x.0 (place_at c.put.new.self.first c.put.new.self.places.items x.0)).objects)
+    c.put.ensures.lists
+    ∙ (objects_handed h c.args.s c.args.parent
+    (λ z. placed_objects (set h.lists.items c.in-Some.index y) z.0 (place z)) handed c.requires.none all x)

@@ -1,40 +1,43 @@
--- The list at the action's place is the action's, and no other.
-use Rattle.std.proofs.Common.{◌≡◌, ◌<◌, ◌≤◌, length, get_or, sym, ◌∙◌, ap, arith, rules}
+-- The list under the action's number is the action's, and no other's.
+use Rattle.std.proofs.Common.{sym, ◌∙◌, ap, arith}
+use Rattle.argus_objects.specs.ObjectList.{NotedObjects}
 use Rattle.argus_objects.specs.Holdings.{noted}
-use Rattle.argus_objects.specs.ObjectList.{NotedObjects, no_objects}
-use Rattle.argus_objects.proofs.Places.{list_at, list_past, objects_set, rooms_set}
+use Rattle.argus_objects.proofs.Places.{holder_read, listed, noted_read, objects_set, rooms_set, unlisted}
 use Rattle.argus_objects.proofs.holdings.Holdings.note.Goals as goal
+
+pub index_mut-requires : goal.index_mut-requires
+index_mut-requires c =
+    let is = listed c.args.self.now c.args.a c.in-Some.index (sym c.index_of.ensures ∙ c.in-Some.is) in
+    omega (arith, is.there)
 
 pub note-requires : goal.note-requires
 note-requires c =
-    let lists = c.args.self.now.lists.items in
-    let at = list_at c.args.self.now.first lists c.args.a.0 c.place_of-place.result c.place_of-place.ensures in
-    let read : c.in-Some.list.now ≡ get_or lists c.place_of-place.result no_objects = search rules in
-    omega (arith, c.requires, ap (λ (l : NotedObjects). l.room) (read ∙ sym at))
+    let h = c.args.self.now in
+    let is = listed c.args.self.now c.args.a c.in-Some.index (sym c.index_of.ensures ∙ c.in-Some.is) in
+    let read = noted_read h c.args.a c.in-Some.index c.index_mut.result.now is c.index_mut.ensures.value in
+    let own = holder_read h c.args.a c.in-Some.index c.index_mut.result.now is c.index_mut.ensures.value in
+    omega (arith, c.requires, ap (λ (l : NotedObjects). l.room) read)
 
 pub returns-in-Some-clause-list : goal.returns-in-Some-clause-list
 returns-in-Some-clause-list c =
-    let lists = c.args.self.now.lists.items in
-    let at = list_at c.args.self.now.first lists c.args.a.0 c.place_of-place.result c.place_of-place.ensures in
-    let within : c.place_of-place.result < length lists = search rules in
-    let read : c.in-Some.list.now ≡ get_or lists c.place_of-place.result no_objects = search rules in
-    objects_set c.args.self.now.first lists c.args.a.0 c.place_of-place.result c.note.new.self
-    c.place_of-place.ensures within _
-    (c.note.ensures.list ∙ ap (λ (l : NotedObjects). noted c.args.o l.objects) (read ∙ sym at))
+    let h = c.args.self.now in
+    let is = listed c.args.self.now c.args.a c.in-Some.index (sym c.index_of.ensures ∙ c.in-Some.is) in
+    let read = noted_read h c.args.a c.in-Some.index c.index_mut.result.now is c.index_mut.ensures.value in
+    let own = holder_read h c.args.a c.in-Some.index c.index_mut.result.now is c.index_mut.ensures.value in
+    objects_set h c.args.a c.in-Some.index is (record { holder = c.index_mut.result.now.holder; objects = c.note.new.self }) own _
+    (c.note.ensures.list ∙ ap (λ (l : NotedObjects). noted c.args.o l.objects) (sym read))
 
 pub returns-in-Some-clause-rooms : goal.returns-in-Some-clause-rooms
 returns-in-Some-clause-rooms c =
-    let lists = c.args.self.now.lists.items in
-    let at = list_at c.args.self.now.first lists c.args.a.0 c.place_of-place.result c.place_of-place.ensures in
-    let within : c.place_of-place.result < length lists = search rules in
-    let read : c.in-Some.list.now ≡ get_or lists c.place_of-place.result no_objects = search rules in
-    rooms_set c.args.self.now.first lists c.args.a.0 c.place_of-place.result c.note.new.self c.place_of-place.ensures
-    within (omega (arith, c.note.ensures.room, ap (λ (l : NotedObjects). l.room) (read ∙ sym at)))
+    let h = c.args.self.now in
+    let is = listed c.args.self.now c.args.a c.in-Some.index (sym c.index_of.ensures ∙ c.in-Some.is) in
+    let read = noted_read h c.args.a c.in-Some.index c.index_mut.result.now is c.index_mut.ensures.value in
+    let own = holder_read h c.args.a c.in-Some.index c.index_mut.result.now is c.index_mut.ensures.value in
+    rooms_set h c.args.a c.in-Some.index is (record { holder = c.index_mut.result.now.holder; objects = c.note.new.self }) own
+    (omega (arith, c.note.ensures.room, ap (λ (l : NotedObjects). l.room) read))
 
 pub returns-in_default-clause-list : goal.returns-in_default-clause-list
 returns-in_default-clause-list c =
-    let lists = c.args.self.now.lists.items in
-    let past : length lists ≤ c.place_of-place.result = search rules in
-    let none = list_past c.args.self.now.first lists c.args.a.0 c.place_of-place.result c.place_of-place.ensures past in
+    let none = unlisted c.args.self.now c.args.a (sym c.index_of.ensures ∙ c.in_default.is) in
     let bad : ⊥ = omega (arith, c.requires, ap (λ (l : NotedObjects). l.room) none) in
     λ x. absurd bad

@@ -1,40 +1,45 @@
--- The list at the action's place is the action's, and no other.
-use Rattle.std.proofs.Common.{◌≡◌, ◌<◌, length, get_or, sym, ◌∙◌, ap, rules, arith}
-use Rattle.argus_objects.specs.ObjectList.{NotedObjects, no_objects}
-use Rattle.argus_objects.proofs.Places.{list_at, objects_kept, room_at, rooms_kept}
+-- The action gets a list that no other has, and then room in it.
+use Rattle.std.proofs.Common.{sym, ◌∙◌, ap, arith}
+use Rattle.argus_objects.specs.ObjectList.{NotedObjects}
+use Rattle.argus_objects.proofs.Places.{holder_read, noted_read, objects_kept, room_at, rooms_kept}
 use Rattle.argus_objects.proofs.holdings.Holdings.reserve_first.Goals as goal
 
-pub returns-in-Some-clause-same : goal.returns-in-Some-clause-same
-returns-in-Some-clause-same c =
-    let first = c.reserve_place.new.self.first in
-    let lists = c.reserve_place.new.self.lists.items in
-    let at = list_at first lists c.args.a.0 c.place_of-place.result c.place_of-place.ensures in
-    let within : c.place_of-place.result < length lists = search rules in
-    let read : c.in-Some.list.now ≡ get_or lists c.place_of-place.result no_objects = search rules in
-    λ x. objects_kept first lists c.args.a.0 c.place_of-place.result c.reserve_in.new.list
-    c.place_of-place.ensures within
-    (c.reserve_in.ensures.same ∙ ap (λ (l : NotedObjects). l.objects) (read ∙ sym at)) x
-    ∙ c.reserve_place.ensures.same x
+pub give-requires-clause-none : goal.give-requires-clause-none
+give-requires-clause-none c =
+    c.unused_list.ensures.same c.args.a ∙ (c.reserve_place.ensures.same c.args.a ∙ c.requires)
 
-pub returns-in-Some-clause-ok : goal.returns-in-Some-clause-ok
-returns-in-Some-clause-ok c =
-    let first = c.reserve_place.new.self.first in
-    let lists = c.reserve_place.new.self.lists.items in
-    let within : c.place_of-place.result < length lists = search rules in
-    rw (room_at first lists c.args.a.0 c.place_of-place.result c.reserve_in.new.list c.place_of-place.ensures within)
-    c.reserve_in.ensures.ok
+pub returns-clause-same : goal.returns-clause-same
+returns-clause-same c =
+    let h = c.give.new.self in
+    let i = c.in_ok-index.index in
+    let is = c.give.ensures.own in
+    let read = noted_read h c.args.a i c.index_mut.result.now is c.index_mut.ensures.value in
+    let own = holder_read h c.args.a i c.index_mut.result.now is c.index_mut.ensures.value in
+    λ x. objects_kept h c.args.a i is (record { holder = c.index_mut.result.now.holder; objects = c.reserve.new.self }) own
+    (c.reserve.ensures.same ∙ ap (λ (l : NotedObjects). l.objects) (sym read)) x
+    ∙ (c.give.ensures.same x ∙ ap (λ (l : NotedObjects). l.objects)
+    (c.unused_list.ensures.same x ∙ c.reserve_place.ensures.same x))
 
-pub returns-in-Some-clause-rooms : goal.returns-in-Some-clause-rooms
-returns-in-Some-clause-rooms c =
-    let first = c.reserve_place.new.self.first in
-    let lists = c.reserve_place.new.self.lists.items in
-    let at = list_at first lists c.args.a.0 c.place_of-place.result c.place_of-place.ensures in
-    let within : c.place_of-place.result < length lists = search rules in
-    let read : c.in-Some.list.now ≡ get_or lists c.place_of-place.result no_objects = search rules in
+pub returns-clause-ok : goal.returns-clause-ok
+returns-clause-ok c =
+    let h = c.give.new.self in
+    let i = c.in_ok-index.index in
+    let is = c.give.ensures.own in
+    let read = noted_read h c.args.a i c.index_mut.result.now is c.index_mut.ensures.value in
+    let own = holder_read h c.args.a i c.index_mut.result.now is c.index_mut.ensures.value in
+    rw (room_at h c.args.a i is (record { holder = c.index_mut.result.now.holder; objects = c.reserve.new.self }) own) c.reserve.ensures.ok
+
+pub returns-clause-rooms : goal.returns-clause-rooms
+returns-clause-rooms c =
+    let h = c.give.new.self in
+    let i = c.in_ok-index.index in
+    let is = c.give.ensures.own in
+    let read = noted_read h c.args.a i c.index_mut.result.now is c.index_mut.ensures.value in
+    let own = holder_read h c.args.a i c.index_mut.result.now is c.index_mut.ensures.value in
     λ x. omega (
       arith,
-      c.reserve_place.ensures.rooms x,
-      rooms_kept first lists c.args.a.0 c.place_of-place.result
-          c.reserve_in.new.list c.place_of-place.ensures within
-          (omega (arith, c.reserve_in.ensures.room, ap (λ (l : NotedObjects). l.room) (read ∙ sym at))) x,
+      rooms_kept h c.args.a i is (record { holder = c.index_mut.result.now.holder; objects = c.reserve.new.self }) own
+          (omega (arith, c.reserve.ensures.room, ap (λ (l : NotedObjects). l.room) read)) x,
+      c.give.ensures.rooms x,
+      ap (λ (l : NotedObjects). l.room) (c.unused_list.ensures.same x ∙ c.reserve_place.ensures.same x),
     )

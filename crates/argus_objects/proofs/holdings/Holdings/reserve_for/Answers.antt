@@ -1,33 +1,39 @@
--- The list at the action's place is the action's, and no other.
-use Rattle.std.proofs.Common.{◌≡◌, ◌<◌, length, get_or, sym, ◌∙◌, ap, rules, arith}
-use Rattle.argus_objects.specs.ObjectList.{NotedObjects, no_objects}
-use Rattle.argus_objects.proofs.Places.{list_at, objects_kept, room_at, rooms_kept}
+-- The list under the action's number is the action's, and no other's.
+use Rattle.std.proofs.Common.{sym, ◌∙◌, ap, arith}
+use Rattle.argus_objects.specs.ObjectList.{NotedObjects}
+use Rattle.argus_objects.proofs.Places.{holder_read, listed, noted_read, objects_kept, room_at, rooms_kept, unlisted}
 use Rattle.argus_objects.proofs.holdings.Holdings.reserve_for.Goals as goal
 
-pub returns-clause-same : goal.returns-clause-same
-returns-clause-same c =
-    let first = c.args.self.now.first in
-    let lists = c.args.self.now.lists.items in
-    let at = list_at first lists c.args.a.0 c.place_of-place.result c.place_of-place.ensures in
-    let within : c.place_of-place.result < length lists = search rules in
-    let read : c.in-Some.list.now ≡ get_or lists c.place_of-place.result no_objects = search rules in
-    objects_kept first lists c.args.a.0 c.place_of-place.result c.reserve.new.self c.place_of-place.ensures within
-    (c.reserve.ensures.same ∙ ap (λ (l : NotedObjects). l.objects) (read ∙ sym at))
+pub index_mut-requires : goal.index_mut-requires
+index_mut-requires c =
+    let is = listed c.args.self.now c.args.a c.in-Some.index (sym c.index_of.ensures ∙ c.in-Some.is) in
+    omega (arith, is.there)
 
-pub returns-clause-ok : goal.returns-clause-ok
-returns-clause-ok c =
-    let first = c.args.self.now.first in
-    let lists = c.args.self.now.lists.items in
-    let within : c.place_of-place.result < length lists = search rules in
-    rw (room_at first lists c.args.a.0 c.place_of-place.result c.reserve.new.self c.place_of-place.ensures within)
-    c.reserve.ensures.ok
+pub returns-in-Some-clause-same : goal.returns-in-Some-clause-same
+returns-in-Some-clause-same c =
+    let h = c.args.self.now in
+    let is = listed c.args.self.now c.args.a c.in-Some.index (sym c.index_of.ensures ∙ c.in-Some.is) in
+    let read = noted_read h c.args.a c.in-Some.index c.index_mut.result.now is c.index_mut.ensures.value in
+    let own = holder_read h c.args.a c.in-Some.index c.index_mut.result.now is c.index_mut.ensures.value in
+    objects_kept h c.args.a c.in-Some.index is (record { holder = c.index_mut.result.now.holder; objects = c.reserve.new.self }) own
+    (c.reserve.ensures.same ∙ ap (λ (l : NotedObjects). l.objects) (sym read))
 
-pub returns-clause-rooms : goal.returns-clause-rooms
-returns-clause-rooms c =
-    let first = c.args.self.now.first in
-    let lists = c.args.self.now.lists.items in
-    let at = list_at first lists c.args.a.0 c.place_of-place.result c.place_of-place.ensures in
-    let within : c.place_of-place.result < length lists = search rules in
-    let read : c.in-Some.list.now ≡ get_or lists c.place_of-place.result no_objects = search rules in
-    rooms_kept first lists c.args.a.0 c.place_of-place.result c.reserve.new.self c.place_of-place.ensures within
-    (omega (arith, c.reserve.ensures.room, ap (λ (l : NotedObjects). l.room) (read ∙ sym at)))
+pub returns-in-Some-clause-ok : goal.returns-in-Some-clause-ok
+returns-in-Some-clause-ok c =
+    let h = c.args.self.now in
+    let is = listed c.args.self.now c.args.a c.in-Some.index (sym c.index_of.ensures ∙ c.in-Some.is) in
+    let read = noted_read h c.args.a c.in-Some.index c.index_mut.result.now is c.index_mut.ensures.value in
+    let own = holder_read h c.args.a c.in-Some.index c.index_mut.result.now is c.index_mut.ensures.value in
+    rw (room_at h c.args.a c.in-Some.index is (record { holder = c.index_mut.result.now.holder; objects = c.reserve.new.self }) own) c.reserve.ensures.ok
+
+pub returns-in-Some-clause-rooms : goal.returns-in-Some-clause-rooms
+returns-in-Some-clause-rooms c =
+    let h = c.args.self.now in
+    let is = listed c.args.self.now c.args.a c.in-Some.index (sym c.index_of.ensures ∙ c.in-Some.is) in
+    let read = noted_read h c.args.a c.in-Some.index c.index_mut.result.now is c.index_mut.ensures.value in
+    let own = holder_read h c.args.a c.in-Some.index c.index_mut.result.now is c.index_mut.ensures.value in
+    rooms_kept h c.args.a c.in-Some.index is (record { holder = c.index_mut.result.now.holder; objects = c.reserve.new.self }) own
+    (omega (arith, c.reserve.ensures.room, ap (λ (l : NotedObjects). l.room) read))
+
+pub reserve_first-requires : goal.reserve_first-requires
+reserve_first-requires c = unlisted c.args.self.now c.args.a (sym c.index_of.ensures ∙ c.in-None.is)

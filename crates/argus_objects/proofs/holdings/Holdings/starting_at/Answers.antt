@@ -1,9 +1,10 @@
--- No list stands there.
+-- There is no place.
 use Rattle.std.proofs.Common.{◌∙◌, ap}
-use Rattle.argus_objects.specs.Holdings.{list_of}
-use Rattle.argus_objects.proofs.Places.{list_nowhere}
+use Rattle.argus_objects.specs.Holdings.{place_at, placed_objects}
+use Rattle.argus_objects.proofs.Places.{place_nowhere}
 use Rattle.argus_objects.proofs.holdings.Holdings.starting_at.Goals as goal
 
 pub returns : goal.returns
-returns c = λ x. ap (λ xs. (list_of c.args.first xs x.0).objects) c.new.ensures.items
-    ∙ ap (λ l. l.objects) (list_nowhere c.args.first x.0)
+unfolding placed_objects
+returns c = λ x. ap (λ p. (placed_objects c.new-2.result.items x.0 p).objects)
+    (ap (λ ps. place_at c.args.first ps x.0) c.new.ensures.items ∙ place_nowhere c.args.first x.0)

@@ -3,11 +3,11 @@ use Rattle.std.proofs.Common.{arith, length, ◌≡◌}
 use Rattle.std.proofs.lemmas.List.{with_items_is}
 use Rattle.argus_core.proofs.Accessed.{kept_locks}
 use Rattle.argus_core.proofs.FreeLocks.{listed_held}
-use Rattle.argus_core.proofs.engine.granting.reserve_access.Goals as goal
+use Rattle.argus_core.proofs.engine.granting.reserve_granted_read.Goals as goal
 use Rattle.argus_journal.specs.LegalJournal.{entries_in, opening_in}
 
-pub reserve_grant-requires-clause-listed : goal.reserve_grant-requires-clause-listed
-reserve_grant-requires-clause-listed c =
+pub reserve_read-requires-clause-listed : goal.reserve_read-requires-clause-listed
+reserve_read-requires-clause-listed c =
     rw (c.as_mut_slice-objects.ensures.value)
     (listed_held c.args.state.now c.requires.kept c.args.a c.args.o c.requires.low)
 
@@ -16,9 +16,9 @@ returns-clause-kept c =
     let p = c.args.state.now in
     let s = opening_in p.journal in
     let j = entries_in p.journal in
-    let new = c.reserve_grant.new.objects in
-    let held = c.reserve_grant.new.holdings in
+    let new = c.reserve_read.new.objects in
+    let held = c.reserve_read.new.holdings in
     let fits : length new ≡ p.objects.len = omega arith in
     rw (with_items_is p.objects new fits, c.reserve.ensures.entries, c.reserve.ensures.opening)
     (kept_locks p.tree p.objects.items new p.holdings held s j c.args.o c.requires.kept
-    (rw (c.as_mut_slice-objects.ensures.value) at c.reserve_grant.ensures.same))
+    (rw (c.as_mut_slice-objects.ensures.value) at c.reserve_read.ensures.same))
