@@ -34,11 +34,12 @@ fn time_publishes<N: Board, R: Wait + Clock + Copy + Drop>(
     turns: u32,
     keeper: Keeper,
 ) -> Result<Outcome, BenchError>
+    requires places { N.places ≡ 1 }
     requires keeper { StartsHistory N.history N.root keeper }
     requires first { N.first ≡ [] }
     requires leads { IsTableOf N.opening_contents N.before N.first }
 {
-    let mut board = BoardWriter::<N, R>::new(rt, heap, Vec::new(heap.room()), keeper, 0)?;
+    let mut board = BoardWriter::<N, R>::new(rt, heap, Vec::new(heap.room()), keeper, 1)?;
     time_often(&rt, heap, &mut board, turns)
 }
 

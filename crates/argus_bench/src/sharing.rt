@@ -71,6 +71,7 @@ fn time_shared<N: Sharing + Send + Sync, R: Threads + Wait + Clock + Copy + Drop
 ) -> Result<Outcome, BenchError>
     requires name { blank.name ≡ N.name }
     requires parts { (blank.parts ≡ N.parts) × (blank.parts ≡ seats) }
+    requires places { N.places ≡ lookers }
     requires keeper { StartsHistory N.history N.root keeper }
     requires start { N.start ≡ next_entry guardian }
     requires before { N.before ≡ journal_effects guardian }

@@ -15,7 +15,8 @@ use Rattle.argus_board.proofs.history_prefix.HistoryPrefix.TheSendSync.{the_fiel
 use Rattle.argus_board.proofs.history_prefix.HistoryPrefix.TheSendSync.{the_field_sync as front_field_syncs}
 use Rattle.argus_board.proofs.keeper.Keeper.TheSendSync.{the_field_send as keeper_field_sends}
 use Rattle.left_right.proofs.reader.Reader.TheSendSync.{the_field_send as place_send}
-use Rattle.left_right.proofs.writer.Writer.TheSendSync.{the_field_send as publisher_send}
+use Rattle.core.proofs.option.Option.TheSendSync.{the_field_send as option_field_sends}
+use Rattle.left_right.proofs.writer.Writer.TheSendSync.{the_send as publisher_send}
 use Rattle.argus_board.specs.contracts.history_prefix.HistoryPrefix.{the_row as front_row}
 use Rattle.argus_board.specs.contracts.table.Contents.{the_row as contents_row}
 use Rattle.argus_board.specs.contracts.table.TableAbsorbBoardChange.TheImpl.{ghosts as absorbs}
@@ -24,7 +25,6 @@ use Rattle.argus_board.specs.declared.board.Board.{Ghosts}
 use Rattle.argus_board.specs.contracts.board_writer.BoardWriter.{the_row as writer_row}
 use Rattle.argus_board.specs.contracts.published.View.{the_row as view_row}
 use Rattle.argus_board.specs.contracts.published.Published.{the_row as published_row}
-use Rattle.left_right.specs.contracts.writer.Writer.{the_field as publisher_field}
 use Rattle.argus_board.specs.contracts.board_writer.BoardWriter.TheInside.{the_type as inside}
 use Rattle.argus_board.specs.contracts.looker.Looker.{the_row as looker_row}
 use Rattle.argus_board.specs.contracts.looker.Looker.TheInside.{the_type as looker_inside}
@@ -82,11 +82,11 @@ change_syncs = search (sendable, change_field_syncs)
 inside_sends : (N R : RattleType) (g : Ghosts N.Denot) → IsSend R → IsSend (declared_row (inside N R g))
 inside_sends N R g s = let t = inside N R g in
     recorded_send _ t.D t.to t.to_one (struct_send (shape t) (
-      publisher_send table_row change_row view_row (published_row N) memory.room (Tuple
+      option_field_sends _ (publisher_send table_row change_row view_row (published_row N) memory.room (Tuple
           (contents_row ∷ front_row ∷ [])) absorbs
           (keeps N g no_dict) memory.rests table_sends change_sends memory.room_sends table_syncs memory.room_syncs
-          memory.room_frees,
-      (keeper_field_sends, (front_field_sends, (s, tt))),
+          memory.room_frees),
+      (front_field_sends, (keeper_field_sends, (front_field_sends, (s, tt)))),
     ))
 
 pub writer_sends : (N R : RattleType) (g : Ghosts N.Denot) → IsSend R → IsSend (writer_row N R g)

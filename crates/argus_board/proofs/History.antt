@@ -1,5 +1,5 @@
 -- The steps of the history keep its rule.
-use Rattle.std.proofs.Common.{Bool, List, None, [], ap, append_assoc, arith, false, fold, inl}
+use Rattle.std.proofs.Common.{Bool, List, None, [], ap, arith, false, fold, inl}
 use Rattle.std.proofs.Common.{length, length-append, refl, subst, suc, sym, true, zero, ℕ, ◌++◌}
 use Rattle.std.proofs.Common.{◌<◌, ◌==◌, ◌∙◌, ◌∷◌, ◌≡◌, ◌≢◌}
 use Rattle.std.proofs.lemmas.List.{append-nil, get_or-set_same}
@@ -86,7 +86,7 @@ add_moves v p ask right cs log kept pre away =
     let f = either ((cell cs 0).0 == 0) 0 (cell cs 0).0 in
     let ds = set cs 0 (f, true) in
     let es = set ds p.key (p.value, true) in
-    let page : Page = record { uses = p.key; gives = ask.gives; effect = ask.effect } in
+    let page : Page = record { uses = p.key; gives = ask.gives; effects = ask.effects } in
     let on : (k : ℕ) → (cell cs k).1 ≡ true → (cell es k).1 ≡ true = λ k h. home_set ds p.key p.value k
     (home_set cs 0 f k h) in
     let wide : length es ≡ length cs = length-set ds p.key (p.value, true) ∙ length-set cs 0 (f, true) in
@@ -142,7 +142,7 @@ fold_on s (x ∷ xs) ys = fold_on (after_page s x) xs ys
 
 -- a line only grows
 longer_if : (b : Bool) (s : ℕ × List Effect) (p : Page) → IsPrefix s.1 (after_page_if b s p).1
-longer_if true s p = (p.effect ∷ [], refl)
+longer_if true s p = (p.effects, refl)
 longer_if false s p = begins_itself s.1
 
 longer : (s : ℕ × List Effect) (log : List Page) → IsPrefix s.1 (fold after_page s log).1
@@ -181,7 +181,7 @@ line_stands r k xs ys is p u =
     let rest : IsUnused k p.0 = unused_rest k xs p.0 (subst (IsUnused k) (sym p.1) u) in
     ap (line_state r) (sym p.1) ∙ fold_on (r, []) xs p.0 ∙ stands s p.0 (subst (λ z. IsUnused z p.0) is rest)
 
-here_if : (b : Bool) (s : ℕ × List Effect) (p : Page) → b ≡ true → after_page_if b s p ≡ (p.gives, s.1 ++ p.effect ∷ [])
+here_if : (b : Bool) (s : ℕ × List Effect) (p : Page) → b ≡ true → after_page_if b s p ≡ (p.gives, s.1 ++ p.effects)
 here_if true s p e = refl
 here_if false s p e = absurd (cc e)
 
@@ -191,7 +191,7 @@ equal a b e = grind (arith, nat_tests)
 -- the page that used up the next right
 pub line_adds : (r : ℕ) (xs log w : List Page) (p : Page) → p.uses ≡ next_right r xs → w ≡ log ++ p ∷ []
     → IsPrefix xs log
-    → IsUnused p.uses log → line_state r w ≡ (p.gives, line r xs ++ p.effect ∷ [])
+    → IsUnused p.uses log → line_state r w ≡ (p.gives, line r xs ++ p.effects)
 line_adds r xs log w p is whole pre u =
     let s = line_state r xs in
     let was : line_state r log ≡ s = line_stands r p.uses xs log is pre u in

@@ -5,3 +5,4 @@ pub mod History
 pub mod Prefixes
 pub mod Rule
 mod Showing
+pub mod Tables

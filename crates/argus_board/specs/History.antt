@@ -28,7 +28,7 @@ IsUnused right (page ∷ pages) = (page.uses ≢ right) × IsUnused right pages
 
 -- after a page that used up the line's right, its next right, and its effects with the page's
 abbrev pub after_page_if : Bool → ℕ × List Effect → Page → ℕ × List Effect
-after_page_if true line page = (page.gives, line.1 ++ page.effect ∷ [])
+after_page_if true line page = (page.gives, line.1 ++ page.effects)
 after_page_if false line page = line
 
 -- a page belongs to the line whose right it used up
@@ -55,7 +55,7 @@ Grows step before found after = after.1.0.right ≡ may_make
 abbrev pub Adds : Step Page → View Page ℕ → ℕ → View Page ℕ → Type 0
 Adds step before found after = (pages : List Page)
     × (after.0 ≡ pages
-    ++ record { uses = before.1.0.key; gives = step.ask.gives; effect = step.ask.effect } ∷ [])
+    ++ record { uses = before.1.0.key; gives = step.ask.gives; effects = step.ask.effects } ∷ [])
     × IsPrefix before.0 pages × IsUnused before.1.0.key pages
 
 -- a step that sees that no page used up the right

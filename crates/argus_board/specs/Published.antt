@@ -33,6 +33,14 @@ effects_in [] = []
 effects_in (Leaves effect ∷ changes) = plain_effect effect.items ∷ effects_in changes
 effects_in (Marks front ∷ changes) = effects_in changes
 
+-- the tables of a board that shows these effects and has those of the history before it: what its own
+-- place saw, the contents, how far the history had come, and the changes that readers don't see yet
+abbrev pub AreTables : List (Option PlainContent) → List Effect → List Effect → List Effect
+    → List (Option PlainContent) → List Effect → List BoardChange → Type 0
+AreTables first shown known seen contents upto changes = (seen ≡ upto)
+    × (contents ≡ contents_after first upto) × (upto ≡ shown) × (upto ++ effects_in changes ≡ known)
+    × (effects_in changes ≡ [] → changes ≡ [])
+
 -- each place saw a beginning of these effects
 abbrev pub AllBegin : List Effect → List (List Effect) → Type 0
 AllBegin effects views =

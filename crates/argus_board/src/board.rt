@@ -12,6 +12,7 @@ use std::marker::Brand;
 ///     keeper: Keeper,
 /// ) -> Result<(), OutOfMemory>
 ///     requires keeper { StartsHistory N.history N.root keeper }
+///     requires places { N.places ≡ 1 }
 ///     requires first { N.first ≡ [] }
 ///     requires leads { IsTableOf N.opening_contents N.before N.first }
 /// {
@@ -36,6 +37,9 @@ pub trait Board {
     /// What the objects held before all effects.
     ghost opening_contents: { ℕ → Option PlainContent };
 
+    /// How many places for lookers it has.
+    ghost places: { ℕ };
+
     /// The effects before the board was opened.
     ghost before: { List Effect };
 
@@ -51,6 +55,8 @@ impl Board for Brand {
     ghost root = { 0 };
 
     ghost opening_contents = { λ o. None };
+
+    ghost places = { 0 };
 
     ghost before = { [] };
 

@@ -1,8 +1,12 @@
 //! `BoardWriter`: who publishes on a board.
 
-ghost use Rattle.std.specs.Prelude.{IfOk, OnErr, OnOk, [], ◌++◌, ◌<◌, ◌∷◌, ◌≡◌, ◌≢◌};
+ghost use Rattle.std.specs.Prelude.{IfOk, MatchOption, OnErr, OnOk, [], false, true, ◌++◌, ◌<◌};
+ghost use Rattle.std.specs.Prelude.{◌∷◌, ◌≡◌, ◌≢◌};
 ghost use mathlib.Core.List.{IsPrefix};
+ghost use Rattle.left_right.specs.Sides.{view};
 ghost use Rattle.argus_board.specs.Effects.{IsTableOf, plain_contents};
+ghost use Rattle.argus_board.specs.History.{line};
+ghost use Rattle.argus_board.specs.Published.{AreTables, pending_changes};
 ghost use Rattle.argus_contents.specs.Effect.{plain_effect};
 ghost use Rattle.argus_board.specs.Keeper.{StartsHistory};
 
@@ -15,6 +19,7 @@ use crate::looker::Looker;
 use crate::looking::duplicate_contents;
 use crate::published::Publisher;
 use crate::publishing::{append_change, briefed_reader, opened, publish};
+use crate::tells_effects::{Leaves, TellsEffects};
 use argus_contents::Content;
 use argus_memory::{Heap, OutOfMemory, Room};
 use std::marker::Model;
@@ -25,7 +30,8 @@ use std::sync::Wait;
 /// pending, the newest last.
 ///
 /// A publish waits for lookers that are inside the copy that it changes. The board ends with its
-/// writer: a look then gives `Closed`.
+/// writer: a look then gives `Closed`. A board without places for lookers has no contents: nobody
+/// can see them, and an effect costs nothing there.
 ///
 /// ```text
 /// let mut board = BoardWriter::new(rt, heap, contents, Keeper::new(), 2)?;
@@ -34,7 +40,10 @@ use std::sync::Wait;
 /// board.publish()?;
 /// ```
 pub struct BoardWriter<N: Board, R: Wait + Drop> {
-    pub(crate) writer: Publisher<N>,
+    /// None on a board without places.
+    pub(crate) tables: Option<Publisher<N>>,
+    /// What is published.
+    pub(crate) shown: HistoryPrefix,
     /// All effects since the board was opened.
     pub(crate) keeper: Keeper,
     /// The history as it was then.
@@ -44,31 +53,26 @@ pub struct BoardWriter<N: Board, R: Wait + Drop> {
 
 impl<N: Board, R: Wait + Drop> Drop for BoardWriter<N, R> {
     fn drop(self) {
-        let Self {
-            writer,
-            keeper: _,
-            start: _,
-            rt,
-        } = self;
-        drop(writer.take(&rt));
+        self.end();
     }
 }
 
 impl<N: Board, R: Wait + Drop> Model for BoardWriter<N, R> {
-    ghost use Rattle.std.specs.Prelude.{[], drop, ◌++◌, ◌≡◌};
+    ghost use Rattle.std.specs.Prelude.{MatchOption, [], drop, length, ◌++◌, ◌<◌, ◌≡◌};
+    ghost use mathlib.Core.List.{IsPrefix};
     ghost use Rattle.left_right.specs.Sides.{view as seen_at};
     ghost use Rattle.argus_board.specs.BoardView.{BoardView, board_view_coded};
-    ghost use Rattle.argus_board.specs.Effects.{IsTableOf, contents_after, plain_contents};
+    ghost use Rattle.argus_board.specs.Effects.{IsTableOf, plain_contents};
     ghost use Rattle.argus_board.specs.History.{line, next_right};
-    ghost use Rattle.argus_board.specs.Published.{effects_in, pending_changes};
+    ghost use Rattle.argus_board.specs.Published.{AreTables, pending_changes};
 
     ghost Value = { BoardView };
 
     ghost coded = { board_view_coded };
 
     ghost view = { λ b. record {
-      published = N.before ++ line N.root b.writer.desk.shown.value.front.seen.log;
-      pending = effects_in (pending_changes b.writer.behind b.writer.log.items);
+      published = N.before ++ line N.root b.shown.seen.log;
+      pending = drop (length (line N.root b.shown.seen.log)) (line N.root b.keeper.front.seen.log);
     } };
 
     ghost invariant = { λ b. IsTableOf N.opening_contents N.before N.first
@@ -76,14 +80,12 @@ impl<N: Board, R: Wait + Drop> Model for BoardWriter<N, R> {
         × (b.start.seen.book ≡ N.history)
         × (line N.root b.start.seen.log ≡ [])
         × (b.keeper.pen.nib.key ≡ next_right N.root b.keeper.front.seen.log)
-        × (seen_at b.writer.desk.place ≡ line N.root b.writer.desk.shown.value.front.seen.log)
-        × (plain_contents b.writer.desk.shown.value.contents.items
-        ≡ contents_after N.first (line N.root b.writer.desk.shown.value.front.seen.log))
-        × (line N.root b.writer.desk.shown.value.front.seen.log
-        ++ effects_in (pending_changes b.writer.behind b.writer.log.items)
-        ≡ line N.root b.keeper.front.seen.log)
-        × (effects_in (pending_changes b.writer.behind b.writer.log.items) ≡ []
-        → pending_changes b.writer.behind b.writer.log.items ≡ []) };
+        × IsPrefix (line N.root b.shown.seen.log) (line N.root b.keeper.front.seen.log)
+        × MatchOption b.tables (N.places ≡ 0) (λ w. (0 < N.places)
+        × AreTables N.first (line N.root b.shown.seen.log) (line N.root b.keeper.front.seen.log)
+        (seen_at w.desk.place) (plain_contents w.desk.shown.value.contents.items)
+        (line N.root w.desk.shown.value.front.seen.log)
+        (pending_changes w.behind w.log.items)) };
 }
 
 impl<N: Board, R: Wait + Drop> BoardWriter<N, R> {
@@ -97,22 +99,61 @@ impl<N: Board, R: Wait + Drop> BoardWriter<N, R> {
         lookers: u32,
     ) -> Result<BoardWriter<N, R>, OutOfMemory>
         requires lookers { lookers < 4294967295 }
+        requires places { N.places ≡ lookers }
         requires first { IsTableOf N.opening_contents N.before N.first }
         requires contents { plain_contents contents.items ≡ N.first }
         requires keeper { StartsHistory N.history N.root keeper }
         ensures published { IfOk result (λ board. board.published ≡ N.before) }
         ensures pending { IfOk result (λ board. board.pending ≡ []) }
     {
+        if lookers == 0 {
+            return Ok(BoardWriter::without_places(rt, keeper));
+        }
         let copy = duplicate_contents(heap, contents.as_slice())?;
         // One place more than there are lookers: briefing takes a new one before it frees the old.
-        let writer = opened::<N>(heap, contents, copy, &keeper.front, lookers as usize + 1)?;
-        let start = keeper.front.again();
-        Ok(BoardWriter {
-            writer,
+        let tables = opened::<N>(heap, contents, copy, &keeper.front, lookers as usize + 1)?;
+        Ok(BoardWriter::over(rt, Some(tables), keeper))
+    }
+
+    /// Opens a board without places. It takes no memory.
+    pub fn without_places(rt: R, keeper: Keeper) -> BoardWriter<N, R>
+        requires places { N.places ≡ 0 }
+        requires first { IsTableOf N.opening_contents N.before N.first }
+        requires keeper { StartsHistory N.history N.root keeper }
+        ensures published { result.published ≡ N.before }
+        ensures pending { result.pending ≡ [] }
+    {
+        BoardWriter::over(rt, None, keeper)
+    }
+
+    /// A board that opens with these tables.
+    fn over(rt: R, tables: Option<Publisher<N>>, keeper: Keeper) -> BoardWriter<N, R>
+        requires first { IsTableOf N.opening_contents N.before N.first }
+        requires keeper { StartsHistory N.history N.root keeper }
+        requires tables { MatchOption tables (N.places ≡ 0) (λ w. (0 < N.places)
+            × AreTables N.first [] [] (view w.desk.place)
+            (plain_contents w.desk.shown.value.contents.items)
+            (line N.root w.desk.shown.value.front.seen.log)
+            (pending_changes w.behind w.log.items)) }
+        ensures published { result.published ≡ N.before }
+        ensures pending { result.pending ≡ [] }
+    {
+        let (shown, start) = (keeper.front.again(), keeper.front.again());
+        BoardWriter {
+            tables,
+            shown,
             keeper,
             start,
             rt,
-        })
+        }
+    }
+
+    /// Whether there are places for lookers.
+    pub fn has_places(&self) -> bool
+        ensures some { result ≡ true → 0 < N.places }
+        ensures none { result ≡ false → N.places ≡ 0 }
+    {
+        self.tables.is_some()
     }
 
     /// A place for a looker, which has seen what stood on the board at first. `OutOfMemory`: memory
@@ -120,7 +161,10 @@ impl<N: Board, R: Wait + Drop> BoardWriter<N, R> {
     pub fn looker(&self) -> Result<Looker<N>, OutOfMemory>
         ensures { IfOk result (λ looker. looker ≡ N.before) }
     {
-        Looker::at(&self.writer, &self.start)
+        match &self.tables {
+            Some(tables) => Looker::at(tables, &self.start),
+            None => Err(OutOfMemory),
+        }
     }
 
     /// Makes an effect pending. At `OutOfMemory` all is as before, and the effect is spent.
@@ -130,11 +174,23 @@ impl<N: Board, R: Wait + Drop> BoardWriter<N, R> {
             ≡ self.old.pending ++ plain_effect effect.items ∷ []) }
         ensures err { OnErr result (self.new ≡ self.old) }
     {
-        let BoardWriter { writer, keeper, .. } = self;
+        let BoardWriter { tables, keeper, .. } = self;
         let page = Snapshot::of(&effect);
-        append_change::<N>(writer, BoardChange::Leaves(effect))?;
-        keeper.add(page);
+        match tables {
+            Some(tables) => append_change::<N>(tables, BoardChange::Leaves(effect))?,
+            None => {}
+        }
+        keeper.add::<Effect, Leaves>(page);
         Ok(())
+    }
+
+    /// Makes what this tells pending, on a board without places. It takes no memory.
+    pub fn append_told<X, M: TellsEffects<X>>(&mut self, about: &X)
+        requires places { N.places ≡ 0 }
+        ensures published { self.new.published ≡ self.old.published }
+        ensures pending { self.new.pending ≡ self.old.pending ++ M.effects about.now }
+    {
+        self.keeper.add::<X, M>(Snapshot::of(about));
     }
 
     /// Publishes what is pending. At `OutOfMemory` something was pending, and all is as before. It
@@ -145,12 +201,18 @@ impl<N: Board, R: Wait + Drop> BoardWriter<N, R> {
         ensures err { OnErr result ((self.new ≡ self.old) × (self.old.pending ≢ [])) }
     {
         let BoardWriter {
-            writer,
+            tables,
+            shown,
             keeper,
             rt,
             ..
         } = self;
-        publish::<N, R>(&*rt, writer, &keeper.front)
+        match tables {
+            Some(tables) => publish::<N, R>(&*rt, tables, &keeper.front)?,
+            None => {}
+        }
+        *shown = keeper.front.again();
+        Ok(())
     }
 
     /// Publishes what is pending, and lets the looker see all of it. What the looker saw before is
@@ -164,27 +226,34 @@ impl<N: Board, R: Wait + Drop> BoardWriter<N, R> {
             × (looker.new ≡ looker.old)) }
     {
         let BoardWriter {
-            writer,
+            tables,
+            shown,
             keeper,
             rt,
             ..
         } = self;
         let Looker { reader, front } = looker;
         keeper.covers(&*front);
-        publish::<N, R>(&*rt, writer, &keeper.front)?;
-        *reader = briefed_reader::<N, R>(&*rt, writer);
+        let Some(tables) = tables else { unreachable!() };
+        publish::<N, R>(&*rt, tables, &keeper.front)?;
+        *reader = briefed_reader::<N, R>(&*rt, tables);
         *front = keeper.front.again();
+        *shown = keeper.front.again();
         Ok(())
     }
 
     /// Ends the board. It may wait for lookers that are inside.
     pub fn end(self) {
         let BoardWriter {
-            writer,
+            tables,
+            shown: _,
             keeper: _,
             start: _,
             rt,
         } = self;
-        drop(writer.take(&rt));
+        match tables {
+            Some(tables) => drop(tables.take(&rt)),
+            None => {}
+        }
     }
 }

@@ -1,15 +1,14 @@
 //! `Keeper`: who alone adds to the history of a board.
 
-ghost use Rattle.std.specs.Prelude.{[], ℕ, ◌++◌, ◌∷◌, ◌≡◌};
+ghost use Rattle.std.specs.Prelude.{[], ℕ, ◌++◌, ◌≡◌};
 ghost use mathlib.Core.List.{IsPrefix};
 ghost use Rattle.logbook.specs.Pages.{may_write};
-ghost use Rattle.argus_contents.specs.Effect.{plain_effect};
 ghost use Rattle.argus_board.specs.History.{head_of, line, next_right};
 
-use crate::effect::Effect;
 use crate::history_prefix::HistoryPrefix;
 use crate::page::Page;
 use crate::pages::{Add, Grow, Law, Leaf, Nothing, SeeUnused};
+use crate::tells_effects::TellsEffects;
 use logbook::{Offer, Pen, Seen, Start, Word};
 use std::snapshot::Snapshot;
 
@@ -47,25 +46,27 @@ impl Keeper {
         }
     }
 
-    /// Adds an effect to the line of its right. It can't fail.
-    pub(crate) fn add(&mut self, effect: Snapshot<Effect>)
+    /// Adds what this tells to the line of its right. It can't fail.
+    pub(crate) fn add<X, M: TellsEffects<X>>(&mut self, about: Snapshot<X>)
         ensures book { self.new.front.seen.book ≡ self.old.front.seen.book }
         ensures line { (root : ℕ) → self.old.pen.nib.key ≡ next_right root self.old.front.seen.log
             → line root self.new.front.seen.log ≡ line root self.old.front.seen.log
-            ++ plain_effect effect.value.items ∷ [] }
+            ++ M.effects about.value }
         ensures next_right { (root : ℕ) → self.old.pen.nib.key
             ≡ next_right root self.old.front.seen.log
             → self.new.pen.nib.key ≡ next_right root self.new.front.seen.log }
     {
         let Keeper { head, pen, front } = self;
         let leaf = Leaf {
-            effect,
+            about,
             next: right_of(&*head, &front.seen),
         };
         let seen = &mut front.seen;
-        let mut offer: Offer<Page, u64, Law, Nothing> = seen.plain::<Nothing, Leaf, Add>(&leaf);
-        head.compare_exchange::<Add, Nothing>(0, 0, seen, &mut offer, pen);
-        let Leaf { effect: _, next } = leaf;
+        let mut offer: Offer<Page, u64, Law, Nothing> = seen.plain::<Nothing, Leaf<X>, Add<M>>(
+            &leaf,
+        );
+        head.compare_exchange::<Add<M>, Nothing>(0, 0, seen, &mut offer, pen);
+        let Leaf { about: _, next } = leaf;
         *pen = next;
     }
 

@@ -15,6 +15,7 @@ mod pages;
 mod published;
 mod publishing;
 mod table;
+mod tells_effects;
 mod writing;
 
 pub use board::Board;
@@ -23,3 +24,4 @@ pub use effect::{Effect, duplicate_effect};
 pub use keeper::Keeper;
 pub use look_fault::LookFault;
 pub use looker::Looker;
+pub use tells_effects::TellsEffects;

@@ -1,6 +1,6 @@
 //! `Looker`: who looks at a board, with no lock.
 
-ghost use Rattle.std.specs.Prelude.{IfOk, [], map, ◌++◌, ◌≡◌};
+ghost use Rattle.std.specs.Prelude.{IfOk, [], map, ◌++◌, ◌<◌, ◌≡◌};
 ghost use mathlib.Core.List.{IsPrefix};
 ghost use Rattle.argus_model.specs.Effects.{table};
 ghost use Rattle.argus_board.specs.Effects.{IsTableOf, plain_contents};
@@ -31,7 +31,7 @@ pub struct Looker<N: Board> {
 }
 
 impl<N: Board> Model for Looker<N> {
-    ghost use Rattle.std.specs.Prelude.{List, ◌++◌, ◌≡◌};
+    ghost use Rattle.std.specs.Prelude.{List, ◌++◌, ◌<◌, ◌≡◌};
     ghost use Rattle.left_right.specs.Sides.{view as seen_at};
     ghost use Rattle.argus_board.specs.Effects.{IsTableOf, effects_coded};
     ghost use Rattle.argus_contents.specs.Effect.{Effect};
@@ -45,12 +45,13 @@ impl<N: Board> Model for Looker<N> {
 
     ghost invariant = { λ k. IsTableOf N.opening_contents N.before N.first
         × (seen_at k.reader.place ≡ line N.root k.front.seen.log)
-        × (k.front.seen.book ≡ N.history) };
+        × (k.front.seen.book ≡ N.history) × (0 < N.places) };
 }
 
 impl<N: Board> Looker<N> {
     /// A free place, which has seen what stood on the board at first.
     pub(crate) fn at(writer: &Publisher<N>, front: &HistoryPrefix) -> Result<Looker<N>, OutOfMemory>
+        requires places { 0 < N.places }
         requires first { IsTableOf N.opening_contents N.before N.first }
         requires none { line N.root front.now.seen.log ≡ [] }
         requires book { front.now.seen.book ≡ N.history }

@@ -1,8 +1,9 @@
 //! The rule of the history, and the steps that it can take.
 
-use crate::effect::Effect;
 use crate::page::Page;
+use crate::tells_effects::TellsEffects;
 use logbook::{Gain, Pen, Plain, Play, Rule};
+use std::marker::PhantomData;
 use std::snapshot::Snapshot;
 
 /// The rule of the history.
@@ -47,34 +48,33 @@ impl Play<Page, u64> for Grow {
 impl Plain<u8, Page, u64> for Grow {
     ghost use Rattle.std.specs.Prelude.{None, []};
 
-    ghost ask = { λ v. record { uses = 0; gives = 0; effect = [] } };
+    ghost ask = { λ v. record { uses = 0; gives = 0; effects = [] } };
 
     ghost state = { λ v. None };
 }
 
-/// The step that adds a page.
-pub(crate) struct Add;
+/// The step that adds a page, with the effects that `M` tells.
+pub(crate) struct Add<M>(PhantomData<M>);
 
-impl Play<Page, u64> for Add {
+impl<M> Play<Page, u64> for Add<M> {
     ghost use Rattle.argus_board.specs.History.{Adds};
 
     ghost then = { Adds };
 }
 
-/// What is added, and the right that comes next.
-pub(crate) struct Leaf {
-    pub(crate) effect: Snapshot<Effect>,
+/// What tells the effects that are added, and the right that comes next.
+pub(crate) struct Leaf<X> {
+    pub(crate) about: Snapshot<X>,
     pub(crate) next: Pen,
 }
 
-impl Plain<Leaf, Page, u64> for Add {
+impl<X, M: TellsEffects<X>> Plain<Leaf<X>, Page, u64> for Add<M> {
     ghost use Rattle.std.specs.Prelude.{None};
-    ghost use Rattle.argus_contents.specs.Effect.{plain_effect};
 
     ghost ask = { λ v. record {
       uses = 0;
       gives = v.next.nib.key;
-      effect = plain_effect v.effect.value.items;
+      effects = M.effects v.about.value;
     } };
 
     ghost state = { λ v. None };

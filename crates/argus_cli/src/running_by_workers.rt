@@ -61,6 +61,7 @@ fn share<N: Sharing + Send + Sync, T: Threads + Wait + Copy + Drop + Send + Sync
     requires fresh { (guardian.opening ≡ empty) × (guardian.entries ≡ []) }
     requires name { blank.name ≡ N.name }
     requires parts { (blank.parts ≡ N.parts) × (blank.parts ≡ workers + 1) }
+    requires places { N.places ≡ 0 }
     requires keeper { StartsHistory N.history N.root keeper }
     requires start { N.start ≡ next_entry guardian }
     requires before { N.before ≡ journal_effects guardian }

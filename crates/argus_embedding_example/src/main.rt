@@ -47,6 +47,7 @@ fn pay_from_threads<N: Sharing + Send + Sync, R: Threads + Wait + Copy + Drop + 
 ) -> Result<Guardian>
     requires name { blank.name ≡ N.name }
     requires parts { (blank.parts ≡ N.parts) × (blank.parts ≡ 2) }
+    requires places { N.places ≡ 0 }
     requires keeper { StartsHistory N.history N.root keeper }
     requires start { N.start ≡ next_entry guardian }
     requires before { N.before ≡ journal_effects guardian }

@@ -10,7 +10,9 @@
 //! ```
 #![tactic(auto)]
 
-pub use argus_board::{Board, BoardWriter, Effect, Keeper, LookFault, Looker, duplicate_effect};
+pub use argus_board::{
+    Board, BoardWriter, Effect, Keeper, LookFault, Looker, TellsEffects, duplicate_effect,
+};
 pub use argus_core::{CheckpointError, Guardian, ReadyCommit};
 pub use argus_listings::{ListError, Listing, write_listing};
 pub use argus_receipts::{Receipt, SettleFault, check};

@@ -1,6 +1,6 @@
 //! Calls under the lock.
 
-ghost use Rattle.std.specs.Prelude.{IfOk, MatchOption, OnErr, OnOk, ◌++◌, ◌+◌, ◌≡◌};
+ghost use Rattle.std.specs.Prelude.{IfOk, OnErr, OnOk, ◌++◌, ◌+◌, ◌≡◌};
 ghost use Rattle.argus_entries.specs.Call.{commit, plain_call};
 ghost use Rattle.argus_entries.specs.Reply.{plain_reply};
 ghost use Rattle.argus_journal.specs.Legal.{Legal};
@@ -38,13 +38,19 @@ impl<N: Sharing, R: Wait + Drop> Locked<N, R> {
         ensures board { FollowsJournal N.opening_contents self.new.journal
             (self.new.board.published ++ self.new.board.pending) }
     {
-        match commit_of(&call) {
-            Some(a) => self.commit(seat, a),
-            None => self.call_in_one_go(seat, call),
+        match call {
+            Call::BeginTop => self.begin_top(seat),
+            Call::BeginSub(parent) => self.begin_sub(seat, parent),
+            Call::Commit(a) => self.commit(seat, a),
+            Call::Abort(a) => self.abort(seat, a),
+            Call::Ask(a, o, query) => self.ask(seat, a, o, query),
+            Call::Alter(a, o, change) => self.alter(seat, a, o, change),
+            other => self.call_in_one_go(seat, other),
         }
     }
 
     /// A call that is no commit.
+    #[inline(never)]
     fn call_in_one_go(&mut self, seat: &mut Seat<N>, call: Call) -> Result<Receipt, OutOfMemory>
         requires { IsNoCommit (plain_call call) }
         ensures at { IfOk result (λ receipt. receipt.at ≡ next_entry self.old.journal) }
@@ -77,6 +83,7 @@ impl<N: Sharing, R: Wait + Drop> Locked<N, R> {
     }
 
     /// A commit.
+    #[inline(never)]
     fn commit(&mut self, seat: &mut Seat<N>, a: ActionId) -> Result<Receipt, OutOfMemory>
         ensures at { IfOk result (λ receipt. receipt.at ≡ next_entry self.old.journal) }
         ensures call { IfOk result (λ receipt. plain_call receipt.call ≡ commit a.0) }
@@ -108,7 +115,11 @@ impl<N: Sharing, R: Wait + Drop> Locked<N, R> {
 }
 
 /// Counts the call that the guardian has just made, as the seat's; the number of its entry.
-fn counted<N: Sharing>(guardian: &Guardian, book: &mut Book<N>, seat: &mut Seat<N>) -> u64
+pub(crate) fn counted<N: Sharing>(
+    guardian: &Guardian,
+    book: &mut Book<N>,
+    seat: &mut Seat<N>,
+) -> u64
     requires { next_entry guardian.now ≡ N.start + book.old.total + 1 }
     ensures at { result + 1 ≡ next_entry guardian.now }
     ensures total { book.new.total ≡ book.old.total + 1 }
@@ -119,24 +130,4 @@ fn counted<N: Sharing>(guardian: &Guardian, book: &mut Book<N>, seat: &mut Seat<
     book.add(&mut seat.share, 1);
     seat.made += 1;
     at
-}
-
-/// The action that the call commits, if it is a commit.
-fn commit_of(call: &Call) -> Option<ActionId>
-    ensures { MatchOption result (IsNoCommit (plain_call call.now))
-        (λ a. plain_call call.now ≡ commit a.0) }
-{
-    match call {
-        Call::Commit(a) => Some(*a),
-        Call::Declare(_)
-        | Call::BeginTop
-        | Call::BeginSub(_)
-        | Call::BeginNested(_)
-        | Call::Abort(_)
-        | Call::AbortOthers(_)
-        | Call::Ask(_, _, _)
-        | Call::Alter(_, _, _)
-        | Call::TestRead(_, _)
-        | Call::TestWrite(_, _) => None,
-    }
 }

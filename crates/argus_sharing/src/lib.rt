@@ -1,8 +1,11 @@
 //! A guardian that threads share: calls under one lock, receipts, and readers outside the lock.
 #![tactic(auto)]
 
+mod accessing;
+mod acting;
 mod calling;
 mod checking;
+mod commit_told;
 mod locked;
 mod looking;
 mod not_shared;

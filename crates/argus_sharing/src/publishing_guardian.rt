@@ -6,6 +6,7 @@ ghost use Rattle.argus_entries.specs.Reply.{plain_reply};
 ghost use Rattle.argus_core.specs.ReadyCommit.{added_by_call};
 ghost use Rattle.argus_journal.specs.JournalView.{after, reply_to};
 
+use crate::commit_told::{Added, CommitTold};
 use crate::sharing::Sharing;
 use argus_actions::ActionId;
 use argus_board::BoardWriter;
@@ -13,6 +14,7 @@ use argus_core::Guardian;
 use argus_entries::Reply;
 use argus_memory::OutOfMemory;
 use core::mem::replace_with;
+use std::snapshot::Snapshot;
 use std::sync::Wait;
 
 /// A guardian with the board that shows what its commits leave.
@@ -23,8 +25,8 @@ pub struct PublishingGuardian<N: Sharing, R: Wait + Drop> {
 }
 
 impl<N: Sharing, R: Wait + Drop> PublishingGuardian<N, R> {
-    /// Commits, once what a topaction leaves is pending on the board. At `OutOfMemory` all is as
-    /// before.
+    /// Commits, once what a topaction leaves is pending on the board; where nobody can look, contracts
+    /// alone see what it leaves. At `OutOfMemory` all is as before.
     pub(crate) fn commit(&mut self, a: ActionId) -> Result<Reply, OutOfMemory>
         ensures published { self.new.board.published ≡ self.old.board.published }
         ensures reply { IfOk result (λ reply. plain_reply reply
@@ -35,7 +37,17 @@ impl<N: Sharing, R: Wait + Drop> PublishingGuardian<N, R> {
         ensures err { OnErr result ((self.new.guardian ≡ self.old.guardian)
             × (self.new.board ≡ self.old.board)) }
     {
-        replace_with(self, a, |publishing, a| publishing.committed(a))
+        if self.board.has_places() {
+            return replace_with(self, a, |publishing, a| publishing.committed(a));
+        }
+        let PublishingGuardian { guardian, board } = self;
+        let told = CommitTold {
+            before: Snapshot::of(&*guardian),
+            action: a,
+        };
+        let reply = guardian.commit(a)?;
+        board.append_told::<CommitTold, Added>(&told);
+        Ok(reply)
     }
 
     fn committed(self, a: ActionId) -> (PublishingGuardian<N, R>, Result<Reply, OutOfMemory>)

@@ -60,8 +60,9 @@ impl<N: Sharing, R: Wait + Drop> Drop for Shared<N, R> {
 
 impl<N: Sharing, R: Wait + Drop> Shared<N, R> {
     /// Shares the guardian among so many seats, with places for so many lookers. Each seat has made
-    /// no call, and each looker has seen the effects of the journal so far. `NotShared`: there was
-    /// no memory, and the guardian is as it was.
+    /// no call, and each looker has seen the effects of the journal so far. Without lookers no
+    /// contents are kept for them, and a commit copies none. `NotShared`: there was no memory, and
+    /// the guardian is as it was.
     pub fn new(
         rt: R,
         heap: Heap,
@@ -72,6 +73,7 @@ impl<N: Sharing, R: Wait + Drop> Shared<N, R> {
         keeper: Keeper,
     ) -> Result<Parts<N, R>, NotShared>
         requires lookers { lookers < 4294967295 }
+        requires places { N.places ≡ lookers }
         requires name { blank.name ≡ N.name }
         requires parts { (blank.parts ≡ N.parts) × (blank.parts ≡ seats) }
         requires keeper { StartsHistory N.history N.root keeper }

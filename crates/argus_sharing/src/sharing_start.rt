@@ -60,6 +60,7 @@ pub(crate) fn board_of<N: Sharing, R: Wait + Drop>(
     lookers: u32,
 ) -> Result<BoardWriter<N, R>, OutOfMemory>
     requires lookers { lookers < 4294967295 }
+    requires places { N.places ≡ lookers }
     requires keeper { StartsHistory N.history N.root keeper }
     requires before { N.before ≡ journal_effects guardian.now }
     requires opening { N.opening_contents ≡ content_in guardian.now.opening.objects }
@@ -69,6 +70,9 @@ pub(crate) fn board_of<N: Sharing, R: Wait + Drop>(
 {
     guardian.journal_is_legal();
     guardian.contents_fit();
+    if lookers == 0 {
+        return Ok(BoardWriter::<N, R>::without_places(rt, keeper));
+    }
     let bases = bases_of(heap, guardian)?;
     BoardWriter::<N, R>::new(rt, heap, bases, keeper, lookers)
 }

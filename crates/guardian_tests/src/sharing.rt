@@ -75,6 +75,7 @@ fn share_as<N: Sharing + Send + Sync, R: Threads + Wait + Print + Copy + Drop + 
 ) -> Result<Result<Guardian, NotShared>>
     requires name { blank.name ≡ N.name }
     requires parts { (blank.parts ≡ N.parts) × (blank.parts ≡ seats) }
+    requires places { N.places ≡ lookers }
     requires keeper { StartsHistory N.history N.root keeper }
     requires start { N.start ≡ next_entry guardian }
     requires before { N.before ≡ journal_effects guardian }

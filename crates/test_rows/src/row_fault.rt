@@ -39,18 +39,33 @@ impl RowFault {
 }
 
 impl From<OutOfMemory> for RowFault {
+    ghost use Rattle.std.specs.Prelude.{◌≡◌};
+    ghost use Rattle.test_rows.specs.declared.row_fault.RowFault.TheVariants as fault;
+
+    ghost from_gives = { λ _ given. given ≡ fault.OutOfMemory };
+
     fn from(_refused: OutOfMemory) -> RowFault {
         RowFault::OutOfMemory
     }
 }
 
 impl From<AllocError> for RowFault {
+    ghost use Rattle.std.specs.Prelude.{◌≡◌};
+    ghost use Rattle.test_rows.specs.declared.row_fault.RowFault.TheVariants as fault;
+
+    ghost from_gives = { λ _ given. given ≡ fault.OutOfMemory };
+
     fn from(_refused: AllocError) -> RowFault {
         RowFault::OutOfMemory
     }
 }
 
 impl<T: Drop> From<AllocFailed<T>> for RowFault {
+    ghost use Rattle.std.specs.Prelude.{◌≡◌};
+    ghost use Rattle.test_rows.specs.declared.row_fault.RowFault.TheVariants as fault;
+
+    ghost from_gives = { λ _ given. given ≡ fault.OutOfMemory };
+
     fn from(_refused: AllocFailed<T>) -> RowFault {
         RowFault::OutOfMemory
     }
@@ -75,6 +90,11 @@ impl From<ReadError> for RowFault {
 }
 
 impl From<ParseIntError> for RowFault {
+    ghost use Rattle.std.specs.Prelude.{◌≡◌};
+    ghost use Rattle.test_rows.specs.declared.row_fault.RowFault.TheVariants as fault;
+
+    ghost from_gives = { λ _ given. given ≡ fault.NotSpelled };
+
     fn from(_error: ParseIntError) -> RowFault {
         RowFault::NotSpelled
     }

@@ -1,11 +1,11 @@
-//! One thread publishes, and another looks.
+//! One thread publishes, and another looks; and a board at which nobody can look.
 
 ghost use Rattle.std.specs.Prelude.{[], None, ◌≡◌};
 ghost use Rattle.argus_board.specs.Effects.{IsTableOf};
 ghost use Rattle.argus_board.specs.Keeper.{StartsHistory};
 
 use crate::effects::{effect, number_at};
-use argus_board::{Board, BoardWriter, Keeper, LookFault, Looker};
+use argus_board::{Board, BoardWriter, Keeper, LookFault, Looker, TellsEffects};
 use argus_contents::ObjId;
 use argus_memory::{Heap, OutOfMemory};
 use std::marker::Brand;
@@ -27,11 +27,13 @@ fn publish_and_look<N: Board + Send + Sync, R: Threads + Wait + Abort + Copy + D
     heap: Heap,
     keeper: Keeper,
 ) -> Result<(), Fail>
+    requires places { N.places ≡ 1 }
     requires keeper { StartsHistory N.history N.root keeper }
     requires first { N.first ≡ [] }
     requires leads { IsTableOf N.opening_contents N.before N.first }
 {
     let board = BoardWriter::<N, R>::new(rt, heap, Vec::new(heap.room()), keeper, 1)?;
+    assert!(rt; board.has_places());
     let looker = board.looker()?;
     let (published, looked) = join(
         &rt,
@@ -79,4 +81,38 @@ fn look_often<N: Board>(heap: Heap, mut looker: Looker<N>) -> Result<(Looker<N>,
         same = same && number_at(&found, 0) == number_at(&found, 1);
     }
     Ok((looker, same))
+}
+
+/// A number tells no effect.
+struct NoEffect;
+
+impl TellsEffects<u8> for NoEffect {
+    ghost use Rattle.std.specs.Prelude.{[]};
+
+    ghost effects = { λ _. [] };
+}
+
+#[test]
+fn a_board_without_places_gives_out_none(rt: HostRuntime) -> Result<(), Fail> {
+    let heap = Heap::new(rt.alloc())?;
+    publish_to_nobody::<Brand, _>(rt, heap, Keeper::new())
+}
+
+fn publish_to_nobody<N: Board, R: Wait + Abort + Copy + Drop>(
+    rt: R,
+    heap: Heap,
+    keeper: Keeper,
+) -> Result<(), Fail>
+    requires keeper { StartsHistory N.history N.root keeper }
+    requires places { N.places ≡ 0 }
+    requires leads { IsTableOf N.opening_contents N.before N.first }
+{
+    let mut board = BoardWriter::<N, R>::without_places(rt, keeper);
+    assert!(rt; !board.has_places());
+    assert!(rt; board.looker().is_err());
+    board.append(effect(heap, &[0, 3], 1)?)?;
+    board.append_told::<u8, NoEffect>(&0);
+    board.publish()?;
+    board.end();
+    Ok(())
 }

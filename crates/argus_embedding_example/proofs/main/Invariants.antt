@@ -12,6 +12,7 @@ abbrev pub ghosts-pay_from_threads-N-Board : goal.ghosts-pay_from_threads-N-Boar
 ghosts-pay_from_threads-N-Board g a = record {
   history = history_of a.keeper;
   root = next_right_of a.keeper;
+  places = 0;
   opening_contents = content_in a.guardian.opening.objects;
   before = journal_effects a.guardian;
   first = journal_bases a.guardian;

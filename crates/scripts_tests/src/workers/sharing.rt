@@ -36,6 +36,7 @@ fn share_as<
 >(rt: R, plan: Plan<'_>, gate: &G, guardian: Guardian, blank: Blank, keeper: Keeper) -> Result<Ran>
     requires name { blank.name ≡ N.name }
     requires parts { (blank.parts ≡ N.parts) × (blank.parts ≡ plan.workers + 1) }
+    requires places { N.places ≡ plan.lookers }
     requires keeper { StartsHistory N.history N.root keeper }
     requires start { N.start ≡ next_entry guardian }
     requires before { N.before ≡ journal_effects guardian }

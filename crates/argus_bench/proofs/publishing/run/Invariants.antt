@@ -8,6 +8,7 @@ ghosts-time_publishes g a =
     record {
       history = history_of a.keeper;
       root = next_right_of a.keeper;
+      places = 1;
       opening_contents = λ o. None;
       before
           = [];

@@ -1,5 +1,5 @@
 -- A turn without a free place leaves all as it is.
-use Rattle.std.proofs.Common.{drop, ◌≡◌}
+use Rattle.std.proofs.Common.{◌≡◌}
 use Rattle.left_right.specs.Sides.{view}
 use Rattle.argus_board.specs.Published.{pending_changes}
 use Rattle.argus_board.proofs.publishing.briefed_reader.Given as goal

@@ -1,5 +1,5 @@
 -- With its mark at the end, what is pending leaves what all effects leave; without memory nothing is published.
-use Rattle.std.proofs.Common.{List, ap, drop, sym, ◌++◌, ◌∙◌}
+use Rattle.std.proofs.Common.{List, ap, sym, ◌++◌, ◌∙◌}
 use Rattle.std.proofs.lemmas.List.{append-nil}
 use Rattle.argus_board.specs.Effects.{plain_contents}
 use Rattle.argus_board.specs.History.{line}

@@ -5,7 +5,6 @@ use Rattle.argus_contents.specs.Content.{PlainContent}
 use Rattle.argus_board.specs.Effects.{contents_after, plain_contents}
 use Rattle.argus_board.specs.History.{line}
 use Rattle.argus_board.specs.declared.history_prefix.HistoryPrefix.{HistoryPrefix}
-use Rattle.argus_board.proofs.Changes.{both_cases}
 use Rattle.argus_board.proofs.Rule.{rises}
 use Rattle.argus_board.proofs.publishing.publish_owned.Goals as goal
 

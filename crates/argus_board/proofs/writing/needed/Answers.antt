@@ -1,5 +1,5 @@
 -- One pair more: so many objects as the greatest number so far asks for.
-use Rattle.std.proofs.Common.{ap, sym, take, max, ◌+◌, ◌∙◌}
+use Rattle.std.proofs.Common.{ap, sym, max, ◌+◌, ◌∙◌}
 use Rattle.argus_board.proofs.Contents.{larger_is, needed_more}
 use Rattle.argus_board.proofs.writing.needed.Goals as goal
 

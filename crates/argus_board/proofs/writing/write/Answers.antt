@@ -1,5 +1,5 @@
 -- The effect's last pair is written first, so that of two pairs of one object the first counts.
-use Rattle.std.proofs.Common.{List, Option, ap, arith, length, ◌++◌, ◌∙◌, ◌∷◌, ◌≡◌, []}
+use Rattle.std.proofs.Common.{Option, ap, arith, length, ◌++◌, ◌∙◌, ◌∷◌, ◌≡◌, []}
 use Rattle.std.specs.Option.{option_to_list}
 use lib.ListN.{length-set}
 use Rattle.argus_contents.specs.declared.content.Content.{Content}

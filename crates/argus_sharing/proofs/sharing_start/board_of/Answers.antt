@@ -2,6 +2,12 @@
 use Rattle.argus_sharing.proofs.Bases.{bases_lead}
 use Rattle.argus_sharing.proofs.sharing_start.board_of.Goals as goal
 
+pub without_places-requires-clause-first : goal.without_places-requires-clause-first
+without_places-requires-clause-first g c =
+    bases_lead c.args.guardian.now c.contents_fit.ensures.base g.N.Board.opening_contents g.N.Board.before
+    g.N.Board.first
+    c.journal_is_legal.ensures.legal c.requires.opening c.requires.before c.requires.first
+
 pub new-requires-clause-first : goal.new-requires-clause-first
 new-requires-clause-first g c =
     bases_lead c.args.guardian.now c.contents_fit.ensures.base g.N.Board.opening_contents g.N.Board.before

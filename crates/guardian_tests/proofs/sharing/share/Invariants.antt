@@ -12,6 +12,7 @@ abbrev pub ghosts-share_as-N-Board : goal.ghosts-share_as-N-Board
 ghosts-share_as-N-Board g a = record {
   history = history_of a.keeper;
   root = next_right_of a.keeper;
+  places = a.lookers;
   opening_contents = content_in a.guardian.opening.objects;
   before = journal_effects a.guardian;
   first = journal_bases a.guardian;

@@ -8,6 +8,7 @@ ghosts-publish_and_look g a =
     record {
       history = history_of a.keeper;
       root = next_right_of a.keeper;
+      places = 1;
       opening_contents = λ o. None;
       before
           = [];

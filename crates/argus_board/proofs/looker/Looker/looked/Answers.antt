@@ -1,8 +1,6 @@
 -- The place sees all that is published, and what was copied is what these effects leave.
-use Rattle.std.proofs.Common.{List, Option, ap, map, sym, ◌++◌, ◌∙◌, ◌≡◌}
-use Rattle.argus_contents.specs.Content.{PlainContent}
-use Rattle.argus_contents.specs.declared.content.Content.{Content}
-use Rattle.argus_board.specs.Effects.{content_of_object, contents_after, plain_contents}
+use Rattle.std.proofs.Common.{ap, sym, ◌∙◌, ◌≡◌}
+use Rattle.argus_board.specs.Effects.{contents_after, plain_contents}
 use Rattle.argus_board.specs.History.{line}
 use Rattle.argus_board.specs.declared.history_prefix.HistoryPrefix.{HistoryPrefix}
 use Rattle.argus_board.specs.declared.table.Table.{Table}

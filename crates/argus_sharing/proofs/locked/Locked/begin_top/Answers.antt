@@ -1,0 +1,21 @@
+-- A call that is no commit adds no effect, so the board follows the longer journal, and its seat counted it.
+use Rattle.std.proofs.Common.{ap, arith, ◌++◌, ◌+◌, ◌∙◌, ◌≡◌}
+use Rattle.argus_entries.specs.Call.{begin_top}
+use Rattle.argus_sharing.proofs.Follow.{follows_other}
+use Rattle.argus_sharing.proofs.locked.Locked.begin_top.Goals as goal
+use Rattle.argus_journal.specs.JournalView.{next_entry}
+
+pub returns-clause-board : goal.returns-clause-board
+returns-clause-board g c =
+    let inv = c.self.invariant in
+    let was = c.self.inside.publishing in
+    follows_other g.N.Board.opening_contents was.guardian c.begin_top.new.self begin_top
+    (was.board.published ++ was.board.pending) tt c.journal_is_legal.ensures.legal inv.2
+    c.in_ok-reply.ensures.ok
+
+pub invariant_of-self-2 : goal.invariant_of-self-2
+invariant_of-self-2 g c =
+    let inv = c.self.invariant in
+    let made : next_entry c.begin_top.new.self ≡ next_entry c.self.inside.publishing.guardian + 1 =
+    ap next_entry c.in_ok-reply.ensures.ok ∙ omega arith in
+    (inv.0, omega (arith, made, inv.1, c.counted-at.ensures.total), returns-clause-board g c)
