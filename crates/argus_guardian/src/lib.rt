@@ -16,5 +16,8 @@ pub use argus_board::{
 pub use argus_core::{CheckpointError, Guardian, ReadyCommit};
 pub use argus_listings::{ListError, Listing, write_listing};
 pub use argus_receipts::{Receipt, SettleFault, check};
-pub use argus_sharing::{NotShared, Parts, Seat, Shared, Sharing, Unsettled, laws};
+pub use argus_sharing::{
+    CallsEnd, CallsMade, Demand, DemandedCall, NotShared, Parts, Seat, Shared, Sharing, Unsettled,
+    laws,
+};
 pub use argus_streams::FailStop;

@@ -1,3 +1,4 @@
 pub mod Crossing
 pub mod Bases
 pub mod Follow
+pub mod CallEach

@@ -1,3 +1,4 @@
+pub mod CallEach
 pub mod Locked
 pub mod Following
 pub mod Waking

@@ -23,6 +23,10 @@ ends_actions (test_read a o) reply = false
 ends_actions (test_write a o) reply = false
 
 -- the call with this receipt ended actions
+abbrev pub ends : Receipt → Bool
+ends receipt = ends_actions (plain_call receipt.call) (plain_reply receipt.reply)
+
+-- the call, if it was made, ended actions
 abbrev pub has_ended : Result Receipt OutOfMemory → Bool
-has_ended (Ok receipt) = ends_actions (plain_call receipt.call) (plain_reply receipt.reply)
+has_ended (Ok receipt) = ends receipt
 has_ended (Err e) = false

@@ -4,8 +4,13 @@
 mod accessing;
 mod acting;
 mod calling;
+mod calling_each;
+mod calls_end;
+mod calls_made;
 mod checking;
 mod commit_told;
+mod demand;
+mod demanded_call;
 mod locked;
 mod looking;
 mod not_shared;
@@ -18,6 +23,10 @@ mod sharing_start;
 mod unsettled;
 
 pub use argus_receipts::{Receipt, SettleFault};
+pub use calls_end::CallsEnd;
+pub use calls_made::CallsMade;
+pub use demand::Demand;
+pub use demanded_call::DemandedCall;
 pub use not_shared::NotShared;
 pub use parts::Parts;
 pub use seat::Seat;

@@ -1,6 +1,8 @@
 //! `Shared`: a guardian that threads share.
 
-ghost use Rattle.std.specs.Prelude.{All, IfErr, IfOk, OnErr, OnOk, [], false, length, map, sum_by};
+ghost use Rattle.std.specs.List.{list_any};
+ghost use Rattle.std.specs.Prelude.{All, IfErr, IfOk, OnErr, OnOk, [], drop, false, length, map};
+ghost use Rattle.std.specs.Prelude.{sum_by, ◌⊎◌};
 ghost use Rattle.std.specs.Prelude.{true, ◌+◌, ◌<◌, ◌≡◌, ◌≢◌};
 ghost use Rattle.std.specs.Result.{result_err};
 ghost use mathlib.Core.List.{IsPrefix};
@@ -11,13 +13,17 @@ ghost use Rattle.argus_journal.specs.Legal.{Legal};
 ghost use Rattle.argus_journal.specs.Opening.{content_in};
 ghost use Rattle.argus_receipts.specs.Checking.{AreApart, Stands, entries_since};
 ghost use Rattle.argus_receipts.specs.Receipt.{plain_receipt};
+ghost use Rattle.argus_sharing.specs.CallEach.{end_of, receipts_of};
 ghost use Rattle.argus_sharing.specs.Checkpoint.{IsCheckpointAnswer};
 ghost use Rattle.argus_sharing.specs.Following.{FollowsJournal, IsFollowed, journal_bases};
 ghost use Rattle.argus_sharing.specs.Following.{journal_effects};
 ghost use Rattle.argus_sharing.specs.Locked.{LockedState};
 ghost use Rattle.argus_journal.specs.JournalView.{JournalView, next_entry, reply_to};
-ghost use Rattle.argus_sharing.specs.Waking.{has_ended};
+ghost use Rattle.argus_sharing.specs.Waking.{ends, has_ended};
+ghost use Rattle.argus_sharing.specs.declared.calls_end.CallsEnd.TheVariants as calls_end;
 
+use crate::calls_made::CallsMade;
+use crate::demanded_call::DemandedCall;
 use crate::locked::Locked;
 use crate::not_shared::NotShared;
 use crate::parts::Parts;
@@ -30,6 +36,7 @@ use argus_core::{CheckpointError, Guardian};
 use argus_entries::{Call, Reply};
 use argus_memory::{Heap, OutOfMemory, Room};
 use argus_receipts::Receipt;
+use std::collections::VecDeque;
 use std::sync::ledger::Blank;
 use std::sync::{Condvar, Mutex, Wait};
 
@@ -166,6 +173,47 @@ impl<N: Sharing, R: Wait + Drop> Shared<N, R> {
         receipt
     }
 
+    /// Makes the calls one after another under one lock, as the seat's, from the first on, up to the
+    /// first whose reply doesn't meet its demand. Each is a call like `call`, with a receipt of its
+    /// own, and no call of another seat comes between two of them. Those that weren't made stay in
+    /// `calls`.
+    ///
+    /// `OutOfMemory`: there was no memory for the receipts, and no call was made; or none for the
+    /// call behind the last receipt, and that call is spent.
+    ///
+    /// It may wait for other threads. The seat came with the same sharing.
+    ///
+    /// ```text
+    /// calls.push_back(DemandedCall::from(Call::Ask(a, account, Query::Field(0))))?;
+    /// calls.push_back(DemandedCall::from(Call::Commit(a)))?;
+    /// let made = shared.call_each(&rt, &mut seat, &mut calls);
+    /// assert_eq!(rt; made.end, CallsEnd::Whole);
+    /// ```
+    pub fn call_each(
+        &self,
+        rt: &impl Wait,
+        seat: &mut Seat<N>,
+        calls: &mut VecDeque<DemandedCall, Room>,
+    ) -> CallsMade
+        ensures receipts { (journal : JournalView) × Legal journal.opening journal.entries
+            × IsPrefix (map plain_receipt result.receipts.items)
+            (receipts_of journal calls.old.items)
+            × (result.end ≢ calls_end.OutOfMemory → (map plain_receipt result.receipts.items
+            ≡ receipts_of journal calls.old.items)
+            × (result.end ≡ end_of journal calls.old.items)) }
+        ensures rest { result.end ≢ calls_end.OutOfMemory → calls.new.items
+            ≡ drop (length result.receipts.items) calls.old.items }
+        ensures memory { result.end ≡ calls_end.OutOfMemory → (calls.new.items ≡ calls.old.items)
+            ⊎ (calls.new.items ≡ drop (length result.receipts.items + 1) calls.old.items) }
+        ensures made { seat.new.made ≡ seat.old.made + length result.receipts.items }
+    {
+        let made = self.locked.lock(rt).call_each(seat, calls);
+        if frees_any(made.receipts.as_slice()) {
+            self.freed.notify_all();
+        }
+        made
+    }
+
     /// Publishes what is pending, and lets the looker see all that is committed. False: there was
     /// no memory, and the board is behind.
     ///
@@ -248,19 +296,38 @@ fn frees(receipt: &Result<Receipt, OutOfMemory>) -> bool
     ensures { result ≡ has_ended receipt.now }
 {
     match receipt {
-        Ok(receipt) => match receipt.call {
-            Call::Commit(_) | Call::Abort(_) | Call::AbortOthers(_) => {
-                matches!(receipt.reply, Reply::Answered(_))
-            }
-            Call::Declare(_)
-            | Call::BeginTop
-            | Call::BeginSub(_)
-            | Call::BeginNested(_)
-            | Call::Ask(_, _, _)
-            | Call::Alter(_, _, _)
-            | Call::TestRead(_, _)
-            | Call::TestWrite(_, _) => false,
-        },
+        Ok(receipt) => ends(receipt),
         Err(OutOfMemory) => false,
+    }
+}
+
+/// Whether one of these calls ended actions.
+fn frees_any(receipts: &[Receipt]) -> bool
+    ensures { result ≡ list_any ends receipts.now }
+{
+    for receipt in receipts {
+        if ends(receipt) {
+            return true;
+        }
+    }
+    false
+}
+
+/// Whether this call ended actions.
+fn ends(receipt: &Receipt) -> bool
+    ensures { result ≡ ends receipt.now }
+{
+    match receipt.call {
+        Call::Commit(_) | Call::Abort(_) | Call::AbortOthers(_) => {
+            matches!(receipt.reply, Reply::Answered(_))
+        }
+        Call::Declare(_)
+        | Call::BeginTop
+        | Call::BeginSub(_)
+        | Call::BeginNested(_)
+        | Call::Ask(_, _, _)
+        | Call::Alter(_, _, _)
+        | Call::TestRead(_, _)
+        | Call::TestWrite(_, _) => false,
     }
 }

@@ -7,6 +7,7 @@ mod alone;
 mod answering;
 mod asking;
 mod caller;
+mod calling_each;
 mod closing;
 mod crowd;
 mod host;
@@ -109,6 +110,8 @@ fn test_shared<R: Threads + Wait + Files + Print + AllocGlobal + Copy + Drop + S
     }
     memory_refusing::commit_within_budgets(rt, setting)?;
     rt.println("commits_of_a_hundred_objects_are_refused_memory")?;
+    calling_each::call_lists(rt, setting)?;
+    rt.println("lists_of_calls_end_where_a_reply_is_not_as_demanded")?;
     crowd::work(rt, setting)?;
     rt.println("eight_seats_and_four_lookers")?;
     closing::drop_beside_lookers(rt, setting)?;

@@ -69,7 +69,7 @@ fn commit_at_last<R: Threads + Wait + Print + Copy + Drop + Send + Sync>(
             a,
             is_made: false,
         });
-        guardian = share(rt, setting, false, guardian, 1, 0, &mut task)?;
+        guardian = share(rt, setting, false, guardian, 1, 1, &mut task)?;
         if matches!(&task, Task::Commit(commit) if commit.is_made) {
             return Ok(guardian);
         }

@@ -1,5 +1,6 @@
 //! `Task`: what is done with a shared guardian, from its sharing to its settling, or its drop.
 
+use crate::calling_each::{ListRun, call_listed};
 use crate::closing::close;
 use crate::crowd::have_all_work;
 use crate::memory_refusing::{OneCommit, commit_once};
@@ -23,6 +24,8 @@ pub(crate) enum Task<'a> {
     Play(Play<'a>),
     /// An action commits, within so many allocations.
     Commit(OneCommit),
+    /// A seat makes the calls of a list.
+    CallEach(ListRun<'a>),
     /// All seats and lookers work at once, with receipts in this heap.
     Crowd(Heap),
     /// It is dropped while lookers look.
@@ -39,6 +42,7 @@ pub(crate) fn perform<
     match task {
         Task::Play(play) => play_rows(rt, parts, play),
         Task::Commit(commit) => commit_once(rt, parts, commit),
+        Task::CallEach(run) => call_listed(rt, parts, run),
         Task::Crowd(heap) => have_all_work(rt, parts, *heap),
         Task::Close(heap) => close(rt, parts, *heap),
         Task::Repeat(repetition) => repeat_once(rt, parts, repetition),

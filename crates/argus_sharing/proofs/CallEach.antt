@@ -1,0 +1,42 @@
+-- Several calls: what one call more adds.
+use Rattle.std.proofs.Common.{List, [], ap, append_assoc, arith, drop, false, sym, true, ℕ, ◌++◌, ◌+◌, ◌∙◌, ◌∷◌, ◌≡◌}
+use Rattle.std.proofs.lemmas.List.{drop-drop}
+use Rattle.std.specs.Prelude.{if◌then◌else◌}
+use Rattle.argus_entries.specs.Call.{plain_call}
+use Rattle.argus_journal.specs.JournalView.{JournalView, after}
+use Rattle.argus_receipts.specs.Receipt.{PlainReceipt}
+use Rattle.argus_sharing.specs.CallEach.{end_of, is_met, receipt_of, receipts_of}
+use Rattle.argus_sharing.specs.declared.calls_end.CallsEnd.TheVariants.{Unmet}
+use Rattle.argus_sharing.specs.declared.demanded_call.DemandedCall.{DemandedCall}
+
+module _ (journal : JournalView) (each : DemandedCall) (rest : List DemandedCall) where
+  abbrev next : JournalView
+  next = after journal (plain_call each.call)
+
+  abbrev mine : PlainReceipt
+  mine = receipt_of journal (plain_call each.call)
+
+  -- where its reply is as demanded, the others go on behind it
+  pub receipts_more : (so_far now all : List PlainReceipt) → is_met journal each ≡ true → now ≡ so_far ++ mine ∷ []
+      → so_far ++ receipts_of journal (each ∷ rest) ≡ all → now ++ receipts_of next rest ≡ all
+  receipts_more so_far now all met is whole =
+      ap (λ z. z ++ receipts_of next rest) is ∙ append_assoc so_far (mine ∷ []) (receipts_of next rest)
+      ∙ ap (λ b. so_far ++ mine ∷ (if b then receipts_of next rest else [])) (sym met) ∙ whole
+
+  pub end_more : is_met journal each ≡ true → end_of next rest ≡ end_of journal (each ∷ rest)
+  end_more met = ap (λ b. if b then end_of next rest else Unmet) (sym met)
+
+  -- where it isn't, they end with it
+  pub receipts_end : (so_far now all : List PlainReceipt) → is_met journal each ≡ false → now ≡ so_far ++ mine ∷ []
+      → so_far ++ receipts_of journal (each ∷ rest) ≡ all → now ≡ all
+  receipts_end so_far now all unmet is whole =
+      is ∙ ap (λ b. so_far ++ mine ∷ (if b then receipts_of next rest else [])) (sym unmet) ∙ whole
+
+  pub end_unmet : is_met journal each ≡ false → Unmet ≡ end_of journal (each ∷ rest)
+  end_unmet unmet = ap (λ b. if b then end_of next rest else Unmet) (sym unmet)
+
+-- what is left behind one element more
+pub rest_more : {A : Type 0} (all left rest : List A) (x : A) (n m : ℕ) → left ≡ x ∷ rest → left ≡ drop n all
+    → m ≡ n + 1 → rest ≡ drop m all
+rest_more all left rest x n m is behind more =
+    ap (λ l. drop 1 l) (sym is ∙ behind) ∙ drop-drop 1 n all ∙ ap (λ k. drop k all) (omega (arith, more))

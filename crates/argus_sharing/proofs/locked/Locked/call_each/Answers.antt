@@ -1,0 +1,62 @@
+-- One call more goes on behind those that were made.
+use Rattle.std.proofs.Common.{ap, arith, length, map, refl, subst, suc, sym, true, ◌++◌, ◌+◌, ◌∙◌}
+use Rattle.std.proofs.Common.{◌∷◌, ◌≡◌}
+use Rattle.argus_journal.specs.JournalView.{JournalView}
+use Rattle.argus_journal.specs.Legal.{Legal}
+use Rattle.argus_receipts.specs.Receipt.{plain_receipt}
+use Rattle.argus_sharing.specs.CallEach.{after_calls, end_of, is_met, receipts_of}
+use Rattle.argus_sharing.specs.Locked.{LockedState}
+use Rattle.argus_sharing.proofs.CallEach.{end_more, receipts_more, rest_more}
+use Rattle.argus_sharing.proofs.locked.Locked.call_each.Goals as goal
+use Rattle.argus_sharing.proofs.locked.Locked.call_each.Goals.{in-Err, in-Ok-false}
+
+pub returns-in_default-clause-receipts : goal.returns-in_default-clause-receipts
+returns-in_default-clause-receipts g c =
+    let all = receipts_of c.args.self.now.journal c.args.calls.now.items in
+    (all, ap (λ items. map plain_receipt items ++ all) c.new.ensures.items)
+
+pub loop-each-preserved : goal.loop-each-preserved
+loop-each-preserved g c =
+    let inv = c.loop-each.invariant in
+    let each = c.in-Some.each in
+    let rest = c.pop_front.new.self.items in
+    let journal = c.loop-each.self.journal in
+    let first = c.args.self.now.journal in
+    let all = c.args.calls.now.items in
+    let so_far = c.loop-each.receipts.items in
+    let now = c.call_next.new.receipts.items in
+    let calls : c.loop-each.calls.items ≡ each ∷ rest = c.in-Some.ensures.items in
+    let made = c.in-Ok-true.ensures in
+    let met : is_met journal each ≡ true = sym made.met ∙ c.in-Ok-true.field-0-test in
+    let count : length now ≡ length so_far + 1 = made.count in (
+      rw made.journal (receipts_more journal each rest (map plain_receipt so_far) (map plain_receipt now) (receipts_of first all) met
+          made.receipts (ap (λ l. map plain_receipt so_far ++ receipts_of journal l) (sym calls) ∙ inv.0)),
+      rw made.journal (end_more journal each rest met ∙ ap (λ l. end_of journal l) (sym calls) ∙ inv.1),
+      rest_more all c.loop-each.calls.items rest each (length so_far) (length now) calls inv.2 count,
+      (λ n. ap (λ k. after_calls first all k) (omega (arith, count)) ∙ inv.3 (suc n)
+          ∙ ap (λ l. after_calls journal l (suc n)) calls ∙ ap (λ j. after_calls j rest n) (sym made.journal)),
+      omega (arith, made.made, inv.4, count),
+      omega (arith, inv.5, count, made.room, ap length calls),
+      subst (λ (j : JournalView). Legal j.opening j.entries) (sym made.journal) (refl, made.legal),
+      made.board,
+    )
+
+pub returns-in-Some-clause-journal : goal.returns-in-Some-clause-journal
+returns-in-Some-clause-journal g c =
+    let inv = c.loop-each.invariant in
+    let rest = c.pop_front.new.self.items in
+    let journal = c.loop-each.self.journal in
+    let first = c.args.self.now.journal in
+    let all = c.args.calls.now.items in
+    let so_far = c.loop-each.receipts.items in
+    elim c.match-call_next.branch [
+      | in-Ok-false w ↦
+          let calls : c.loop-each.calls.items ≡ c.in-Some.each ∷ rest = c.in-Some.ensures.items in
+          let made = w.in-Ok-false.ensures in
+          made.journal ∙ sym (ap (λ k. after_calls first all k) made.count ∙ inv.3 1
+          ∙ ap (λ l. after_calls journal l 1) calls)
+      | in-Err w ↦
+          let none = w.in-Err.ensures.err in
+          ap (λ (s : LockedState). s.journal) none.0
+          ∙ sym (ap (λ k. after_calls first all k) (omega (arith, ap length none.2)) ∙ inv.3 0)
+    ]

@@ -1,0 +1,69 @@
+-- Several calls, one after another, up to the first whose reply isn't as demanded.
+use Rattle.std.specs.Prelude.{Bool, List, [], false, if◌then◌else◌, suc, true, zero, ℕ, ◌∷◌}
+use Rattle.argus_contents.specs.Answer.{PlainAnswer, body, done, flag, num, signal, val}
+use Rattle.argus_entries.specs.Call.{PlainCall, plain_call}
+use Rattle.argus_entries.specs.Reply.{PlainReply, answered, begun, object, plain_reply, refused}
+use Rattle.argus_entries.specs.Same.{same_reply}
+use Rattle.argus_journal.specs.JournalView.{JournalView, after, entry_of, next_entry, reply_to}
+use Rattle.argus_receipts.specs.Receipt.{PlainReceipt}
+use Rattle.argus_sharing.specs.declared.calls_end.CallsEnd.{CallsEnd}
+use Rattle.argus_sharing.specs.declared.calls_end.CallsEnd.TheVariants.{Unmet, Whole}
+use Rattle.argus_sharing.specs.declared.demand.Demand.{Demand}
+use Rattle.argus_sharing.specs.declared.demand.Demand.TheVariants as demand
+use Rattle.argus_sharing.specs.declared.demanded_call.DemandedCall.{DemandedCall}
+
+-- the reply is no refusal
+abbrev pub is_answer : PlainReply → Bool
+is_answer (object o) = true
+is_answer (begun a) = true
+is_answer (answered a) = true
+is_answer (refused r) = false
+
+-- the answer is no signal
+abbrev pub is_result : PlainAnswer → Bool
+is_result done = true
+is_result (val v) = true
+is_result (num n) = true
+is_result (flag b) = true
+is_result (body c) = true
+is_result (signal s) = false
+
+-- the reply is no refusal and no signal
+abbrev pub is_no_signal : PlainReply → Bool
+is_no_signal (object o) = true
+is_no_signal (begun a) = true
+is_no_signal (answered a) = is_result a
+is_no_signal (refused r) = false
+
+-- the reply meets the demand
+abbrev pub meets : Demand → PlainReply → Bool
+meets demand.Nothing reply = true
+meets demand.NoRefusal reply = is_answer reply
+meets demand.NoSignal reply = is_no_signal reply
+meets (demand.Exactly demanded) reply = same_reply (plain_reply demanded) reply
+
+-- the reply that the journal gives meets the demand
+abbrev pub is_met : JournalView → DemandedCall → Bool
+is_met journal each = meets each.demand (reply_to journal (plain_call each.call))
+
+-- the receipt of the journal's next call
+abbrev pub receipt_of : JournalView → PlainCall → PlainReceipt
+receipt_of journal call = record { at = next_entry journal; entry = entry_of journal call }
+
+-- the receipts of the calls, up to the first whose reply isn't as demanded
+abbrev pub receipts_of : JournalView → List DemandedCall → List PlainReceipt
+receipts_of journal [] = []
+receipts_of journal (each ∷ calls) = receipt_of journal (plain_call each.call)
+    ∷ (if is_met journal each then receipts_of (after journal (plain_call each.call)) calls else [])
+
+-- why no more calls are made, where there is memory
+abbrev pub end_of : JournalView → List DemandedCall → CallsEnd
+end_of journal [] = Whole
+end_of journal (each ∷ calls) =
+    if is_met journal each then end_of (after journal (plain_call each.call)) calls else Unmet
+
+-- the journal with the first so many of the calls
+abbrev pub after_calls : JournalView → List DemandedCall → ℕ → JournalView
+after_calls journal calls zero = journal
+after_calls journal [] (suc n) = journal
+after_calls journal (each ∷ calls) (suc n) = after_calls (after journal (plain_call each.call)) calls n

@@ -1,0 +1,12 @@
+//! `CallsMade`: what came of several calls.
+
+use crate::calls_end::CallsEnd;
+use argus_memory::Room;
+use argus_receipts::Receipt;
+
+/// What came of several calls: the receipts of those that were made, in order, and why no more were.
+#[derive(Debug, Drop)]
+pub struct CallsMade {
+    pub receipts: Vec<Receipt, Room>,
+    pub end: CallsEnd,
+}

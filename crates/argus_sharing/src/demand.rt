@@ -1,0 +1,66 @@
+//! `Demand`: what a reply must be, so that the calls behind it are made.
+
+ghost use Rattle.std.specs.Prelude.{◌≡◌};
+ghost use Rattle.argus_entries.specs.Reply.{plain_reply};
+ghost use Rattle.argus_sharing.specs.CallEach.{is_answer, is_no_signal, meets};
+
+use argus_contents::Answer;
+use argus_entries::Reply;
+
+/// What a reply must be, so that the calls behind it are made.
+///
+/// | Demand | It is met by |
+/// |---|---|
+/// | `Nothing` | every reply |
+/// | `NoRefusal` | every reply but a refusal |
+/// | `NoSignal` | every reply but a refusal and a signal |
+/// | `Exactly(reply)` | this reply |
+#[derive(Debug, Drop)]
+pub enum Demand {
+    Nothing,
+    NoRefusal,
+    NoSignal,
+    Exactly(Reply),
+}
+
+impl Demand {
+    /// Whether the reply meets it.
+    ///
+    /// ```text
+    /// assert!(rt; Demand::NoRefusal.is_met(&Reply::Begun(ActionId(0))));
+    /// ```
+    pub fn is_met(&self, reply: &Reply) -> bool
+        ensures { result ≡ meets self.now (plain_reply reply.now) }
+    {
+        match self {
+            Demand::Nothing => true,
+            Demand::NoRefusal => is_answer(reply),
+            Demand::NoSignal => is_no_signal(reply),
+            Demand::Exactly(demanded) => demanded == reply,
+        }
+    }
+}
+
+/// Whether it is no refusal.
+fn is_answer(reply: &Reply) -> bool
+    ensures { result ≡ is_answer (plain_reply reply.now) }
+{
+    match reply {
+        Reply::Object(_) | Reply::Begun(_) | Reply::Answered(_) => true,
+        Reply::Refused(_) => false,
+    }
+}
+
+/// Whether it is no refusal and no signal.
+fn is_no_signal(reply: &Reply) -> bool
+    ensures { result ≡ is_no_signal (plain_reply reply.now) }
+{
+    match reply {
+        Reply::Object(_) | Reply::Begun(_) => true,
+        Reply::Answered(Answer::Signal(_)) => false,
+        Reply::Answered(
+            Answer::Done | Answer::Val(_) | Answer::Num(_) | Answer::Flag(_) | Answer::Body(_),
+        ) => true,
+        Reply::Refused(_) => false,
+    }
+}

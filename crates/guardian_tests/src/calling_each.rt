@@ -1,0 +1,231 @@
+//! Calls that a seat makes together, under one lock: a list that is made whole, with each allocation
+//! refused in turn, and lists that end with a reply that isn't as demanded.
+
+use crate::making::{declare, make};
+use crate::sharing::{budgets, share};
+use crate::task::Task;
+use anyhow::{Result, bail, ensure};
+use argus_guardian::{CallsEnd, Demand, DemandedCall, Guardian, Parts, Receipt, Sharing};
+use argus_values::{Heap, Room};
+use std::collections::VecDeque;
+use std::io::Print;
+use std::sync::Wait;
+use std::thread::Threads;
+use test_rows::{RowFault, Setting, call_of, reply_of};
+
+// How many entries the journal has before each list.
+const BEFORE: u64 = 7;
+
+// A call, what its reply must be, and what it is.
+type Listed<'a> = (&'a str, &'a str, &'a str);
+
+// With a commit in the middle, and a conflict that nothing forbids.
+const WHOLE: [Listed<'static>; 7] = [
+    ("begin_top", "no refusal", "a2"),
+    ("alter a2 o1 create {5}", "no signal", "done"),
+    ("ask a2 o1 field 0", "val 5", "val 5"),
+    ("commit a2", "done", "done"),
+    ("begin_top", "no refusal", "a3"),
+    ("alter a3 o0 set_field 0 1", "nothing", "refused Conflict"),
+    ("abort a3", "done", "done"),
+];
+
+const CONFLICT: [Listed<'static>; 3] = [
+    ("begin_top", "no refusal", "a2"),
+    (
+        "alter a2 o0 set_field 0 1",
+        "no refusal",
+        "refused Conflict",
+    ),
+    ("commit a2", "no refusal", "done"),
+];
+
+const REFUSAL: [Listed<'static>; 2] = [
+    ("commit a9", "no signal", "refused NoAction"),
+    ("begin_top", "no refusal", "a2"),
+];
+
+const SIGNAL: [Listed<'static>; 4] = [
+    ("begin_top", "no refusal", "a2"),
+    ("ask a2 o1 field 0", "no refusal", "signal absent"),
+    ("ask a2 o1 field 0", "no signal", "signal absent"),
+    ("commit a2", "no refusal", "done"),
+];
+
+const OTHER: [Listed<'static>; 3] = [
+    ("begin_top", "a2", "a2"),
+    ("ask a2 o0 field 0", "val 1", "val 0"),
+    ("commit a2", "no refusal", "done"),
+];
+
+/// A list that is made whole is refused each of its allocations in turn; others end with their
+/// second, first, third and second call.
+pub(crate) fn call_lists<R: Threads + Wait + Print + Copy + Drop + Send + Sync>(
+    rt: R,
+    setting: Setting,
+) -> Result<()> {
+    make_whole_at_last(rt, setting)?;
+    let ample = setting.allowing(u64::MAX);
+    make_list(rt, ample, &CONFLICT, 2, CallsEnd::Unmet)?;
+    make_list(rt, ample, &REFUSAL, 1, CallsEnd::Unmet)?;
+    make_list(rt, ample, &SIGNAL, 3, CallsEnd::Unmet)?;
+    make_list(rt, ample, &OTHER, 2, CallsEnd::Unmet)
+}
+
+fn make_whole_at_last<R: Threads + Wait + Print + Copy + Drop + Send + Sync>(
+    rt: R,
+    setting: Setting,
+) -> Result<()> {
+    for allowed in budgets(true) {
+        let made = run_list(rt, setting.allowing(allowed), &WHOLE)?;
+        if made.end == CallsEnd::Whole {
+            ensure!(made.count == WHOLE.len(), "a whole list lacks a call");
+            return Ok(());
+        }
+        ensure!(made.end == CallsEnd::OutOfMemory, "a list ends too early");
+    }
+    bail!("a list is never made")
+}
+
+fn make_list<R: Threads + Wait + Print + Copy + Drop + Send + Sync>(
+    rt: R,
+    setting: Setting,
+    list: &[Listed<'_>],
+    count: usize,
+    end: CallsEnd,
+) -> Result<()> {
+    let made = run_list(rt, setting, list)?;
+    ensure!(
+        made.count == count && made.end == end,
+        "a list ends with another call"
+    );
+    Ok(())
+}
+
+// How many of the calls were made, and why no more, on a new guardian, which is settled.
+fn run_list<R: Threads + Wait + Print + Copy + Drop + Send + Sync>(
+    rt: R,
+    setting: Setting,
+    list: &[Listed<'_>],
+) -> Result<Made> {
+    let made = Made {
+        count: 0,
+        end: CallsEnd::OutOfMemory,
+    };
+    let mut task = Task::CallEach(ListRun {
+        setting,
+        list,
+        made,
+    });
+    let guardian = share(rt, setting, false, opened(setting.heap)?, 1, 1, &mut task)?;
+    let Task::CallEach(run) = task else {
+        bail!("another task");
+    };
+    let length = guardian.journal().journal().len();
+    ensure!(
+        length == BEFORE + run.made.count as u64,
+        "not each call has an entry"
+    );
+    Ok(run.made)
+}
+
+// Two records, of which the first has a 0 and a reader, and the second is absent.
+fn opened(heap: Heap) -> Result<Guardian> {
+    let mut guardian = Guardian::new(heap);
+    declare(&mut guardian, heap, 2)?;
+    make(&mut guardian, heap, "begin_top")?;
+    make(&mut guardian, heap, "alter a0 o0 create {0}")?;
+    make(&mut guardian, heap, "commit a0")?;
+    make(&mut guardian, heap, "begin_top")?;
+    make(&mut guardian, heap, "ask a1 o0 field 0")?;
+    Ok(guardian)
+}
+
+// What came of a list.
+#[derive(Clone, Copy)]
+pub(crate) struct Made {
+    count: usize,
+    end: CallsEnd,
+}
+
+/// A list for one seat, and what came of it.
+#[derive(Drop)]
+pub(crate) struct ListRun<'a> {
+    setting: Setting,
+    list: &'a [Listed<'a>],
+    made: Made,
+}
+
+/// Makes the calls of the list, and settles by their receipts.
+pub(crate) fn call_listed<N: Sharing, R: Wait + Drop>(
+    rt: R,
+    parts: Parts<N, R>,
+    run: &mut ListRun<'_>,
+) -> Result<Guardian> {
+    let Parts {
+        shared,
+        mut seats,
+        ..
+    } = parts;
+    let Some(seat) = seats.first_mut() else {
+        bail!("no seat");
+    };
+    let Ok(mut calls) = calls_of(run.setting.heap, run.list) else {
+        bail!("a list isn't spelled");
+    };
+    run.setting.limit();
+    let made = shared.call_each(&rt, seat, &mut calls);
+    run.setting.lift();
+    run.made = Made {
+        count: made.receipts.len(),
+        end: made.end,
+    };
+    ensure!(
+        is_left(run, calls.len()),
+        "a call is lost, or made and left"
+    );
+    let are_right = are_as_listed(run.setting.heap, made.receipts.as_slice(), run.list);
+    match shared.settle(seats, made.receipts.as_slice()) {
+        Ok(guardian) if are_right => Ok(guardian),
+        Ok(_) => bail!("a listed call has another reply"),
+        Err(unsettled) => bail!("a list isn't settled: {}", unsettled.fault),
+    }
+}
+
+fn calls_of(heap: Heap, list: &[Listed<'_>]) -> Result<VecDeque<DemandedCall, Room>, RowFault> {
+    let mut calls = VecDeque::new(heap.room());
+    for (call, demand, _) in list {
+        let call = call_of(heap, call)?;
+        let demand = demand_of(heap, demand)?;
+        calls.push_back(DemandedCall { call, demand })?;
+    }
+    Ok(calls)
+}
+
+fn demand_of(heap: Heap, text: &str) -> Result<Demand, RowFault> {
+    match text {
+        "nothing" => Ok(Demand::Nothing),
+        "no refusal" => Ok(Demand::NoRefusal),
+        "no signal" => Ok(Demand::NoSignal),
+        reply => Ok(Demand::Exactly(reply_of(heap, reply)?)),
+    }
+}
+
+// Whether so many calls are left of the list: all that weren't made, but for one that found no
+// memory, which is spent; where there was none for the receipts, all are left.
+fn is_left(run: &ListRun<'_>, left: usize) -> bool {
+    let all = run.list.len();
+    let count = run.made.count;
+    match run.made.end {
+        CallsEnd::Whole | CallsEnd::Unmet => count + left == all,
+        CallsEnd::OutOfMemory => count + left + 1 == all || (count == 0 && left == all),
+    }
+}
+
+fn are_as_listed(heap: Heap, receipts: &[Receipt], list: &[Listed<'_>]) -> bool {
+    let mut are_right = true;
+    for (receipt, (_, _, text)) in receipts.iter().zip(list) {
+        are_right = are_right && reply_of(heap, text).is_ok_and(|reply| reply == receipt.reply);
+    }
+    are_right
+}
