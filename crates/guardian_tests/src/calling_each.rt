@@ -19,7 +19,7 @@ const BEFORE: u64 = 7;
 // A call, what its reply must be, and what it is.
 type Listed<'a> = (&'a str, &'a str, &'a str);
 
-// With a commit in the middle, and a conflict that nothing forbids.
+// With a commit in the middle, and a conflict at a call that demands nothing.
 const WHOLE: [Listed<'static>; 7] = [
     ("begin_top", "no refusal", "a2"),
     ("alter a2 o1 create {5}", "no signal", "done"),
@@ -196,8 +196,14 @@ fn calls_of(heap: Heap, list: &[Listed<'_>]) -> Result<VecDeque<DemandedCall, Ro
     let mut calls = VecDeque::new(heap.room());
     for (call, demand, _) in list {
         let call = call_of(heap, call)?;
-        let demand = demand_of(heap, demand)?;
-        calls.push_back(DemandedCall { call, demand })?;
+        let demanded = match *demand {
+            "no refusal" => DemandedCall::from(call),
+            demand => DemandedCall {
+                call,
+                demand: demand_of(heap, demand)?,
+            },
+        };
+        calls.push_back(demanded)?;
     }
     Ok(calls)
 }
@@ -205,7 +211,6 @@ fn calls_of(heap: Heap, list: &[Listed<'_>]) -> Result<VecDeque<DemandedCall, Ro
 fn demand_of(heap: Heap, text: &str) -> Result<Demand, RowFault> {
     match text {
         "nothing" => Ok(Demand::Nothing),
-        "no refusal" => Ok(Demand::NoRefusal),
         "no signal" => Ok(Demand::NoSignal),
         reply => Ok(Demand::Exactly(reply_of(heap, reply)?)),
     }

@@ -6,7 +6,7 @@ use crate::shared_reading::number_of;
 use crate::shared_row::SharedRow;
 use crate::shared_telling::{tell_fault, tell_last, tell_look, tell_shown};
 use crate::sharing::budgets;
-use crate::waiting::{Meanwhile, wait_meanwhile};
+use crate::waiting::{Meanwhile, Others, wait_meanwhile};
 use argus_guardian::{
     Guardian, Looker, Parts, Receipt, Seat, SettleFault, Shared, Sharing, Unsettled,
 };
@@ -73,7 +73,7 @@ impl<N: Sharing + Send + Sync, R: Threads + Wait + Copy + Drop + Send + Sync> Se
                 self.forge(receipt, reply)?;
                 tell_word("done", &mut out)?;
             }
-            SharedRow::While { calls, patience } => self.wait(rt, calls, patience, &mut out)?,
+            SharedRow::While { others, patience } => self.wait(rt, others, patience, &mut out)?,
         }
         Ok(out)
     }
@@ -145,7 +145,7 @@ impl<N: Sharing + Send + Sync, R: Threads + Wait + Copy + Drop + Send + Sync> Se
     fn wait(
         &mut self,
         rt: R,
-        calls: Vec<Call, Room>,
+        others: Others,
         patience: u32,
         out: &mut String<Room>,
     ) -> Result<(), RowFault> {
@@ -158,7 +158,7 @@ impl<N: Sharing + Send + Sync, R: Threads + Wait + Copy + Drop + Send + Sync> Se
         let (Some(second), Some(first)) = (seats.pop(), seats.pop()) else {
             return Err(RowFault::NotSpelled);
         };
-        let meanwhile = wait_meanwhile(&rt, shared, first, second, calls, patience)?;
+        let meanwhile = wait_meanwhile(&rt, shared, first, second, others, patience)?;
         take_back(seats, receipts, meanwhile)?;
         tell_last(receipts.as_slice(), out)
     }

@@ -1,7 +1,7 @@
 //! What a row of a shared guardian spells before its arrow.
 
 use crate::shared_row::SharedRow;
-use crate::waiting::WAITING;
+use crate::waiting::{Others, WAITING};
 use argus_journal::Call;
 use argus_values::{Heap, ObjId, Room};
 use test_rows::{RowFault, Setting, call_of, first_word, object, reply_of};
@@ -86,8 +86,19 @@ fn waiting_of(setting: Setting, text: &str) -> Result<SharedRow, RowFault> {
         return Err(RowFault::NotSpelled);
     };
     let patience = patience_of(waiting)?;
-    let calls = calls_of(setting, made)?;
-    Ok(SharedRow::While { calls, patience })
+    let others = others_of(setting, made)?;
+    Ok(SharedRow::While { others, patience })
+}
+
+// `commit a3, abort a4`, `together commit a3, abort a4` or `others end`.
+fn others_of(setting: Setting, text: &str) -> Result<Others, RowFault> {
+    let (word, rest) = first_word(text);
+    let are_together = word == "together";
+    let calls = calls_of(setting, if are_together { rest } else { text })?;
+    Ok(Others {
+        calls,
+        are_together,
+    })
 }
 
 fn calls_of(setting: Setting, text: &str) -> Result<Vec<Call, Room>, RowFault> {

@@ -1,5 +1,6 @@
 //! `SharedRow`: what a row of a shared guardian asks for.
 
+use crate::waiting::Others;
 use argus_journal::{Call, Reply};
 use argus_values::{ObjId, Room};
 
@@ -35,9 +36,9 @@ pub(crate) enum SharedRow {
         receipt: usize,
         reply: Reply,
     },
-    /// Calls that seat 0 makes while seat 1 waits in another thread.
+    /// What seat 0 makes while seat 1 waits in another thread.
     While {
-        calls: Vec<Call, Room>,
+        others: Others,
         patience: u32,
     },
 }

@@ -2,9 +2,10 @@
 
 use crate::caller::{begun_in, make_kept};
 use argus_actions::ActionId;
-use argus_guardian::{Receipt, Seat, Shared, Sharing};
+use argus_guardian::{CallsEnd, DemandedCall, Receipt, Seat, Shared, Sharing};
 use argus_journal::Call;
 use argus_values::{Change, ObjId, OutOfMemory, Room, Value};
+use std::collections::VecDeque;
 use std::sync::Wait;
 use std::sync::atomic::{AtomicU64, Ordering};
 use std::thread::{Threads, join, yield_now};
@@ -20,6 +21,14 @@ const BEGUN: u64 = 1;
 
 const ANSWERED: u64 = 2;
 
+/// What the first seat makes while a call of the second one waits: these calls, one by one or
+/// together; or, where there are none, topactions that it aborts until that call is answered.
+#[derive(Drop)]
+pub(crate) struct Others {
+    pub(crate) calls: Vec<Call, Room>,
+    pub(crate) are_together: bool,
+}
+
 /// What came of a call that waited, and of those that were made meanwhile.
 #[derive(Drop)]
 pub(crate) struct Meanwhile<N: Sharing> {
@@ -30,14 +39,13 @@ pub(crate) struct Meanwhile<N: Sharing> {
 }
 
 /// Makes the waiting call by the second seat in a thread of its own. Once that has begun, the first
-/// seat makes the other calls; where there are none, it begins topactions and aborts them until
-/// the waiting call is answered.
+/// seat makes the others.
 pub(crate) fn wait_meanwhile<N: Sharing + Send + Sync, R: Threads + Wait + Drop + Send + Sync>(
     rt: &R,
     shared: &Shared<N, R>,
     mut first: Seat<N>,
     second: Seat<N>,
-    calls: Vec<Call, Room>,
+    others: Others,
     patience: u32,
 ) -> Result<Meanwhile<N>, OutOfMemory> {
     let word = AtomicU64::new(0);
@@ -47,7 +55,7 @@ pub(crate) fn wait_meanwhile<N: Sharing + Send + Sync, R: Threads + Wait + Drop 
         move || wait_there(rt, shared, second, patience, state),
         || {
             wait_for(rt, state);
-            let made = make_meanwhile(rt, shared, &mut first, calls, state);
+            let made = make_meanwhile(rt, shared, &mut first, others, state);
             (made, first)
         },
     );
@@ -91,9 +99,16 @@ fn make_meanwhile<N: Sharing, R: Wait + Drop>(
     rt: &R,
     shared: &Shared<N, R>,
     seat: &mut Seat<N>,
-    calls: Vec<Call, Room>,
+    others: Others,
     state: &AtomicU64,
 ) -> Result<Vec<Receipt, Room>, OutOfMemory> {
+    let Others {
+        calls,
+        are_together,
+    } = others;
+    if are_together {
+        return make_together(rt, shared, seat, calls);
+    }
     let mut receipts = Vec::new(calls.allocator().heap().room());
     if calls.is_empty() {
         stir(rt, shared, seat, state, &mut receipts)?;
@@ -101,6 +116,23 @@ fn make_meanwhile<N: Sharing, R: Wait + Drop>(
         make_all(rt, shared, seat, calls, &mut receipts)?;
     }
     Ok(receipts)
+}
+
+fn make_together<N: Sharing, R: Wait + Drop>(
+    rt: &R,
+    shared: &Shared<N, R>,
+    seat: &mut Seat<N>,
+    calls: Vec<Call, Room>,
+) -> Result<Vec<Receipt, Room>, OutOfMemory> {
+    let mut listed = VecDeque::new(calls.allocator().heap().room());
+    for call in calls {
+        listed.push_back(DemandedCall::from(call))?;
+    }
+    let made = shared.call_each(rt, seat, &mut listed);
+    if made.end == CallsEnd::OutOfMemory {
+        return Err(OutOfMemory);
+    }
+    Ok(made.receipts)
 }
 
 fn make_all<N: Sharing, R: Wait + Drop>(
