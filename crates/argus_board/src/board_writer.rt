@@ -90,7 +90,8 @@ impl<N: Board, R: Wait + Drop> Model for BoardWriter<N, R> {
 
 impl<N: Board, R: Wait + Drop> BoardWriter<N, R> {
     /// Opens the board with these contents, in the order of the objects' numbers, and with places
-    /// for so many lookers. `OutOfMemory`: there is no board, and all that was handed in is spent.
+    /// for so many lookers. For none it is `without_places`, and the contents are dropped.
+    /// `OutOfMemory`: there is no board, and all that was handed in is spent.
     pub fn new(
         rt: R,
         heap: Heap,

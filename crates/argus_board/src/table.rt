@@ -13,7 +13,7 @@ use std::alloc::AllocError;
 use std::marker::Model;
 
 /// What is in the objects for good, in the order of their numbers, and how far the history had come
-/// then. The board has two copies of it.
+/// then. A board with places has two copies of it.
 #[derive(Drop)]
 pub struct Table {
     pub contents: Vec<Option<Content>, Room>,

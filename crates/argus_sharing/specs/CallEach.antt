@@ -13,11 +13,11 @@ use Rattle.argus_sharing.specs.declared.demand.Demand.TheVariants as demand
 use Rattle.argus_sharing.specs.declared.demanded_call.DemandedCall.{DemandedCall}
 
 -- the reply is no refusal
-abbrev pub is_answer : PlainReply → Bool
-is_answer (object o) = true
-is_answer (begun a) = true
-is_answer (answered a) = true
-is_answer (refused r) = false
+abbrev pub is_no_refusal : PlainReply → Bool
+is_no_refusal (object o) = true
+is_no_refusal (begun a) = true
+is_no_refusal (answered a) = true
+is_no_refusal (refused r) = false
 
 -- the answer is no signal
 abbrev pub is_result : PlainAnswer → Bool
@@ -38,7 +38,7 @@ is_no_signal (refused r) = false
 -- the reply meets the demand
 abbrev pub meets : Demand → PlainReply → Bool
 meets demand.Nothing reply = true
-meets demand.NoRefusal reply = is_answer reply
+meets demand.NoRefusal reply = is_no_refusal reply
 meets demand.NoSignal reply = is_no_signal reply
 meets (demand.Exactly demanded) reply = same_reply (plain_reply demanded) reply
 

@@ -45,11 +45,15 @@ impl<N: Sharing, R: Wait + Drop> Locked<N, R> {
             Call::Abort(a) => self.abort(seat, a),
             Call::Ask(a, o, query) => self.ask(seat, a, o, query),
             Call::Alter(a, o, change) => self.alter(seat, a, o, change),
-            other => self.call_in_one_go(seat, other),
+            Call::Declare(_)
+            | Call::BeginNested(_)
+            | Call::AbortOthers(_)
+            | Call::TestRead(_, _)
+            | Call::TestWrite(_, _) => self.call_in_one_go(seat, call),
         }
     }
 
-    /// A call that is no commit.
+    /// A call that has no function of its own, and is no commit.
     #[inline(never)]
     fn call_in_one_go(&mut self, seat: &mut Seat<N>, call: Call) -> Result<Receipt, OutOfMemory>
         requires { IsNoCommit (plain_call call) }

@@ -25,7 +25,7 @@ use std::sync::Wait;
 
 impl<N: Sharing, R: Wait + Drop> Locked<N, R> {
     /// Makes the calls one after another, as the seat's, from the first on, up to the first whose
-    /// reply doesn't meet its demand. Each is the call `call`. Those that weren't made stay in
+    /// reply doesn't meet its demand. Each is made as by `call`. Those that weren't made stay in
     /// `calls`.
     ///
     /// `OutOfMemory`: there was no memory for the receipts, and no call was made; or none for the
@@ -45,8 +45,11 @@ impl<N: Sharing, R: Wait + Drop> Locked<N, R> {
             → result.end ≡ end_of self.old.journal calls.old.items }
         ensures rest { result.end ≢ calls_end.OutOfMemory → calls.new.items
             ≡ drop (length result.receipts.items) calls.old.items }
-        ensures memory { result.end ≡ calls_end.OutOfMemory → (calls.new.items ≡ calls.old.items)
-            ⊎ (calls.new.items ≡ drop (length result.receipts.items + 1) calls.old.items) }
+        ensures memory { result.end ≡ calls_end.OutOfMemory
+            → ((calls.new.items ≡ calls.old.items) × (result.receipts.items ≡ []))
+            ⊎ ((calls.new.items ≡ drop (length result.receipts.items + 1) calls.old.items)
+            × (length result.receipts.items
+            < length (receipts_of self.old.journal calls.old.items))) }
         ensures journal { self.new.journal
             ≡ after_calls self.old.journal calls.old.items (length result.receipts.items) }
         ensures made { seat.new.made ≡ seat.old.made + length result.receipts.items }

@@ -1,13 +1,13 @@
-//! `Demand`: what a reply must be, so that the calls behind it are made.
+//! `Demand`: what a reply must be for the calls after it to be made.
 
 ghost use Rattle.std.specs.Prelude.{◌≡◌};
 ghost use Rattle.argus_entries.specs.Reply.{plain_reply};
-ghost use Rattle.argus_sharing.specs.CallEach.{is_answer, is_no_signal, meets};
+ghost use Rattle.argus_sharing.specs.CallEach.{is_no_refusal, is_no_signal, meets};
 
 use argus_contents::Answer;
 use argus_entries::Reply;
 
-/// What a reply must be, so that the calls behind it are made.
+/// What a reply must be for the calls after it to be made.
 ///
 /// | Demand | It is met by |
 /// |---|---|
@@ -34,7 +34,7 @@ impl Demand {
     {
         match self {
             Demand::Nothing => true,
-            Demand::NoRefusal => is_answer(reply),
+            Demand::NoRefusal => is_no_refusal(reply),
             Demand::NoSignal => is_no_signal(reply),
             Demand::Exactly(demanded) => demanded == reply,
         }
@@ -42,8 +42,8 @@ impl Demand {
 }
 
 /// Whether it is no refusal.
-fn is_answer(reply: &Reply) -> bool
-    ensures { result ≡ is_answer (plain_reply reply.now) }
+fn is_no_refusal(reply: &Reply) -> bool
+    ensures { result ≡ is_no_refusal (plain_reply reply.now) }
 {
     match reply {
         Reply::Object(_) | Reply::Begun(_) | Reply::Answered(_) => true,

@@ -3,7 +3,7 @@
 use crate::demand::Demand;
 use argus_entries::Call;
 
-/// A call, and what its reply must be, so that the calls behind it are made.
+/// A call, and what its reply must be for the calls after it to be made.
 ///
 /// ```text
 /// let first = DemandedCall { call: Call::BeginTop, demand: Demand::NoRefusal };

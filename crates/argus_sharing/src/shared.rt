@@ -176,7 +176,7 @@ impl<N: Sharing, R: Wait + Drop> Shared<N, R> {
     /// Makes the calls one after another under one lock, as the seat's, from the first on, up to the
     /// first whose reply doesn't meet its demand. Each is a call like `call`, with a receipt of its
     /// own, and no call of another seat comes between two of them. Those that weren't made stay in
-    /// `calls`.
+    /// `calls`. If one of them ended actions, all that wait are woken once, after the last.
     ///
     /// `OutOfMemory`: there was no memory for the receipts, and no call was made; or none for the
     /// call behind the last receipt, and that call is spent.
@@ -200,10 +200,13 @@ impl<N: Sharing, R: Wait + Drop> Shared<N, R> {
             (receipts_of journal calls.old.items)
             × (result.end ≢ calls_end.OutOfMemory → (map plain_receipt result.receipts.items
             ≡ receipts_of journal calls.old.items)
-            × (result.end ≡ end_of journal calls.old.items)) }
+            × (result.end ≡ end_of journal calls.old.items))
+            × (result.end ≡ calls_end.OutOfMemory → (result.receipts.items ≡ [])
+            ⊎ (length result.receipts.items < length (receipts_of journal calls.old.items))) }
         ensures rest { result.end ≢ calls_end.OutOfMemory → calls.new.items
             ≡ drop (length result.receipts.items) calls.old.items }
-        ensures memory { result.end ≡ calls_end.OutOfMemory → (calls.new.items ≡ calls.old.items)
+        ensures memory { result.end ≡ calls_end.OutOfMemory
+            → ((calls.new.items ≡ calls.old.items) × (result.receipts.items ≡ []))
             ⊎ (calls.new.items ≡ drop (length result.receipts.items + 1) calls.old.items) }
         ensures made { seat.new.made ≡ seat.old.made + length result.receipts.items }
     {
