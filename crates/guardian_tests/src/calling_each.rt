@@ -123,7 +123,7 @@ fn run_list<R: Threads + Wait + Print + Copy + Drop + Send + Sync>(
     };
     let length = guardian.journal().journal().len();
     ensure!(
-        length == BEFORE + run.made.count as u64,
+        length == BEFORE.saturating_add(run.made.count as u64),
         "not each call has an entry"
     );
     Ok(run.made)
@@ -221,9 +221,10 @@ fn demand_of(heap: Heap, text: &str) -> Result<Demand, RowFault> {
 fn is_left(run: &ListRun<'_>, left: usize) -> bool {
     let all = run.list.len();
     let count = run.made.count;
+    let found = count.saturating_add(left);
     match run.made.end {
-        CallsEnd::Whole | CallsEnd::Unmet => count + left == all,
-        CallsEnd::OutOfMemory => count + left + 1 == all || (count == 0 && left == all),
+        CallsEnd::Whole | CallsEnd::Unmet => found == all,
+        CallsEnd::OutOfMemory => { found.saturating_add(1) == all || (count == 0 && left == all) }
     }
 }
 
