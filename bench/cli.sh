@@ -1,4 +1,5 @@
 #!/usr/bin/env bash
+# SPDX-License-Identifier: MIT
 # Prints what the program takes for scripts of 100,000 lines and of 16 MiB, and for half of each, so
 # that one sees how the time grows; and beside it what another program takes for the same, where
 # PEERS names one: medians of interleaved runs on the clock, in milliseconds, and the median of the

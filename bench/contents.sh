@@ -1,4 +1,5 @@
 #!/usr/bin/env bash
+# SPDX-License-Identifier: MIT
 # Prints what copies and changes of contents take, and what the same copies take in Rust: medians of
 # interleaved runs, in nanoseconds of processor time. Nothing is compared with a limit, since the
 # figures are the machine's.

@@ -1,4 +1,5 @@
 #!/usr/bin/env bash
+# SPDX-License-Identifier: MIT
 # Prints what a guardian's calls take through C beside the same calls in Rattle, and what memory ten
 # million calls through C take, with a checkpoint after each hundred thousand: medians of interleaved
 # runs, in nanoseconds on the clock. Nothing is compared with a limit, since the figures are the

@@ -1,4 +1,5 @@
 #!/usr/bin/env python3
+# SPDX-License-Identifier: MIT
 """Runs the merge gate in a fresh clone with an empty home, and tells where its time goes.
 
     bench/gate.py [COMMIT] > FILE

@@ -1,4 +1,5 @@
 #!/usr/bin/env bash
+# SPDX-License-Identifier: MIT
 # Prints what a guardian's calls take, and beside it what the same calls take on a guardian by hand,
 # where PEERS names a program that makes them: medians of interleaved runs, in nanoseconds on the
 # clock, and the median of the ratios within a run. Nothing is compared with a limit, since the

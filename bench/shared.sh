@@ -1,4 +1,5 @@
 #!/usr/bin/env bash
+# SPDX-License-Identifier: MIT
 # Prints what the calls of threads on a shared guardian take, and what its lookers and its board
 # take; and beside it what the same takes on a guardian by hand, where PEERS names a program that
 # does it: medians of interleaved runs, in nanoseconds on the clock for each (of all threads

@@ -1,4 +1,5 @@
 #!/usr/bin/env bash
+# SPDX-License-Identifier: MIT
 # Prints what a call takes in a script of 10,000 arms that 1, 2, 4 and 8 workers run, and beside it
 # what a call takes on a guardian by hand behind a mutex, with as many threads, where PEERS names a
 # program that makes them: medians of interleaved runs on the clock, in nanoseconds. Nothing is

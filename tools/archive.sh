@@ -1,4 +1,5 @@
 #!/usr/bin/env bash
+# SPDX-License-Identifier: MIT
 # Builds the archive for programs in C over the libraries that .ci/run has just proved, in a minute
 # or two: crates/argus_c/out/libargus_c.a.
 #

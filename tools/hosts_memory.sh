@@ -1,4 +1,5 @@
 #!/usr/bin/env bash
+# SPDX-License-Identifier: MIT
 # Runs the hosts under memory checkers: all three under valgrind, the one in C under the address, the
 # undefined-behaviour and the thread sanitizer too. It names what it leaves out; the status tells
 # whether any failed.

@@ -1,4 +1,5 @@
 #!/usr/bin/env bash
+# SPDX-License-Identifier: MIT
 # The compiled programs under valgrind's memcheck, each on its stored run: tools/memcheck.sh [NAME..]
 #
 # What a program prints and its status have to be as `rt ci` wants them, and memcheck may tell no

@@ -1,4 +1,5 @@
 #!/usr/bin/env bash
+# SPDX-License-Identifier: MIT
 # The program, by workers, under valgrind's drd and helgrind: no error may be told.
 # These tools see threads, and the memory that they touch; the library's own locks are atomic steps
 # and waits, of which they know nothing, and they run one thread at a time.

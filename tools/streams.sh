@@ -1,4 +1,5 @@
 #!/usr/bin/env bash
+# SPDX-License-Identifier: MIT
 # The program itself on streams that fail: a full device, closed streams, a folder for its input, and
 # a pipe that nobody reads. Each has to end with status 5, told on standard error.
 # The program has to be built (.ci/run or ./argus --prove leaves it). Needs /dev/full.

@@ -1,4 +1,5 @@
 #!/usr/bin/env bash
+# SPDX-License-Identifier: MIT
 # The program where the system makes no thread for a worker, or for one of several. Each run has to
 # end with status 4, told as want of memory on standard error, with nothing listed.
 # The program has to be built (.ci/run or ./argus --prove leaves it). Needs setpriv (util-linux)

@@ -1,3 +1,4 @@
+// SPDX-License-Identifier: MIT
 //! The copy of an array in plain Rust, to be compared with `contents_bench`.
 //!
 //! Each text, list and box has a handle of one word beside it, as they have one of their allocator

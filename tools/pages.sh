@@ -1,0 +1,21 @@
+#!/usr/bin/env bash
+# SPDX-License-Identifier: MIT
+# Looks at the pages of the repository, in a second: what they point to is there, the maps of files and
+# the picture of the design are as their scripts write them, and README.md shows the texts of files that
+# are run. All four look, and each line that is printed but the count of links is a fault.
+#
+#   tools/pages.sh           the status tells whether all is well
+#   tools/pages.sh --write   first writes the maps and the picture anew
+set -uo pipefail
+cd "$(dirname "$0")/.."
+
+if [ "${1:-}" = --write ]; then
+    tools/maps.py
+    tools/design.py
+fi
+status=0
+tools/links.py || status=1
+tools/maps.py --check || status=1
+tools/design.py --check || status=1
+tools/readme.py --texts || status=1
+exit "$status"
