@@ -48,10 +48,11 @@ python_under_valgrind() {
     PYTHONMALLOC=malloc valgrind --error-exitcode=9 --leak-check=no python3 "$@"
 }
 
-# sanitized KINDS: builds the host in C so, and runs its bank and its many calls
+# sanitized KINDS: builds the host in C so, and runs its tests, its bank and its many calls
 sanitized() {
     make -C "$top/hosts/c" OUT="$room/$1" ARCHIVE="$ARGUS_ARCHIVE/libargus_c.a" \
         CFLAGS="-O1 -g -fno-omit-frame-pointer -fsanitize=$1 -fno-sanitize-recover=all" &&
+        ASAN_OPTIONS=detect_leaks=0 "$room/$1/host" test &&
         ASAN_OPTIONS=detect_leaks=0 "$room/$1/host" bank 50 &&
         ASAN_OPTIONS=detect_leaks=0 "$room/$1/host" stress 100000
 }
@@ -60,7 +61,7 @@ sanitized() {
 wants_memory() {
     local said
     if said=$( (ulimit -v 60000 && "$room/plain/host" flat 90000) 2>&1); then return 1; fi
-    [ "$said" = "flat: status 10" ]
+    [ "$said" = "flat: ARGUS_NO_MEMORY" ]
 }
 
 tried "hosts/c, address and undefined behaviour" sanitized address,undefined

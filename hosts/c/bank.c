@@ -18,6 +18,8 @@ enum { ACCOUNTS = 16, THREADS = 4, AUDITS = 20, TRANSFERS = 4 };
 static const int64_t BALANCE = 1000000000;
 static const int64_t ALL = 16000000000;
 
+static const double PATIENCE = 100;
+
 /* The journal is folded after so many entries. */
 static const int64_t FOLD_AFTER = 10000;
 
@@ -55,40 +57,55 @@ static void draw_order(uint64_t *draws, transfer order[TRANSFERS]) {
     order[TRANSFERS - 1].amount = ALL + 1;
 }
 
+/* Ends the process unless the lock was had: here they are taken in one order, and patience is long. */
+static void be_locked(int is_had) {
+    if (!is_had) {
+        fprintf(stderr, "no lock\n");
+        exit(1);
+    }
+}
+
+static int64_t balance_of(store *bank, const store_action *action, uint32_t account) {
+    int64_t balance;
+    be_locked(store_get(bank, action, account, &balance));
+    return balance;
+}
+
 /* Makes the transfer in a subaction; 0: the account has too little, and nothing is left of it. */
-static int make(store *bank, uint32_t top, const transfer *it) {
-    uint32_t sub = store_begin_sub(bank, top);
-    store_set(bank, sub, it->to, store_get(bank, sub, it->to) + it->amount);
-    int64_t balance = store_get(bank, sub, it->from);
+static int make(store *bank, const store_action *top, const transfer *it) {
+    store_action sub = store_begin_sub(bank, top);
+    be_locked(store_set(bank, &sub, it->to, balance_of(bank, &sub, it->to) + it->amount));
+    int64_t balance = balance_of(bank, &sub, it->from);
     if (balance < it->amount) {
-        store_abort(bank, sub);
+        store_abort(bank, &sub);
         return 0;
     }
-    store_set(bank, sub, it->from, balance - it->amount);
-    store_commit(bank, sub);
+    be_locked(store_set(bank, &sub, it->from, balance - it->amount));
+    store_commit(bank, &sub);
     return 1;
 }
 
 /* Takes the locks on all accounts of the order, in the order of their numbers. */
-static void lock_accounts(store *bank, uint32_t top, const transfer order[TRANSFERS]) {
+static void lock_accounts(store *bank, const store_action *top, const transfer order[TRANSFERS]) {
     int is_named[ACCOUNTS] = {0};
     for (int at = 0; at < TRANSFERS; at++) is_named[order[at].from] = is_named[order[at].to] = 1;
     for (uint32_t account = 0; account < ACCOUNTS; account++)
-        if (is_named[account]) store_lock(bank, top, account);
+        if (is_named[account]) be_locked(store_lock(bank, top, account));
 }
 
 /* Carries out an order, or cancels it at its end. */
 static void carry_out(store *bank, const transfer order[TRANSFERS], int is_cancelled, counts *sum) {
-    uint32_t top = store_begin_top(bank), made = 0;
-    lock_accounts(bank, top, order);
-    for (int at = 0; at < TRANSFERS; at++) made += (uint32_t)make(bank, top, &order[at]);
+    store_action top = store_begin_top(bank);
+    uint32_t made = 0;
+    lock_accounts(bank, &top, order);
+    for (int at = 0; at < TRANSFERS; at++) made += (uint32_t)make(bank, &top, &order[at]);
     sum->refused += TRANSFERS - made;
     if (is_cancelled) {
-        store_abort(bank, top);
+        store_abort(bank, &top);
         sum->cancelled++;
         sum->made_in_vain += made;
     } else {
-        store_commit(bank, top);
+        store_commit(bank, &top);
         sum->carried_out++;
         sum->made += made;
     }
@@ -108,10 +125,10 @@ static void *work(void *given) {
 static void *audit(void *given) {
     auditor *it = given;
     for (int number = 0; number < AUDITS; number++) {
-        uint32_t top = store_begin_top(it->bank);
+        store_action top = store_begin_top(it->bank);
         int64_t sum = 0;
-        for (uint32_t account = 0; account < ACCOUNTS; account++) sum += store_get(it->bank, top, account);
-        store_commit(it->bank, top);
+        for (uint32_t account = 0; account < ACCOUNTS; account++) sum += balance_of(it->bank, &top, account);
+        store_commit(it->bank, &top);
         if (sum == ALL) it->right++;
     }
     return NULL;
@@ -162,6 +179,7 @@ int bank(uint32_t orders) {
     store accounts;
     uint32_t right;
     store_open(&accounts, FOLD_AFTER);
+    accounts.patience = PATIENCE;
     for (int account = 0; account < ACCOUNTS; account++) store_declare(&accounts, BALANCE);
     int64_t before = store_entries(&accounts);
     double begin = clock_seconds();

@@ -15,7 +15,7 @@ enum { RECORDS = 1000, STEP = 251 };
 /* The number of an answer; the process ends where it isn't of this status. */
 static int64_t number_of(argus_answer answer, uint32_t status) {
     if (answer.status != status) {
-        fprintf(stderr, "flat: status %" PRIu32 "\n", answer.status);
+        fprintf(stderr, "flat: %s\n", argus_answer_name(answer));
         exit(1);
     }
     return answer.number;

@@ -1,4 +1,4 @@
-/* A host of a guardian in C: host [bank [ORDERS] | stress [CALLS] | flat [TURNS]]. */
+/* A host of a guardian in C: host [bank [ORDERS] | stress [CALLS] | flat [TURNS] | test]. */
 #include "modes.h"
 
 #include <errno.h>
@@ -7,7 +7,7 @@
 #include <string.h>
 
 static int usage(void) {
-    fprintf(stderr, "host [bank [ORDERS] | stress [CALLS] | flat [TURNS]]\n");
+    fprintf(stderr, "host [bank [ORDERS] | stress [CALLS] | flat [TURNS] | test]\n");
     return 2;
 }
 
@@ -24,5 +24,6 @@ int main(int count, char **words) {
     if (strcmp(mode, "bank") == 0) return bank(count == 3 ? (uint32_t)number : 250);
     if (strcmp(mode, "stress") == 0) return stress(count == 3 ? number : 10000000);
     if (strcmp(mode, "flat") == 0) return flat(count == 3 ? (uint32_t)number : 90000);
+    if (strcmp(mode, "test") == 0 && count == 2) return tests();
     return usage();
 }

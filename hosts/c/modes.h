@@ -13,4 +13,7 @@ int stress(uint64_t calls);
 /* The flat work of crates/argus_bench, so many turns, with its time and its sum. */
 int flat(uint32_t turns);
 
+/* Tests of the store and of the header; 0 where all pass. */
+int tests(void);
+
 #endif

@@ -4,11 +4,13 @@
 #include <inttypes.h>
 #include <stdio.h>
 #include <stdlib.h>
+#include <string.h>
+#include <time.h>
 
 /* Ends the process unless the call was answered by this status. */
 static int64_t expect(argus_answer answer, uint32_t status, const char *what) {
     if (answer.status != status) {
-        fprintf(stderr, "%s: status %" PRIu32 ", number %" PRId64 "\n", what, answer.status, answer.number);
+        fprintf(stderr, "%s: %s, number %" PRId64 "\n", what, argus_answer_name(answer), answer.number);
         exit(1);
     }
     return answer.number;
@@ -21,11 +23,20 @@ static void be_had(int error, const char *what) {
     }
 }
 
+/* A condition whose waits go by the clock that nobody sets. */
+static void make_condition(pthread_cond_t *it) {
+    pthread_condattr_t how;
+    be_had(pthread_condattr_init(&how), "condition");
+    be_had(pthread_condattr_setclock(&how, CLOCK_MONOTONIC), "condition");
+    be_had(pthread_cond_init(it, &how), "condition");
+    pthread_condattr_destroy(&how);
+}
+
 void store_open(store *it, int64_t fold_after) {
-    *it = (store){.guardian = ARGUS_CLOSED, .fold_after = fold_after};
+    *it = (store){.guardian = ARGUS_CLOSED, .fold_after = fold_after, .patience = 1};
     expect(argus_open(&it->guardian), ARGUS_DONE, "open");
     be_had(pthread_mutex_init(&it->lock, NULL), "mutex");
-    be_had(pthread_cond_init(&it->ended, NULL), "condition");
+    make_condition(&it->ended);
 }
 
 void store_close(store *it) {
@@ -71,59 +82,152 @@ static void fold_where_due(store *it) {
     pthread_cond_broadcast(&it->ended);
 }
 
-uint32_t store_begin_top(store *it) {
+store_action store_begin_top(store *it) {
     pthread_mutex_lock(&it->lock);
     fold_where_due(it);
     int64_t number = expect(argus_begin_top(&it->guardian), ARGUS_ACTION, "begin");
     pthread_mutex_unlock(&it->lock);
-    return (uint32_t)number;
+    return (store_action){(uint32_t)number, NULL};
 }
 
-uint32_t store_begin_sub(store *it, uint32_t parent) {
+store_action store_begin_sub(store *it, const store_action *parent) {
     pthread_mutex_lock(&it->lock);
-    int64_t number = expect(argus_begin_sub(&it->guardian, parent), ARGUS_ACTION, "begin");
+    int64_t number = expect(argus_begin_sub(&it->guardian, parent->number), ARGUS_ACTION, "begin");
     pthread_mutex_unlock(&it->lock);
-    return (uint32_t)number;
+    return (store_action){(uint32_t)number, parent};
 }
 
-void store_commit(store *it, uint32_t action) {
+void store_commit(store *it, const store_action *action) {
     pthread_mutex_lock(&it->lock);
-    expect(argus_commit(&it->guardian, action), ARGUS_DONE, "commit");
+    expect(argus_commit(&it->guardian, action->number), ARGUS_DONE, "commit");
     pthread_cond_broadcast(&it->ended);
     pthread_mutex_unlock(&it->lock);
 }
 
-void store_abort(store *it, uint32_t action) {
+void store_abort(store *it, const store_action *action) {
     pthread_mutex_lock(&it->lock);
-    expect(argus_abort(&it->guardian, action), ARGUS_DONE, "abort");
+    expect(argus_abort(&it->guardian, action->number), ARGUS_DONE, "abort");
     pthread_cond_broadcast(&it->ended);
     pthread_mutex_unlock(&it->lock);
 }
 
-void store_lock(store *it, uint32_t action, uint32_t object) {
-    pthread_mutex_lock(&it->lock);
-    while (expect(argus_can_write(&it->guardian, action, object), ARGUS_FLAG, "can_write") == 0)
-        pthread_cond_wait(&it->ended, &it->lock);
-    expect(argus_alter(&it->guardian, action, object, ARGUS_TOUCH, 0, 0, NULL), ARGUS_DONE, "touch");
-    pthread_mutex_unlock(&it->lock);
+/* The text that the last question left, which the caller frees. */
+static char *text_told(argus_guardian *guardian) {
+    argus_answer answer = argus_reply(guardian, NULL, 0);
+    char *text = malloc((size_t)answer.number + 1);
+    be_had(text == NULL, "memory");
+    expect(argus_reply(guardian, text, (size_t)answer.number), ARGUS_DONE, "reply");
+    text[answer.number] = '\0';
+    return text;
 }
 
-int64_t store_get(store *it, uint32_t action, uint32_t object) {
-    pthread_mutex_lock(&it->lock);
-    while (expect(argus_can_read(&it->guardian, action, object), ARGUS_FLAG, "can_read") == 0)
-        pthread_cond_wait(&it->ended, &it->lock);
-    expect(argus_ask(&it->guardian, action, object, ARGUS_FIELD, 0), ARGUS_VALUE, "get");
-    int64_t number = number_told(&it->guardian);
-    pthread_mutex_unlock(&it->lock);
-    return number;
+/* Whether this is the action's own number, or that of an ancestor. */
+static int is_in_lineage(uint32_t number, const store_action *action) {
+    while (action != NULL && action->number != number) action = action->parent;
+    return action != NULL;
 }
 
-void store_set(store *it, uint32_t action, uint32_t object, int64_t number) {
+static const char *next_line(const char *line) {
+    const char *end = strchr(line, '\n');
+    return end == NULL ? "" : end + 1;
+}
+
+/* Whether both hold a read lock against each other. The readers stand a line each, as a7. */
+static int wait_for_each_other(const store_action *one, const store_action *other, const char *readers) {
+    int is_first_held = 0, is_second_held = 0;
+    for (const char *line = readers; *line == 'a'; line = next_line(line)) {
+        uint32_t reader = (uint32_t)strtoul(line + 1, NULL, 10);
+        int is_of_one = is_in_lineage(reader, one), is_of_other = is_in_lineage(reader, other);
+        is_first_held |= is_of_other && !is_of_one;
+        is_second_held |= is_of_one && !is_of_other;
+    }
+    return is_first_held && is_second_held;
+}
+
+/* Whether one that waits to write the object would wait for this one, and this one for it. */
+static int is_in_vain(store *it, const store_action *action, uint32_t object) {
+    int is_found = 0;
+    if (it->writing == NULL) return 0;
+    expect(argus_readers(&it->guardian, object), ARGUS_TEXT, "readers");
+    char *readers = text_told(&it->guardian);
+    for (const store_writer *one = it->writing; one != NULL; one = one->next)
+        is_found |= one->object == object && wait_for_each_other(one->action, action, readers);
+    free(readers);
+    return is_found;
+}
+
+/* Whether the lock may be had now, by this question. */
+static int may_be_had(store *it, uint32_t question, const store_action *action, uint32_t object) {
+    return expect(argus_tell(&it->guardian, question, action->number, object, 0), ARGUS_FLAG, "question") != 0;
+}
+
+/* Waits until the lock may be had, or the patience is over: 0. */
+static int wait_until_had(store *it, uint32_t question, const store_action *action, uint32_t object) {
+    struct timespec limit;
+    clock_gettime(CLOCK_MONOTONIC, &limit);
+    int64_t nanos = limit.tv_nsec + (int64_t)(it->patience * 1e9);
+    limit.tv_sec += (time_t)(nanos / 1000000000);
+    limit.tv_nsec = (long)(nanos % 1000000000);
+    while (!may_be_had(it, question, action, object))
+        if (pthread_cond_timedwait(&it->ended, &it->lock, &limit) != 0)
+            return may_be_had(it, question, action, object);
+    return 1;
+}
+
+static void leave(store *it, const store_writer *writer) {
+    store_writer **at = &it->writing;
+    while (*at != writer) at = &(*at)->next;
+    *at = writer->next;
+}
+
+/* Waits until the write lock may be had. 0: the patience is over, or it would wait in vain. */
+static int wait_to_write(store *it, const store_action *action, uint32_t object) {
+    if (is_in_vain(it, action, object)) return 0;
+    store_writer writer = {action, object, it->writing};
+    it->writing = &writer;
+    int is_had = wait_until_had(it, ARGUS_CAN_WRITE, action, object);
+    leave(it, &writer);
+    return is_had;
+}
+
+static int is_conflict(argus_answer answer) {
+    return answer.status == ARGUS_REFUSED && answer.number == ARGUS_CONFLICT;
+}
+
+/* Makes a change, and once more where it has waited for the lock. */
+static int alter(store *it, const store_action *action, uint32_t object, uint32_t change, const char *text) {
+    pthread_mutex_lock(&it->lock);
+    argus_answer answer = argus_alter(&it->guardian, action->number, object, change, 0, 0, text);
+    if (is_conflict(answer) && wait_to_write(it, action, object))
+        answer = argus_alter(&it->guardian, action->number, object, change, 0, 0, text);
+    int is_had = !is_conflict(answer);
+    if (is_had) expect(answer, ARGUS_DONE, "change");
+    pthread_mutex_unlock(&it->lock);
+    return is_had;
+}
+
+int store_lock(store *it, const store_action *action, uint32_t object) {
+    return alter(it, action, object, ARGUS_TOUCH, NULL);
+}
+
+int store_set(store *it, const store_action *action, uint32_t object, int64_t number) {
     char value[24];
     snprintf(value, sizeof value, "%" PRId64, number);
+    return alter(it, action, object, ARGUS_SET_FIELD, value);
+}
+
+int store_get(store *it, const store_action *action, uint32_t object, int64_t *number) {
     pthread_mutex_lock(&it->lock);
-    expect(argus_alter(&it->guardian, action, object, ARGUS_SET_FIELD, 0, 0, value), ARGUS_DONE, "set");
+    argus_answer answer = argus_ask(&it->guardian, action->number, object, ARGUS_FIELD, 0);
+    if (is_conflict(answer) && wait_until_had(it, ARGUS_CAN_READ, action, object))
+        answer = argus_ask(&it->guardian, action->number, object, ARGUS_FIELD, 0);
+    int is_had = !is_conflict(answer);
+    if (is_had) {
+        expect(answer, ARGUS_VALUE, "get");
+        *number = number_told(&it->guardian);
+    }
     pthread_mutex_unlock(&it->lock);
+    return is_had;
 }
 
 int64_t store_base(store *it, uint32_t object) {

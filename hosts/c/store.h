@@ -7,13 +7,28 @@
 #include <pthread.h>
 #include <stdint.h>
 
+/* An action, and the one that it is a subaction of, or NULL. The parent's isn't moved while this one lives. */
+typedef struct store_action {
+    uint32_t number;
+    const struct store_action *parent;
+} store_action;
+
+/* An action that waits to write an object. */
+typedef struct store_writer {
+    const store_action *action;
+    uint32_t object;
+    struct store_writer *next;
+} store_writer;
+
 typedef struct store {
     argus_guardian guardian;
     pthread_mutex_t lock;  /* held around each call, and the reply that belongs to it */
     pthread_cond_t ended;  /* told after each commit, each abort and each fold */
+    double patience;       /* how many seconds an access waits for its lock at the most; a second at first */
     int64_t fold_after;    /* the journal is folded after so many entries; 0: never by itself */
     int64_t folded_at;     /* how many entries there were at the last fold */
     int is_folding;        /* a fold waits until no action is live, and no topaction begins */
+    store_writer *writing; /* who waits to write */
 } store;
 
 /* Opens a guardian and makes what it is shared by. Each call here ends the process where it isn't answered as wanted:
@@ -26,22 +41,30 @@ uint32_t store_declare(store *it, int64_t number);
 
 /* Begins an action. Before a topaction the journal is folded where that is due: then it waits for the end of all that
  * are live, so a thread that has a live action begins no topaction. */
-uint32_t store_begin_top(store *it);
-uint32_t store_begin_sub(store *it, uint32_t parent);
+store_action store_begin_top(store *it);
+store_action store_begin_sub(store *it, const store_action *parent);
 
 /* Ends an action, and wakes those that wait. */
-void store_commit(store *it, uint32_t action);
-void store_abort(store *it, uint32_t action);
+void store_commit(store *it, const store_action *action);
+void store_abort(store *it, const store_action *action);
 
-/* Takes the write lock on an object. It waits until that may be had. Who takes several takes them in the order of
- * the objects' numbers, so that no two wait for each other. The action is the caller's own, and live: no other thread
- * ends it. */
-void store_lock(store *it, uint32_t action, uint32_t object);
+/* Each of these takes a lock, which the action keeps to its end, and waits for it as long as patience lasts. 0: the
+ * lock isn't to be had, nothing was done; abort the topaction, and begin it anew. The action is the caller's own, and
+ * live: no other thread ends it.
+ *
+ * Two topactions wait for each other in one of two ways. Both have read an object, and both want to write it: of these
+ * the second is refused at once. Who will write what it reads calls store_lock before it reads, and then they take
+ * turns. Or each has locked what the other wants: take locks in one order, as by the number of the object; where that
+ * can't be, both wait as long as patience lasts. */
 
-/* Reads and sets a record's integer. Reading waits as store_lock does. Setting doesn't: the action, or an ancestor,
- * holds the lock. */
-int64_t store_get(store *it, uint32_t action, uint32_t object);
-void store_set(store *it, uint32_t action, uint32_t object, int64_t number);
+/* Takes the write lock. */
+int store_lock(store *it, const store_action *action, uint32_t object);
+
+/* Reads a record's integer, with a read lock, which others may have too. */
+int store_get(store *it, const store_action *action, uint32_t object, int64_t *number);
+
+/* Sets a record's integer, with the write lock. */
+int store_set(store *it, const store_action *action, uint32_t object, int64_t number);
 
 /* What a record holds for good. */
 int64_t store_base(store *it, uint32_t object);

@@ -22,23 +22,26 @@ static const uint64_t CALLS_A_FOLD = 100000;
 static const size_t SLACK = 65536;
 
 /* Reads and sets so many records. */
-static void touch(store *it, uint64_t *draws, uint32_t action, int count) {
+static void touch(store *it, uint64_t *draws, const store_action *action, int count) {
     for (int at = 0; at < count; at++) {
         uint32_t object = draws_below(draws, RECORDS);
-        store_set(it, action, object, store_get(it, action, object) + 1);
+        int64_t number = 0;
+        /* By one thread: each lock is had at once. */
+        store_get(it, action, object, &number);
+        store_set(it, action, object, number + 1);
     }
 }
 
 static void turn(store *it, uint64_t *draws) {
-    uint32_t top = store_begin_top(it);
-    touch(it, draws, top, 5);
-    uint32_t sub = store_begin_sub(it, top);
-    touch(it, draws, sub, 4);
-    store_commit(it, sub);
-    sub = store_begin_sub(it, top);
-    touch(it, draws, sub, 4);
-    store_abort(it, sub);
-    store_commit(it, top);
+    store_action top = store_begin_top(it);
+    touch(it, draws, &top, 5);
+    store_action sub = store_begin_sub(it, &top);
+    touch(it, draws, &sub, 4);
+    store_commit(it, &sub);
+    sub = store_begin_sub(it, &top);
+    touch(it, draws, &sub, 4);
+    store_abort(it, &sub);
+    store_commit(it, &top);
 }
 
 /* Bytes that malloc has handed out, and not got back. */

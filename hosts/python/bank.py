@@ -80,7 +80,7 @@ class Clerk:
             with self.bank.topaction() as top:
                 # In one order, so that no two threads wait for each other.
                 for account in sorted({it for transfer in order for it in transfer[:2]}):
-                    top.touch(account)
+                    top.lock(account)
                 for transfer in order:
                     try:
                         make(top, *transfer)

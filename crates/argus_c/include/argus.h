@@ -4,20 +4,53 @@
  * source isn't: hosts/declarations.py compares the texts. They take no null pointer. The inline functions after them
  * are what a C program calls: they answer ARGUS_NULL to a null pointer, and give each answer as a status and a number.
  *
+ *     // An account of so much, or 0: and why.
+ *     int open_account(argus_guardian *bank, const char *content) {
+ *         argus_answer account = argus_declare(bank, "atomic_record[balance:int]"), top, answer;
+ *         if (account.status != ARGUS_OBJECT) return fprintf(stderr, "%s\n", argus_answer_name(account)), 0;
+ *         top = argus_begin_top(bank);
+ *         if (top.status != ARGUS_ACTION) return fprintf(stderr, "%s\n", argus_answer_name(top)), 0;
+ *         answer = argus_alter(bank, (uint32_t)top.number, (uint32_t)account.number, ARGUS_CREATE, 0, 0, content);
+ *         if (answer.status == ARGUS_DONE) answer = argus_commit(bank, (uint32_t)top.number);
+ *         if (answer.status == ARGUS_DONE) return 1;
+ *         argus_abort(bank, (uint32_t)top.number);
+ *         return fprintf(stderr, "%s\n", argus_answer_name(answer)), 0;
+ *     }
+ *
  *     argus_guardian bank = ARGUS_CLOSED;
  *     if (argus_open(&bank).status != ARGUS_DONE) return 1;
- *     uint32_t account = (uint32_t)argus_declare(&bank, "atomic_record[balance:int]").number;
- *     uint32_t top = (uint32_t)argus_begin_top(&bank).number;
- *     argus_alter(&bank, top, account, ARGUS_CREATE, 0, 0, "{5}");
- *     argus_commit(&bank, top);
+ *     open_account(&bank, "{5}");
  *     argus_close(&bank);
+ *
+ * Test each status before you use its number: that of a refused begin is the refusal's, and would read as the action
+ * of somebody else.
  *
  * Threads: a guardian is given to one call at a time. Threads that share one hold a mutex of their own around each
  * call and the reply that belongs to it. A guardian may be opened on one thread, used on others, and closed on another.
  *
+ * Processes: a forked process has a copy of each guardian, of which from then on each goes its own way; so let one
+ * process alone use it. No thread is in a call while another one forks, unless the child only calls exec. Nothing is
+ * saved when a process ends; a guardian that wasn't closed ends with it.
+ *
  * Memory: all of it comes from malloc. What a guardian takes grows with its journal until a checkpoint. argus_close
  * gives all of it back but for one word of 8 bytes, which each argus_open leaves for good; argus_open_beside leaves
  * none. Where malloc answers NULL the status is ARGUS_NO_MEMORY, and the guardian is as before.
+ *
+ * Texts are UTF-8, without spaces, and each thing has one written form:
+ *
+ *     value     null  true  false  -5  "text"  @3  [1,2]  {1,true}  <1:"no">
+ *               which are of the types null, bool, int (64 bits), text, atomic (a reference to object 3, which is
+ *               declared), sequence, struct (its fields in order) and oneof (tag 1, counted from 0, with its value)
+ *     content   {5,"a"} of a record, 1[10,20] of an array (its low bound before its items), <0:5> of a variant
+ *     shape     atomic_record[balance:int,owner:text]  atomic_array[int]  atomic_variant[no:null,yes:int]
+ *               with types as null bool int text atomic sequence[int] struct[a:int,b:text] oneof[no:null,yes:int]
+ *
+ * In a text a quote, a backslash and a line feed are written \" \\ and \n, all other characters as they are. An
+ * integer has no +, no -0 and no leading zero.
+ *
+ * Limits: a value and a type have a depth of at most 16 (a scalar has 1); a list of names 1 to 64, all distinct, of 1
+ * to 32 bytes a-z, 0-9 and _ each; an array at most 65,535 items, at indexes from -2^31 to 2^31 - 1; an action at most
+ * 64 ancestors, itself counted. A guardian declares 65,535 objects, and begins 1,000,000 actions in its life.
  */
 #ifndef ARGUS_H
 #define ARGUS_H
@@ -29,6 +62,12 @@
 #ifdef __cplusplus
 extern "C" {
 #endif
+
+/* The version of this header. */
+#define ARGUS_VERSION_MAJOR 0
+#define ARGUS_VERSION_MINOR 1
+#define ARGUS_VERSION_PATCH 0
+#define ARGUS_VERSION "0.1.0"
 
 /* A guardian, or none. It lies in the program's memory and begins as ARGUS_CLOSED (all bytes zero will do).
  * Both fields are the library's: a program writes neither. One that is open is moved, never copied: of two copies
@@ -134,7 +173,7 @@ typedef enum argus_kind {
     ARGUS_SET_LOW = 26,    /* first: the low bound to be. ARGUS_DONE */
     ARGUS_TRIM = 27,       /* first: where the items that stay begin; second: how many at most. ARGUS_DONE */
     ARGUS_CHANGE_TAG = 28, /* first: a tag; text: its value. ARGUS_DONE */
-    ARGUS_TOUCH = 29       /* nothing changes. ARGUS_DONE */
+    ARGUS_TOUCH = 29       /* nothing changes, and the write lock is had: argus_lock. ARGUS_DONE */
 } argus_kind;
 
 /* The questions, which aren't journalled and change nothing. */
@@ -154,6 +193,72 @@ typedef enum argus_question {
     ARGUS_LIST_JOURNAL = 11, /* the listing of the journal. ARGUS_TEXT */
     ARGUS_LIST_AUDIT = 12   /* the listing of the audit, made from the journal. ARGUS_TEXT */
 } argus_question;
+
+/* ---- What the numbers are called, for messages: a name that stands above, or "?" of a number that has none. ---- */
+
+#define ARGUS_NAMED(it) \
+    case it: \
+        return #it
+
+static inline const char *argus_signal_name(int64_t signal) {
+    switch (signal) {
+        ARGUS_NAMED(ARGUS_ABSENT);
+        ARGUS_NAMED(ARGUS_EXISTS);
+        ARGUS_NAMED(ARGUS_BOUNDS);
+        ARGUS_NAMED(ARGUS_WRONG_TAG);
+        ARGUS_NAMED(ARGUS_NEGATIVE_SIZE);
+        ARGUS_NAMED(ARGUS_LIMITS);
+    default:
+        return "?";
+    }
+}
+
+static inline const char *argus_refusal_name(int64_t refusal) {
+    switch (refusal) {
+        ARGUS_NAMED(ARGUS_NO_ACTION);
+        ARGUS_NAMED(ARGUS_OVER);
+        ARGUS_NAMED(ARGUS_SUSPENDED);
+        ARGUS_NAMED(ARGUS_NO_OBJECT);
+        ARGUS_NAMED(ARGUS_ILL_TYPED);
+        ARGUS_NAMED(ARGUS_CONFLICT);
+        ARGUS_NAMED(ARGUS_TOO_DEEP);
+        ARGUS_NAMED(ARGUS_TOO_MANY);
+        ARGUS_NAMED(ARGUS_NO_SIBLINGS);
+    default:
+        return "?";
+    }
+}
+
+static inline const char *argus_status_name(uint32_t status) {
+    switch (status) {
+        ARGUS_NAMED(ARGUS_DONE);
+        ARGUS_NAMED(ARGUS_OBJECT);
+        ARGUS_NAMED(ARGUS_ACTION);
+        ARGUS_NAMED(ARGUS_NUMBER);
+        ARGUS_NAMED(ARGUS_FLAG);
+        ARGUS_NAMED(ARGUS_VALUE);
+        ARGUS_NAMED(ARGUS_CONTENT);
+        ARGUS_NAMED(ARGUS_TEXT);
+        ARGUS_NAMED(ARGUS_SIGNAL);
+        ARGUS_NAMED(ARGUS_REFUSED);
+        ARGUS_NAMED(ARGUS_NO_MEMORY);
+        ARGUS_NAMED(ARGUS_NOT_OPEN);
+        ARGUS_NAMED(ARGUS_NOT_UTF8);
+        ARGUS_NAMED(ARGUS_BAD_TEXT);
+        ARGUS_NAMED(ARGUS_BAD_SHAPE);
+        ARGUS_NAMED(ARGUS_BAD_NUMBER);
+        ARGUS_NAMED(ARGUS_BAD_KIND);
+        ARGUS_NAMED(ARGUS_TOO_SMALL);
+        ARGUS_NAMED(ARGUS_NOT_THERE);
+        ARGUS_NAMED(ARGUS_BUSY);
+        ARGUS_NAMED(ARGUS_FULL);
+        ARGUS_NAMED(ARGUS_NULL);
+    default:
+        return "?";
+    }
+}
+
+#undef ARGUS_NAMED
 
 /* ---- What the library exports. No pointer is null, but that of a text of size 0; no two lie in one another. ---- */
 
@@ -201,6 +306,13 @@ static inline argus_answer argus_answer_of(uint32_t status, int64_t number) {
     answer.status = status;
     answer.number = number;
     return answer;
+}
+
+/* What an answer says: the name of its refusal or signal where it is one, else of its status. */
+static inline const char *argus_answer_name(argus_answer answer) {
+    if (answer.status == ARGUS_REFUSED) return argus_refusal_name(answer.number);
+    if (answer.status == ARGUS_SIGNAL) return argus_signal_name(answer.number);
+    return argus_status_name(answer.status);
 }
 
 /* Opens a guardian that leaves a word of 8 bytes for good. */
@@ -312,6 +424,12 @@ static inline argus_answer argus_alter(argus_guardian *guardian, uint32_t action
                                        int64_t first, int64_t second, const char *text) {
     if (change < ARGUS_CREATE || change > ARGUS_TOUCH) return argus_answer_of(ARGUS_BAD_KIND, 0);
     return argus_call(guardian, change, action, object, first, second, text, text == NULL ? 0 : strlen(text));
+}
+
+/* Takes the write lock, and changes nothing. Of two topactions that have read an object, and both want to change it,
+ * each is refused ARGUS_CONFLICT as long as the other one is live. So it comes before reading what will be changed. */
+static inline argus_answer argus_lock(argus_guardian *guardian, uint32_t action, uint32_t object) {
+    return argus_alter(guardian, action, object, ARGUS_TOUCH, 0, 0, NULL);
 }
 
 /* The questions by name. */

@@ -18,6 +18,8 @@ from .action import Action
 from .errors import (
     Absent,
     ArgusError,
+    BadKind,
+    BadNumber,
     BadShape,
     BadText,
     Bounds,
@@ -51,6 +53,8 @@ __all__ = [
     "Action",
     "ArgusError",
     "Array",
+    "BadKind",
+    "BadNumber",
     "BadShape",
     "BadText",
     "Bounds",

@@ -1,7 +1,8 @@
 """`Action`: a live action of a guardian."""
 
-from .errors import Refused
+from .errors import ArgusError
 from .library import Kind
+from .ranges import U32, u32
 from .values import write_content, write_value
 
 
@@ -9,12 +10,41 @@ class Action:
     """An action. In a `with` block it commits at the block's end, and aborts where an exception leaves it.
 
     An access raises a Signal where the operation says one, and a Refused where the guardian refuses it;
-    both may be caught, and the action goes on. Conflict comes once patience is over.
+    both may be caught, and the action goes on.
+
+    Each access takes its lock, and the action keeps it to its end: a reading one a read lock, which
+    others may have too, a changing one the write lock. It waits for the lock as long as the
+    guardian's patience lasts, and then raises Conflict. Two that have read an object, and both want
+    to write it, wait for each other: the second raises Conflict at once. So who reads and then writes
+    takes the write lock first:
+
+        with guardian.topaction() as top:
+            top.lock(seat)
+            if not top.field(seat, 0):
+                top.set_field(seat, 0, True)
     """
 
-    def __init__(self, guardian, number):
+    def __init__(self, guardian, number, parent=None, is_nested=False):
+        if number.__class__ is not int or not 0 <= number <= U32:
+            number = u32(number, "action")
         self.guardian, self.number = guardian, number
+        # The parent, or the creator of a nested topaction: neither ends before this one does.
+        self.parent, self._is_nested = parent, is_nested
         self._is_ended = False
+
+    def _lineage(self):
+        """The numbers of itself and its ancestors, whose locks are none against it."""
+        numbers, action = {self.number}, self
+        while action.parent and not action._is_nested:
+            action = action.parent
+            numbers.add(action.number)
+        return numbers
+
+    def __repr__(self):
+        return f"<Action a{self.number}>"
+
+    def __reduce__(self):
+        raise TypeError("an action is neither pickled nor copied: it belongs to its guardian")
 
     def __enter__(self):
         return self
@@ -28,24 +58,27 @@ class Action:
             self._abort_quietly()
 
     def _abort_quietly(self):
-        # It may be over already, by a sibling or an ancestor.
+        # It may be over already, by a sibling or an ancestor, or the guardian may be closed.
         try:
             self.abort()
-        except Refused:
+        except ArgusError:
             pass
 
     def commit(self):
-        """Commits. After an error it aborts."""
+        """Commits. After an error it aborts.
+
+        Where an interrupt (Ctrl-C) comes while it commits, it may have committed or not.
+        """
         try:
-            self.guardian.call(Kind.COMMIT, self.number)
-        except Exception:
+            self.guardian._end(Kind.COMMIT, self.number)
+        except BaseException:
             self._abort_quietly()
             raise
         self._is_ended = True
 
     def abort(self):
         """Aborts it and all subactions below it."""
-        self.guardian.call(Kind.ABORT, self.number)
+        self.guardian._end(Kind.ABORT, self.number)
         self._is_ended = True
 
     def abort_others(self):
@@ -54,11 +87,14 @@ class Action:
 
     def subaction(self):
         """Begins a subaction: what it leaves counts only as its ancestors do."""
-        return Action(self.guardian, self.guardian.call(Kind.BEGIN_SUB, self.number))
+        return self.guardian._begin_below(Kind.BEGIN_SUB, self)
 
     def nested(self):
-        """Begins a nested topaction: what it leaves counts, whatever becomes of this action."""
-        return Action(self.guardian, self.guardian.call(Kind.BEGIN_NESTED, self.number))
+        """Begins a nested topaction: what it leaves counts, whatever becomes of this action.
+
+        It has no privilege from this action, and so waits in vain for what this one has locked.
+        """
+        return self.guardian._begin_below(Kind.BEGIN_NESTED, self)
 
     def test_read(self, obj):
         """Takes a read lock; False where it isn't to be had. It doesn't wait."""
@@ -69,7 +105,7 @@ class Action:
         return self.guardian.call(Kind.TEST_WRITE, self.number, obj)
 
     def _access(self, kind, obj, first=0, second=0, text=""):
-        return self.guardian.access(kind, self.number, obj, first, second, text)
+        return self.guardian.access(kind, self.number, obj, first, second, text, self._lineage)
 
     def whole(self, obj):
         """The whole content."""
@@ -151,6 +187,10 @@ class Action:
         """The tag becomes this one, with the value."""
         self._access(Kind.CHANGE_TAG, obj, tag, text=write_value(value))
 
-    def touch(self, obj):
-        """Changes nothing; the write lock is had."""
+    def lock(self, obj):
+        """Takes the write lock, and changes nothing. It comes before reading what will be written."""
         self._access(Kind.TOUCH, obj)
+
+    def touch(self, obj):
+        """Another name of `lock`."""
+        self.lock(obj)

@@ -2,111 +2,180 @@
 
 
 class ArgusError(Exception):
-    """Of all that this package raises."""
+    """Of all that this package raises. `str` says what was wanted, and why that isn't so."""
+
+    why = "not as wanted"
+
+    def __str__(self):
+        return str(self.args[0]) if self.args else self.why
 
 
 class OutOfMemory(ArgusError, MemoryError):
     """Memory was wanted that isn't there. Nothing has changed, and nothing was journalled."""
+
+    why = "out of memory"
 
 
 class BadText(ArgusError, ValueError):
     """A text is no written form; `at` is how many of its bytes could be read. Nothing was journalled."""
 
     def __init__(self, at):
-        super().__init__(f"no written form: bad at byte {at}")
+        super().__init__(at)
         self.at = at
+
+    def __str__(self):
+        return f"no written form: bad at byte {self.at}"
 
 
 class BadShape(ArgusError, ValueError):
     """A text is no written form of a shape that can be made. Nothing was journalled."""
 
+    why = "no written form of a shape"
+
+
+class BadNumber(ArgusError, ValueError):
+    """The number of a field or a tag isn't within 0 to 255. Nothing was journalled."""
+
+    why = "the number of a field or a tag is within 0 to 255"
+
+
+class BadKind(ArgusError, ValueError):
+    """No call and no question has this number. Nothing was journalled."""
+
+    why = "no call has this kind"
+
 
 class NotThere(ArgusError, LookupError):
     """No such object is declared, or no entry has this number."""
 
+    why = "no such object or entry"
+
 
 class Closed(ArgusError):
-    """The guardian is closed."""
+    """The guardian is closed, or was opened by a process from which this one was forked."""
+
+    why = "the guardian is closed, or it is that of the process from which this one was forked"
 
 
 class Busy(ArgusError):
     """No checkpoint: an action is live."""
 
+    why = "an action is live"
+
 
 class Full(ArgusError):
     """No checkpoint: no entry's number is left."""
+
+    why = "no entry's number is left"
 
 
 class UnknownStatus(ArgusError):
     """The library answered a number that this package doesn't know: they are of two versions."""
 
+    def __str__(self):
+        return "the library answered {}".format(*self.args)
+
 
 class Refused(ArgusError):
     """The guardian has refused the call: no lock was taken, nothing has changed. The journal keeps it."""
+
+    why = "refused"
 
 
 class NoAction(Refused):
     """The action isn't begun."""
 
+    why = "no such action is begun"
+
 
 class Over(Refused):
     """The action has committed or is aborted."""
+
+    why = "it has committed or is aborted"
 
 
 class Suspended(Refused):
     """The action has a live child."""
 
+    why = "it has a live child"
+
 
 class NoObject(Refused):
     """The object isn't declared."""
+
+    why = "no such object is declared"
 
 
 class IllTyped(Refused):
     """The operation doesn't suit the object's shape, or its value isn't of the type there."""
 
+    why = "the operation doesn't suit the object's shape, or its value isn't of the type there"
+
 
 class Conflict(Refused):
     """An action that is no ancestor holds a lock against this one."""
+
+    why = "another action holds the object"
 
 
 class TooDeep(Refused):
     """The parent has depth 64."""
 
+    why = "it has depth 64"
+
 
 class TooMany(Refused):
     """No more objects may be declared (65,535), or no more actions begun (1,000,000)."""
+
+    why = "65,535 objects are declared, or 1,000,000 actions were begun"
 
 
 class NoSiblings(Refused):
     """The action has neither parent nor creator."""
 
+    why = "it has neither parent nor creator"
+
 
 class Signal(ArgusError):
     """What an operation says in place of its answer. The content is as before; the lock was granted."""
+
+    why = "signalled"
 
 
 class Absent(Signal):
     """The object has no content yet."""
 
+    why = "there is no content yet"
+
 
 class Exists(Signal):
     """The object has a content already."""
+
+    why = "there is a content already"
 
 
 class Bounds(Signal):
     """No element has this place, or there is none at all."""
 
+    why = "no element has this place, or there is none at all"
+
 
 class WrongTag(Signal):
     """The variant has another tag."""
+
+    why = "the variant has another tag"
 
 
 class NegativeSize(Signal):
     """A count below zero."""
 
+    why = "a count below zero"
+
 
 class Limits(Signal):
     """A bound or the size of an array would leave its limits."""
+
+    why = "a bound or the size of the array would leave its limits"
 
 
 # By the library's numbers, from 1.

@@ -1,13 +1,18 @@
 """`Guardian`: atomic objects, and the actions that use them."""
 
-import ctypes
+import random
 import threading
 import time
+import warnings
 
-from . import errors
+from . import errors, forking
 from .action import Action
-from .library import Handle, Kind, Question, Status, load
-from .values import read_content, read_value
+from .archive import Archive
+from .library import Kind, Question, Status
+from .owners import Owners
+from .ranges import LEAST, MOST, U32, U64, i64, u32, within
+from .telling import deed, error_of, error_of_call
+from .values import object_number, read_content
 
 _LISTINGS = {
     "bases": Question.LIST_BASES,
@@ -15,48 +20,74 @@ _LISTINGS = {
     "journal": Question.LIST_JOURNAL,
     "audit": Question.LIST_AUDIT,
 }
+_DONE = Status.DONE, 0
+_TRUE = Status.FLAG, 1
+_OVER = Status.REFUSED, errors.REFUSALS.index(errors.Over) + 1
+_CONFLICT = Status.REFUSED, errors.REFUSALS.index(errors.Conflict) + 1
 _ENDS = (Kind.COMMIT, Kind.ABORT, Kind.ABORT_OTHERS)
-_ERRORS = {
-    Status.NO_MEMORY: errors.OutOfMemory,
-    Status.NOT_OPEN: errors.Closed,
-    Status.BAD_SHAPE: errors.BadShape,
-    Status.NOT_THERE: errors.NotThere,
-    Status.BUSY: errors.Busy,
-    Status.FULL: errors.Full,
-}
+# How many seconds a wait lasts at the most before it looks again.
+_LOOK_AFTER = 0.05
 
 
 class Guardian:
     """Atomic objects, and the actions that use them. Threads may share it: each call has its lock.
 
-    An access waits for its object at most `patience` seconds, and then raises Conflict. Two actions
-    that wait for each other wait so long: take locks in one order, or let patience be short, abort
-    and begin anew. That a wait ends isn't promised.
+    An access waits for its object at most `patience` seconds, and then raises Conflict: abort the
+    topaction, and begin it anew, as `run` does. Two topactions wait for each other in one of two ways.
+
+    - Both have read an object, and both want to write it. The second is refused Conflict at once.
+      Who will write what it reads calls `lock` before it reads, and then they take turns.
+    - Each has locked what the other wants. Take locks in one order, as by the number of the object.
+      Where that can't be, both wait as long as patience lasts.
+
+    That a wait ends isn't promised.
 
     The journal keeps each call with its reply, and so grows until a checkpoint. A guardian begins a
     million actions in its life, and declares 65,535 objects.
     """
 
-    def __init__(self, patience=10.0):
+    def __init__(self, patience=1.0):
         self.patience = patience
-        self._library = load()
-        self._handle = Handle()
-        self._room = ctypes.create_string_buffer(256)
-        # Its lock is held around each call with its reply; it is told when actions end.
-        self._ended = threading.Condition()
+        self._archive = Archive()
+        self._make_lock()
+        # How often actions were aborted, by which others may be over than the one that waits.
         self._aborts = 0
+        self._owners = Owners()
+        self._is_open = True
+        forking.add(self)
+
+    def _make_lock(self):
+        # The lock is held around each call with its reply. The condition is told when actions end.
+        self._lock = threading.Lock()
+        self._ended = threading.Condition(self._lock)
+        # How many threads wait for that, and how many of them in `checkpoint`.
+        self._waiting = 0
         self._folding = 0
-        none = Handle()
-        status = self._library.argus_c_open(ctypes.byref(self._handle), ctypes.byref(none))
-        if status != Status.DONE:
-            raise _error(status, 0)
+        # For each object the lineages of those that wait to write it.
+        self._writing = {}
 
     def close(self):
         """Gives its memory back, but for a word of 8 bytes. Live actions come to nothing."""
-        with self._ended:
-            self._library.argus_c_close(ctypes.byref(self._handle))
+        with self._lock:
+            self._is_open = False
+            self._archive.close()
             self._aborts += 1
-            self._ended.notify_all()
+            self._wake()
+
+    def _leave_behind(self):
+        """Closes it in a process that was forked. Its memory and its lock are the parent's."""
+        self._is_open = False
+        self._archive.leave_behind()
+        self._make_lock()
+
+    def __del__(self, warn=warnings.warn):
+        # Nobody has it any more, so nobody has its lock.
+        if getattr(self, "_is_open", False):
+            self._archive.close()
+            warn(f"unclosed guardian {self!r}", ResourceWarning, source=self)
+
+    def __reduce__(self):
+        raise TypeError("a guardian is neither pickled nor copied: it lives in one process")
 
     def __enter__(self):
         return self
@@ -70,9 +101,62 @@ class Guardian:
 
     def topaction(self):
         """Begins a topaction. While a thread waits in `checkpoint`, it waits for that."""
-        with self._ended:
-            self._ended.wait_for(lambda: not self._folding)
-            return Action(self, self.call(Kind.BEGIN_TOP))
+        with self._lock:
+            while self._folding:
+                self._wait_until(time.monotonic() + _LOOK_AFTER)
+            return self._begin(Kind.BEGIN_TOP)
+
+    def _begin_below(self, kind, parent):
+        """Begins a subaction of an `Action`, or a nested topaction of it."""
+        with self._lock:
+            return self._begin(kind, parent)
+
+    def _begin(self, kind, parent=None):
+        """Begins an action. Where an interrupt comes before anybody has it, it is aborted."""
+        before = self._archive.told(Question.ACTIONS)
+        try:
+            call = kind, parent.number if parent else 0
+            status, number = self._make(*call)
+            if status != Status.ACTION:
+                raise error_of_call(status, number, call)
+            action = Action(self, number, parent, kind == Kind.BEGIN_NESTED)
+            self._owners.add(action)
+            return action
+        except BaseException:
+            if self._archive.told(Question.ACTIONS) > before:
+                self._archive.make(Kind.ABORT, before)
+            raise
+
+    def run(self, work, tries=20):
+        """Carries out `work(top)` as a topaction, and returns what it returns.
+
+        At a Conflict the topaction is aborted, and tried again after a wait: up to a millisecond at
+        first, up to twice as much each time, and no more than 100, `tries` times in all. Then the
+        Conflict is raised. Each other exception aborts the topaction, and is raised at once.
+
+        `work` may run more than once, so it does nothing outside the guardian that mustn't be done
+        twice.
+        """
+        for number in range(tries - 1):
+            try:
+                return self._run_once(work)
+            except errors.Conflict:
+                time.sleep(random.uniform(0, 0.001 * min(2**number, 100)))
+        return self._run_once(work)
+
+    def _run_once(self, work):
+        with self.topaction() as top:
+            return work(top)
+
+    async def arun(self, work, tries=20):
+        """`run` for asyncio: `work`, which is no coroutine, runs in a thread of asyncio's pool.
+
+        A task that is cancelled meanwhile doesn't stop it: the topaction goes on to its end.
+        """
+        # It takes longer to load than the rest of the package, and most programs need none.
+        from asyncio import to_thread
+
+        return await to_thread(self.run, work, tries)
 
     def checkpoint(self, patience=0.0):
         """Folds the journal's entries away once no action is live.
@@ -81,21 +165,22 @@ class Guardian:
         that has a live action doesn't wait here.
         """
         limit = time.monotonic() + patience
-        with self._ended:
+        with self._lock:
             self._folding += 1
             try:
                 status = self._fold()
                 while status == Status.BUSY and time.monotonic() < limit:
-                    self._ended.wait(limit - time.monotonic())
+                    self._wait_until(limit)
                     status = self._fold()
             finally:
                 self._folding -= 1
-                self._ended.notify_all()
+                self._wake()
             if status != Status.DONE:
-                raise _error(status, 0)
+                raise error_of(status)
 
     def _fold(self):
-        return self._library.argus_c_checkpoint(ctypes.byref(self._handle))
+        self._abort_dropped()
+        return self._archive.fold()
 
     @property
     def objects(self):
@@ -114,20 +199,21 @@ class Guardian:
 
     def base(self, obj):
         """What is in the object for good; None where it has no content yet."""
-        return read_content(self._tell(Question.BASE, obj=obj))
+        return read_content(self._tell(Question.BASE, obj=object_number(obj)))
 
     def readers(self, obj):
         """Who holds the object for reading, in increasing number."""
-        return [int(line[1:]) for line in _lines(self._tell(Question.READERS, obj=obj))]
+        return _actions(self._tell(Question.READERS, obj=object_number(obj)))
 
     def versions(self, obj):
         """Who holds the object for writing, from ancestor to descendant, each with what it sees."""
-        pairs = (line.split(" ", 1) for line in _lines(self._tell(Question.VERSIONS, obj=obj)))
+        lines = _lines(self._tell(Question.VERSIONS, obj=object_number(obj)))
+        pairs = (line.split(" ", 1) for line in lines)
         return [(int(holder[1:]), read_content(content)) for holder, content in pairs]
 
     def entry(self, number):
         """The line of a journal's entry. NotThere where a checkpoint has folded it."""
-        return self._tell(Question.ENTRY, entry=number)
+        return self._tell(Question.ENTRY, entry=within(number, 0, U64, "entry"))
 
     def list(self, listing):
         """A listing: of `bases`, `stacks`, `journal` or `audit`."""
@@ -135,91 +221,155 @@ class Guardian:
 
     def call(self, kind, action=0, obj=0, first=0, second=0, text=""):
         """Makes one call, of a Kind. What it answers; raises Refused or Signal where it says so."""
-        with self._ended:
-            answer = self._make(kind, action, obj, first, second, text)
+        call = u32(kind, "kind"), u32(action, "action"), object_number(obj)
+        call = *call, i64(first, "number"), i64(second, "number"), text.encode()
+        with self._lock:
+            answer = self._make(*call)
             if kind in _ENDS:
-                self._aborts += kind != Kind.COMMIT
-                self._ended.notify_all()
-            return answer
+                self._note_end(kind, action, answer)
+            return self._archive.answer(*answer, call)
 
-    def access(self, kind, action, obj, first=0, second=0, text=""):
+    def _end(self, kind, action):
+        """Commits an action, or aborts it."""
+        with self._lock:
+            answer = self._make(kind, action)
+            self._note_end(kind, action, answer)
+            if answer != _DONE:
+                self._archive.answer(*answer, (kind, action))
+
+    def _note_end(self, kind, action, answer):
+        if kind != Kind.ABORT_OTHERS and answer in (_DONE, _OVER):
+            self._owners.remove(action)
+        if answer == _DONE:
+            self._aborts += kind != Kind.COMMIT
+            self._wake()
+
+    def _abort_dropped(self):
+        """Aborts what nobody has any more."""
+        for number in self._owners.take_dropped():
+            answer = self._archive.make(Kind.ABORT, number)
+            self._note_end(Kind.ABORT, number, answer)
+            if answer[0] == Status.NO_MEMORY:
+                # The next call tries once more.
+                break
+
+    def access(self, kind, action, obj, first=0, second=0, text="", lineage=None):
         """Makes an access, which waits for its object as long as patience lasts.
 
         Each time that it is made is an entry of the journal: at first, where the lock may be had,
-        where other actions were aborted (and maybe its own), and when the patience is over.
+        where other actions were aborted (and maybe its own), and when the patience is over. `lineage`
+        gives the numbers of the action and its ancestors.
         """
-        limit = time.monotonic() + self.patience
-        question = Question.CAN_READ if kind < Kind.CREATE else Question.CAN_WRITE
-        with self._ended:
-            while True:
-                try:
-                    return self._make(kind, action, obj, first, second, text)
-                except errors.Conflict:
-                    if time.monotonic() >= limit:
-                        raise
-                aborts = self._aborts
-                self._ended.wait_for(
-                    lambda: self._aborts != aborts or self._tell(question, action, obj),
-                    limit - time.monotonic(),
-                )
+        if obj.__class__ is not int or not 0 <= obj <= U32:
+            obj = object_number(obj)
+        if first.__class__ is not int or not LEAST <= first <= MOST:
+            first = i64(first, "number")
+        if second.__class__ is not int or not LEAST <= second <= MOST:
+            second = i64(second, "number")
+        call = kind, action, obj, first, second, text.encode()
+        archive = self._archive
+        with self._lock:
+            if self._owners.dropped:
+                self._abort_dropped()
+            status, number = archive.make(*call)
+            if status == Status.REFUSED and number == _CONFLICT[1]:
+                return self._access_refused(call, lineage() if lineage else {action})
+            return archive.answer(status, number, call)
 
-    def _make(self, kind, action, obj, first, second, text):
-        number, written = ctypes.c_int64(), text.encode()
-        handle = ctypes.byref(self._handle)
-        given = (kind, action, obj, first, second, written, len(written))
-        status = self._library.argus_c_call(handle, *given, ctypes.byref(number))
-        return self._answer(status, number.value)
+    def _access_refused(self, call, lineage):
+        """Waits for the object of a refused access, and makes it again."""
+        answer, is_reading = _CONFLICT, call[0] < Kind.CREATE
+        is_in_vain = not is_reading and self._is_in_vain(call[2], lineage)
+        if is_reading:
+            answer = self._make_once_had(call, Question.CAN_READ)
+        elif not is_in_vain:
+            answer = self._make_waiting_to_write(call, lineage)
+        if answer == _CONFLICT:
+            raise errors.Conflict(self._conflict(call, lineage, is_in_vain))
+        return self._archive.answer(*answer, call)
 
-    def _tell(self, question, action=0, obj=0, entry=0):
-        number = ctypes.c_int64()
-        handle = ctypes.byref(self._handle)
-        with self._ended:
-            status = self._library.argus_c_tell(
-                handle, question, action, obj, entry, ctypes.byref(number)
-            )
-            return self._answer(status, number.value)
+    def _make_waiting_to_write(self, call, lineage):
+        waiting = self._writing.setdefault(call[2], [])
+        waiting.append(lineage)
+        try:
+            return self._make_once_had(call, Question.CAN_WRITE)
+        finally:
+            waiting.remove(lineage)
+            if not waiting:
+                del self._writing[call[2]]
 
-    def _answer(self, status, number):
-        if status == Status.DONE:
-            return None
-        if status in (Status.OBJECT, Status.ACTION, Status.NUMBER):
-            return number
-        if status == Status.FLAG:
-            return number != 0
-        if status == Status.VALUE:
-            return read_value(self._text())
-        if status == Status.CONTENT:
-            return read_content(self._text())
-        if status == Status.TEXT:
-            return self._text()
-        raise _error(status, number)
+    def _make_once_had(self, call, question):
+        """Makes a refused access again each time that it may be had, until the patience is over."""
+        limit, answer = time.monotonic() + self.patience, _CONFLICT
+        while answer == _CONFLICT and time.monotonic() < limit:
+            aborts = self._aborts
+            while self._aborts == aborts and time.monotonic() < limit:
+                if self._ask(question, *call[1:3]) == _TRUE:
+                    break
+                self._wait_until(limit)
+            answer = self._make(*call)
+        return answer
 
-    def _text(self):
-        """The text that the library keeps. OutOfMemory here comes after a call that was made."""
-        size, handle = ctypes.c_size_t(), ctypes.byref(self._handle)
-        while True:
-            room = self._room
-            status = self._library.argus_c_reply(handle, room, len(room), ctypes.byref(size))
-            if status == Status.DONE:
-                return room.raw[: size.value].decode()
-            if status != Status.TOO_SMALL:
-                raise _error(status, 0)
-            self._room = ctypes.create_string_buffer(size.value)
+    def _is_in_vain(self, obj, lineage):
+        """Whether who waits to write the object waits for this one's read lock, and this one for its."""
+        if obj not in self._writing:
+            return False
+        readers = self._holders(obj, Question.READERS)
+        mine = readers & lineage
+        others = self._writing[obj]
+        return any(mine - other and readers & other - lineage for other in others)
+
+    def _holders(self, obj, *questions):
+        """The numbers of those that hold the object, by these questions. None without memory for them."""
+        try:
+            texts = [self._archive.told(question, obj=obj) for question in questions]
+        except errors.OutOfMemory:
+            return set()
+        return {number for text in texts for number in _actions(text)}
+
+    def _conflict(self, call, lineage, is_in_vain):
+        """Who holds the object against an access, as `a7 wants to write o3, held by a5`."""
+        holders = self._holders(call[2], Question.READERS, Question.VERSIONS) - lineage
+        named = ", ".join(f"a{number}" for number in sorted(holders))
+        too = ", and one of them has read it and waits to write it, too" if is_in_vain else ""
+        return f"{deed(*call)}, held by {named or 'another one'}{too}"
+
+    def _wait_until(self, limit):
+        # Nobody is told of actions that are dropped, so it looks from time to time.
+        self._waiting += 1
+        try:
+            self._ended.wait(min(limit - time.monotonic(), _LOOK_AFTER))
+        finally:
+            self._waiting -= 1
+
+    def _wake(self):
+        if self._waiting:
+            self._ended.notify_all()
+
+    def _make(self, *call):
+        """The status and the number of a call. The lock is held."""
+        if self._owners.dropped:
+            self._abort_dropped()
+        return self._archive.make(*call)
+
+    def _ask(self, question, action, obj):
+        """The status and the number of a question. The lock is held."""
+        if self._owners.dropped:
+            self._abort_dropped()
+        return self._archive.ask(question, action, obj)
+
+    def _tell(self, question, obj=0, entry=0):
+        with self._lock:
+            if self._owners.dropped:
+                self._abort_dropped()
+            return self._archive.told(question, 0, obj, entry)
+
+
+def _actions(text):
+    """The numbers of actions, of which each begins a line, as a7."""
+    return [int(line.split(" ", 1)[0][1:]) for line in _lines(text)]
 
 
 def _lines(text):
     """The lines of a text. A line feed alone ends one: texts in values may hold other ends of lines."""
     return [line for line in text.split("\n") if line]
-
-
-def _error(status, number):
-    """What the library's status and number say, as an exception."""
-    if status == Status.REFUSED and 1 <= number <= len(errors.REFUSALS):
-        return errors.REFUSALS[number - 1]()
-    if status == Status.SIGNAL and 1 <= number <= len(errors.SIGNALS):
-        return errors.SIGNALS[number - 1]()
-    if status == Status.BAD_TEXT:
-        return errors.BadText(number)
-    if status in _ERRORS:
-        return _ERRORS[status]()
-    return errors.UnknownStatus(status, number)

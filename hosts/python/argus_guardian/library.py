@@ -53,3 +53,14 @@ def load():
         call = getattr(library, name)
         call.argtypes, call.restype = given, u32
     return library
+
+
+def bare(library, name):
+    """A call to which ctypes hands what it is given as it is: whoever calls it gives the declared types.
+
+    Kinds, actions and objects are an int of 32 bits, all else is of a type of ctypes. To turn each into
+    what is declared takes longer than most calls.
+    """
+    call = library[name]
+    call.restype = ctypes.c_uint32
+    return call

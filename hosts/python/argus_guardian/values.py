@@ -10,17 +10,25 @@ are numbered from 0, in the order of their type.
 """
 
 import re
+from dataclasses import dataclass
 from typing import NamedTuple
 
 from .errors import BadText
+from .ranges import BYTE, LEAST, MOST, U32, i64, u32, within
 
 MAX_DEPTH = 16
 
 
-class Ref(NamedTuple):
-    """A reference to an object."""
+@dataclass(frozen=True, order=True)
+class Ref:
+    """A reference to an object. A call takes it in place of the object's number."""
 
     number: int
+
+
+def _is_same(one, other):
+    """Whether both are of one kind and equal. A tuple is a struct, and neither a choice nor an array."""
+    return type(one) is type(other) and tuple.__eq__(one, other)
 
 
 class Choice(NamedTuple):
@@ -29,6 +37,15 @@ class Choice(NamedTuple):
     tag: int
     value: object
 
+    def __eq__(self, other):
+        return _is_same(self, other)
+
+    def __ne__(self, other):
+        return not _is_same(self, other)
+
+    def __hash__(self):
+        return hash((Choice, *self))
+
 
 class Array(NamedTuple):
     """An array's low bound, and its elements."""
@@ -36,21 +53,35 @@ class Array(NamedTuple):
     low: int
     items: list
 
+    def __eq__(self, other):
+        return _is_same(self, other)
+
+    def __ne__(self, other):
+        return not _is_same(self, other)
+
+
+def object_number(obj):
+    """The number of an object, which may be named by a Ref. TypeError and OverflowError where it is none."""
+    return u32(obj.number if isinstance(obj, Ref) else obj, "object")
+
 
 def write_value(value):
-    """The written form of a value. TypeError where it is of no type that a value has."""
+    """The written form of a value. TypeError where it is of no type that a value has.
+
+    OverflowError where an integer has more than 64 bits, or a number is none of a tag or an object.
+    """
     if value is None:
         return "null"
     if isinstance(value, bool):
         return "true" if value else "false"
     if isinstance(value, int):
-        return str(int(value))
+        return str(i64(value, "integer"))
     if isinstance(value, str):
         return '"' + value.replace("\\", "\\\\").replace('"', '\\"').replace("\n", "\\n") + '"'
     if isinstance(value, Ref):
-        return f"@{value.number}"
+        return f"@{u32(value.number, 'object')}"
     if isinstance(value, Choice):
-        return f"<{value.tag}:{write_value(value.value)}>"
+        return f"<{within(value.tag, 0, BYTE, 'tag')}:{write_value(value.value)}>"
     if isinstance(value, list):
         return "[" + _joined(value) + "]"
     if isinstance(value, tuple) and not isinstance(value, Array):
@@ -59,10 +90,10 @@ def write_value(value):
 
 
 def write_content(content):
-    """The written form of a content. TypeError where it is none."""
+    """The written form of a content. TypeError and OverflowError as of `write_value`."""
     if isinstance(content, Array):
-        return f"{content.low}[{_joined(content.items)}]"
-    if isinstance(content, tuple) and not isinstance(content, Ref):
+        return f"{i64(content.low, 'low bound')}[{_joined(content.items)}]"
+    if isinstance(content, tuple):
         return write_value(content)
     raise TypeError(f"no content: {content!r}")
 
@@ -86,7 +117,10 @@ class _Reader:
 
     INT = re.compile(r"0|-?[1-9][0-9]*")
     NAT = re.compile(r"0|[1-9][0-9]*")
-    TEXT = re.compile(r'"(?:[^"\\\n]|\\["\\n])*"')
+    # Each character is taken in one way alone, so there is nothing to try again.
+    TEXT = re.compile(r'"[^"\\\n]*(?:\\["\\n][^"\\\n]*)*"')
+    # No number of 64 bits has more, its sign among them.
+    DIGITS = 20
     ESCAPED = re.compile(r'\\(["\\n])')
     WORDS = {"null": None, "true": True, "false": False}
 
@@ -120,24 +154,39 @@ class _Reader:
         self.at = found.end()
         return found.group()
 
+    def number(self, pattern, low, high):
+        """An integer within these bounds. Where it is past them, it stops at the digit that is."""
+        written = self.match(pattern)
+        kept = written[: self.DIGITS]
+        while not low <= int(kept) <= high:
+            kept = kept[:-1]
+        if kept == written:
+            return int(kept)
+        self.at -= len(written) - len(kept)
+        raise _Stop
+
     def value(self, level):
         if level > MAX_DEPTH:
             raise _Stop
-        for word, value in self.WORDS.items():
-            if self.take(word):
-                return value
-        if self.text.startswith('"', self.at):
+        first = self.text[self.at : self.at + 1]
+        if first == '"':
             written = self.match(self.TEXT)[1:-1]
+            if "\\" not in written:
+                return written
             return self.ESCAPED.sub(lambda it: "\n" if it[1] == "n" else it[1], written)
+        if first in "ntf":
+            for word, value in self.WORDS.items():
+                if self.take(word):
+                    return value
         if self.take("@"):
-            return Ref(int(self.match(self.NAT)))
+            return Ref(self.number(self.NAT, 0, U32))
         if self.take("["):
             return self.values(level, "]")
         if self.take("{"):
             return tuple(self.values(level, "}"))
         if self.take("<"):
             return self.choice(level)
-        return int(self.match(self.INT))
+        return self.number(self.INT, LEAST, MOST)
 
     def values(self, level, close):
         """What stands before the closing bracket, which is taken too."""
@@ -150,7 +199,7 @@ class _Reader:
         return values
 
     def choice(self, level):
-        tag = int(self.match(self.NAT))
+        tag = self.number(self.NAT, 0, BYTE)
         self.want(":")
         value = self.value(level + 1)
         self.want(">")
@@ -163,7 +212,7 @@ class _Reader:
             return tuple(self.values(0, "}"))
         if self.take("<"):
             return self.choice(0)
-        low = int(self.match(self.INT))
+        low = self.number(self.INT, LEAST, MOST)
         self.want("[")
         return Array(low, self.values(0, "]"))
 

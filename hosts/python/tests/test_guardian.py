@@ -1,8 +1,11 @@
 """What the package makes of the library: each call once, and what it raises."""
 
+import random
 import sys
 import threading
+import time
 import unittest
+from concurrent.futures import ThreadPoolExecutor
 from pathlib import Path
 
 sys.path.insert(0, str(Path(__file__).resolve().parents[1]))
@@ -168,7 +171,45 @@ class Calls(unittest.TestCase):
         with self.guardian.topaction() as top:
             before = self.guardian.entries
             with self.assertRaises(argus.BadText):
-                top.set_field(self.record, 0, 2**63)
+                top.create(self.record, ([[[[[[[[[[[[[[[[[1]]]]]]]]]]]]]]]]],))
+            self.assertEqual(self.guardian.entries, before)
+
+    def test_numbers_that_are_too_large(self):
+        with self.guardian.topaction() as top:
+            before, guardian = self.guardian.entries, self.guardian
+            for wrong in (
+                lambda: top.whole(2**32),
+                lambda: top.whole(-1),
+                lambda: top.set_field(self.record, 2**64, 99),
+                lambda: top.set_field(self.record, 0, 2**63),
+                lambda: top.set_field(self.record, 0, -(2**63) - 1),
+                lambda: top.store(self.array, 2**64 + 1, 99),
+                lambda: top.trim(self.array, 1, 2**64),
+                lambda: top.set_low(self.array, 2**63),
+                lambda: top.fetch(self.array, 2**64 + 1),
+                lambda: top.addh(self.array, Ref(2**32)),
+                lambda: top.addh(self.array, Choice(256, 1)),
+                lambda: top.create(self.array, Array(2**63, [])),
+                lambda: top.test_read(2**32),
+                lambda: argus.Action(guardian, 2**32 + top.number).commit(),
+                lambda: guardian.base(2**32),
+                lambda: guardian.readers(2**32),
+                lambda: guardian.versions(-1),
+                lambda: guardian.entry(2**64),
+                lambda: guardian.entry(-1),
+                lambda: guardian.call(2**32 + 1),
+            ):
+                with self.assertRaises(OverflowError):
+                    wrong()
+            self.assertEqual(guardian.entries, before)
+        self.assertEqual(guardian.base(self.record), (5, "a"))
+
+    def test_what_is_no_number(self):
+        with self.guardian.topaction() as top:
+            before = self.guardian.entries
+            for wrong in (lambda: top.whole("0"), lambda: top.fetch(self.array, 1.0), lambda: top.whole(None)):
+                with self.assertRaises(TypeError):
+                    wrong()
             self.assertEqual(self.guardian.entries, before)
 
     def test_listings_and_entries(self):
@@ -236,6 +277,112 @@ class Waits(unittest.TestCase):
             other.abort()
             thread.join()
             self.assertEqual(len(raised), 1)
+
+    def test_of_two_that_read_and_write_the_second_is_refused_at_once(self):
+        with argus.Guardian(patience=60) as guardian:
+            seat = created(guardian, "atomic_record[n:int]", (5,))
+            first, second = guardian.topaction(), guardian.topaction()
+            first.field(seat, 0)
+            # By a subaction it is the same: its parent keeps the read lock.
+            second.field(seat, 0)
+            thread = threading.Thread(target=lambda: first.set_field(seat, 0, 6))
+            thread.start()
+            wait_for(lambda: guardian._writing)
+            begin, sub = time.monotonic(), second.subaction()
+            with self.assertRaisesRegex(argus.Conflict, "a3 wants to write o0, held by a1, and one of them"):
+                sub.set_field(seat, 0, 7)
+            self.assertLess(time.monotonic() - begin, 30)
+            second.abort()
+            thread.join()
+            first.commit()
+            self.assertEqual(guardian.base(seat), (6,))
+
+    def test_who_hasnt_read_waits_behind_who_wants_to_write(self):
+        with argus.Guardian(patience=60) as guardian:
+            seat = created(guardian, "atomic_record[n:int]", (5,))
+            reader, first, second = (guardian.topaction() for _ in range(3))
+            reader.field(seat, 0)
+            first.field(seat, 0)
+            with ThreadPoolExecutor(2) as pool:
+                one = pool.submit(lambda: (first.set_field(seat, 0, 6), first.commit()))
+                wait_for(lambda: guardian._writing)
+                two = pool.submit(lambda: (second.set_field(seat, 0, 7), second.commit()))
+                wait_for(lambda: len(guardian._writing.get(seat, ())) == 2)
+                reader.commit()
+                one.result(), two.result()
+            self.assertEqual(guardian.base(seat), (7,))
+            self.assertEqual(guardian._writing, {})
+
+    def test_siblings_dont_wait_for_what_their_parent_reads(self):
+        with argus.Guardian(patience=60) as guardian:
+            seat = created(guardian, "atomic_record[n:int]", (5,))
+            top, reader = guardian.topaction(), guardian.topaction()
+            top.field(seat, 0)
+            reader.field(seat, 0)
+            arms = top.subaction(), top.subaction()
+            with ThreadPoolExecutor(2) as pool:
+                work = [pool.submit(lambda arm=arm: (arm.set_field(seat, 0, 6), arm.commit())) for arm in arms]
+                wait_for(lambda: len(guardian._writing.get(seat, ())) == 2)
+                reader.commit()
+                for it in work:
+                    it.result()
+            top.commit()
+
+    def test_a_shop_that_reads_and_then_sets(self):
+        sold = shop(lambda top, seat: top.field(seat, 0), threads=8, seats=4, orders=4)
+        # Two that waited for each other would do so as long as their patience lasts.
+        self.assertLess(sold, 60)
+
+    def test_a_shop_that_locks_before_it_reads_is_never_refused(self):
+        def look(top, seat):
+            top.lock(seat)
+            return top.field(seat, 0)
+
+        shop(look, threads=8, seats=4, orders=4, tries=1)
+
+
+def created(guardian, shape, content):
+    """An object of this content."""
+    obj = guardian.declare(shape)
+    with guardian.topaction() as top:
+        top.create(obj, content)
+    return obj
+
+
+def wait_for(fact, seconds=30):
+    """Waits until it is so."""
+    limit = time.monotonic() + seconds
+    while not fact():
+        if time.monotonic() >= limit:
+            raise AssertionError("it never came to be")
+        time.sleep(0.001)
+
+
+def shop(look, threads, seats, orders, tries=1000):
+    """Threads sell seats, each the one with its order's number; the seconds that it takes."""
+    with argus.Guardian(patience=60) as guardian:
+        all_seats = [created(guardian, "atomic_record[sold:int]", (0,)) for _ in range(seats)]
+
+        def sell(order):
+            seat = all_seats[order % seats]
+            for _ in range(tries):
+                try:
+                    with guardian.topaction() as top:
+                        sold = look(top, seat)
+                        time.sleep(0.0005)
+                        top.set_field(seat, 0, sold + 1)
+                        return
+                except argus.Conflict:
+                    time.sleep(random.random() / 1000)
+            raise AssertionError("refused too often")
+
+        begin = time.monotonic()
+        with ThreadPoolExecutor(threads) as pool:
+            for it in [pool.submit(sell, order) for order in range(threads * orders)]:
+                it.result()
+        seconds = time.monotonic() - begin
+        assert sum(guardian.base(seat)[0] for seat in all_seats) == threads * orders
+        return seconds
 
 
 if __name__ == "__main__":

@@ -81,10 +81,7 @@ impl Transfer {
 }
 
 fn balance(action: &SharedAction<'_>, account: ObjId) -> Result<i64, Error> {
-    match action.get(account, 0)? {
-        Value::Int(balance) => Ok(balance),
-        _ => Err(Error::OtherAnswer),
-    }
+    action.get(account, 0)?.try_into()
 }
 
 #[derive(Default)]
@@ -136,7 +133,7 @@ impl Counts {
         accounts.sort_unstable();
         accounts.dedup();
         for account in accounts {
-            top.alter(account, Change::Touch)?.done()?;
+            top.lock(account)?;
         }
         let mut made = 0;
         for transfer in order {

@@ -25,6 +25,7 @@ use std::mem;
 /// # Ok::<(), argus_guardian::Error>(())
 /// ```
 #[derive(Debug)]
+#[must_use = "an action that is dropped aborts"]
 pub struct Action<'g> {
     guardian: &'g mut Guardian,
     id: ActionId,
@@ -136,6 +137,22 @@ impl<'g> Action<'g> {
     pub fn set(&mut self, object: ObjId, field: u8, value: impl Into<Value>) -> Result<(), Error> {
         self.alter(object, Change::SetField(field, value.into()))?
             .done()
+    }
+
+    /// Takes the write lock, and changes nothing. It comes before reading what will be written.
+    ///
+    /// # Errors
+    ///
+    /// As of [`ask`](Self::ask).
+    ///
+    /// ```
+    /// let mut guardian = argus_guardian::Guardian::new()?;
+    /// let object = guardian.declare("atomic_record[n:int]")?;
+    /// guardian.topaction()?.lock(object)?;
+    /// # Ok::<(), argus_guardian::Error>(())
+    /// ```
+    pub fn lock(&mut self, object: ObjId) -> Result<(), Error> {
+        self.alter(object, Change::Touch)?.done()
     }
 
     /// Takes a read lock; false where it isn't to be had.

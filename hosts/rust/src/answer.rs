@@ -8,11 +8,23 @@ use std::fmt;
 
 /// What an operation answers. `Display` gives the words that stand in a journal's line.
 ///
+/// It may be a signal, and so it has to be looked at:
+///
+/// ```compile_fail
+/// #![deny(unused_must_use)]
+/// # use argus_guardian::{Change, Guardian};
+/// # let mut guardian = Guardian::new()?;
+/// # let object = guardian.declare("atomic_array[int]")?;
+/// guardian.topaction()?.alter(object, Change::Remh)?;    // was there an element?
+/// # Ok::<(), argus_guardian::Error>(())
+/// ```
+///
 /// ```
 /// use argus_guardian::{Answer, Value};
 /// assert_eq!(Answer::Val(Value::Int(7)).to_string(), "val 7");
 /// ```
 #[derive(Debug, Clone, PartialEq, Eq, Hash)]
+#[must_use = "it may be a signal: `done`, `value` and their kin make an error of that"]
 pub enum Answer {
     /// It is done.
     Done,

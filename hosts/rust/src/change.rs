@@ -36,7 +36,7 @@ pub enum Change {
     Trim(i64, i64),
     /// The tag becomes this one, with the value.
     ChangeTag(u8, Value),
-    /// Changes nothing; the lock is had.
+    /// Changes nothing; the write lock is had. An action's `lock` makes it.
     Touch,
 }
 

@@ -2,7 +2,8 @@
 
 use crate::error::Error;
 use crate::reader::Reader;
-use crate::value::{Value, write_list};
+use crate::value::Value;
+use crate::writer::Writer;
 use std::fmt;
 use std::str::FromStr;
 
@@ -38,10 +39,10 @@ pub enum Content {
 impl fmt::Display for Content {
     fn fmt(&self, f: &mut fmt::Formatter<'_>) -> fmt::Result {
         match self {
-            Content::Record(fields) => write_list(f, '{', fields, '}'),
+            Content::Record(fields) => Writer::list(f, '{', fields, '}'),
             Content::Array { low, items } => {
                 write!(f, "{low}")?;
-                write_list(f, '[', items, ']')
+                Writer::list(f, '[', items, ']')
             }
             Content::Variant { tag, value } => write!(f, "<{tag}:{value}>"),
         }

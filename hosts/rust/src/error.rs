@@ -1,15 +1,18 @@
 //! `Error`: why a call of this crate didn't give what it was asked for.
 
+use crate::checkpoint_error::CheckpointError;
 use crate::refusal::Refusal;
 use crate::signal::Signal;
 use std::error;
 use std::fmt;
 
-/// Why a call of this crate didn't give what it was asked for.
+/// Why a call of this crate didn't give what it was asked for. All other errors of the crate convert
+/// into it. `Display` says all there is to say: no error has a source.
 ///
 /// ```
-/// use argus_guardian::{Error, Refusal};
+/// use argus_guardian::{CheckpointError, Error, Refusal};
 /// assert_eq!(Error::from(Refusal::Conflict).to_string(), "refused: Conflict");
+/// assert_eq!(Error::from(CheckpointError::Busy).to_string(), "no checkpoint: an action is live");
 /// ```
 #[derive(Debug, Clone, PartialEq, Eq)]
 #[non_exhaustive]
@@ -34,10 +37,26 @@ pub enum Error {
     Refused(Refusal),
     /// The operation gave a signal; the action keeps the lock that it has got for it.
     Signal(Signal),
+    /// The journal wasn't folded. All is as before.
+    Checkpoint(CheckpointError),
     /// The answer is of another kind than was asked for. It stands in the journal.
     OtherAnswer,
     /// The library answered a number that this crate doesn't know: they are of two versions.
     Unknown(u32),
+}
+
+impl Error {
+    /// Whether it is a refusal with `Conflict`: the topaction may be aborted, and begun anew.
+    ///
+    /// ```
+    /// use argus_guardian::{Error, Refusal};
+    /// assert!(Error::Refused(Refusal::Conflict).is_conflict());
+    /// assert!(!Error::OutOfMemory.is_conflict());
+    /// ```
+    #[must_use]
+    pub fn is_conflict(&self) -> bool {
+        *self == Error::Refused(Refusal::Conflict)
+    }
 }
 
 impl fmt::Display for Error {
@@ -50,18 +69,20 @@ impl fmt::Display for Error {
             Error::NoRoom => f.write_str("called, but no memory for the answer"),
             Error::Refused(refusal) => write!(f, "refused: {refusal}"),
             Error::Signal(signal) => write!(f, "signal: {signal}"),
+            Error::Checkpoint(error) => write!(f, "no checkpoint: {error}"),
             Error::OtherAnswer => f.write_str("an answer of another kind"),
             Error::Unknown(status) => write!(f, "the library answered {status}"),
         }
     }
 }
 
-impl error::Error for Error {
-    fn source(&self) -> Option<&(dyn error::Error + 'static)> {
-        match self {
-            Error::Refused(refusal) => Some(refusal),
-            Error::Signal(signal) => Some(signal),
-            _ => None,
+impl error::Error for Error {}
+
+impl From<CheckpointError> for Error {
+    fn from(error: CheckpointError) -> Error {
+        match error {
+            CheckpointError::OutOfMemory => Error::OutOfMemory,
+            CheckpointError::Busy | CheckpointError::Full => Error::Checkpoint(error),
         }
     }
 }

@@ -160,8 +160,8 @@ impl Guardian {
     /// let mut guardian = Guardian::new()?;
     /// let object = guardian.declare("atomic_record[n:int]")?;
     /// let mut top = guardian.topaction()?;
-    /// top.alter(object, Change::Create(Content::Record(vec![Value::Int(3)])))?;
-    /// top.ask(object, Query::Field(0))?;
+    /// top.alter(object, Change::Create(Content::Record(vec![Value::Int(3)])))?.done()?;
+    /// assert_eq!(top.ask(object, Query::Field(0))?.int()?, 3);
     /// assert_eq!(top.guardian().answer_again()?, Answer::Val(Value::Int(3)));
     /// # Ok::<(), argus_guardian::Error>(())
     /// ```
@@ -338,7 +338,7 @@ impl Guardian {
 
     fn count(&mut self, question: u32) -> u64 {
         let (_, number) = self.tell(question, ActionId(0), ObjId(0), 0);
-        number.cast_unsigned()
+        u64::try_from(number).unwrap_or(0)
     }
 
     /// What is in the object for good; `None` where it has no content yet.
@@ -391,7 +391,7 @@ impl Guardian {
     /// let object = guardian.declare("atomic_array[int]")?;
     /// let mut top = guardian.topaction()?;
     /// let empty: Content = "1[]".parse()?;
-    /// top.alter(object, Change::Create(empty.clone()))?;
+    /// top.alter(object, Change::Create(empty.clone()))?.done()?;
     /// assert_eq!(top.guardian().versions(object)?, [(ActionId(0), Some(empty))]);
     /// # Ok::<(), argus_guardian::Error>(())
     /// ```

@@ -20,6 +20,7 @@ use std::str::FromStr;
 /// assert_eq!("val 7".parse(), Ok(reply));
 /// ```
 #[derive(Debug, Clone, PartialEq, Eq, Hash)]
+#[must_use = "it may be a refusal: `answer`, `action` and `object` make an error of that"]
 pub enum Reply {
     /// The object that was declared.
     Object(ObjId),

@@ -1,23 +1,38 @@
 //! `Shared`: a guardian that threads share.
 
+use crate::ActionId;
 use crate::answer::Answer;
 use crate::call::Call;
 use crate::checkpoint_error::CheckpointError;
 use crate::error::Error;
 use crate::guardian::Guardian;
+use crate::may_conflict::MayConflict;
 use crate::refusal::Refusal;
 use crate::reply::Reply;
+use crate::retrying::waits;
 use crate::shared_action::SharedAction;
+use crate::waiting_writer::WaitingWriter;
 use std::sync::{Condvar, Mutex, MutexGuard, PoisonError};
+use std::thread;
 use std::time::{Duration, Instant};
+
+const CONFLICT: Reply = Reply::Refused(Refusal::Conflict);
 
 /// A guardian that threads share: std's `Mutex` around each call, and a `Condvar` that wakes who
 /// waits for a lock on an object.
 ///
 /// What one call answers is proved, as of a [`Guardian`]. **This type isn't**: not that a wait ends,
-/// who is woken first, or what a call finds after a wait. Two actions that wait for each other wait
-/// as long as their patience: take locks in one order, as by the number of the object, or let
-/// patience be short, abort and begin anew.
+/// who is woken first, or what a call finds after a wait.
+///
+/// An access waits for its lock as long as the sharing's patience lasts, and is then refused
+/// `Conflict`: abort the topaction, and begin it anew, as [`run`](Self::run) does. Two topactions
+/// wait for each other in one of two ways.
+///
+/// - Both have read an object, and both want to write it. The second is refused `Conflict` at once.
+///   Who will write what it reads calls [`lock`](SharedAction::lock) before it reads, and then
+///   they take turns.
+/// - Each has locked what the other wants. Take locks in one order, as by the number of the object.
+///   Where that can't be, both wait as long as patience lasts.
 ///
 /// ```
 /// use argus_guardian::{Change, Guardian, Shared};
@@ -26,7 +41,7 @@ use std::time::{Duration, Instant};
 ///
 /// let mut guardian = Guardian::new()?;
 /// let account = guardian.declare("atomic_array[int]")?;
-/// let shared = Shared::new(guardian, Duration::from_secs(10));
+/// let shared = Shared::new(guardian, Duration::from_secs(1));
 /// let top = shared.topaction()?;
 /// top.alter(account, Change::Create("1[]".parse()?))?.done()?;
 /// top.commit()?;
@@ -54,13 +69,47 @@ pub struct Shared {
 #[derive(Debug)]
 struct Kept {
     guardian: Guardian,
+    // How many threads wait on the condition.
+    waiting: u32,
     // How often actions were aborted, by which others than the one that waits may be over.
     aborts: u64,
     // How many threads wait until no action is live, to fold the journal: no topaction begins then.
     folding: u32,
+    // Who waits to write.
+    writing: Vec<WaitingWriter>,
+}
+
+impl Kept {
+    // Whether this one would wait for one that waits to write, and that for this one.
+    fn is_in_vain(&mut self, writer: &WaitingWriter) -> bool {
+        if self.writing.is_empty() {
+            return false;
+        }
+        // Where memory is wanting for the list, it waits.
+        let readers = self.guardian.readers(writer.object).unwrap_or_default();
+        self.writing
+            .iter()
+            .any(|it| it.waits_with(writer, &readers))
+    }
+}
+
+impl From<Guardian> for Shared {
+    /// Shares a guardian, with [`Shared::PATIENCE`].
+    fn from(guardian: Guardian) -> Shared {
+        Shared::new(guardian, Shared::PATIENCE)
+    }
 }
 
 impl Shared {
+    /// How long accesses wait at the most where nothing else is said: a second.
+    ///
+    /// ```
+    /// use argus_guardian::{Guardian, Shared};
+    /// assert_eq!(Shared::from(Guardian::new()?).patience(), Shared::PATIENCE);
+    /// # Ok::<(), argus_guardian::Error>(())
+    /// ```
+    pub const PATIENCE: Duration = Duration::from_secs(1);
+
     /// Shares a guardian. An access by a [`SharedAction`] waits for its lock so long at the most.
     ///
     /// ```
@@ -74,8 +123,10 @@ impl Shared {
         Shared {
             kept: Mutex::new(Kept {
                 guardian,
+                waiting: 0,
                 aborts: 0,
                 folding: 0,
+                writing: Vec::new(),
             }),
             ended: Condvar::new(),
             patience,
@@ -85,6 +136,27 @@ impl Shared {
     // A thread that panics leaves a guardian between two calls, so its lock is as good as any.
     fn lock(&self) -> MutexGuard<'_, Kept> {
         self.kept.lock().unwrap_or_else(PoisonError::into_inner)
+    }
+
+    // Waits while it is so, for so long at the most.
+    fn wait_while<'s>(
+        &'s self,
+        mut kept: MutexGuard<'s, Kept>,
+        patience: Duration,
+        still: impl FnMut(&mut Kept) -> bool,
+    ) -> MutexGuard<'s, Kept> {
+        kept.waiting += 1;
+        let waited = self.ended.wait_timeout_while(kept, patience, still);
+        let mut kept = waited.unwrap_or_else(PoisonError::into_inner).0;
+        kept.waiting -= 1;
+        kept
+    }
+
+    // Wakes who waits. Where nobody does, the condition isn't told: that is a call of the system.
+    fn wake(&self, kept: &Kept) {
+        if kept.waiting > 0 {
+            self.ended.notify_all();
+        }
     }
 
     /// Makes one call, and waits for nothing but the mutex. All who wait are woken after a commit, an
@@ -111,7 +183,7 @@ impl Shared {
         let is_end = is_abort || matches!(call, Call::Commit(_));
         if is_end && reply == Reply::Answered(Answer::Done) {
             kept.aborts += u64::from(is_abort);
-            self.ended.notify_all();
+            self.wake(kept);
         }
         Ok(reply)
     }
@@ -120,6 +192,9 @@ impl Shared {
     /// for so long at the most, and is then made again. Each time that it is made is one entry in the
     /// journal, and there are few: it is made again where the lock may be had, where other actions
     /// were aborted (and maybe its own), and when the patience is over.
+    ///
+    /// Where the call's action reads the object and wants to write it, and so does one that waits, it
+    /// is refused at once. Locks of its ancestors count where a [`SharedAction`] makes the call.
     ///
     /// # Errors
     ///
@@ -132,25 +207,63 @@ impl Shared {
     /// let object = guardian.declare("atomic_array[int]")?;
     /// let shared = Shared::new(guardian, Duration::ZERO);
     /// let (first, second) = (shared.topaction()?, shared.topaction()?);
-    /// first.alter(object, Change::Touch)?.done()?;
+    /// first.lock(object)?;
     /// let call = Call::Alter(second.id(), object, Change::Touch);
     /// let reply = shared.call_waiting(&call, Duration::from_millis(1))?;
     /// assert_eq!(reply, Reply::Refused(Refusal::Conflict));
     /// # Ok::<(), argus_guardian::Error>(())
     /// ```
     pub fn call_waiting(&self, call: &Call, patience: Duration) -> Result<Reply, Error> {
+        self.access(call, patience, |action| vec![action])
+    }
+
+    // The same; the last one gives an action with its ancestors.
+    pub(crate) fn access(
+        &self,
+        call: &Call,
+        patience: Duration,
+        lineage_of: impl FnOnce(ActionId) -> Vec<ActionId>,
+    ) -> Result<Reply, Error> {
         let start = Instant::now();
         let mut kept = self.lock();
+        let reply = self.call_in(&mut kept, call)?;
+        if reply != CONFLICT || patience.is_zero() {
+            return Ok(reply);
+        }
+        let Call::Alter(action, object, _) = *call else {
+            return self.call_once_had(kept, call, start, patience).1;
+        };
+        let lineage = lineage_of(action);
+        let writer = WaitingWriter { object, lineage };
+        if kept.is_in_vain(&writer) {
+            return Ok(reply);
+        }
+        kept.writing.push(writer);
+        let (mut kept, reply) = self.call_once_had(kept, call, start, patience);
+        let is_this = |it: &WaitingWriter| it.object == object && it.lineage[0] == action;
+        if let Some(place) = kept.writing.iter().position(is_this) {
+            kept.writing.swap_remove(place);
+        }
+        reply
+    }
+
+    // Makes a refused call again each time that its lock may be had, until the patience is over.
+    fn call_once_had<'s>(
+        &'s self,
+        mut kept: MutexGuard<'s, Kept>,
+        call: &Call,
+        start: Instant,
+        patience: Duration,
+    ) -> (MutexGuard<'s, Kept>, Result<Reply, Error>) {
         loop {
-            let reply = self.call_in(&mut kept, call)?;
-            let left = patience.saturating_sub(start.elapsed());
-            if reply != Reply::Refused(Refusal::Conflict) || left.is_zero() {
-                return Ok(reply);
-            }
             let aborts = kept.aborts;
             let still = |kept: &mut Kept| kept.aborts == aborts && !may_be_had(kept, call);
-            let waited = self.ended.wait_timeout_while(kept, left, still);
-            kept = waited.unwrap_or_else(PoisonError::into_inner).0;
+            let left = patience.saturating_sub(start.elapsed());
+            kept = self.wait_while(kept, left, still);
+            let reply = self.call_in(&mut kept, call);
+            if reply != Ok(CONFLICT) || start.elapsed() >= patience {
+                return (kept, reply);
+            }
         }
     }
 
@@ -169,10 +282,65 @@ impl Shared {
     /// # Ok::<(), argus_guardian::Error>(())
     /// ```
     pub fn topaction(&self) -> Result<SharedAction<'_>, Error> {
-        let held = self.ended.wait_while(self.lock(), |kept| kept.folding > 0);
-        let mut kept = held.unwrap_or_else(PoisonError::into_inner);
+        let mut kept = self.lock();
+        if kept.folding > 0 {
+            kept = self.wait_while(kept, Duration::MAX, |kept| kept.folding > 0);
+        }
         let id = self.call_in(&mut kept, &Call::BeginTop)?.action()?;
         Ok(SharedAction::of(self, id))
+    }
+
+    /// How often [`run`](Self::run) tries at the most.
+    pub const TRIES: usize = 20;
+
+    /// Carries out the work as a topaction, which commits where it returns `Ok`. At a refusal with
+    /// `Conflict` the topaction is aborted, and tried again after a wait: up to a millisecond at first,
+    /// up to twice as much each time, and no more than 100, [`Shared::TRIES`] times in all.
+    ///
+    /// **The work may run more than once**, so it does nothing outside the guardian that mustn't be done
+    /// twice.
+    ///
+    /// # Errors
+    ///
+    /// What the work returns, after which the topaction is aborted; a `Conflict` of the last try; as of
+    /// [`topaction`](Self::topaction) and [`SharedAction::commit`]. An error of a program's own says by
+    /// [`MayConflict`] whether to try again.
+    ///
+    /// ```
+    /// use argus_guardian::{Change, Error, Guardian, Shared};
+    /// let mut guardian = Guardian::new()?;
+    /// let counter = guardian.declare("atomic_record[n:int]")?;
+    /// let shared = Shared::from(guardian);
+    /// shared.run(|top| top.alter(counter, Change::Create("{0}".parse()?))?.done())?;
+    /// let count = shared.run(|top| {
+    ///     let count = i64::try_from(top.get(counter, 0)?)? + 1;
+    ///     top.set(counter, 0, count)?;
+    ///     Ok::<_, Error>(count)
+    /// })?;
+    /// assert_eq!(count, 1);
+    /// # Ok::<(), Error>(())
+    /// ```
+    pub fn run<T, E: From<Error> + MayConflict>(
+        &self,
+        mut work: impl FnMut(&SharedAction<'_>) -> Result<T, E>,
+    ) -> Result<T, E> {
+        for wait in waits(Shared::TRIES - 1) {
+            match self.run_once(&mut work) {
+                Err(error) if error.is_conflict() => thread::sleep(wait),
+                result => return result,
+            }
+        }
+        self.run_once(&mut work)
+    }
+
+    fn run_once<T, E: From<Error>>(
+        &self,
+        work: &mut impl FnMut(&SharedAction<'_>) -> Result<T, E>,
+    ) -> Result<T, E> {
+        let top = self.topaction()?;
+        let result = work(&top)?;
+        top.commit()?;
+        Ok(result)
     }
 
     /// Folds the journal's entries away: [`Guardian::checkpoint`].
@@ -212,24 +380,24 @@ impl Shared {
     /// # Ok::<(), argus_guardian::Error>(())
     /// ```
     pub fn checkpoint_waiting(&self, patience: Duration) -> Result<(), CheckpointError> {
-        let start = Instant::now();
+        const BUSY: Result<(), CheckpointError> = Err(CheckpointError::Busy);
+        let mut result = BUSY;
         let mut kept = self.lock();
         kept.folding += 1;
-        let result = loop {
-            let result = kept.guardian.checkpoint();
-            let left = patience.saturating_sub(start.elapsed());
-            if result != Err(CheckpointError::Busy) || left.is_zero() {
-                break result;
-            }
-            let waited = self.ended.wait_timeout(kept, left);
-            kept = waited.unwrap_or_else(PoisonError::into_inner).0;
-        };
+        kept = self.wait_while(kept, patience, |kept| {
+            result = kept.guardian.checkpoint();
+            result == BUSY
+        });
         kept.folding -= 1;
-        self.ended.notify_all();
+        self.wake(&kept);
         result
     }
 
-    /// Does something with the guardian while no other thread has it, and then wakes all who wait.
+    /// Does something with the guardian while no other thread has it, and then wakes all who wait,
+    /// after a panic too.
+    ///
+    /// The mutex is held meanwhile. So nothing of this `Shared` or of its actions may be called inside,
+    /// nor may one of its actions be dropped there: it would wait for the mutex for ever.
     ///
     /// ```
     /// use argus_guardian::{Guardian, Shared};
@@ -239,12 +407,11 @@ impl Shared {
     /// # Ok::<(), argus_guardian::Error>(())
     /// ```
     pub fn with<T>(&self, what: impl FnOnce(&mut Guardian) -> T) -> T {
-        let mut kept = self.lock();
-        let result = what(&mut kept.guardian);
-        // It may have ended actions.
-        kept.aborts += 1;
-        self.ended.notify_all();
-        result
+        let mut held = Held {
+            kept: self.lock(),
+            shared: self,
+        };
+        what(&mut held.kept.guardian)
     }
 
     /// How long an access by a [`SharedAction`] waits for its lock at the most.
@@ -274,6 +441,20 @@ impl Shared {
     pub fn into_inner(self) -> Guardian {
         let kept = self.kept.into_inner();
         kept.unwrap_or_else(PoisonError::into_inner).guardian
+    }
+}
+
+// The guardian, while it is lent to `with`.
+struct Held<'s> {
+    kept: MutexGuard<'s, Kept>,
+    shared: &'s Shared,
+}
+
+impl Drop for Held<'_> {
+    fn drop(&mut self) {
+        // It may have ended actions.
+        self.kept.aborts += 1;
+        self.shared.wake(&self.kept);
     }
 }
 

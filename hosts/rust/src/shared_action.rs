@@ -8,13 +8,18 @@ use crate::query::Query;
 use crate::shared::Shared;
 use crate::value::Value;
 use crate::{ActionId, ObjId};
-use std::mem;
+use std::{iter, mem};
 
 /// A live action of a guardian that threads share. It aborts when it is dropped, unless it has
 /// committed; where memory is wanting even for that, it stays live.
 ///
-/// Its accesses wait for their locks, as long as the sharing's patience lasts, and are then refused
-/// `Conflict`. Several threads may begin subactions of one action, and run them side by side. It
+/// Each access takes its lock, and the action keeps it to its end: a query a read lock, which others
+/// may have too, a change the write lock. It waits for the lock as long as the sharing's patience
+/// lasts, and is then refused `Conflict`. Two that have read an object, and both want to write it,
+/// wait for each other: the second is refused `Conflict` at once. So who reads and then writes takes
+/// the write lock first, by [`lock`](Self::lock).
+///
+/// Several threads may begin subactions of one action, and run them side by side. It
 /// can't commit or abort while one of these is there.
 ///
 /// ```
@@ -25,7 +30,7 @@ use std::mem;
 /// let mut guardian = Guardian::new()?;
 /// let left = guardian.declare("atomic_record[n:int]")?;
 /// let right = guardian.declare("atomic_record[n:int]")?;
-/// let shared = Shared::new(guardian, Duration::from_secs(10));
+/// let shared = Shared::new(guardian, Duration::from_secs(1));
 /// let top = shared.topaction()?;
 /// thread::scope(|scope| {
 ///     for object in [left, right] {
@@ -42,19 +47,40 @@ use std::mem;
 /// # Ok::<(), argus_guardian::Error>(())
 /// ```
 #[derive(Debug)]
+#[must_use = "an action that is dropped aborts"]
 pub struct SharedAction<'s> {
     shared: &'s Shared,
     id: ActionId,
+    // Whose subaction it is.
+    parent: Option<&'s SharedAction<'s>>,
 }
 
 impl<'s> SharedAction<'s> {
-    pub(crate) fn begun(shared: &'s Shared, call: &Call) -> Result<SharedAction<'s>, Error> {
+    fn begun(
+        shared: &'s Shared,
+        call: &Call,
+        parent: Option<&'s SharedAction<'s>>,
+    ) -> Result<SharedAction<'s>, Error> {
         let id = shared.call(call)?.action()?;
-        Ok(SharedAction::of(shared, id))
+        Ok(SharedAction { shared, id, parent })
     }
 
     pub(crate) fn of(shared: &'s Shared, id: ActionId) -> SharedAction<'s> {
-        SharedAction { shared, id }
+        let parent = None;
+        SharedAction { shared, id, parent }
+    }
+
+    // The action itself and its ancestors.
+    fn lineage(&self) -> Vec<ActionId> {
+        iter::successors(Some(self), |it| it.parent)
+            .map(SharedAction::id)
+            .collect()
+    }
+
+    fn access(&self, call: &Call) -> Result<Answer, Error> {
+        let patience = self.shared.patience();
+        let reply = self.shared.access(call, patience, |_| self.lineage());
+        reply?.answer()
     }
 
     /// Its number.
@@ -89,10 +115,7 @@ impl<'s> SharedAction<'s> {
     /// # Ok::<(), Error>(())
     /// ```
     pub fn ask(&self, object: ObjId, query: Query) -> Result<Answer, Error> {
-        let call = Call::Ask(self.id, object, query);
-        self.shared
-            .call_waiting(&call, self.shared.patience())?
-            .answer()
+        self.access(&Call::Ask(self.id, object, query))
     }
 
     /// Changes an object. The answer may be a signal.
@@ -111,10 +134,7 @@ impl<'s> SharedAction<'s> {
     /// # Ok::<(), Error>(())
     /// ```
     pub fn alter(&self, object: ObjId, change: Change) -> Result<Answer, Error> {
-        let call = Call::Alter(self.id, object, change);
-        self.shared
-            .call_waiting(&call, self.shared.patience())?
-            .answer()
+        self.access(&Call::Alter(self.id, object, change))
     }
 
     /// A field of a record.
@@ -157,6 +177,33 @@ impl<'s> SharedAction<'s> {
     pub fn set(&self, object: ObjId, field: u8, value: impl Into<Value>) -> Result<(), Error> {
         self.alter(object, Change::SetField(field, value.into()))?
             .done()
+    }
+
+    /// Takes the write lock, and changes nothing. It comes before reading what will be written.
+    ///
+    /// # Errors
+    ///
+    /// As of [`ask`](Self::ask).
+    ///
+    /// ```
+    /// # use argus_guardian::{Change, Error, Guardian, Shared, Value};
+    /// # use std::time::Duration;
+    /// # let mut guardian = Guardian::new()?;
+    /// # let seat = guardian.declare("atomic_record[taken:bool]")?;
+    /// # let shared = Shared::new(guardian, Duration::ZERO);
+    /// # let top = shared.topaction()?;
+    /// # top.alter(seat, Change::Create("{false}".parse()?))?.done()?;
+    /// # top.commit()?;
+    /// let top = shared.topaction()?;
+    /// top.lock(seat)?;
+    /// if top.get(seat, 0)? == Value::Bool(false) {
+    ///     top.set(seat, 0, true)?;
+    /// }
+    /// top.commit()?;
+    /// # Ok::<(), Error>(())
+    /// ```
+    pub fn lock(&self, object: ObjId) -> Result<(), Error> {
+        self.alter(object, Change::Touch)?.done()
     }
 
     /// Takes a read lock; false where it isn't to be had. It doesn't wait.
@@ -217,7 +264,7 @@ impl<'s> SharedAction<'s> {
     /// # Ok::<(), Error>(())
     /// ```
     pub fn subaction(&self) -> Result<SharedAction<'_>, Error> {
-        SharedAction::begun(self.shared, &Call::BeginSub(self.id))
+        SharedAction::begun(self.shared, &Call::BeginSub(self.id), Some(self))
     }
 
     /// Begins a nested topaction: what it leaves counts, whatever becomes of this action.
@@ -236,7 +283,7 @@ impl<'s> SharedAction<'s> {
     /// # Ok::<(), Error>(())
     /// ```
     pub fn nested(&self) -> Result<SharedAction<'_>, Error> {
-        SharedAction::begun(self.shared, &Call::BeginNested(self.id))
+        SharedAction::begun(self.shared, &Call::BeginNested(self.id), None)
     }
 
     /// Aborts all live siblings: who is done first ends the others.

@@ -3,20 +3,26 @@
 use crate::ObjId;
 use crate::error::Error;
 use crate::reader::Reader;
+use crate::writer::Writer;
 use std::fmt;
 use std::str::FromStr;
 
 /// What a field, an element or a tag holds. Names stand in types alone: fields and tags are numbered
 /// from 0, in the order of their type.
 ///
-/// `Display` gives the written form, and `FromStr` reads it. A value has depth at most 16 where it is
-/// read: a scalar has depth 1, a compound 1 more than its deepest part.
+/// `Display` gives the written form, of any depth, and `FromStr` reads it. A value has depth at most 16
+/// where it is read or handed to a guardian: a scalar has depth 1, a compound 1 more than its deepest
+/// part.
+///
+/// Integers, truth values, texts and references become values by `From`, and are taken out of one by
+/// `TryFrom`, with [`Error::OtherAnswer`] where the value is of another kind.
 ///
 /// ```
 /// use argus_guardian::Value;
-/// let value = Value::Fields(vec![Value::Int(-5), Value::Text("a\"b".into())]);
+/// let value = Value::Fields(vec![(-5).into(), "a\"b".into()]);
 /// assert_eq!(value.to_string(), r#"{-5,"a\"b"}"#);
 /// assert_eq!(value.to_string().parse(), Ok(value));
+/// assert_eq!(i64::try_from(Value::from(7)), Ok(7));
 /// ```
 #[derive(Debug, Clone, PartialEq, Eq, Hash)]
 pub enum Value {
@@ -38,6 +44,18 @@ pub enum Value {
     Choice(u8, Box<Value>),
 }
 
+impl From<i32> for Value {
+    fn from(number: i32) -> Value {
+        Value::Int(number.into())
+    }
+}
+
+impl From<u32> for Value {
+    fn from(number: u32) -> Value {
+        Value::Int(number.into())
+    }
+}
+
 impl From<i64> for Value {
     fn from(number: i64) -> Value {
         Value::Int(number)
@@ -56,47 +74,70 @@ impl From<&str> for Value {
     }
 }
 
+impl From<String> for Value {
+    fn from(text: String) -> Value {
+        Value::Text(text)
+    }
+}
+
+impl From<ObjId> for Value {
+    fn from(object: ObjId) -> Value {
+        Value::Atomic(object)
+    }
+}
+
+impl TryFrom<Value> for i64 {
+    type Error = Error;
+
+    /// The integer; [`Error::OtherAnswer`] where the value is none.
+    fn try_from(value: Value) -> Result<i64, Error> {
+        match value {
+            Value::Int(number) => Ok(number),
+            _ => Err(Error::OtherAnswer),
+        }
+    }
+}
+
+impl TryFrom<Value> for bool {
+    type Error = Error;
+
+    /// The truth value; [`Error::OtherAnswer`] where the value is none.
+    fn try_from(value: Value) -> Result<bool, Error> {
+        match value {
+            Value::Bool(flag) => Ok(flag),
+            _ => Err(Error::OtherAnswer),
+        }
+    }
+}
+
+impl TryFrom<Value> for String {
+    type Error = Error;
+
+    /// The text; [`Error::OtherAnswer`] where the value is none.
+    fn try_from(value: Value) -> Result<String, Error> {
+        match value {
+            Value::Text(text) => Ok(text),
+            _ => Err(Error::OtherAnswer),
+        }
+    }
+}
+
+impl TryFrom<Value> for ObjId {
+    type Error = Error;
+
+    /// The object that is referred to; [`Error::OtherAnswer`] where the value is no reference.
+    fn try_from(value: Value) -> Result<ObjId, Error> {
+        match value {
+            Value::Atomic(object) => Ok(object),
+            _ => Err(Error::OtherAnswer),
+        }
+    }
+}
+
 impl fmt::Display for Value {
     fn fmt(&self, f: &mut fmt::Formatter<'_>) -> fmt::Result {
-        match self {
-            Value::Null => f.write_str("null"),
-            Value::Bool(flag) => write!(f, "{flag}"),
-            Value::Int(number) => write!(f, "{number}"),
-            Value::Text(text) => write_text(f, text),
-            Value::Atomic(ObjId(number)) => write!(f, "@{number}"),
-            Value::Sequence(values) => write_list(f, '[', values, ']'),
-            Value::Fields(values) => write_list(f, '{', values, '}'),
-            Value::Choice(tag, value) => write!(f, "<{tag}:{value}>"),
-        }
+        Writer::value(f, self)
     }
-}
-
-fn write_text(f: &mut fmt::Formatter<'_>, text: &str) -> fmt::Result {
-    f.write_str("\"")?;
-    for character in text.chars() {
-        match character {
-            '"' => f.write_str("\\\"")?,
-            '\\' => f.write_str("\\\\")?,
-            '\n' => f.write_str("\\n")?,
-            other => write!(f, "{other}")?,
-        }
-    }
-    f.write_str("\"")
-}
-
-/// Writes the values between two brackets, parted by commas.
-pub(crate) fn write_list<'v>(
-    f: &mut fmt::Formatter<'_>,
-    open: char,
-    values: impl IntoIterator<Item = &'v Value>,
-    close: char,
-) -> fmt::Result {
-    write!(f, "{open}")?;
-    for (place, value) in values.into_iter().enumerate() {
-        let comma = if place == 0 { "" } else { "," };
-        write!(f, "{comma}{value}")?;
-    }
-    write!(f, "{close}")
 }
 
 impl FromStr for Value {

@@ -5,10 +5,12 @@ use argus_guardian::{
     SharedAction, Signal, Value,
 };
 use std::panic::{AssertUnwindSafe, catch_unwind};
+use std::sync::Barrier;
 use std::thread;
 use std::time::{Duration, Instant};
 
 const LONG: Duration = Duration::from_secs(60);
+const CONFLICT: Result<(), Error> = Err(Error::Refused(Refusal::Conflict));
 
 fn content(text: &str) -> Content {
     text.parse().expect("a content")
@@ -68,6 +70,31 @@ fn a_panic_aborts() -> Result<(), Error> {
     assert!(caught.is_err());
     guardian = shared.into_inner();
     assert_eq!(guardian.base(record)?, Some(content("{5}")));
+    Ok(())
+}
+
+#[test]
+fn a_panic_in_with_wakes_who_waits() -> Result<(), Error> {
+    let (guardian, record) = with_record()?;
+    let shared = Shared::new(guardian, LONG);
+    let (holder, waiter) = (shared.topaction()?, shared.topaction()?);
+    holder.lock(record)?;
+    let id = holder.id();
+    let start = Instant::now();
+    thread::scope(|scope| {
+        let waits = scope.spawn(|| waiter.lock(record));
+        thread::sleep(Duration::from_millis(20));
+        let caught = catch_unwind(AssertUnwindSafe(|| {
+            shared.with(|guardian| {
+                let aborted = guardian.call(&Call::Abort(id));
+                assert_eq!(aborted, Ok(Reply::Answered(Answer::Done)));
+                panic!("on purpose");
+            })
+        }));
+        assert!(caught.is_err());
+        waits.join().expect("no panic")
+    })?;
+    assert!(start.elapsed() < LONG / 2);
     Ok(())
 }
 
@@ -213,7 +240,7 @@ fn an_abort_of_the_parent_ends_a_wait() -> Result<(), Error> {
     let arm = top.subaction()?;
     thread::scope(|scope| {
         let waits = scope.spawn(|| arm.alter(record, Change::Touch));
-        shared.call(&Call::Abort(id))?;
+        shared.call(&Call::Abort(id))?.answer()?.done()?;
         let ended = waits.join().expect("no panic");
         assert_eq!(ended, Err(Error::Refused(Refusal::Over)));
         Ok(())
@@ -235,6 +262,94 @@ fn patience_ends_a_wait() -> Result<(), Error> {
     // Refused at first and at last, each an entry.
     let entries = shared.with(Guardian::entries);
     assert_eq!(entries, 4 + 2 + 1 + 2);
+    Ok(())
+}
+
+// Two topactions read the record, and then both set it, by subactions where that is said. How many
+// were refused, and how long it took.
+fn two_read_and_set(by_subactions: bool) -> Result<(usize, Duration), Error> {
+    let (guardian, record) = with_record()?;
+    let shared = Shared::new(guardian, LONG);
+    let start = Instant::now();
+    let have_read = Barrier::new(2);
+    let read_and_set = || {
+        let top = shared.topaction()?;
+        top.get(record, 0)?;
+        have_read.wait();
+        if by_subactions {
+            let sub = top.subaction()?;
+            sub.set(record, 0, 6)?;
+            sub.commit()?;
+        } else {
+            top.set(record, 0, 6)?;
+        }
+        top.commit()
+    };
+    let results: Vec<Result<(), Error>> = thread::scope(|scope| {
+        let threads = [scope.spawn(read_and_set), scope.spawn(read_and_set)];
+        threads.map(|it| it.join().expect("no panic")).into()
+    });
+    let refused = results.iter().filter(|it| **it == CONFLICT).count();
+    assert!(results.iter().all(|it| it.is_ok() || *it == CONFLICT));
+    Ok((refused, start.elapsed()))
+}
+
+#[test]
+fn of_two_that_read_and_write_one_is_refused_at_once() -> Result<(), Error> {
+    for by_subactions in [false, true] {
+        let (refused, taken) = two_read_and_set(by_subactions)?;
+        assert_eq!(refused, 1);
+        assert!(taken < LONG / 2, "{taken:?}");
+    }
+    Ok(())
+}
+
+#[test]
+fn siblings_dont_wait_for_what_their_parent_reads() -> Result<(), Error> {
+    let (guardian, record) = with_record()?;
+    let shared = Shared::new(guardian, LONG);
+    let (top, reader) = (shared.topaction()?, shared.topaction()?);
+    top.get(record, 0)?;
+    reader.get(record, 0)?;
+    thread::scope(|scope| {
+        let set = || {
+            let arm = top.subaction()?;
+            arm.set(record, 0, 6)?;
+            arm.commit()
+        };
+        let arms = [scope.spawn(set), scope.spawn(set)];
+        thread::sleep(Duration::from_millis(20));
+        reader.commit()?;
+        for arm in arms {
+            assert_eq!(arm.join().expect("no panic"), Ok(()));
+        }
+        Ok(())
+    })
+}
+
+#[test]
+fn who_locks_before_reading_is_never_refused() -> Result<(), Error> {
+    const THREADS: i64 = 8;
+    const ORDERS: i64 = 20;
+    let (guardian, record) = with_record()?;
+    let shared = Shared::new(guardian, LONG);
+    let order = || {
+        let top = shared.topaction()?;
+        top.lock(record)?;
+        let number = i64::try_from(top.get(record, 0)?)?;
+        thread::yield_now();
+        top.set(record, 0, number + 1)?;
+        top.commit()
+    };
+    thread::scope(|scope| {
+        let work = || (0..ORDERS).try_for_each(|_| order());
+        let threads: Vec<_> = (0..THREADS).map(|_| scope.spawn(work)).collect();
+        threads
+            .into_iter()
+            .try_for_each(|it| it.join().expect("no panic"))
+    })?;
+    let left = Content::Record(vec![Value::Int(5 + THREADS * ORDERS)]);
+    assert_eq!(shared.into_inner().base(record)?, Some(left));
     Ok(())
 }
 

@@ -105,7 +105,7 @@ fn an_audit_finds_what_is_there() -> Result<(), Error> {
     guardian.declare("atomic_array[int]")?;
     for _ in 0..500 {
         let call = draws.call(guardian.actions());
-        guardian.call(&call)?;
+        let _reply = guardian.call(&call)?;
     }
     let audit = guardian.list(Listing::Audit)?;
     for object in 0..guardian.objects() {

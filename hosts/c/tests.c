@@ -1,0 +1,192 @@
+/* Tests of the store, and of the header's inline functions. Each tells what failed, and all are tried. */
+#include "clock.h"
+#include "modes.h"
+#include "store.h"
+
+#include <inttypes.h>
+#include <stdio.h>
+#include <stdlib.h>
+#include <string.h>
+#include <sys/wait.h>
+#include <unistd.h>
+
+static int failed;
+
+#define CHECK(fact) check((fact) != 0, #fact, __func__)
+
+static void check(int is_so, const char *fact, const char *where) {
+    if (is_so) return;
+    failed = 1;
+    fprintf(stderr, "%s: not %s\n", where, fact);
+}
+
+/* A thread that has read a record, and sets it: by a subaction, where that is said. */
+typedef struct upgrade {
+    store *it;
+    uint32_t object;
+    int is_by_subaction, is_had;
+    pthread_barrier_t *both_have_read;
+} upgrade;
+
+static void *read_and_set(void *given) {
+    upgrade *it = given;
+    int64_t number;
+    store_action top = store_begin_top(it->it), sub;
+    CHECK(store_get(it->it, &top, it->object, &number));
+    pthread_barrier_wait(it->both_have_read);
+    if (it->is_by_subaction) sub = store_begin_sub(it->it, &top);
+    it->is_had = store_set(it->it, it->is_by_subaction ? &sub : &top, it->object, number + 1);
+    if (it->is_had && it->is_by_subaction) store_commit(it->it, &sub);
+    if (it->is_had)
+        store_commit(it->it, &top);
+    else
+        store_abort(it->it, &top);
+    return NULL;
+}
+
+/* Of two that read and write, one is refused at once, and the other goes on. */
+static void test_upgrade(int is_by_subaction) {
+    store records;
+    pthread_t threads[2];
+    pthread_barrier_t both;
+    upgrade upgrades[2];
+    store_open(&records, 0);
+    records.patience = 60;
+    uint32_t object = store_declare(&records, 5);
+    pthread_barrier_init(&both, NULL, 2);
+    double begin = clock_seconds();
+    for (int at = 0; at < 2; at++) {
+        upgrades[at] = (upgrade){&records, object, is_by_subaction, 0, &both};
+        CHECK(pthread_create(&threads[at], NULL, read_and_set, &upgrades[at]) == 0);
+    }
+    for (int at = 0; at < 2; at++) pthread_join(threads[at], NULL);
+    CHECK(clock_seconds() - begin < 30);
+    CHECK(upgrades[0].is_had + upgrades[1].is_had == 1);
+    CHECK(store_base(&records, object) == 6);
+    pthread_barrier_destroy(&both);
+    store_close(&records);
+}
+
+/* Who holds a lock to the end of patience is waited for so long. */
+static void test_patience(void) {
+    store records;
+    int64_t number;
+    store_open(&records, 0);
+    records.patience = 0.02;
+    uint32_t object = store_declare(&records, 5);
+    store_action holder = store_begin_top(&records), waiter = store_begin_top(&records);
+    CHECK(store_lock(&records, &holder, object));
+    double begin = clock_seconds();
+    CHECK(!store_get(&records, &waiter, object, &number));
+    CHECK(!store_lock(&records, &waiter, object));
+    CHECK(clock_seconds() - begin >= 0.04);
+    store_close(&records);
+}
+
+/* The example of argus.h: an account of so much, or 0 and why. */
+static int open_account(argus_guardian *bank, const char *content) {
+    argus_answer account = argus_declare(bank, "atomic_record[balance:int]"), top, answer;
+    if (account.status != ARGUS_OBJECT) return fprintf(stderr, "%s\n", argus_answer_name(account)), 0;
+    top = argus_begin_top(bank);
+    if (top.status != ARGUS_ACTION) return fprintf(stderr, "%s\n", argus_answer_name(top)), 0;
+    answer = argus_alter(bank, (uint32_t)top.number, (uint32_t)account.number, ARGUS_CREATE, 0, 0, content);
+    if (answer.status == ARGUS_DONE) answer = argus_commit(bank, (uint32_t)top.number);
+    if (answer.status == ARGUS_DONE) return 1;
+    argus_abort(bank, (uint32_t)top.number);
+    return fprintf(stderr, "%s\n", argus_answer_name(answer)), 0;
+}
+
+static void test_example(void) {
+    argus_guardian bank = ARGUS_CLOSED;
+    CHECK(argus_open(&bank).status == ARGUS_DONE);
+    CHECK(open_account(&bank, "{5}"));
+    /* This is no content of that shape: the topaction is aborted, and so a checkpoint can be made. */
+    CHECK(!open_account(&bank, "{true}"));
+    CHECK(!open_account(&bank, "{"));
+    CHECK(argus_checkpoint(&bank).status == ARGUS_DONE);
+    CHECK(argus_close(&bank).status == ARGUS_DONE);
+}
+
+static void test_names(void) {
+    for (uint32_t status = ARGUS_DONE; status <= ARGUS_NULL; status++)
+        CHECK(strncmp(argus_status_name(status), "ARGUS_", 6) == 0);
+    for (int64_t signal = ARGUS_ABSENT; signal <= ARGUS_LIMITS; signal++)
+        CHECK(strncmp(argus_signal_name(signal), "ARGUS_", 6) == 0);
+    for (int64_t refusal = ARGUS_NO_ACTION; refusal <= ARGUS_NO_SIBLINGS; refusal++)
+        CHECK(strncmp(argus_refusal_name(refusal), "ARGUS_", 6) == 0);
+    CHECK(strcmp(argus_status_name(ARGUS_BAD_TEXT), "ARGUS_BAD_TEXT") == 0);
+    CHECK(strcmp(argus_status_name(22), "?") == 0);
+    CHECK(strcmp(argus_signal_name(0), "?") == 0 && strcmp(argus_refusal_name(10), "?") == 0);
+    CHECK(strcmp(argus_answer_name(argus_answer_of(ARGUS_REFUSED, ARGUS_CONFLICT)), "ARGUS_CONFLICT") == 0);
+    CHECK(strcmp(argus_answer_name(argus_answer_of(ARGUS_SIGNAL, ARGUS_BOUNDS)), "ARGUS_BOUNDS") == 0);
+    CHECK(strcmp(argus_answer_name(argus_answer_of(ARGUS_ACTION, 6)), "ARGUS_ACTION") == 0);
+}
+
+static void test_version(void) {
+    char version[32];
+    snprintf(version, sizeof version, "%d.%d.%d", ARGUS_VERSION_MAJOR, ARGUS_VERSION_MINOR, ARGUS_VERSION_PATCH);
+    CHECK(strcmp(version, ARGUS_VERSION) == 0);
+}
+
+static uint32_t declared(argus_guardian *guardian, const char *shape) {
+    return argus_declare(guardian, shape).status;
+}
+
+/* What the header says of written forms and of limits. */
+static void test_grammar(void) {
+    argus_guardian guardian = ARGUS_CLOSED;
+    CHECK(argus_open(&guardian).status == ARGUS_DONE);
+    CHECK(declared(&guardian, "atomic_record[a:null,b:bool,c:int,d:text,e:atomic,f:sequence[int],"
+                              "g:struct[a:int,b:bool],h:oneof[no:null,yes:text]]") == ARGUS_OBJECT);
+    CHECK(declared(&guardian, "atomic_array[int]") == ARGUS_OBJECT);
+    CHECK(declared(&guardian, "atomic_variant[no:null,yes:int]") == ARGUS_OBJECT);
+    CHECK(declared(&guardian, "atomic_record[a:int, b:int]") == ARGUS_BAD_SHAPE);
+    CHECK(declared(&guardian, "atomic_record[a:int,a:int]") == ARGUS_BAD_SHAPE);
+    CHECK(declared(&guardian, "atomic_record[A:int]") == ARGUS_BAD_SHAPE);
+    CHECK(declared(&guardian, "atomic_record[abcdefghijklmnopqrstuvwxyz_0123456:int]") == ARGUS_BAD_SHAPE);
+    uint32_t top = (uint32_t)argus_begin_top(&guardian).number;
+    const char *content = "{null,true,-5,\"a \\\"\\\\\\n\",@2,[1,2],{1,true},<1:\"no\">}";
+    CHECK(argus_alter(&guardian, top, 0, ARGUS_CREATE, 0, 0, content).status == ARGUS_DONE);
+    CHECK(argus_alter(&guardian, top, 1, ARGUS_CREATE, 0, 0, "1[10,20]").status == ARGUS_DONE);
+    CHECK(argus_alter(&guardian, top, 2, ARGUS_CREATE, 0, 0, "<1:5>").status == ARGUS_DONE);
+    for (int at = 0; at < 4; at++) {
+        static const char *const numbers[] = {"+1", "-0", "01", "1 "};
+        CHECK(argus_alter(&guardian, top, 1, ARGUS_STORE, 1, 0, numbers[at]).status == ARGUS_BAD_TEXT);
+    }
+    CHECK(argus_alter(&guardian, top, 1, ARGUS_SET_LOW, INT64_C(2147483647), 0, NULL).number == ARGUS_LIMITS);
+    CHECK(argus_lock(&guardian, top, 1).status == ARGUS_DONE);
+    CHECK(argus_lock(&guardian, top, 3).number == ARGUS_NO_OBJECT);
+    CHECK(argus_lock(NULL, top, 1).status == ARGUS_NULL);
+    CHECK(argus_close(&guardian).status == ARGUS_DONE);
+}
+
+/* A forked process has a guardian of its own: what the one does, the other doesn't see. */
+static void test_fork(void) {
+    argus_guardian guardian = ARGUS_CLOSED;
+    int status = 0;
+    CHECK(argus_open(&guardian).status == ARGUS_DONE);
+    CHECK(declared(&guardian, "atomic_array[int]") == ARGUS_OBJECT);
+    fflush(NULL);
+    pid_t child = fork();
+    if (child == 0) {
+        int is_so = declared(&guardian, "atomic_array[int]") == ARGUS_OBJECT && argus_objects(&guardian).number == 2;
+        _exit(is_so && argus_close(&guardian).status == ARGUS_DONE ? 0 : 1);
+    }
+    CHECK(child > 0 && waitpid(child, &status, 0) == child && status == 0);
+    CHECK(argus_objects(&guardian).number == 1);
+    CHECK(argus_close(&guardian).status == ARGUS_DONE);
+    CHECK(argus_close(&guardian).status == ARGUS_NOT_OPEN);
+    CHECK(argus_entries(&guardian).status == ARGUS_NOT_OPEN);
+}
+
+int tests(void) {
+    test_fork();
+    test_example();
+    test_names();
+    test_version();
+    test_grammar();
+    test_upgrade(0);
+    test_upgrade(1);
+    test_patience();
+    return failed;
+}

@@ -1,0 +1,40 @@
+"""`Owners`: which actions of a guardian somebody still has."""
+
+import collections
+import weakref
+
+
+class _Owner(weakref.ref):
+    """A reference to an `Action` that doesn't keep it, with the action's number."""
+
+    __slots__ = ("number",)
+
+
+class Owners:
+    """The live actions of a guardian, and those that nobody has any more and nobody has ended.
+
+    An `Action` may go without its end: forgotten, or where an interrupt (Ctrl-C) comes between its
+    begin and its `with` block. Then its number is `dropped`. This is noted by a function of the
+    interpreter, not by a `__del__`, in which an interrupt would be lost.
+    """
+
+    def __init__(self):
+        self._live = {}
+        self.dropped = collections.deque()
+
+    def add(self, action):
+        owner = _Owner(action, self.dropped.append)
+        owner.number = action.number
+        self._live[action.number] = owner
+
+    def remove(self, number):
+        self._live.pop(number, None)
+
+    def take_dropped(self):
+        """The numbers that were dropped. Each is told until it is removed."""
+        while self.dropped:
+            owner = self.dropped[0]
+            if self._live.get(owner.number) is owner:
+                yield owner.number
+            self.remove(owner.number)
+            self.dropped.popleft()

@@ -1,0 +1,147 @@
+"""What is left of actions that an exception or Ctrl-C ends, or that nobody has any more."""
+
+import gc
+import random
+import signal
+import sys
+import threading
+import unittest
+from pathlib import Path
+
+sys.path.insert(0, str(Path(__file__).resolve().parents[1]))
+
+import argus_guardian as argus  # noqa: E402
+
+
+def with_record(patience=1.0):
+    guardian = argus.Guardian(patience=patience)
+    record = guardian.declare("atomic_record[n:int]")
+    with guardian.topaction() as top:
+        top.create(record, (0,))
+    return guardian, record
+
+
+def interrupt(*_):
+    raise KeyboardInterrupt
+
+
+class Interrupts(unittest.TestCase):
+    """Ctrl-C, at any moment."""
+
+    TIMES = 1000
+
+    def setUp(self):
+        self.guardian, self.record = with_record()
+        self.addCleanup(self.guardian.close)
+        self.addCleanup(signal.signal, signal.SIGALRM, signal.signal(signal.SIGALRM, interrupt))
+        self.draws = random.Random(1)
+        self.interrupted = 0
+
+    def order(self):
+        with self.guardian.topaction() as top:
+            with top.subaction() as sub:
+                sub.set_field(self.record, 0, sub.field(self.record, 0) + 1)
+
+    def work_until_interrupted(self):
+        try:
+            signal.setitimer(signal.ITIMER_REAL, self.draws.uniform(20e-6, 400e-6))
+            for _ in range(100_000):
+                self.order()
+        except KeyboardInterrupt:
+            self.interrupted += 1
+
+    def test_none_leaves_a_live_action(self):
+        for _ in range(self.TIMES):
+            self.work_until_interrupted()
+            # Busy, where an action is live.
+            self.guardian.checkpoint()
+        self.assertEqual(self.interrupted, self.TIMES)
+        # A commit that was interrupted may have been made; else each counts once.
+        self.order()
+        self.assertGreater(self.guardian.base(self.record)[0], 0)
+
+    def test_where_the_begin_alone_is_interrupted(self):
+        for begin in self.guardian.topaction, self.guardian.topaction().subaction:
+            archive, make = self.guardian._archive, self.guardian._archive.make
+
+            def interrupted_after(*given, archive=archive, make=make):
+                archive.make = make
+                make(*given)
+                raise KeyboardInterrupt
+
+            archive.make = interrupted_after
+            with self.assertRaises(KeyboardInterrupt):
+                begin()
+            entries = self.guardian.entries
+            self.assertIn("abort", self.guardian.entry(entries - 1))
+
+    def test_where_the_commit_is_interrupted(self):
+        end = self.guardian._end
+
+        def interrupted_before(*_):
+            self.guardian._end = end
+            raise KeyboardInterrupt
+
+        with self.assertRaises(KeyboardInterrupt):
+            with self.guardian.topaction() as top:
+                top.set_field(self.record, 0, 7)
+                self.guardian._end = interrupted_before
+        self.guardian.checkpoint()
+        self.assertEqual(self.guardian.base(self.record), (0,))
+
+
+class Forgotten(unittest.TestCase):
+    """Actions that nobody has any more."""
+
+    def with_record(self, patience=1.0):
+        guardian, record = with_record(patience)
+        self.addCleanup(guardian.close)
+        return guardian, record
+
+    def test_the_next_call_aborts_it(self):
+        guardian, record = self.with_record()
+        guardian.topaction().lock(record)
+        gc.collect()
+        with guardian.topaction() as top:
+            top.set_field(record, 0, 7)
+        guardian.checkpoint()
+        self.assertEqual(guardian.base(record), (7,))
+
+    def test_who_waits_for_it_goes_on(self):
+        guardian, record = self.with_record(patience=60)
+        holder, started = guardian.topaction(), threading.Event()
+        holder.lock(record)
+
+        def wait():
+            with guardian.topaction() as top:
+                started.set()
+                top.set_field(record, 0, 7)
+
+        thread = threading.Thread(target=wait)
+        thread.start()
+        started.wait()
+        del holder
+        gc.collect()
+        thread.join(30)
+        self.assertEqual(guardian.base(record), (7,))
+
+    def test_a_subaction_keeps_its_parent(self):
+        guardian, record = self.with_record()
+        sub = guardian.topaction().subaction()
+        gc.collect()
+        sub.set_field(record, 0, 7)
+        sub.commit()
+        sub.parent.commit()
+        self.assertEqual(guardian.base(record), (7,))
+
+    def test_one_that_is_named_by_number_is_nobodys(self):
+        guardian, record = self.with_record()
+        top = guardian.topaction()
+        argus.Action(guardian, top.number).lock(record)
+        gc.collect()
+        top.set_field(record, 0, 7)
+        top.commit()
+
+
+if __name__ == "__main__":
+    unittest.main()
