@@ -86,7 +86,7 @@ inside_sends N R g s = let t = inside N R g in
           (contents_row ∷ front_row ∷ [])) absorbs
           (keeps N g no_dict) memory.rests table_sends change_sends memory.room_sends table_syncs memory.room_syncs
           memory.room_frees),
-      (front_field_sends, (keeper_field_sends, (front_field_sends, (s, tt)))),
+      (front_field_sends, (keeper_field_sends, (front_field_sends, (search sendable, (s, tt))))),
     ))
 
 pub writer_sends : (N R : RattleType) (g : Ghosts N.Denot) → IsSend R → IsSend (writer_row N R g)

@@ -48,6 +48,8 @@ pub struct BoardWriter<N: Board, R: Wait + Drop> {
     pub(crate) keeper: Keeper,
     /// The history as it was then.
     pub(crate) start: HistoryPrefix,
+    /// How many places were never given out.
+    pub(crate) unused: u32,
     pub(crate) rt: R,
 }
 
@@ -113,7 +115,7 @@ impl<N: Board, R: Wait + Drop> BoardWriter<N, R> {
         let copy = duplicate_contents(heap, contents.as_slice())?;
         // One place more than there are lookers: briefing takes a new one before it frees the old.
         let tables = opened::<N>(heap, contents, copy, &keeper.front, lookers as usize + 1)?;
-        Ok(BoardWriter::over(rt, Some(tables), keeper))
+        Ok(BoardWriter::over(rt, Some(tables), keeper, lookers))
     }
 
     /// Opens a board without places. It takes no memory.
@@ -124,11 +126,11 @@ impl<N: Board, R: Wait + Drop> BoardWriter<N, R> {
         ensures published { result.published ≡ N.before }
         ensures pending { result.pending ≡ [] }
     {
-        BoardWriter::over(rt, None, keeper)
+        BoardWriter::over(rt, None, keeper, 0)
     }
 
-    /// A board that opens with these tables.
-    fn over(rt: R, tables: Option<Publisher<N>>, keeper: Keeper) -> BoardWriter<N, R>
+    /// A board that opens with these tables, and gives out so many places.
+    fn over(rt: R, tables: Option<Publisher<N>>, keeper: Keeper, unused: u32) -> BoardWriter<N, R>
         requires first { IsTableOf N.opening_contents N.before N.first }
         requires keeper { StartsHistory N.history N.root keeper }
         requires tables { MatchOption tables (N.places ≡ 0) (λ w. (0 < N.places)
@@ -145,6 +147,7 @@ impl<N: Board, R: Wait + Drop> BoardWriter<N, R> {
             shown,
             keeper,
             start,
+            unused,
             rt,
         }
     }
@@ -157,23 +160,30 @@ impl<N: Board, R: Wait + Drop> BoardWriter<N, R> {
         self.tables.is_some()
     }
 
-    /// A place for a looker, which has seen what stood on the board at first. `OutOfMemory`: memory
-    /// is wanting, or no place is left.
-    pub fn looker(&self) -> Result<Looker<N>, OutOfMemory>
-        ensures { IfOk result (λ looker. looker ≡ N.before) }
+    /// A place for a looker, which has seen what stood on the board at first. Each place is given
+    /// out once; a looker that has ended leaves its own unused. `OutOfMemory`: memory is wanting, or
+    /// no place is left.
+    pub fn looker(&mut self) -> Result<Looker<N>, OutOfMemory>
+        ensures first { IfOk result (λ looker. looker ≡ N.before) }
+        ensures places { OnOk result (0 < N.places) }
+        ensures stays { self.new ≡ self.old }
     {
-        match &self.tables {
-            Some(tables) => Looker::at(tables, &self.start),
-            None => Err(OutOfMemory),
-        }
+        let (Some(tables), Some(left)) = (&self.tables, self.unused.checked_sub(1)) else {
+            return Err(OutOfMemory);
+        };
+        let looker = Looker::at(tables, &self.start)?;
+        self.unused = left;
+        Ok(looker)
     }
 
-    /// Makes an effect pending. At `OutOfMemory` all is as before, and the effect is spent.
+    /// Makes an effect pending. At `OutOfMemory` all is as before, and the effect is spent; a board
+    /// without places takes no memory.
     pub fn append(&mut self, effect: Effect) -> Result<(), OutOfMemory>
         ensures published { self.new.published ≡ self.old.published }
         ensures ok { OnOk result (self.new.pending
             ≡ self.old.pending ++ plain_effect effect.items ∷ []) }
         ensures err { OnErr result (self.new ≡ self.old) }
+        ensures places { OnErr result (0 < N.places) }
     {
         let BoardWriter { tables, keeper, .. } = self;
         let page = Snapshot::of(&effect);
@@ -194,12 +204,13 @@ impl<N: Board, R: Wait + Drop> BoardWriter<N, R> {
         self.keeper.add::<X, M>(Snapshot::of(about));
     }
 
-    /// Publishes what is pending. At `OutOfMemory` something was pending, and all is as before. It
-    /// may wait for lookers that are inside.
+    /// Publishes what is pending. At `OutOfMemory` something was pending, and all is as before; a
+    /// board without places takes no memory. It may wait for lookers that are inside.
     pub fn publish(&mut self) -> Result<(), OutOfMemory>
         ensures ok { OnOk result ((self.new.published ≡ self.old.published ++ self.old.pending)
             × (self.new.pending ≡ [])) }
         ensures err { OnErr result ((self.new ≡ self.old) × (self.old.pending ≢ [])) }
+        ensures places { OnErr result (0 < N.places) }
     {
         let BoardWriter {
             tables,
@@ -250,6 +261,7 @@ impl<N: Board, R: Wait + Drop> BoardWriter<N, R> {
             shown: _,
             keeper: _,
             start: _,
+            unused: _,
             rt,
         } = self;
         match tables {

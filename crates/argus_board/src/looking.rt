@@ -1,7 +1,6 @@
 //! What a look copies out of a table.
 
-ghost use Rattle.std.specs.Prelude.{◌≡◌, IfOk, map};
-ghost use Rattle.argus_contents.specs.Content.{plain_option};
+ghost use Rattle.std.specs.Prelude.{[], ◌++◌, ◌≡◌, ◌∷◌, IfOk, OnOk, map};
 ghost use Rattle.argus_board.specs.Effects.{content_of_object, plain_contents};
 
 use argus_contents::{Content, ObjId};
@@ -18,23 +17,25 @@ pub(crate) fn copies_of(
 {
     let mut copies = Vec::with_capacity(heap.room(), objects.len())?;
     for object in objects {
-        let copy = copy_of(heap, contents, *object)?;
-        copies.push(copy)?;
+        append_copy_of(heap, contents, *object, &mut copies)?;
     }
     Ok(copies)
 }
 
-fn copy_of(
+// Appends a copy of the object's content, none where it is absent or the table lacks it.
+#[inline(always)]
+fn append_copy_of(
     heap: Heap,
     contents: &[Option<Content>],
     object: ObjId,
-) -> Result<Option<Content>, OutOfMemory>
-    ensures { IfOk result (λ copy. plain_option copy
-        ≡ content_of_object (plain_contents contents.now) object.0) }
+    copies: &mut Vec<Option<Content>, Room>,
+) -> Result<(), OutOfMemory>
+    ensures { OnOk result (plain_contents copies.new.items ≡ plain_contents copies.old.items
+        ++ content_of_object (plain_contents contents.now) object.0 ∷ []) }
 {
     match contents.get(object.0 as usize) {
-        Some(content) => Content::duplicate_option(heap, content),
-        None => Ok(None),
+        Some(content) => Content::append_copy(heap, content, copies),
+        None => Ok(copies.push(None)?),
     }
 }
 
@@ -47,8 +48,7 @@ pub(crate) fn duplicate_contents(
 {
     let mut copies = Vec::with_capacity(heap.room(), contents.len())?;
     for content in contents {
-        let copy = Content::duplicate_option(heap, content)?;
-        copies.push(copy)?;
+        Content::append_copy(heap, content, &mut copies)?;
     }
     Ok(copies)
 }

@@ -1,6 +1,7 @@
 //! `Content`: what an atomic object holds.
 
-ghost use Rattle.std.specs.Prelude.{◌≡◌, ◌↔◌, true, IfOk, OnErr, Some};
+ghost use Rattle.std.specs.Prelude.{[], ◌++◌, ◌≡◌, ◌↔◌, ◌∷◌, true, map};
+ghost use Rattle.std.specs.Prelude.{IfOk, OnErr, OnOk, Some};
 ghost use Rattle.argus_contents.specs.Answer.{plain_answer};
 ghost use Rattle.argus_contents.specs.Change.{CreatesWithin, outcome, plain_change};
 ghost use Rattle.argus_contents.specs.Content.{KeepsLimits, plain_content, plain_option};
@@ -112,6 +113,39 @@ impl Content {
             None => Ok(None),
             Some(content) => Ok(Some(content.duplicate(heap)?)),
         }
+    }
+
+    /// Appends a content equal to this one to the copies, or none where there is none. `OutOfMemory`:
+    /// the copies are as they were.
+    ///
+    /// The copy of a record is made in its place of the list: moved there, it would take twice as long.
+    ///
+    /// ```text
+    /// Content::append_copy(heap, &base, &mut copies)?;
+    /// ```
+    #[inline(always)]
+    pub fn append_copy(
+        heap: Heap,
+        content: &Option<Content>,
+        copies: &mut Vec<Option<Content>, Room>,
+    ) -> Result<(), OutOfMemory>
+        ensures ok { OnOk result (map plain_option copies.new.items
+            ≡ map plain_option copies.old.items ++ plain_option content.now ∷ []) }
+        ensures err { OnErr result (copies.new.items ≡ copies.old.items) }
+    {
+        copies.reserve(1)?;
+        match content {
+            None => copies.push_reserved(None),
+            Some(Content::Rec(fields)) => {
+                let fields = duplicate_all(heap, fields)?;
+                copies.push_reserved(Some(Content::Rec(fields)))
+            }
+            Some(content @ Content::Arr { low: _, items: _ })
+            | Some(content @ Content::Var { tag: _, value: _ }) => {
+                copies.push_reserved(Some(content.duplicate(heap)?))
+            }
+        }
+        Ok(())
     }
 }
 

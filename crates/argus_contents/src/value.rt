@@ -210,13 +210,14 @@ pub(crate) fn append_copies(
         ++ plain_list values.now) }
 {
     for value in values {
+        copies.reserve(1)?;
         match value {
-            Value::Null => copies.push(Value::Null)?,
-            Value::Bool(truth) => copies.push(Value::Bool(*truth))?,
-            Value::Int(number) => copies.push(Value::Int(*number))?,
-            Value::Atomic(object) => copies.push(Value::Atomic(*object))?,
+            Value::Null => copies.push_reserved(Value::Null),
+            Value::Bool(truth) => copies.push_reserved(Value::Bool(*truth)),
+            Value::Int(number) => copies.push_reserved(Value::Int(*number)),
+            Value::Atomic(object) => copies.push_reserved(Value::Atomic(*object)),
             Value::Text(_) | Value::Sequence(_) | Value::Fields(_) | Value::Choice(_, _) => {
-                copies.push(duplicate_value(heap, value)?)?
+                copies.push_reserved(duplicate_value(heap, value)?)
             }
         }
     }

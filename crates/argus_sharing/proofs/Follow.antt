@@ -1,8 +1,9 @@
 -- The board's effects follow the journal, from one call to the next.
-use Rattle.std.proofs.Common.{Bool, List, Option, Some, [], ap, append_assoc, false, refl, subst}
-use Rattle.std.proofs.Common.{sym, true, ℕ, ◌++◌, ◌∙◌, ◌∷◌, ◌≡◌, ◌≢◌}
+use Rattle.std.proofs.Common.{Bool, List, Option, Some, [], ap, append_assoc, arith, false, refl}
+use Rattle.std.proofs.Common.{subst, sym, true, ℕ, ◌++◌, ◌∙◌, ◌∷◌, ◌≡◌, ◌≢◌}
 use Rattle.std.specs.Prelude.{Err, Ok, OnErr, OnOk, Result}
 use Rattle.std.proofs.lemmas.List.{append-nil}
+use mathlib.Core.List.{IsPrefix}
 use Rattle.argus_board.specs.BoardView.{BoardView}
 use Rattle.argus_contents.specs.Effect.{Effect}
 use Rattle.argus_contents.specs.Content.{PlainContent}
@@ -24,7 +25,9 @@ use Rattle.argus_model.specs.Effects.{table}
 use Rattle.argus_model.specs.Event.{Aborted, Accessed, Began, Event, Nested, Sub, Top}
 use Rattle.argus_model.specs.Status.{live_siblings}
 use Rattle.argus_journal.specs.JournalView.{JournalView, after, entry_of, next_entry, reply_to}
-use Rattle.argus_sharing.specs.Following.{FollowsJournal, IsNoCommit, journal_effects}
+use Rattle.argus_sharing.specs.Following.{FollowsJournal, GoesOn, IsNoCommit, IsSharedJournal}
+use Rattle.argus_sharing.specs.Following.{journal_effects}
+use Rattle.argus_sharing.specs.Locked.{LockedState}
 
 -- what adds nothing where it happens adds nothing where it may
 may_add : (b : Bool) (s : Opening) (event : Event PlainEntry) (j : List PlainEntry) → added_by s (Some event) j ≡ []
@@ -139,3 +142,53 @@ published_same (Ok a) was now ok err =
     ap (λ z. z ++ now.pending) ok.0 ∙ ap (λ z. (was.published ++ was.pending) ++ z) ok.1
     ∙ append-nil (was.published ++ was.pending)
 published_same (Err b) was now ok err = ap (λ (s : BoardView). s.published ++ s.pending) err.0
+
+-- the state that was seen is the one that was there
+pub goes_on_from : (call : PlainCall) (seen was : LockedState) (now : BoardView) → seen ≡ was
+    → GoesOn seen.board now (added_by_call seen.journal call)
+    → GoesOn was.board now (added_by_call was.journal call)
+goes_on_from call seen was now same on =
+    subst (λ (s : LockedState). GoesOn s.board now (added_by_call s.journal call)) same on
+
+-- a board that stays goes on, after a call that is no commit
+pub goes_on_other : (call : PlainCall) (seen was : LockedState) → seen ≡ was → IsNoCommit call
+    → GoesOn was.board seen.board (added_by_call was.journal call)
+goes_on_other call seen was same other =
+    let board = seen.board in
+    goes_on_from call seen was board same (
+      ([], append-nil board.published),
+      sym (ap (λ z. (board.published ++ board.pending) ++ z) (adds_none seen.journal call other)
+          ∙ append-nil (board.published ++ board.pending)),
+    )
+
+-- what was published stays, behind a publish
+published_on : {A B : Type 0} (r : Result A B) (was pending now : BoardView) → pending.published ≡ was.published
+    → OnOk r ((now.published ≡ pending.published ++ pending.pending) × (now.pending ≡ []))
+    → OnErr r ((now ≡ pending) × (pending.pending ≢ []))
+    → IsPrefix was.published now.published
+published_on (Ok a) was pending now same ok err =
+    (pending.pending, ap (λ z. z ++ pending.pending) (sym same) ∙ sym ok.0)
+published_on (Err b) was pending now same ok err =
+    ([], append-nil was.published ∙ sym same ∙ ap (λ (s : BoardView). s.published) (sym err.0))
+
+-- so does the board where an effect was pending, behind a publish
+pub goes_on_published : {A B : Type 0} (r : Result A B) (was pending now : BoardView) (added : List Effect)
+    → pending.published ≡ was.published → pending.pending ≡ was.pending ++ added
+    → OnOk r ((now.published ≡ pending.published ++ pending.pending) × (now.pending ≡ []))
+    → OnErr r ((now ≡ pending) × (pending.pending ≢ []))
+    → GoesOn was now added
+goes_on_published r was pending now added same more ok err = (
+  published_on r was pending now same ok err,
+  published_same r pending now ok err ∙ ap (λ z. z ++ pending.pending) same ∙ ap (λ z. was.published ++ z) more
+      ∙ sym (append_assoc was.published was.pending added),
+)
+
+-- one call more leaves a journal that a shared guardian may have
+pub shared_on : (start : ℕ) (journal next : JournalView) (call : PlainCall) → IsSharedJournal start journal
+    → next ≡ after journal call → IsSharedJournal start next
+shared_on start journal next call shared is = subst (IsSharedJournal start) (sym is) (
+  shared.0,
+  shared.1,
+  (refl, shared.2),
+  omega (arith, shared.3),
+)

@@ -1,17 +1,19 @@
 -- How the effects on a board stand to a journal.
 use Rattle.std.specs.List.{range_with_len}
-use Rattle.std.specs.Prelude.{List, Option, map, ℕ, ◌++◌, ◌≡◌}
+use Rattle.std.specs.Prelude.{List, Option, map, true, ℕ, ◌++◌, ◌≡◌, ◌≤◌}
+use mathlib.Core.List.{IsPrefix}
+use Rattle.argus_board.specs.BoardView.{BoardView}
 use Rattle.argus_contents.specs.Effect.{Effect}
 use Rattle.argus_contents.specs.Content.{PlainContent}
 use Rattle.argus_entries.specs.Call.{PlainCall, abort, abort_others, alter, ask, begin_nested}
 use Rattle.argus_entries.specs.Call.{begin_sub, begin_top, commit, declare, test_read, test_write}
 use Rattle.argus_journal.specs.Legal.{Legal}
 use Rattle.argus_journal.specs.Objects.{declared}
-use Rattle.argus_journal.specs.Opening.{content_in}
+use Rattle.argus_journal.specs.Opening.{KeepsNumbers, content_in, is_sound}
 use Rattle.argus_journal.specs.JournalFacts.{base_of, effects_of}
 use Rattle.argus_model.specs.Effects.{table}
 use Rattle.argus_sharing.specs.Locked.{LockedState}
-use Rattle.argus_journal.specs.JournalView.{JournalView}
+use Rattle.argus_journal.specs.JournalView.{JournalView, next_entry}
 
 -- the effects of the journal's entries
 abbrev pub journal_effects : JournalView → List Effect
@@ -24,10 +26,21 @@ FollowsJournal opening journal effects = (earlier : List Effect)
     × ((o : ℕ) → table opening earlier o ≡ content_in journal.opening.objects o)
     × (effects ≡ earlier ++ journal_effects journal)
 
--- the journal is legal, and the board follows it
-abbrev pub IsFollowed : (ℕ → Option PlainContent) → LockedState → Type 0
-IsFollowed opening state = Legal state.journal.opening state.journal.entries
+-- a journal that a shared guardian may have: its opening is sound and within the limits, each reply
+-- is the one that the entries before it give, and no entry since the sharing began is missing
+abbrev pub IsSharedJournal : ℕ → JournalView → Type 0
+IsSharedJournal start journal = (is_sound journal.opening ≡ true) × KeepsNumbers journal.opening
+    × Legal journal.opening journal.entries × (start ≤ next_entry journal)
+
+-- a shared guardian may have this journal, and the board follows it
+abbrev pub IsFollowed : (ℕ → Option PlainContent) → ℕ → LockedState → Type 0
+IsFollowed opening start state = IsSharedJournal start state.journal
     × FollowsJournal opening state.journal (state.board.published ++ state.board.pending)
+
+-- what was published stays published, and these effects stand behind all that was there
+abbrev pub GoesOn : BoardView → BoardView → List Effect → Type 0
+GoesOn was now added = IsPrefix was.published now.published
+    × (now.published ++ now.pending ≡ (was.published ++ was.pending) ++ added)
 
 -- the call is no commit
 abbrev pub IsNoCommit : PlainCall → Type 0

@@ -6,7 +6,8 @@ ghost use Rattle.argus_entries.specs.Call.{alter, ask, plain_call};
 ghost use Rattle.argus_entries.specs.Reply.{plain_reply};
 ghost use Rattle.argus_journal.specs.JournalView.{after, next_entry, reply_to};
 ghost use Rattle.argus_journal.specs.Legal.{Legal};
-ghost use Rattle.argus_sharing.specs.Following.{FollowsJournal};
+ghost use Rattle.argus_core.specs.ReadyCommit.{added_by_call};
+ghost use Rattle.argus_sharing.specs.Following.{FollowsJournal, GoesOn};
 
 use crate::calling::counted;
 use crate::locked::Locked;
@@ -35,6 +36,8 @@ impl<N: Sharing, R: Wait + Drop> Locked<N, R> {
             ≡ reply_to self.old.journal (ask a.0 o.0 query)) }
         ensures journal { OnOk result (self.new.journal
             ≡ after self.old.journal (ask a.0 o.0 query)) }
+        ensures goes_on { OnOk result (GoesOn self.old.board self.new.board
+            (added_by_call self.old.journal (ask a.0 o.0 query))) }
         ensures made { OnOk result (seat.new.made ≡ seat.old.made + 1) }
         ensures err { OnErr result ((self.new ≡ self.old) × (seat.new.made ≡ seat.old.made)) }
         ensures legal { Legal self.old.journal.opening self.old.journal.entries }
@@ -72,6 +75,8 @@ impl<N: Sharing, R: Wait + Drop> Locked<N, R> {
             ≡ reply_to self.old.journal (alter a.0 o.0 (plain_change change))) }
         ensures journal { OnOk result (self.new.journal
             ≡ after self.old.journal (alter a.0 o.0 (plain_change change))) }
+        ensures goes_on { OnOk result (GoesOn self.old.board self.new.board
+            (added_by_call self.old.journal (alter a.0 o.0 (plain_change change)))) }
         ensures made { OnOk result (seat.new.made ≡ seat.old.made + 1) }
         ensures err { OnErr result ((self.new ≡ self.old) × (seat.new.made ≡ seat.old.made)) }
         ensures legal { Legal self.old.journal.opening self.old.journal.entries }

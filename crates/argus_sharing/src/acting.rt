@@ -5,7 +5,8 @@ ghost use Rattle.argus_entries.specs.Call.{abort, begin_sub, begin_top, plain_ca
 ghost use Rattle.argus_entries.specs.Reply.{plain_reply};
 ghost use Rattle.argus_journal.specs.JournalView.{after, next_entry, reply_to};
 ghost use Rattle.argus_journal.specs.Legal.{Legal};
-ghost use Rattle.argus_sharing.specs.Following.{FollowsJournal};
+ghost use Rattle.argus_core.specs.ReadyCommit.{added_by_call};
+ghost use Rattle.argus_sharing.specs.Following.{FollowsJournal, GoesOn};
 
 use crate::calling::counted;
 use crate::locked::Locked;
@@ -26,6 +27,8 @@ impl<N: Sharing, R: Wait + Drop> Locked<N, R> {
         ensures reply { IfOk result (λ receipt. plain_reply receipt.reply
             ≡ reply_to self.old.journal begin_top) }
         ensures journal { OnOk result (self.new.journal ≡ after self.old.journal begin_top) }
+        ensures goes_on { OnOk result (GoesOn self.old.board self.new.board
+            (added_by_call self.old.journal begin_top)) }
         ensures made { OnOk result (seat.new.made ≡ seat.old.made + 1) }
         ensures err { OnErr result ((self.new ≡ self.old) × (seat.new.made ≡ seat.old.made)) }
         ensures legal { Legal self.old.journal.opening self.old.journal.entries }
@@ -59,6 +62,8 @@ impl<N: Sharing, R: Wait + Drop> Locked<N, R> {
         ensures reply { IfOk result (λ receipt. plain_reply receipt.reply
             ≡ reply_to self.old.journal (begin_sub parent.0)) }
         ensures journal { OnOk result (self.new.journal ≡ after self.old.journal (begin_sub parent.0)) }
+        ensures goes_on { OnOk result (GoesOn self.old.board self.new.board
+            (added_by_call self.old.journal (begin_sub parent.0))) }
         ensures made { OnOk result (seat.new.made ≡ seat.old.made + 1) }
         ensures err { OnErr result ((self.new ≡ self.old) × (seat.new.made ≡ seat.old.made)) }
         ensures legal { Legal self.old.journal.opening self.old.journal.entries }
@@ -88,6 +93,8 @@ impl<N: Sharing, R: Wait + Drop> Locked<N, R> {
         ensures reply { IfOk result (λ receipt. plain_reply receipt.reply
             ≡ reply_to self.old.journal (abort a.0)) }
         ensures journal { OnOk result (self.new.journal ≡ after self.old.journal (abort a.0)) }
+        ensures goes_on { OnOk result (GoesOn self.old.board self.new.board
+            (added_by_call self.old.journal (abort a.0))) }
         ensures made { OnOk result (seat.new.made ≡ seat.old.made + 1) }
         ensures err { OnErr result ((self.new ≡ self.old) × (seat.new.made ≡ seat.old.made)) }
         ensures legal { Legal self.old.journal.opening self.old.journal.entries }

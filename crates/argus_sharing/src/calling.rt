@@ -4,7 +4,8 @@ ghost use Rattle.std.specs.Prelude.{IfOk, OnErr, OnOk, ◌++◌, ◌+◌, ◌≡
 ghost use Rattle.argus_entries.specs.Call.{commit, plain_call};
 ghost use Rattle.argus_entries.specs.Reply.{plain_reply};
 ghost use Rattle.argus_journal.specs.Legal.{Legal};
-ghost use Rattle.argus_sharing.specs.Following.{FollowsJournal, IsNoCommit};
+ghost use Rattle.argus_core.specs.ReadyCommit.{added_by_call};
+ghost use Rattle.argus_sharing.specs.Following.{FollowsJournal, GoesOn, IsNoCommit, IsSharedJournal};
 ghost use Rattle.argus_journal.specs.JournalView.{after, next_entry, reply_to};
 
 use crate::locked::Locked;
@@ -32,12 +33,16 @@ impl<N: Sharing, R: Wait + Drop> Locked<N, R> {
             ≡ reply_to self.old.journal (plain_call call)) }
         ensures journal { OnOk result (self.new.journal
             ≡ after self.old.journal (plain_call call)) }
+        ensures goes_on { OnOk result (GoesOn self.old.board self.new.board
+            (added_by_call self.old.journal (plain_call call))) }
         ensures made { OnOk result (seat.new.made ≡ seat.old.made + 1) }
         ensures err { OnErr result ((self.new ≡ self.old) × (seat.new.made ≡ seat.old.made)) }
-        ensures legal { Legal self.old.journal.opening self.old.journal.entries }
+        ensures shared { IsSharedJournal N.start self.old.journal }
         ensures board { FollowsJournal N.opening_contents self.new.journal
             (self.new.board.published ++ self.new.board.pending) }
     {
+        // For the contract alone.
+        self.journal();
         match call {
             Call::BeginTop => self.begin_top(seat),
             Call::BeginSub(parent) => self.begin_sub(seat, parent),
@@ -63,6 +68,8 @@ impl<N: Sharing, R: Wait + Drop> Locked<N, R> {
             ≡ reply_to self.old.journal (plain_call call)) }
         ensures journal { OnOk result (self.new.journal
             ≡ after self.old.journal (plain_call call)) }
+        ensures goes_on { OnOk result (GoesOn self.old.board self.new.board
+            (added_by_call self.old.journal (plain_call call))) }
         ensures made { OnOk result (seat.new.made ≡ seat.old.made + 1) }
         ensures err { OnErr result ((self.new ≡ self.old) × (seat.new.made ≡ seat.old.made)) }
         ensures legal { Legal self.old.journal.opening self.old.journal.entries }
@@ -94,6 +101,8 @@ impl<N: Sharing, R: Wait + Drop> Locked<N, R> {
         ensures reply { IfOk result (λ receipt. plain_reply receipt.reply
             ≡ reply_to self.old.journal (commit a.0)) }
         ensures journal { OnOk result (self.new.journal ≡ after self.old.journal (commit a.0)) }
+        ensures goes_on { OnOk result (GoesOn self.old.board self.new.board
+            (added_by_call self.old.journal (commit a.0))) }
         ensures made { OnOk result (seat.new.made ≡ seat.old.made + 1) }
         ensures err { OnErr result ((self.new ≡ self.old) × (seat.new.made ≡ seat.old.made)) }
         ensures legal { Legal self.old.journal.opening self.old.journal.entries }

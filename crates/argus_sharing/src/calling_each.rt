@@ -5,11 +5,10 @@ ghost use Rattle.std.specs.Prelude.{◌∷◌, ◌≡◌, ◌≢◌, ◌⊎◌};
 ghost use mathlib.Core.List.{IsPrefix};
 ghost use Rattle.argus_entries.specs.Call.{plain_call};
 ghost use Rattle.argus_journal.specs.JournalView.{after};
-ghost use Rattle.argus_journal.specs.Legal.{Legal};
 ghost use Rattle.argus_receipts.specs.Receipt.{plain_receipt};
 ghost use Rattle.argus_sharing.specs.CallEach.{after_calls, end_of, is_met, receipt_of};
 ghost use Rattle.argus_sharing.specs.CallEach.{receipts_of};
-ghost use Rattle.argus_sharing.specs.Following.{FollowsJournal};
+ghost use Rattle.argus_sharing.specs.Following.{FollowsJournal, IsSharedJournal};
 ghost use Rattle.argus_sharing.specs.declared.calls_end.CallsEnd.TheVariants as calls_end;
 
 use crate::calls_end::CallsEnd;
@@ -53,13 +52,13 @@ impl<N: Sharing, R: Wait + Drop> Locked<N, R> {
         ensures journal { self.new.journal
             ≡ after_calls self.old.journal calls.old.items (length result.receipts.items) }
         ensures made { seat.new.made ≡ seat.old.made + length result.receipts.items }
-        ensures former { Legal self.old.journal.opening self.old.journal.entries }
-        ensures legal { Legal self.new.journal.opening self.new.journal.entries }
+        ensures former { IsSharedJournal N.start self.old.journal }
+        ensures shared { IsSharedJournal N.start self.new.journal }
         ensures board { FollowsJournal N.opening_contents self.new.journal
             (self.new.board.published ++ self.new.board.pending) }
     {
         let heap = self.heap;
-        // For the contract alone: the journal is legal, and the board follows it.
+        // For the contract alone.
         self.journal();
         let Ok(mut receipts) = Vec::with_capacity(heap.room(), calls.len()) else {
             return CallsMade {
@@ -101,7 +100,7 @@ impl<N: Sharing, R: Wait + Drop> Locked<N, R> {
         ensures made { OnOk result (seat.new.made ≡ seat.old.made + 1) }
         ensures err { OnErr result ((self.new ≡ self.old) × (seat.new.made ≡ seat.old.made)
             × (receipts.new.items ≡ receipts.old.items)) }
-        ensures legal { Legal self.old.journal.opening self.old.journal.entries }
+        ensures shared { IsSharedJournal N.start self.old.journal }
         ensures board { FollowsJournal N.opening_contents self.new.journal
             (self.new.board.published ++ self.new.board.pending) }
     {

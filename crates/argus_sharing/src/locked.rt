@@ -2,8 +2,7 @@
 
 ghost use Rattle.std.specs.Prelude.{◌++◌, ◌≡◌};
 ghost use Rattle.argus_journal.specs.LegalJournal.{entries_in, opening_in};
-ghost use Rattle.argus_journal.specs.Legal.{Legal};
-ghost use Rattle.argus_sharing.specs.Following.{FollowsJournal};
+ghost use Rattle.argus_sharing.specs.Following.{FollowsJournal, IsSharedJournal};
 ghost use Rattle.argus_journal.specs.JournalView.{next_entry};
 
 use crate::publishing_guardian::PublishingGuardian;
@@ -91,13 +90,14 @@ impl<N: Sharing, R: Wait + Drop> Locked<N, R> {
         guardian
     }
 
-    /// The guardian's journal. It is legal, and the board's effects follow it: what is published
-    /// and then what is pending is some list that leaves the contents of the journal's opening, and
-    /// then the effects of its entries.
+    /// The guardian's journal. Its opening is sound and within the limits, each reply is the one that
+    /// the entries before it give, it is no shorter than when the sharing began, and the board's
+    /// effects follow it: what is published and then what is pending is some list that leaves the
+    /// contents of the journal's opening, and then the effects of its entries.
     pub fn journal(&self) -> &LegalJournal
         ensures opening { opening_in result.now ≡ self.now.journal.opening }
         ensures entries { entries_in result.now ≡ self.now.journal.entries }
-        ensures legal { Legal self.now.journal.opening self.now.journal.entries }
+        ensures shared { IsSharedJournal N.start self.now.journal }
         ensures board { FollowsJournal N.opening_contents self.now.journal
             (self.now.board.published ++ self.now.board.pending) }
     {

@@ -7,11 +7,10 @@ ghost use Rattle.std.specs.Result.{result_err};
 ghost use Rattle.argus_core.specs.Checkpoint.{after_checkpoint, is_quiet};
 ghost use Rattle.argus_core.specs.declared.checkpoint_error.CheckpointError.TheVariants.{Busy};
 ghost use Rattle.argus_core.specs.declared.checkpoint_error.CheckpointError.TheVariants.{Full};
-ghost use Rattle.argus_journal.specs.Legal.{Legal};
 ghost use Rattle.argus_journal.specs.Objects.{shapes};
 ghost use Rattle.argus_journal.specs.JournalFacts.{base_of};
 ghost use Rattle.argus_journal.specs.declared.limits.TheConstants.{MAX_FIRST_ENTRY};
-ghost use Rattle.argus_sharing.specs.Following.{FollowsJournal};
+ghost use Rattle.argus_sharing.specs.Following.{FollowsJournal, IsSharedJournal};
 ghost use Rattle.argus_journal.specs.JournalView.{next_entry};
 
 use crate::locked::Locked;
@@ -31,16 +30,17 @@ impl<N: Sharing, R: Wait + Drop> Locked<N, R> {
         ensures journal { self.new.journal ≡ self.old.journal }
         ensures board { FollowsJournal N.opening_contents self.new.journal
             (self.new.board.published ++ self.new.board.pending) }
-        ensures legal { Legal self.new.journal.opening self.new.journal.entries }
+        ensures shared { IsSharedJournal N.start self.new.journal }
         ensures former { IsPrefix looker.old
             (self.new.board.published ++ self.new.board.pending) }
         ensures all { result ≡ true → (looker.new ≡ self.new.board.published)
+            × (self.new.board.published ≡ self.old.board.published ++ self.old.board.pending)
             × (self.new.board.pending ≡ []) }
         ensures rest { result ≡ false → (self.new ≡ self.old) × (looker.new ≡ looker.old)
             × (self.old.board.pending ≢ []) }
     {
+        self.journal();
         let Locked { publishing, .. } = self;
-        publishing.guardian.journal_is_legal();
         publishing.board.brief(looker).is_ok()
     }
 
@@ -51,12 +51,13 @@ impl<N: Sharing, R: Wait + Drop> Locked<N, R> {
         ensures journal { self.new.journal ≡ self.old.journal }
         ensures board { FollowsJournal N.opening_contents self.new.journal
             (self.new.board.published ++ self.new.board.pending) }
-        ensures legal { Legal self.new.journal.opening self.new.journal.entries }
-        ensures all { result ≡ true → self.new.board.pending ≡ [] }
+        ensures shared { IsSharedJournal N.start self.new.journal }
+        ensures all { result ≡ true → (self.new.board.pending ≡ [])
+            × (self.new.board.published ≡ self.old.board.published ++ self.old.board.pending) }
         ensures rest { result ≡ false → (self.new ≡ self.old) × (self.old.board.pending ≢ []) }
     {
+        self.journal();
         let Locked { publishing, .. } = self;
-        publishing.guardian.journal_is_legal();
         publishing.board.publish().is_ok()
     }
 
@@ -77,10 +78,11 @@ impl<N: Sharing, R: Wait + Drop> Locked<N, R> {
         ensures stays { self.new.board ≡ self.old.board }
         ensures board { FollowsJournal N.opening_contents self.new.journal
             (self.new.board.published ++ self.new.board.pending) }
-        ensures legal { Legal self.old.journal.opening self.old.journal.entries }
+        ensures shared { IsSharedJournal N.start self.old.journal }
         ensures former { FollowsJournal N.opening_contents self.old.journal
             (self.old.board.published ++ self.old.board.pending) }
     {
+        self.journal();
         let Locked { publishing, .. } = self;
         publishing.guardian.journal_is_legal();
         publishing.guardian.checkpoint()

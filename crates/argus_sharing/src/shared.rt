@@ -9,14 +9,13 @@ ghost use mathlib.Core.List.{IsPrefix};
 ghost use Rattle.argus_board.specs.Keeper.{StartsHistory};
 ghost use Rattle.argus_entries.specs.Call.{plain_call};
 ghost use Rattle.argus_entries.specs.Reply.{plain_reply};
-ghost use Rattle.argus_journal.specs.Legal.{Legal};
 ghost use Rattle.argus_journal.specs.Opening.{content_in};
 ghost use Rattle.argus_receipts.specs.Checking.{AreApart, Stands, entries_since};
 ghost use Rattle.argus_receipts.specs.Receipt.{plain_receipt};
 ghost use Rattle.argus_sharing.specs.CallEach.{end_of, receipts_of};
 ghost use Rattle.argus_sharing.specs.Checkpoint.{IsCheckpointAnswer};
-ghost use Rattle.argus_sharing.specs.Following.{FollowsJournal, IsFollowed, journal_bases};
-ghost use Rattle.argus_sharing.specs.Following.{journal_effects};
+ghost use Rattle.argus_sharing.specs.Following.{FollowsJournal, IsFollowed, IsSharedJournal};
+ghost use Rattle.argus_sharing.specs.Following.{journal_bases, journal_effects};
 ghost use Rattle.argus_sharing.specs.Locked.{LockedState};
 ghost use Rattle.argus_journal.specs.JournalView.{JournalView, next_entry, reply_to};
 ghost use Rattle.argus_sharing.specs.Waking.{ends, has_ended};
@@ -98,10 +97,10 @@ impl<N: Sharing, R: Wait + Drop> Shared<N, R> {
         let Ok(seats) = seats_over(heap, share, seats) else {
             return Err(NotShared { guardian });
         };
-        let Ok(board) = board_of::<N, R>(rt, heap, &guardian, keeper, lookers) else {
+        let Ok(mut board) = board_of::<N, R>(rt, heap, &guardian, keeper, lookers) else {
             return Err(NotShared { guardian });
         };
-        let Ok(lookers) = lookers_at(heap, &board, lookers) else {
+        let Ok(lookers) = lookers_at(heap, &mut board, lookers) else {
             return Err(NotShared { guardian });
         };
         Ok(Parts {
@@ -127,7 +126,7 @@ impl<N: Sharing, R: Wait + Drop> Shared<N, R> {
     ) -> Result<Receipt, OutOfMemory>
         ensures call { IfOk result (λ receipt. plain_call receipt.call ≡ plain_call call) }
         ensures reply { IfOk result (λ receipt. (journal : JournalView)
-            × Legal journal.opening journal.entries
+            × IsSharedJournal N.start journal
             × (receipt.at ≡ next_entry journal)
             × (plain_reply receipt.reply ≡ reply_to journal (plain_call call))) }
         ensures made { OnOk result (seat.new.made ≡ seat.old.made + 1) }
@@ -152,7 +151,7 @@ impl<N: Sharing, R: Wait + Drop> Shared<N, R> {
     ) -> Result<Receipt, OutOfMemory>
         ensures call { IfOk result (λ receipt. plain_call receipt.call ≡ plain_call call) }
         ensures reply { IfOk result (λ receipt. (journal : JournalView)
-            × Legal journal.opening journal.entries
+            × IsSharedJournal N.start journal
             × (receipt.at ≡ next_entry journal)
             × (plain_reply receipt.reply ≡ reply_to journal (plain_call call))) }
         ensures made { OnOk result (seat.new.made ≡ seat.old.made + 1) }
@@ -195,7 +194,7 @@ impl<N: Sharing, R: Wait + Drop> Shared<N, R> {
         seat: &mut Seat<N>,
         calls: &mut VecDeque<DemandedCall, Room>,
     ) -> CallsMade
-        ensures receipts { (journal : JournalView) × Legal journal.opening journal.entries
+        ensures receipts { (journal : JournalView) × IsSharedJournal N.start journal
             × IsPrefix (map plain_receipt result.receipts.items)
             (receipts_of journal calls.old.items)
             × (result.end ≢ calls_end.OutOfMemory → (map plain_receipt result.receipts.items
@@ -224,7 +223,7 @@ impl<N: Sharing, R: Wait + Drop> Shared<N, R> {
     pub fn brief(&self, rt: &impl Wait, looker: &mut Looker<N>) -> bool
         ensures later { IsPrefix looker.old looker.new }
         ensures all { result ≡ true → (journal : JournalView)
-            × Legal journal.opening journal.entries
+            × IsSharedJournal N.start journal
             × FollowsJournal N.opening_contents journal looker.new }
         ensures rest { result ≡ false → looker.new ≡ looker.old }
     {
@@ -235,9 +234,9 @@ impl<N: Sharing, R: Wait + Drop> Shared<N, R> {
     ///
     /// It may wait for other threads.
     pub fn refresh(&self, rt: &impl Wait) -> bool
-        ensures all { result ≡ true → (state : LockedState) × IsFollowed N.opening_contents state
+        ensures all { result ≡ true → (state : LockedState) × IsFollowed N.opening_contents N.start state
             × (state.board.pending ≡ []) }
-        ensures rest { result ≡ false → (state : LockedState) × IsFollowed N.opening_contents state
+        ensures rest { result ≡ false → (state : LockedState) × IsFollowed N.opening_contents N.start state
             × (state.board.pending ≢ []) }
     {
         self.locked.lock(rt).refresh()
@@ -249,7 +248,7 @@ impl<N: Sharing, R: Wait + Drop> Shared<N, R> {
     ///
     /// It may wait for other threads.
     pub fn checkpoint(&self, rt: &impl Wait) -> Result<(), CheckpointError>
-        ensures error { (state : LockedState) × IsFollowed N.opening_contents state
+        ensures error { (state : LockedState) × IsFollowed N.opening_contents N.start state
             × IsCheckpointAnswer state.journal (result_err result) }
     {
         self.locked.lock(rt).checkpoint()

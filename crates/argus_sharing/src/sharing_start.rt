@@ -35,14 +35,15 @@ pub(crate) fn seats_over<N: Sharing>(
     Ok(seats)
 }
 
-/// So many places at the board.
+/// So many places at the board, of which each looker has seen what stood there at first.
 pub(crate) fn lookers_at<N: Sharing, R: Wait + Drop>(
     heap: Heap,
-    board: &BoardWriter<N, R>,
+    board: &mut BoardWriter<N, R>,
     count: u32,
 ) -> Result<Vec<Looker<N>, Room>, OutOfMemory>
-    ensures { IfOk result (λ lookers. All (λ looker. looker ≡ N.before) lookers.items
+    ensures lookers { IfOk result (λ lookers. All (λ looker. looker ≡ N.before) lookers.items
         × (length lookers.items ≡ count)) }
+    ensures board { board.new ≡ board.old }
 {
     let mut lookers = Vec::new(heap.room());
     for _i in 0..count {

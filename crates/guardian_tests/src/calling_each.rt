@@ -5,7 +5,9 @@ use crate::making::{declare, make};
 use crate::sharing::{budgets, share};
 use crate::task::Task;
 use anyhow::{Result, bail, ensure};
-use argus_guardian::{CallsEnd, Demand, DemandedCall, Guardian, Parts, Receipt, Sharing};
+use argus_guardian::{
+    CallsEnd, CallsMade, Demand, DemandedCall, Guardian, Parts, Receipt, Seat, Shared, Sharing,
+};
 use argus_values::{Heap, Room};
 use std::collections::VecDeque;
 use std::io::Print;
@@ -167,6 +169,20 @@ pub(crate) fn call_listed<N: Sharing, R: Wait + Drop>(
         mut seats,
         ..
     } = parts;
+    let receipts = make_calls(&rt, &shared, seats.as_mut_slice(), run)?;
+    match shared.settle(seats, receipts.as_slice()) {
+        Ok(guardian) => Ok(guardian),
+        Err(unsettled) => bail!("a list isn't settled: {}", unsettled.fault),
+    }
+}
+
+// Makes the calls by the first seat, and notes what came of them. The receipts are as listed.
+fn make_calls<N: Sharing, R: Wait + Drop>(
+    rt: &R,
+    shared: &Shared<N, R>,
+    seats: &mut [Seat<N>],
+    run: &mut ListRun<'_>,
+) -> Result<Vec<Receipt, Room>> {
     let Some(seat) = seats.first_mut() else {
         bail!("no seat");
     };
@@ -174,22 +190,19 @@ pub(crate) fn call_listed<N: Sharing, R: Wait + Drop>(
         bail!("a list isn't spelled");
     };
     run.setting.limit();
-    let made = shared.call_each(&rt, seat, &mut calls);
+    let CallsMade { receipts, end } = shared.call_each(rt, seat, &mut calls);
     run.setting.lift();
     run.made = Made {
-        count: made.receipts.len(),
-        end: made.end,
+        count: receipts.len(),
+        end,
     };
+    let are_right = is_left(run, calls.len())
+        && are_as_listed(run.setting.heap, receipts.as_slice(), run.list);
     ensure!(
-        is_left(run, calls.len()),
-        "a call is lost, or made and left"
+        are_right,
+        "a call is lost, or made and left, or has another reply"
     );
-    let are_right = are_as_listed(run.setting.heap, made.receipts.as_slice(), run.list);
-    match shared.settle(seats, made.receipts.as_slice()) {
-        Ok(guardian) if are_right => Ok(guardian),
-        Ok(_) => bail!("a listed call has another reply"),
-        Err(unsettled) => bail!("a list isn't settled: {}", unsettled.fault),
-    }
+    Ok(receipts)
 }
 
 fn calls_of(heap: Heap, list: &[Listed<'_>]) -> Result<VecDeque<DemandedCall, Room>, RowFault> {

@@ -32,9 +32,10 @@ fn publish_and_look<N: Board + Send + Sync, R: Threads + Wait + Abort + Copy + D
     requires first { N.first ≡ [] }
     requires leads { IsTableOf N.opening_contents N.before N.first }
 {
-    let board = BoardWriter::<N, R>::new(rt, heap, Vec::new(heap.room()), keeper, 1)?;
+    let mut board = BoardWriter::<N, R>::new(rt, heap, Vec::new(heap.room()), keeper, 1)?;
     assert!(rt; board.has_places());
     let looker = board.looker()?;
+    assert!(rt; board.looker().is_err());
     let (published, looked) = join(
         &rt,
         move || publish_often(heap, board),

@@ -1,6 +1,7 @@
 //! Copies, which have to be equal to what they are copies of.
 
-use argus_contents::{Shape, ShapeView};
+use crate::contents::array_limits::kept_of;
+use argus_contents::{Content, Shape, ShapeView};
 use argus_memory::Room;
 use argus_texts::{read_content, read_shape, read_value, write_content, write_shape, write_value};
 use test_rows::{RowFault, Setting, change_of, first_word};
@@ -11,6 +12,7 @@ pub(crate) fn answer_copy(setting: Setting, text: &str) -> Result<String<Room>, 
     match kind {
         "value" => copied_value(setting, source),
         "content" => copied_content(setting, source),
+        "appended" => appended_copy(setting, source),
         "change" => copied_change(setting, source),
         "type" => copied_type(setting, source),
         "shape" => copied_shape(setting, source),
@@ -34,6 +36,24 @@ fn copied_content(setting: Setting, text: &str) -> Result<String<Room>, RowFault
     let mut out = String::new(setting.texts.room());
     write_content(&copy, &mut out)?;
     sameness(copy == content, out)
+}
+
+// The second of two copies in one list: want of memory has to leave the first alone.
+fn appended_copy(setting: Setting, text: &str) -> Result<String<Room>, RowFault> {
+    let content = kept_of(setting.texts, text)?;
+    let mut copies = Vec::new(setting.texts.room());
+    Content::append_copy(setting.texts, &content, &mut copies)?;
+    setting.limit();
+    let appended = Content::append_copy(setting.heap, &content, &mut copies);
+    let wanted = if appended.is_ok() { 2 } else { 1 };
+    if copies.len() != wanted || copies[0] != content {
+        return Err(RowFault::Changed);
+    }
+    appended?;
+    sameness(
+        copies[1] == content,
+        String::from_str(setting.texts.room(), "same")?,
+    )
 }
 
 fn copied_change(setting: Setting, text: &str) -> Result<String<Room>, RowFault> {

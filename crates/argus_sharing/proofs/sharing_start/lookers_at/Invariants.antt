@@ -4,4 +4,5 @@ use Rattle.std.specs.Prelude.{All}
 use Rattle.argus_sharing.proofs.sharing_start.lookers_at.Given as goal
 
 abbrev pub invariant-loop-i : goal.invariant-loop-i
-invariant-loop-i g l = All (λ k. k ≡ g.N.Board.before) l.lookers.items × (length l.lookers.items ≡ l._i)
+invariant-loop-i g l =
+    All (λ k. k ≡ g.N.Board.before) l.lookers.items × (length l.lookers.items ≡ l._i) × (l.board ≡ l.initial.board)

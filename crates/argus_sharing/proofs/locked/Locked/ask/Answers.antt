@@ -1,7 +1,7 @@
 -- A call that is no commit adds no effect, so the board follows the longer journal, and its seat counted it.
 use Rattle.std.proofs.Common.{ap, arith, ◌++◌, ◌+◌, ◌∙◌, ◌≡◌}
 use Rattle.argus_entries.specs.Call.{ask}
-use Rattle.argus_sharing.proofs.Follow.{follows_other}
+use Rattle.argus_sharing.proofs.Follow.{follows_other, goes_on_other}
 use Rattle.argus_sharing.proofs.locked.Locked.ask.Goals as goal
 use Rattle.argus_journal.specs.JournalView.{next_entry}
 
@@ -19,3 +19,8 @@ invariant_of-self-2 g c =
     let made : next_entry c.ask.new.self ≡ next_entry c.self.inside.publishing.guardian + 1 =
     ap next_entry c.in_ok-reply.ensures.ok ∙ omega arith in
     (inv.0, omega (arith, made, inv.1, c.counted-at.ensures.total), returns-clause-board g c)
+
+pub returns-clause-goes_on : goal.returns-clause-goes_on
+returns-clause-goes_on g c =
+    let was = c.self.inside.publishing in
+    goes_on_other (ask c.args.a.0 c.args.o.0 c.args.query) (record { journal = was.guardian; board = was.board }) c.args.self.now c.self.view_is tt

@@ -1,12 +1,12 @@
 -- One call more goes on behind those that were made.
-use Rattle.std.proofs.Common.{ap, arith, length, map, refl, subst, suc, sym, true, ◌++◌, ◌+◌, ◌∙◌}
+use Rattle.std.proofs.Common.{ap, arith, length, map, suc, sym, true, ◌++◌, ◌+◌, ◌∙◌}
 use Rattle.std.proofs.Common.{◌∷◌, ◌≡◌}
-use Rattle.argus_journal.specs.JournalView.{JournalView}
-use Rattle.argus_journal.specs.Legal.{Legal}
+use Rattle.argus_entries.specs.Call.{plain_call}
 use Rattle.argus_receipts.specs.Receipt.{plain_receipt}
 use Rattle.argus_sharing.specs.CallEach.{after_calls, end_of, is_met, receipts_of}
 use Rattle.argus_sharing.specs.Locked.{LockedState}
 use Rattle.argus_sharing.proofs.CallEach.{end_more, receipts_more, rest_more}
+use Rattle.argus_sharing.proofs.Follow.{shared_on}
 use Rattle.argus_sharing.proofs.locked.Locked.call_each.Goals as goal
 use Rattle.argus_sharing.proofs.locked.Locked.call_each.Goals.{in-Err, in-Ok-false}
 
@@ -37,7 +37,7 @@ loop-each-preserved g c =
           ∙ ap (λ l. after_calls journal l (suc n)) calls ∙ ap (λ j. after_calls j rest n) (sym made.journal)),
       omega (arith, made.made, inv.4, count),
       omega (arith, inv.5, count, made.room, ap length calls),
-      subst (λ (j : JournalView). Legal j.opening j.entries) (sym made.journal) (refl, made.legal),
+      shared_on g.N.Sharing.start journal c.call_next.new.self.journal (plain_call each.call) made.shared made.journal,
       made.board,
     )
 

@@ -1,9 +1,8 @@
 -- The calls so far have the receipts so far, and those that are left go on from there.
 use Rattle.std.proofs.Common.{drop, length, map, ◌++◌, ◌+◌, ◌≡◌, ℕ, ◌≤◌}
-use Rattle.argus_journal.specs.Legal.{Legal}
 use Rattle.argus_receipts.specs.Receipt.{plain_receipt}
 use Rattle.argus_sharing.specs.CallEach.{after_calls, end_of, receipts_of}
-use Rattle.argus_sharing.specs.Following.{FollowsJournal}
+use Rattle.argus_sharing.specs.Following.{FollowsJournal, IsSharedJournal}
 use Rattle.argus_sharing.proofs.locked.Locked.call_each.Given as goal
 
 abbrev pub invariant-loop-each : goal.invariant-loop-each
@@ -16,7 +15,7 @@ invariant-loop-each g l =
     ≡ after_calls l.self.journal l.calls.items n)
     × (l.seat.made ≡ l.initial.seat.made + length l.receipts.items)
     × (length l.receipts.items + length l.calls.items ≤ l.receipts.cap)
-    × Legal l.self.journal.opening l.self.journal.entries
+    × IsSharedJournal g.N.Sharing.start l.self.journal
     × FollowsJournal g.N.Board.opening_contents l.self.journal (l.self.board.published ++ l.self.board.pending)
 
 abbrev pub decreases-loop-each : goal.decreases-loop-each

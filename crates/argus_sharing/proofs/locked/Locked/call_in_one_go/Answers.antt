@@ -1,7 +1,7 @@
 -- A call that is no commit adds no effect, so the board follows the longer journal, and its seat counted it.
 use Rattle.std.proofs.Common.{ap, arith, rules, ◌++◌, ◌+◌, ◌∙◌, ◌≡◌}
 use Rattle.argus_entries.specs.Call.{plain_call}
-use Rattle.argus_sharing.proofs.Follow.{follows_other}
+use Rattle.argus_sharing.proofs.Follow.{follows_other, goes_on_other}
 use Rattle.argus_sharing.proofs.locked.Locked.call_in_one_go.Goals as goal
 use Rattle.argus_journal.specs.JournalView.{next_entry}
 
@@ -22,3 +22,8 @@ invariant_of-self-2 g c =
 
 pub counted-at-requires : goal.counted-at-requires
 counted-at-requires g c = search rules
+
+pub returns-clause-goes_on : goal.returns-clause-goes_on
+returns-clause-goes_on g c =
+    let was = c.self.inside.publishing in
+    goes_on_other (plain_call c.args.call) (record { journal = was.guardian; board = was.board }) c.args.self.now c.self.view_is c.requires

@@ -1,7 +1,8 @@
 -- The effect that a commit adds is on the board, published or pending, and its seat counted the call.
 use Rattle.std.proofs.Common.{ap, arith, rules, ◌+◌, ◌∙◌, ◌≡◌}
+use Rattle.argus_core.specs.ReadyCommit.{added_by_call}
 use Rattle.argus_entries.specs.Call.{commit}
-use Rattle.argus_sharing.proofs.Follow.{follows_commit, published_same}
+use Rattle.argus_sharing.proofs.Follow.{follows_commit, goes_on_from, goes_on_published, published_same}
 use Rattle.argus_sharing.proofs.locked.Locked.commit.Goals as goal
 use Rattle.argus_journal.specs.JournalView.{next_entry}
 
@@ -26,3 +27,12 @@ invariant_of-self-2 g c =
 
 pub returns-clause-call : goal.returns-clause-call
 returns-clause-call g c = search rules
+
+pub returns-clause-goes_on : goal.returns-clause-goes_on
+returns-clause-goes_on g c =
+    let was = c.self.inside.publishing in
+    let now = c.publish-published.new.self in
+    goes_on_from (commit c.args.a.0) (record { journal = was.guardian; board = was.board }) c.args.self.now now c.self.view_is
+    (goes_on_published c.publish-published.result was.board c.commit.new.self.board now
+    (added_by_call was.guardian (commit c.args.a.0)) c.commit.ensures.published c.in_ok-reply.ensures.ok.1
+    c.publish-published.ensures.ok c.publish-published.ensures.err)
