@@ -25,9 +25,9 @@ use argus_runs::run_script;
 ///
 /// `None` comes where the receipts don't show a run: a call isn't the one that comes next after the
 /// replies before it, one is lacking or too many, or of two that aren't parallel the earlier hasn't
-/// the lower number. `OutOfMemory` may come in place of any answer. No receipt's call is copied,
-/// and
-/// of the replies, and of the script's shapes and changes, one at a time.
+/// the lower number. `OutOfMemory` may come in place of any answer. No receipt's call is copied, nor
+/// its reply where the call is an access; the other replies are, and the script's shapes and
+/// changes, one at a time.
 ///
 /// ```text
 /// let outcomes = check_run(heap, &script, receipts.as_slice())?;
@@ -44,7 +44,7 @@ pub fn check_run(
         receipt_caller: ReceiptCaller {
             heap,
             left: receipts,
-            calls: Vec::new(heap.room()),
+            calls: Vec::with_capacity(heap.room(), receipts.len())?,
             arm: None,
             ended: Ended::Refused,
             coenters: 0,

@@ -6,7 +6,7 @@ use argus_contents::ObjId;
 use argus_entries::{Call, Reply};
 use argus_language::Step;
 use argus_memory::Heap;
-use argus_runs::{Caller, Stopped};
+use argus_runs::{Caller, Flow, Stopped};
 
 // Answers the calls outside the arms of outermost coenters, and has the teller run these arms, so
 // that it notes what becomes of each.
@@ -51,6 +51,10 @@ impl Caller for OutermostCaller<'_> {
 
     fn call(&mut self, call: Call) -> Result<Reply, Stopped> {
         self.receipt_caller.call(call)
+    }
+
+    fn access(&mut self, call: Call) -> Result<Flow, Stopped> {
+        self.receipt_caller.access(call)
     }
 
     fn arms(

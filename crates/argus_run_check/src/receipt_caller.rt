@@ -23,6 +23,7 @@ use argus_entries::{Call, Refusal, Reply};
 use argus_language::Step;
 use argus_memory::{Heap, Room};
 use argus_receipts::Receipt;
+use argus_runs::pieces::flow_of;
 use argus_runs::{Caller, Flow, Stopped, run_steps};
 use std::slice;
 
@@ -79,22 +80,13 @@ impl Caller for ReceiptCaller<'_> {
     ghost preserved_trans = { Prim.search rules };
 
     fn call(&mut self, call: Call) -> Result<Reply, Stopped> {
-        match self.left.split_first() {
-            Some((receipt, rest)) if is_of(receipt, &call) => {
-                let reply = receipt.reply.duplicate(self.heap)?;
-                self.calls.push(MadeCall {
-                    arm: self.arm,
-                    at: receipt.at,
-                })?;
-                self.left = rest;
-                self.ended = ended_by(receipt);
-                Ok(reply)
-            }
-            Some(_) | None => {
-                self.unfit = true;
-                Err(Stopped)
-            }
-        }
+        let receipt = self.next_receipt(&call)?;
+        Ok(receipt.reply.duplicate(self.heap)?)
+    }
+
+    fn access(&mut self, call: Call) -> Result<Flow, Stopped> {
+        let receipt = self.next_receipt(&call)?;
+        Ok(flow_of(&receipt.reply))
     }
 
     fn arms(
@@ -108,7 +100,30 @@ impl Caller for ReceiptCaller<'_> {
     }
 }
 
-impl ReceiptCaller<'_> {
+impl<'a> ReceiptCaller<'a> {
+    // The next receipt, which has to be the call's own: it is told now.
+    fn next_receipt(&mut self, call: &Call) -> Result<&'a Receipt, Stopped>
+        ensures { IfOk result (λ receipt. reply_from_receipts (plain_call call.now)
+            (check_state_of self.old)
+            ≡ finished (plain_reply receipt.now.reply) (check_state_of self.new)) }
+    {
+        match self.left.split_first() {
+            Some((receipt, rest)) if is_of(receipt, call) => {
+                self.calls.push(MadeCall {
+                    arm: self.arm,
+                    at: receipt.at,
+                })?;
+                self.left = rest;
+                self.ended = ended_by(receipt);
+                Ok(receipt)
+            }
+            Some(_) | None => {
+                self.unfit = true;
+                Err(Stopped)
+            }
+        }
+    }
+
     // Runs an arm of an outermost coenter, if it was begun, and notes what became of it.
     pub(crate) fn run_arm(
         &mut self,

@@ -8,7 +8,7 @@ ghost use Rattle.argus_entries.specs.Reply.{plain_reply};
 ghost use Rattle.argus_journal.specs.Events.{says_yes};
 ghost use Rattle.argus_runs.specs.RunOutcome.{Finishes};
 ghost use Rattle.argus_runs.specs.Replies.{flow_after, test_call};
-ghost use Rattle.argus_runs.specs.Running.{access, run_deed};
+ghost use Rattle.argus_runs.specs.Running.{run_deed};
 ghost use Rattle.argus_runs.specs.RunPrefix.{StopsEarly};
 
 use crate::caller::Caller;
@@ -40,7 +40,7 @@ pub(crate) fn run_ask<C: Caller>(
 {
     match within {
         None => Ok(Flow::On),
-        Some(action) => make(caller, Call::Ask(action, object_at(numbers, x), query)),
+        Some(action) => caller.access(Call::Ask(action, object_at(numbers, x), query)),
     }
 }
 
@@ -66,24 +66,9 @@ pub(crate) fn run_alter<C: Caller>(
         None => Ok(Flow::On),
         Some(action) => {
             let change = change.duplicate(heap)?;
-            make(caller, Call::Alter(action, object_at(numbers, x), change))
+            caller.access(Call::Alter(action, object_at(numbers, x), change))
         }
     }
-}
-
-// Makes a call by which a block is ended where it is refused.
-fn make<C: Caller>(caller: &mut C, call: Call) -> Result<Flow, Stopped>
-    requires ready { C.ready caller.old }
-    ensures ready { C.ready caller.new }
-    ensures kept { C.preserved caller.old caller.new }
-    ensures told { Finishes C.is_determined result (λ f. f) (access C.State C.reply C.arm_runner
-        (plain_call call) (C.state caller.old)) (C.state caller.new) }
-    ensures early { StopsEarly C.is_determined C.calls_extend C.is_prefix result
-        (access C.State C.reply C.arm_runner (plain_call call) (C.state caller.old))
-        (C.state caller.new) }
-{
-    let reply = caller.call(call)?;
-    Ok(flow_of(&reply))
 }
 
 /// The call of an `if`.

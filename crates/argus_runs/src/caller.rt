@@ -7,12 +7,14 @@ ghost use Rattle.argus_language.specs.PlainStep.{PlainSteps, plain_steps};
 ghost use Rattle.argus_contents.specs.declared.obj_id.ObjId.{ObjId};
 ghost use Rattle.argus_entries.specs.Call.{PlainCall, plain_call};
 ghost use Rattle.argus_entries.specs.Reply.{PlainReply, plain_reply};
-ghost use Rattle.argus_runs.specs.RunOutcome.{RunOutcome, finished};
-ghost use Rattle.argus_runs.specs.Running.{run_arms, run_arms_by_runner};
-ghost use Rattle.argus_runs.specs.RunPrefix.{IsRunPrefix};
+ghost use Rattle.argus_runs.specs.RunOutcome.{Finishes, RunOutcome, finished};
+ghost use Rattle.argus_runs.specs.Running.{access, run_arms, run_arms_by_runner};
+ghost use Rattle.argus_runs.specs.RunPrefix.{IsRunPrefix, StopsEarly};
 ghost use Rattle.argus_runs.specs.declared.flow.Flow.{Flow};
 ghost use Rattle.argus_runs.specs.declared.flow.Flow.TheVariants.{On};
 
+use crate::accessing::flow_of;
+use crate::flow::Flow;
 use crate::stopped::Stopped;
 use argus_actions::ActionId;
 use argus_contents::ObjId;
@@ -67,6 +69,22 @@ pub trait Caller {
             ≡ finished (plain_reply r) (state self.new)) }
         ensures early { OnErr result (calls_extend ≡ true
             → IsRunPrefix is_prefix (state self.new) (reply (plain_call call) (state self.old))) };
+
+    /// Makes an access: how its block goes on behind it. It is `call` for a run that needs of the
+    /// reply only whether it was refused; so a caller that keeps the reply needn't copy it, and one
+    /// that waits for locks waits here. `Stopped`: as in `call`.
+    fn access(&mut self, call: Call) -> Result<Flow, Stopped>
+        requires ready { ready self.old }
+        ensures ready { ready self.new }
+        ensures kept { preserved self.old self.new }
+        ensures told { Finishes is_determined result (λ f. f) (access State reply arm_runner
+            (plain_call call) (state self.old)) (state self.new) }
+        ensures early { StopsEarly is_determined calls_extend is_prefix result
+            (access State reply arm_runner (plain_call call) (state self.old)) (state self.new) }
+    {
+        let reply = self.call(call)?;
+        Ok(flow_of(&reply))
+    }
 
     /// Runs the arms of a coenter where it has a way of its own, or answers false. `begun` has the
     /// action of each arm that was begun. `Stopped`: the caller can't go on.

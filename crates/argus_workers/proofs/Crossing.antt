@@ -13,13 +13,12 @@ use Rattle.argus_contents.specs.contracts.obj_id.ObjId.{the_row as object_row}
 use Rattle.argus_memory.proofs.Crossing as memory
 use Rattle.argus_memory.proofs.heap.Heap.TheSendSync.{the_field_sync as heap_field_syncs}
 use Rattle.argus_receipts.specs.contracts.receipt.Receipt.{the_row as receipt_row}
-use Rattle.argus_runs.specs.contracts.stopped.Stopped.{the_row as stopped_row}
 use Rattle.argus_sharing.proofs.Crossing as sharing
 use Rattle.argus_sharing.specs.declared.sharing.Sharing.{Ghosts as Named}
-use Rattle.argus_workers.specs.contracts.handing_out.ArmContext.{the_row as handed_row, the_type as handed_type}
+use Rattle.argus_workers.specs.contracts.arm_context.ArmContext.{the_row as handed_row, the_type as handed_type}
+use Rattle.argus_workers.specs.contracts.arm_receipts.ArmReceipts.{the_row as left_row}
 use Rattle.core.specs.declared.ledger.Ledger.{Ghosts as Ledgered}
 use Rattle.std.specs.contracts.option.Option.{the_row as option_row}
-use Rattle.std.specs.contracts.result.Result.{the_row as result_row}
 use Rattle.std.specs.contracts.vec.Vec.{the_row as list_row}
 
 pub step_field_syncs : IsSync step_field.row
@@ -32,15 +31,8 @@ step_syncs = search (sendable, step_field_syncs)
 pub receipts_sends : IsSend (list_row receipt_row memory.room memory.rests)
 receipts_sends = memory.list_sends receipt_row sharing.receipt_sends
 
--- what an arm left
-abbrev pub left_row : RattleType
-left_row = result_row (list_row receipt_row memory.room memory.rests) stopped_row
-
 pub left_sends : IsSend left_row
-left_sends = search (sendable, receipts_sends) depth 40
-
-pub all_left_sends : IsSend (list_row left_row memory.room memory.rests)
-all_left_sends = memory.list_sends left_row left_sends
+left_sends = search (sendable, memory.crosses, receipts_sends) depth 40
 
 pub object_syncs : IsSync object_row
 object_syncs = search sendable depth 40

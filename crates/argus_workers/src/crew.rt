@@ -1,4 +1,4 @@
-//! `do_all`: the jobs of a crew, each on a thread of its own.
+//! `do_all`: the jobs of a crew, at once.
 
 use argus_memory::Room;
 use std::sync::Wait;
@@ -11,16 +11,20 @@ pub(crate) trait Crew<J> {
     fn work(&self, job: J);
 }
 
-/// Has each job done on a thread of its own, and returns once these threads have ended. A job for
-/// which no thread can be made is dropped undone.
+/// Has the jobs done, the last one on this thread and each other one on a thread of its own, and
+/// returns once all threads have ended. A job for which no thread can be made is dropped undone.
 pub(crate) fn do_all<R: Threads + Wait, C: Crew<J> + Sync, J: Send + Drop>(
     rt: &R,
     crew: &C,
-    jobs: Vec<J, Room>,
+    mut jobs: Vec<J, Room>,
 ) {
+    let last = jobs.pop();
     thread::scope(thread::scope_env(), rt, move |scope| {
         for job in jobs {
             let _undone = scope.spawn(move || crew.work(job));
+        }
+        if let Some(job) = last {
+            crew.work(job);
         }
     })
 }

@@ -1,10 +1,14 @@
 //! Scripts, run by several workers.
 #![tactic(auto)]
 
+mod arm_context;
+mod arm_receipts;
 mod arm_running;
 mod crew;
 mod gate;
+mod gathering;
 mod handing_out;
+mod job;
 mod no_gate;
 mod running_shared;
 mod team;

@@ -18,11 +18,11 @@ use argus_sharing::{Seat, Shared, Sharing};
 use std::sync::Wait;
 use std::thread::Threads;
 
-/// Runs a script by workers, each on a thread of its own. Seat 0 makes the
-/// calls outside outermost coenters and begins their arms; arm k of an outermost coenter is run by
-/// worker k mod workers, with the seat behind its number, each worker's arms in order. A coenter
-/// inside an arm is run by that arm's worker. Accesses wait for their locks, for at most `patience`
-/// wake-ups.
+/// Runs a script by workers. Seat 0 makes the calls outside outermost coenters and begins their
+/// arms; arm k of an outermost coenter is run by worker k mod workers, with the seat behind its
+/// number, each worker's arms in order. A coenter inside an arm is run by that arm's worker. The
+/// workers that have an arm run at once, one on this thread and each other one on a thread of its
+/// own. Accesses wait for their locks, for at most `patience` wake-ups.
 ///
 /// On Ok the receipts, in script order, tell the run, of two calls that aren't made by two arms of
 /// one outermost coenter the earlier has the lower number, and the outcomes are what they show

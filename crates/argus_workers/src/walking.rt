@@ -35,13 +35,14 @@ pub(crate) fn walk<
     let Some((seat, others)) = seats.split_first_mut() else {
         return Err(Stopped);
     };
+    let mut receipts = Vec::new(team.heap.room());
     let mut first = Worker {
         rt: team.rt,
         heap: team.heap,
         shared: team.shared,
         patience: team.patience,
         seat,
-        receipts: Vec::new(team.heap.room()),
+        receipts: &mut receipts,
     };
     let mut numbers = Vec::new(team.heap.room());
     for step in script.steps() {
@@ -51,7 +52,6 @@ pub(crate) fn walk<
             walk_step(team, &mut first, others, numbers.as_slice(), step, None)?;
         }
     }
-    let Worker { receipts, .. } = first;
     Ok(receipts)
 }
 
@@ -98,8 +98,14 @@ fn walk_step<N: Sharing + Send + Sync, R: Threads + Wait + Drop + Send + Sync, G
         }
         (Step::Block(BlockKind::Coenter, arms), _) => {
             let begun = begin_arms(team.heap, first, arms, within)?;
-            let mut more = hand_out(team, others, numbers, arms, begun.as_slice())?;
-            first.receipts.append(&mut more)?;
+            hand_out(
+                team,
+                others,
+                numbers,
+                arms,
+                begun.as_slice(),
+                first.receipts,
+            )?;
             Ok(Flow::On)
         }
         (Step::Block(BlockKind::If(_, _), _), None)

@@ -4,9 +4,10 @@ use argus_actions::ActionId;
 use argus_contents::ObjId;
 use argus_entries::{Call, Reply};
 use argus_language::Step;
-use argus_memory::{Heap, Room};
+use argus_memory::{Heap, OutOfMemory, Room};
 use argus_receipts::Receipt;
-use argus_runs::{Caller, Stopped};
+use argus_runs::pieces::flow_of;
+use argus_runs::{Caller, Flow, Stopped};
 use argus_sharing::{Seat, Shared, Sharing};
 use std::sync::Wait;
 
@@ -19,7 +20,7 @@ pub(crate) struct Worker<'a, N: Sharing, R: Wait + Drop> {
     pub(crate) shared: &'a Shared<N, R>,
     pub(crate) patience: u32,
     pub(crate) seat: &'a mut Seat<N>,
-    pub(crate) receipts: Vec<Receipt, Room>,
+    pub(crate) receipts: &'a mut Vec<Receipt, Room>,
 }
 
 // Its replies come from other threads' calls, too, so no clause can say what a run comes to: the
@@ -59,15 +60,25 @@ impl<N: Sharing, R: Wait + Drop> Caller for Worker<'_, N, R> {
 
     fn call(&mut self, call: Call) -> Result<Reply, Stopped> {
         self.receipts.reserve(1)?;
-        let receipt = if is_access(&call) {
-            self.shared
-                .call_waiting(self.rt, self.seat, call, self.patience)?
-        } else {
-            self.shared.call(self.rt, self.seat, call)?
-        };
+        let receipt = self.shared.call(self.rt, self.seat, call)?;
         let reply = receipt.reply.duplicate(self.heap);
         self.receipts.push_reserved(receipt);
         Ok(reply?)
+    }
+
+    fn access(&mut self, call: Call) -> Result<Flow, Stopped> {
+        self.receipts.reserve(1)?;
+        match self
+            .shared
+            .call_waiting(self.rt, self.seat, call, self.patience)
+        {
+            Ok(receipt) => {
+                let flow = flow_of(&receipt.reply);
+                self.receipts.push_reserved(receipt);
+                Ok(flow)
+            }
+            Err(OutOfMemory) => Err(Stopped),
+        }
     }
 
     fn arms(
@@ -78,21 +89,5 @@ impl<N: Sharing, R: Wait + Drop> Caller for Worker<'_, N, R> {
         _begun: &[Option<ActionId>],
     ) -> Result<bool, Stopped> {
         Ok(false)
-    }
-}
-
-// Whether the call asks or alters an object.
-fn is_access(call: &Call) -> bool {
-    match call {
-        Call::Ask(_, _, _) | Call::Alter(_, _, _) => true,
-        Call::Declare(_)
-        | Call::BeginTop
-        | Call::BeginSub(_)
-        | Call::BeginNested(_)
-        | Call::Commit(_)
-        | Call::Abort(_)
-        | Call::AbortOthers(_)
-        | Call::TestRead(_, _)
-        | Call::TestWrite(_, _) => false,
     }
 }

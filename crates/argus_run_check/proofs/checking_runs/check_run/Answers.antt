@@ -7,7 +7,7 @@ pub returns-then-is_whole : goal.returns-then-is_whole
 returns-then-is_whole c = (
   c.in-Ok._numbers.items,
   check_state_of c.run_script.new.caller.receipt_caller,
-  rw c.new.ensures.items at (rw c.new-2.ensures.items at (c.in-Ok.ensures.told refl)),
+  rw c.in_ok-with_capacity.ensures.items at (rw c.new.ensures.items at (c.in-Ok.ensures.told refl)),
   c.is_whole.ensures c.if-is_whole.true,
   refl,
 )
