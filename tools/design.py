@@ -27,7 +27,7 @@ LAYERS = [
         ("program", "hosts", "programs in C, Rust and Python", []),
     ],
     [
-        ("surface", "argus_cli", "a script read, run and listed", []),
+        ("surface", "argus_cli", "a script read, run and listed", [("argus_usage", "command lines")]),
         ("surface", "argus_picture", "a listing, drawn", [("argus_frame", "where things stand")]),
         ("surface", "argus_embed", "calls by numbers and texts", []),
         ("surface", "argus_c", "a static library for C", []),

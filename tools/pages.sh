@@ -1,8 +1,9 @@
 #!/usr/bin/env bash
 # SPDX-License-Identifier: MIT
 # Looks at the pages of the repository, in a second: what they point to is there, the maps of files and
-# the picture of the design are as their scripts write them, and README.md shows the texts of files that
-# are run. All four look, and each line that is printed but the count of links is a fault.
+# the picture of the design are as their scripts write them, README.md shows the texts of files that
+# are run, and the version is that of CHANGELOG.md wherever it stands. All look, and each line that is
+# printed but the count of links is a fault.
 #
 #   tools/pages.sh           the status tells whether all is well
 #   tools/pages.sh --write   first writes the maps and the picture anew
@@ -18,4 +19,10 @@ tools/links.py || status=1
 tools/maps.py --check || status=1
 tools/design.py --check || status=1
 tools/readme.py --texts || status=1
+version=$(sed -n 's/^## \([0-9.]*\).*/\1/p' CHANGELOG.md | head -n 1)
+for place in crates/argus_usage/src/command.rt hosts/rust/Cargo.toml; do
+    grep -qF "\"$version\"" "$place" && continue
+    echo "$place: its version isn't $version, that of CHANGELOG.md"
+    status=1
+done
 exit "$status"

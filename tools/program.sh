@@ -92,17 +92,25 @@ prove() {
     say "proved and built in $((($(date +%s) - begin + 30) / 60)) min; it starts at once from now on"
 }
 
-# Whether an argument asks for help, which reads no input.
-is_help() {
+# Whether an argument asks for help or the version, which reads no input.
+asks_for_text() {
     for word; do
-        case $word in -h | --help) return 0 ;; esac
+        case $word in -h | --help | -V | --version) return 0 ;; esac
     done
     return 1
 }
 
+# Ends as the program does where an argument isn't UTF-8, which the kit can't hand to it.
+refuse_broken_text() {
+    python3 -c 'import os, sys; [os.fsencode(word).decode() for word in sys.argv[1:]]' "$@" 2> /dev/null && return
+    printf 'error: invalid UTF-8 was detected in one or more arguments\n\n%s\n' \
+        "For more information, try '--help'." >&2
+    exit 2
+}
+
 # Keeps what the program reads of its input at the most.
 keep_input() {
-    if is_help "$@"; then
+    if asks_for_text "$@"; then
         : > "$room/input"
     else
         head -c "$most" > "$room/input" 2> /dev/null
@@ -112,6 +120,7 @@ keep_input() {
 # Runs the program by `rt try`, whose own lines stand behind the program's on standard error.
 run_unproved() {
     kit=$(find_kit)
+    refuse_broken_text "$@"
     room=$(mktemp -d)
     trap 'rm -rf "$room"' EXIT
     trap 'exit 1' INT TERM
@@ -125,8 +134,8 @@ run_unproved() {
         say "the unproved run gave no answer"
         exit 1
     fi
-    # The input would have been read here: all but a text of help comes of it.
-    if [ "$is_read$status" = no0 ] && ! is_help "$@"; then
+    # The input would have been read here: all but a text of help or the version comes of it.
+    if [ "$is_read$status" = no0 ] && ! asks_for_text "$@"; then
         echo "read fault" >&2
         exit 5
     fi

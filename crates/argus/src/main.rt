@@ -2,16 +2,17 @@
 //!
 //! | Status | Meaning | On standard error |
 //! |---|---|---|
-//! | 0 | done | nothing |
+//! | 0 | done; or help or the version was asked for | nothing |
 //! | 2 | a mistake in the command line | its text |
 //! | 3 | the script is refused | `line N: KIND` |
 //! | 4 | want of memory, or a worker couldn't be started | `out of memory` |
 //! | 5 | a read or a write failed | `read fault` or `write fault` |
 #![tactic(auto)]
 
+ghost use Rattle.std.specs.Prelude.{IfOk};
 ghost use Rattle.argus_cli.specs.Ranges.{KeepsRanges};
 
-use argus_cli::{CliFault, NoOptions, Options, options, run};
+use argus_cli::{CliFault, NoOptions, Options, options, run, words_given};
 use argus_commands::FailStop;
 use argus_values::Heap;
 use std::alloc::Global;
@@ -20,26 +21,19 @@ use std::process::ExitCode;
 use std::rt::Env;
 use std::sync::Wait;
 use std::thread::Threads;
-use std::{env, io};
 
 fn main(rt: HostRuntime) -> ExitCode {
-    let Ok(words) = words_given(&rt) else {
-        return end_with_fault(&rt, CliFault::Memory);
-    };
-    match options(rt.alloc(), words) {
+    match options_given(&rt) {
         Ok(options) => run_script(&rt, rt.alloc(), rt.stdin(), rt.stdout(), options),
-        Err(NoOptions::Usage { status, text }) => show_usage(&rt, status, &text),
-        Err(NoOptions::Memory) => end_with_fault(&rt, CliFault::Memory),
+        Err(refused) => ExitCode::from(refused.show(&rt)),
     }
 }
 
-// The words behind the program's name.
-fn words_given(rt: &(impl Env + AllocGlobal)) -> io::Result<Vec<String>> {
-    let mut words = Vec::new(rt.alloc());
-    for word in env::args(rt)?.skip(1) {
-        words.push(word)?;
-    }
-    Ok(words)
+// What the words behind the program's name ask for.
+fn options_given(rt: &(impl Env + AllocGlobal)) -> Result<Options, NoOptions>
+    ensures { IfOk result KeepsRanges }
+{
+    options(rt.alloc(), words_given(rt)?)
 }
 
 // Runs the script that the reader has, and lists to the writer.
@@ -62,19 +56,6 @@ fn run_script<
     ) {
         Ok(()) => ExitCode::SUCCESS,
         Err(fault) => end_with_fault(rt, fault),
-    }
-}
-
-// The text of the command line's parser: help goes to standard output, a mistake to standard error.
-fn show_usage(rt: &(impl Print + Eprint), status: u8, text: &String) -> ExitCode {
-    let shown = if status == 0 {
-        rt.print(text)
-    } else {
-        rt.eprint(text)
-    };
-    match shown {
-        Ok(()) => ExitCode::from(status),
-        Err(_) => end_with_fault(rt, CliFault::Write),
     }
 }
 

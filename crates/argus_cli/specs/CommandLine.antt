@@ -1,6 +1,6 @@
 -- What options a command line asks for.
 use Rattle.std.specs.Prelude.{Bool, List, None, Option, Some, [], codes, false, if◌then◌else◌, map}
-use Rattle.std.specs.Prelude.{pos, ℕ, ◌∷◌, ◌≡◌, ◌≢◌}
+use Rattle.std.specs.Prelude.{pos, ℕ, ◌∷◌, ◌≡◌}
 use Rattle.std.specs.Borrow.{Bor}
 use Rattle.std.specs.Str.{bytes_eq}
 use Rattle.std.specs.Str.Parse.{digits_value, without_leading_plus}
@@ -8,18 +8,18 @@ use Rattle.argus_cli.specs.declared.limits.TheConstants.{MAX_PATIENCE, MAX_WORKE
 use Rattle.argus_guardian.specs.listings_declared.listing.Listing.{Listing}
 use Rattle.argus_guardian.specs.listings_declared.listing.Listing.TheVariants.{Audit, Bases}
 use Rattle.argus_guardian.specs.listings_declared.listing.Listing.TheVariants.{Journal, Stacks}
-use Rattle.argus_cli.specs.declared.no_options.NoOptions.{NoOptions}
-use Rattle.argus_cli.specs.declared.no_options.NoOptions.TheVariants as no
 use Rattle.argus_cli.specs.declared.run_options.Options.{Options}
+use Rattle.argus_usage.specs.Usage.{IsStatusOf, named_program}
+use Rattle.argus_usage.specs.declared.no_options.NoOptions.{NoOptions}
+use Rattle.argus_usage.specs.declared.no_options.NoOptions.TheVariants as no
 use Rattle.clap.specs.Words.{App, IsAmong, IsPlain, Row, Rule, Text, app_of, fault_of, first_of}
-use Rattle.clap.specs.Words.{matches_of, new_app, new_rule, one_of, with_rule}
+use Rattle.clap.specs.Words.{matches_of, new_rule, one_of, with_rule}
 use Rattle.clap.specs.declared.builder.action.ArgAction.TheVariants.{Set, SetTrue}
 use Rattle.clap.specs.declared.builder.command.Command.{Command}
 use Rattle.clap.specs.declared.builder.command.Command.TheViews.{out-Command}
 use Rattle.clap.specs.declared.builder.value_parser.ValueParser.{ValueParser}
 use Rattle.clap.specs.declared.builder.value_parser.ValueParser.TheVariants as vp
 use Rattle.clap.specs.declared.error.kind.ErrorKind.{ErrorKind}
-use Rattle.clap.specs.declared.error.kind.ErrorKind.TheVariants as kind
 
 -- an option with a value: this parser takes it, and this one stands where the option is left out
 abbrev pub option_of : Text → Text → ValueParser → Rule
@@ -35,9 +35,9 @@ option_of name default parser = record (new_rule name) {
 abbrev pub flag_of : Text → Rule
 flag_of name = record (new_rule name) { long = Some name; action = Some SetTrue }
 
--- the program's command line, of which `--list` takes these names
+-- the program's command line: it has a version, and of its options `--list` takes these names
 abbrev pub program : Bor (List (Bor Text)) → App
-program listings = with_rule (with_rule (with_rule (with_rule (new_app (codes "argus"))
+program listings = with_rule (with_rule (with_rule (with_rule (named_program (codes "argus"))
     (option_of (codes "workers") (codes "1") (vp.Signed (pos 1) (pos MAX_WORKERS))))
     (option_of (codes "patience") (codes "0") (vp.Signed (pos 0) (pos MAX_PATIENCE))))
     (option_of (codes "list") (codes "bases") (vp.Names listings)))
@@ -52,7 +52,7 @@ NamesListings listings = map (λ name. name.now) listings.now
 abbrev pub rows_of_words : Bor (List (Bor Text)) → List Text → List Row
 rows_of_words listings words = matches_of (program listings) (codes "argus" ∷ words)
 
--- the mistakes in them, and the request for help
+-- the mistakes in them, and the request for help or the version
 abbrev pub faults_of_words : Bor (List (Bor Text)) → List Text → List ErrorKind
 faults_of_words listings words = fault_of (program listings) (codes "argus" ∷ words)
 
@@ -93,28 +93,18 @@ pub record Asks (words : List Text) (options : Options) : Type 0 where
   pub checkpoint : options.checkpoint
       ≡ is_given (one_of (codes "checkpoint") (rows_of_words listings words))
 
--- the words have a mistake of this kind, or ask for help
+-- the words have a mistake of this kind, or ask for help or the version
 pub record IsRefused (words : List Text) (error : ErrorKind) : Type 0 where
   pub listings : Bor (List (Bor Text))
   pub named : NamesListings listings
   pub among : IsAmong error (faults_of_words listings words)
 
--- the status is 0 where a text was asked for, and 2 for a mistake
-pub record IsStatusOf (error : ErrorKind) (status : ℕ) : Type 0 where
-  pub help : error ≡ kind.DisplayHelp → status ≡ 0
-  pub version : error ≡ kind.DisplayVersion → status ≡ 0
-  pub mistake : error ≢ kind.DisplayHelp → error ≢ kind.DisplayVersion → status ≡ 2
-
--- why the words give no options: the status tells a mistake in them, or that they ask for help
+-- why the words give no options: the status tells a mistake in them, or that they ask for help or
+-- the version
 abbrev pub AskNothing : List Text → NoOptions → Type 0
 AskNothing words (no.Usage status text) =
     (error : ErrorKind) × IsRefused words error × IsStatusOf error status
 AskNothing words no.Memory = Unit {0}
-
--- how the program ends on an error of this kind
-abbrev pub IsUsage : ErrorKind → NoOptions → Type 0
-IsUsage error (no.Usage status text) = (error ≢ kind.OutOfMemory) × IsStatusOf error status
-IsUsage error no.Memory = Unit {0}
 
 -- clap's command is the program's command line, without conflicts and without global options
 pub record IsProgram (c : Command) : Type 0 where

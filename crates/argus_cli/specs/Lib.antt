@@ -3,3 +3,5 @@ pub mod CommandLine
 pub mod Ran
 pub mod Ranges
 pub mod Status
+pub use Rattle.argus_usage.specs.Usage
+pub use Rattle.argus_usage.specs.declared as usage_declared

@@ -1,23 +1,37 @@
 //! `options`: what a command line asks for.
 
 ghost use Rattle.std.specs.Borrow.{Bor};
-ghost use Rattle.std.specs.Prelude.{IfErr, IfOk, List, codes, false, map, pos, string_bytes, ◌∷◌};
-ghost use Rattle.std.specs.Prelude.{◌≡◌, ◌⊎◌};
-ghost use Rattle.argus_cli.specs.CommandLine.{AskNothing, Asks, IsProgram, IsRefused, IsUsage};
+ghost use Rattle.std.specs.Prelude.{IfErr, IfOk, List, codes, false, map, pos, string_bytes, ◌≡◌};
+ghost use Rattle.std.specs.Prelude.{◌⊎◌};
+ghost use Rattle.argus_cli.specs.CommandLine.{AskNothing, Asks, IsProgram, IsRefused};
 ghost use Rattle.argus_cli.specs.CommandLine.{NamesListings, flag_of, listing_named, option_of};
 ghost use Rattle.argus_cli.specs.Ranges.{KeepsRanges};
-ghost use Rattle.argus_cli.specs.Status.{EndsWith0Or2};
 ghost use Rattle.argus_cli.specs.declared.limits.TheConstants.{MAX_PATIENCE, MAX_WORKERS};
+ghost use Rattle.argus_usage.specs.Usage.{EndsWith0Or2};
 ghost use Rattle.clap.specs.Words.{IsPlainArg, Text, kind_of, rule_of};
 ghost use Rattle.clap.specs.declared.builder.value_parser.ValueParser.TheVariants as vp;
 
 use crate::limits::{MAX_PATIENCE, MAX_WORKERS};
-use crate::no_options::NoOptions;
 use crate::run_options::Options;
 use argus_guardian::Listing;
+use argus_usage::{NoOptions, new_command, usage, with_name};
 use clap::error::ErrorKind;
 use clap::{Arg, ArgAction, Command, Error, value_parser};
 use std::alloc::{AllocError, Global};
+
+const ABOUT: &str =
+    "Runs a script from standard input on a new guardian, and lists what it then holds.";
+
+const DETAILS: &str = "\
+The listing goes to standard output. With several workers and --patience, a run may wait for ever:
+two arms can each wait for a lock that the other one holds.
+
+Exit status:
+  0  done
+  2  a mistake in the command line
+  3  the script is refused: `line N: KIND` on standard error
+  4  want of memory, or a worker couldn't be started
+  5  a read or a write failed";
 
 /// What the words behind the program's name ask for. Without any, one worker runs the script, the
 /// bases are listed and no checkpoint is made.
@@ -32,9 +46,9 @@ use std::alloc::{AllocError, Global};
 /// On Ok there is no mistake in the words, and each option has the value that they give it, by the
 /// matches of `clap`, or its default; workers and patience are within their ranges.
 ///
-/// `Usage` comes where there is a mistake in the words, or they ask for help. It has the text with
-/// which the program ends and its status: 2 for a mistake, 0 for `--help`. `OutOfMemory` may come
-/// in place of any answer.
+/// `Usage` comes where there is a mistake in the words, or they ask for `--help` or `--version`. It
+/// has the text with which the program ends and its status: 2 for a mistake, else 0. `Memory` may
+/// come in place of any answer.
 ///
 /// ```text
 /// let options = options(rt.alloc(), words)?;       // of `argus --list bases`
@@ -57,7 +71,7 @@ fn asked(alloc: Global, words: &[String]) -> Result<Options, Error>
     ensures refused { IfErr result (λ e. (kind_of e ≡ ErrorKind.OutOfMemory)
         ⊎ IsRefused (map string_bytes words.now) (kind_of e)) }
 {
-    let all = with_name(alloc, words)?;
+    let all = with_name(alloc, "argus", words)?;
     let matches = command(alloc)?.try_get_matches_from(all.as_slice())?;
     Ok(Options {
         workers: matches.get_one::<u32>("workers").unwrap_or(1),
@@ -65,19 +79,6 @@ fn asked(alloc: Global, words: &[String]) -> Result<Options, Error>
         listing: listing_named(matches.get_str("list").unwrap_or("bases")),
         checkpoint: matches.get_one::<bool>("checkpoint").unwrap_or(false),
     })
-}
-
-// The program's name, and the words behind it.
-fn with_name(alloc: Global, words: &[String]) -> Result<Vec<&str>, AllocError>
-    ensures { IfOk result (λ all. map (λ word. word.now) all.items
-        ≡ codes "argus" ∷ map string_bytes words.now) }
-{
-    let mut all = Vec::new(alloc);
-    all.push("argus")?;
-    for word in words {
-        all.push(word.as_str())?;
-    }
-    Ok(all)
 }
 
 // The listing of a name that the command takes.
@@ -96,8 +97,7 @@ fn listing_named(name: &str) -> Listing
 fn command<'a>(alloc: Global) -> Result<Command<'a>, AllocError>
     ensures { IfOk result IsProgram }
 {
-    Command::new(alloc, "argus")
-        .about("Runs a script over atomic objects on a guardian, and lists what it then holds.")
+    new_command(alloc, "argus", ABOUT, DETAILS)
         .arg(workers_option(alloc))?
         .arg(patience_option(alloc))?
         .arg(list_option(alloc))?
@@ -129,7 +129,7 @@ fn patience_option<'a>(alloc: Global) -> Arg<'a>
         .value_name("N")
         .value_parser(value_parser!(u32).range(0..=i64::from(MAX_PATIENCE)))
         .default_value("0")
-        .help("How many wake-ups an access waits for its lock, 1000 at most")
+        .help("With several workers: how many wake-ups an access waits for its lock, 1000 at most")
 }
 
 fn list_option<'a>(alloc: Global) -> Arg<'a>
@@ -154,18 +154,4 @@ fn checkpoint_option<'a>(alloc: Global) -> Arg<'a>
         .long("checkpoint")
         .action(ArgAction::SetTrue)
         .help("Folds the journal into its opening before it is listed")
-}
-
-fn usage(alloc: Global, error: &Error) -> NoOptions
-    ensures status { EndsWith0Or2 result }
-    ensures usage { IsUsage (kind_of error.now) result }
-{
-    if let ErrorKind::OutOfMemory = error.kind() {
-        return NoOptions::Memory;
-    }
-    let status = if error.use_stderr() { 2 } else { 0 };
-    match format!(in alloc; "{error}") {
-        Ok(text) => NoOptions::Usage { status, text },
-        Err(_) => NoOptions::Memory,
-    }
 }

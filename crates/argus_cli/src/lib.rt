@@ -8,16 +8,15 @@ mod cli_fault;
 mod command_line;
 pub mod limits;
 mod listing;
-mod no_options;
 mod run_options;
 mod running;
 mod running_by_workers;
 
 pub use argus_commands::{FaultKind, ScriptFault};
 pub use argus_guardian::Listing;
+pub use argus_usage::{NoOptions, words_given};
 pub use cli_fault::CliFault;
 pub use command_line::options;
 pub use listing::list;
-pub use no_options::NoOptions;
 pub use run_options::Options;
 pub use running::run;

@@ -27,13 +27,11 @@ use std::thread::Threads;
 /// Reads a script, runs it on a new guardian and writes the listing that is asked for.
 ///
 /// A script is read up to 16,777,217 bytes: one more than it may have. One worker runs the arms of
-/// a
-/// coenter one after another. Several run those of an outermost coenter at once, each on a thread
-/// of
-/// its own, and accesses wait for their locks as long as the patience lasts; what they did is then
-/// checked against the script and the journal. Where the options ask for a checkpoint, one is made
-/// behind the run; where there can't be one (an action is live, or the next entry's number is too
-/// great), the journal is listed as it stands.
+/// a coenter one after another. Several run those of an outermost coenter at once, each on a
+/// thread of its own, and accesses wait for their locks as long as the patience lasts; what they
+/// did is then checked against the script and the journal. Where the options ask for a checkpoint,
+/// one is made behind the run; where there can't be one (an action is live, or the next entry's
+/// number is too great), the journal is listed as it stands.
 ///
 /// | Error | When | What was written |
 /// |---|---|---|

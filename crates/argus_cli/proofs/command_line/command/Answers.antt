@@ -1,10 +1,8 @@
-use Rattle.std.proofs.Common.{[], ap, ap₂, rules, subst, sym, ◌∙◌, ◌≡◌}
+use Rattle.std.proofs.Common.{ap₂, rules, subst, sym, ◌∙◌}
 use Rattle.std.proofs.lemmas.List.Elements.{All-nil}
 use Rattle.std.proofs.lemmas.Result.{IfOk-weaker}
 use Rattle.std.specs.List.{All}
-use Rattle.std.specs.Prelude.{codes}
-use Rattle.clap.specs.Simple.{app_of_fields}
-use Rattle.clap.specs.Words.{IsPlain, IsPlainArg, app_of, args_of, groups_of, new_app, with_rule}
+use Rattle.clap.specs.Words.{IsPlain, IsPlainArg, with_rule}
 use Rattle.clap.proofs.CallerLemmas.{added_plain}
 use Rattle.argus_cli.proofs.command_line.command.Goals as goal
 
@@ -13,13 +11,10 @@ returns c = IfOk-weaker c.arg-4.result _ _ (λ made last.
     let first = c.in_ok-arg.ensures in
     let second = c.in_ok-arg-2.ensures in
     let third = c.in_ok-arg-3.ensures in
-    let no_args : args_of c.about.result ≡ [] = ap (λ f. f.args.items) c.about.ensures ∙ c.new.ensures.empty.0 in
-    let no_groups : groups_of c.about.result ≡ [] = ap (λ f. f.groups.items) c.about.ensures
-    ∙ c.new.ensures.empty.1 in
-    let start : IsPlain c.about.result = (subst (All IsPlainArg) (sym no_args) (All-nil IsPlainArg), no_groups) in
-    let app_0 : app_of c.about.result ≡ new_app (codes "argus") = ap app_of_fields c.about.ensures
-    ∙ c.new.ensures.app in
-    let app_1 = first.shape (search rules) ∙ ap₂ with_rule app_0 c.workers_option.ensures.rule in
+    let bare = c.new_command.ensures in
+    let start : IsPlain c.new_command.result =
+    (subst (All IsPlainArg) (sym bare.no_args) (All-nil IsPlainArg), bare.no_groups) in
+    let app_1 = first.shape (search rules) ∙ ap₂ with_rule bare.app c.workers_option.ensures.rule in
     let app_2 = second.shape (search rules) ∙ ap₂ with_rule app_1 c.patience_option.ensures.rule in
     let app_3 = third.shape (search rules) ∙ ap₂ with_rule app_2 c.list_option.ensures.rule.2 in
     record {

@@ -1,6 +1,0 @@
-use Rattle.std.specs.Prelude.{codes, map, string_bytes, take, ◌∷◌, ◌≡◌}
-use Rattle.argus_cli.proofs.command_line.with_name.Given as goal
-
-abbrev pub invariant-loop-word : goal.invariant-loop-word
-invariant-loop-word l =
-    map (λ word. word.now) l.all.items ≡ codes "argus" ∷ map string_bytes (take l.word-index l.words)

@@ -1,0 +1,119 @@
+#!/usr/bin/env bash
+# SPDX-License-Identifier: MIT
+# The programs' command lines, word by word: what each prints and with which status it ends is compared.
+# These are the words that no row of crates/scripts_tests can have, and what the programs themselves do
+# with theirs. The last line is 'N passed, M failed', and the status tells whether any failed.
+#
+#   [ARGUS=PROGRAM] [PICTURE=PROGRAM] tools/command_lines.sh
+#
+# The programs have to be built: .ci/run leaves them, and so do ./argus --prove and ./picture --prove.
+set -uo pipefail
+export LC_ALL=C
+
+top=$(cd "$(dirname "$0")/.." && pwd)
+argus=${ARGUS:-$top/crates/argus/out/argus}
+picture=${PICTURE:-$top/crates/picture/out/picture}
+version=$(sed -n 's/^## \([0-9.]*\).*/\1/p' "$top/CHANGELOG.md" | head -n 1)
+broken='error: invalid UTF-8 was detected in one or more arguments'
+passed=0
+failed=0
+room=$(mktemp -d)
+trap 'rm -r "$room"' EXIT
+
+# Whether the file begins with the text; where there is no text, whether the file is empty.
+begins_with() {
+    if [ -n "$2" ]; then
+        [ "$(head -c "${#2}" "$1")" = "$2" ]
+    else
+        [ ! -s "$1" ]
+    fi
+}
+
+# Counts whether the program ends with this status, and standard output and standard error begin with
+# these texts, of which none stands for nothing at all: tried INPUT STATUS OUTPUT ERRORS PROGRAM WORD..
+tried() {
+    local input=$1 wanted=$2 output=$3 errors=$4 status=0
+    shift 4
+    timeout 60 "$@" < "$input" > "$room/output" 2> "$room/errors" || status=$?
+    if [ "$status" = "$wanted" ] && begins_with "$room/output" "$output" && begins_with "$room/errors" "$errors"; then
+        passed=$((passed + 1))
+    else
+        failed=$((failed + 1))
+        echo "command lines: FAILED: ${*@Q}: status $status, where $wanted is wanted, and printed"
+        head -n 3 "$room/output" "$room/errors"
+    fi
+}
+
+# The words read no input: a folder stands for it, and whatever reads that ends with status 5.
+shows() {
+    tried / 0 "$1" '' "${@:2}"
+}
+
+refuses() {
+    tried / 2 '' "$1" "${@:2}"
+}
+
+# Counts whether help says all this: mentions PROGRAM TEXT..
+mentions() {
+    local program=$1 text
+    shift
+    for text; do
+        if "$program" --help < / | grep -qF -- "$text"; then
+            passed=$((passed + 1))
+        else
+            failed=$((failed + 1))
+            echo "command lines: FAILED: $program --help says nothing of: $text"
+        fi
+    done
+}
+
+# What both programs do: in_common PROGRAM NAME
+in_common() {
+    shows "$2 $version" "$1" --version
+    shows "$2 $version" "$1" -V
+    refuses "$broken" "$1" $'\xff'
+    refuses "$broken" "$1" $'--help\xff'
+    refuses "$broken" "$1" --version $'\xed\xa0\x80'
+    refuses "error: unexpected argument '' found" "$1" ''
+    refuses "error: unexpected argument '--version --help' found" "$1" '--version --help'
+    refuses "error: unexpected argument 'ä' found" "$1" 'ä'
+    mentions "$1" 'Exit status:' '  0  ' '  2  ' '  3  ' '  4  ' '  5  ' 'from standard input' 'to standard output'
+}
+
+of_argus() {
+    local script=$top/crates/argus/stdin
+    in_common "$argus" argus
+    shows 'Runs a script from standard input' "$argus" --help
+    shows 'Runs a script from standard input' "$argus" -h
+    mentions "$argus" 'With several workers: how many wake-ups' 'With several workers and --patience, a run may wait for ever'
+    tried "$script" 0 "$(cat "$top/crates/argus/stdout")" '' "$argus"
+    tried "$script" 0 "$(cat "$top/crates/argus/stdout")" '' "$argus" --patience 5 --
+    tried "$script" 0 'acct base {7}' '' "$argus" --list stacks
+    refuses "$broken" "$argus" --list $'journal\xc3'
+    refuses "error: a value is required for '--list <LISTING>' but none was supplied" "$argus" --list ''
+    refuses "error: unexpected argument '--list journal' found" "$argus" '--list journal'
+    refuses "error: invalid value '9' for '--workers <N>': 9 is not in 1..=8" "$argus" --workers 9
+}
+
+of_picture() {
+    in_common "$picture" picture
+    shows "Draws a journal's listing from standard input" "$picture" --help
+    shows "Draws a journal's listing from standard input" "$picture" -h
+    tried "$top/crates/picture/stdin" 0 "$(cat "$top/crates/picture/stdout")" '' "$picture"
+    tried "$top/crates/picture/stdin" 0 '<svg ' '' "$picture" --
+    refuses "error: unexpected argument 'run.svg' found" "$picture" run.svg
+    refuses "error: unexpected argument '--list' found" "$picture" --list journal
+}
+
+for program in "$argus" "$picture"; do
+    if [ ! -x "$program" ]; then
+        echo "command lines: no program $program: .ci/run leaves it, and ./${program##*/} --prove"
+        echo "0 passed, 1 failed"
+        exit 1
+    fi
+done
+of_argus
+of_picture
+echo "command lines: $((passed + failed)) tried"
+echo "$passed passed, $failed failed"
+[ "$failed" = 0 ]
