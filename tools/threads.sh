@@ -1,7 +1,8 @@
 #!/usr/bin/env bash
 # SPDX-License-Identifier: MIT
 # The program where the system makes no thread for a worker, or for one of several. Each run has to
-# end with status 4, told as want of memory on standard error, with nothing listed.
+# end with status 4, told as want of memory on standard error, with nothing listed. With as many
+# threads as there are workers with an arm it has to end with status 0: one of them is the program's.
 # The program has to be built (.ci/run or ./argus --prove leaves it). Needs setpriv (util-linux)
 # where it is run as root, whose threads the system doesn't count.
 set -u
@@ -22,24 +23,45 @@ run_counted() {
     fi
 }
 
-# Runs it with so many threads at the most, itself among them: try THREADS ARGUMENT..
-try() {
+# Runs it with so many threads at the most, itself among them: run_limited THREADS ARGUMENT..
+run_limited() {
     local threads=$1
     shift
     (ulimit -u "$threads"; run_counted "$@") < "$room/script" > "$room/listed" 2> "$room/told"
+}
+
+# Has to be told as want of memory: try_few THREADS ARGUMENT..
+try_few() {
+    run_limited "$@"
     local status=$?
     if [ $status = 4 ] && [ "$(cat "$room/told")" = 'out of memory' ] && [ ! -s "$room/listed" ]; then
-        echo "$threads threads, $*: out of memory"
+        echo "$1 threads, ${*:2}: out of memory"
     else
-        echo "$threads threads, $*: status $status, $(cat "$room/told"); wanted: status 4, out of memory"
+        echo "$1 threads, ${*:2}: status $status, $(cat "$room/told"); wanted: status 4, out of memory"
         wrong=1
     fi
 }
 
-for workers in 2 3 8; do
-    for patience in 0 1000; do
-        try 1 --workers $workers --patience $patience
-        try 2 --workers $workers --patience $patience
+# Has to be done: try_enough THREADS ARGUMENT..
+try_enough() {
+    run_limited "$@"
+    local status=$?
+    if [ $status = 0 ] && [ ! -s "$room/told" ]; then
+        echo "$1 threads, ${*:2}: done"
+    else
+        echo "$1 threads, ${*:2}: status $status, $(cat "$room/told"); wanted: status 0"
+        wrong=1
+    fi
+}
+
+# The script's coenter has three arms.
+for patience in 0 1000; do
+    try_few 1 --workers 2 --patience $patience
+    try_enough 2 --workers 2 --patience $patience
+    for workers in 3 8; do
+        try_few 1 --workers $workers --patience $patience
+        try_few 2 --workers $workers --patience $patience
+        try_enough 3 --workers $workers --patience $patience
     done
 done
 exit $wrong
