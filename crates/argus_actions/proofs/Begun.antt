@@ -10,9 +10,9 @@ use Rattle.argus_actions.specs.declared.origin.Origin.{Origin}
 use Rattle.argus_actions.specs.declared.origin.Origin.TheVariants.{Top, Sub, Nested}
 use Rattle.argus_actions.specs.declared.status.Status.TheVariants.{Live}
 use Rattle.argus_actions.specs.Row.{Row, at_parent, under_of, is_sub_of, is_begun_under, is_live}
-use Rattle.argus_actions.specs.Rows.{depth_at, is_live_under, newest_where, newest_below, newest_child_below}
+use Rattle.argus_actions.specs.Rows.{depth_at, is_live_under, live_count, newest_where, newest_below}
+use Rattle.argus_actions.specs.Rows.{newest_child_below}
 use Rattle.argus_actions.specs.Nodes.{row_of_node, rows_of, IsBegunBetween, AreLinked, AreNodes, IsNode, link_to}
-use Rattle.argus_actions.specs.Nodes.{live_count}
 use Rattle.argus_actions.specs.Nodes.{adopted, fresh, older_sub_link, older_child_link}
 use Rattle.argus_actions.proofs.RowsLemmas.{depth_at_older}
 use Rattle.argus_actions.proofs.Marks.{at_parent_same, each_under}

@@ -9,6 +9,7 @@ pub mod Walks
 pub mod Links
 pub mod Walked
 pub mod Ancestry
+pub mod Counted
 pub mod Siblings
 pub mod Accepted
 pub mod Parents

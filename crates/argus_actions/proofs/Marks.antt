@@ -8,8 +8,8 @@ use Rattle.argus_actions.specs.declared.origin.Origin.{Origin}
 use Rattle.argus_actions.specs.declared.origin.Origin.TheVariants.{Top, Sub, Nested}
 use Rattle.argus_actions.specs.declared.status.Status.{Status}
 use Rattle.argus_actions.specs.Row.{Row, at_parent, is_begun_under, is_live, with_status}
-use Rattle.argus_actions.specs.Rows.{numbered, is_above, depth_at, mark, newest_where}
-use Rattle.argus_actions.specs.Nodes.{AreLinked, live_count}
+use Rattle.argus_actions.specs.Rows.{numbered, is_above, depth_at, live_count, mark, newest_where}
+use Rattle.argus_actions.specs.Nodes.{AreLinked}
 use Rattle.argus_actions.proofs.RowsLemmas.{some_row, none_some, numbered_newest, numbered_older}
 
 pub length-mark : (n : ℕ) (which : ℕ → Bool) (s : Status) (rows : List Row) → length (mark n which s rows) ≡ length rows

@@ -8,8 +8,8 @@ use Rattle.argus_actions.specs.declared.origin.Origin.TheVariants.{Top}
 use Rattle.argus_actions.specs.declared.status.Status.TheVariants.{Live}
 use Rattle.argus_actions.specs.declared.status.Status.{Status}
 use Rattle.argus_actions.specs.Row.{Row, under_of, is_begun_under, is_live, with_status}
-use Rattle.argus_actions.specs.Rows.{numbered, mark}
-use Rattle.argus_actions.specs.Nodes.{row_of_node, rows_of, AreNodes, live_count}
+use Rattle.argus_actions.specs.Rows.{numbered, mark, live_count}
+use Rattle.argus_actions.specs.Nodes.{row_of_node, rows_of, AreNodes}
 use Rattle.argus_actions.proofs.RowsLemmas.{some_row, none_some, linked_at, numbered_newest, numbered_older}
 use Rattle.argus_actions.proofs.RowsLemmas.{numbered_past, same_numbered}
 use Rattle.argus_actions.proofs.Marks.{length-mark, numbered-mark}

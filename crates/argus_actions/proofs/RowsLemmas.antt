@@ -151,6 +151,20 @@ depth_at_step n (r ∷ older) y row linked at =
           (depth_at_older n r older p (λ e. begun_before n older y row at' (omega arith)))))
     ]
 
+-- an action is one of its ancestors
+pub depth_at_least : (n : ℕ) (rows : List Row) (y : ℕ) (row : Row) → numbered n rows y ≡ Some row
+    → 1 ≤ depth_at n rows y
+depth_at_least n [] y row at = elim (none_some row at) [ ]
+depth_at_least n (r ∷ older) y row at =
+    elim (cases_eq y (n + length older)) [
+      | inl e ↦
+          let own : depth_at n (r ∷ older) y ≡ at_parent 0 r.origin (depth_at n older) + 1 =
+          cond-true _ _ _ (eq-eqb y (n + length older) e) in
+          omega arith
+      | inr ne ↦ rw (depth_at_older n r older y ne)
+          (depth_at_least n older y row (sym (numbered_older n r older y ne) ∙ at))
+    ]
+
 -- the ancestors of an action are no newer than it
 pub is_above_newer : (n : ℕ) (rows : List Row) (x y : ℕ) → AreLinked n rows → y < x → is_above n rows x y ≡ false
 is_above_newer n [] x y linked newer = refl

@@ -1,10 +1,11 @@
--- The walk over the siblings of an action, the newest first: which rows are Aborted so far, and which sibling comes
--- next.
-use Rattle.std.proofs.Common.{◌≡◌, ◌≢◌, ℕ, ◌+◌, ◌<◌, ◌≤◌, Bool, true, false, cond, eqb, leb, not, ◌||◌, ◌&&◌, List}
+-- The walk over the siblings of an action, the newest first: which rows are Aborted so far, which sibling comes next,
+-- and how many live ones are left.
+use Rattle.std.proofs.Common.{◌≡◌, ℕ, ◌+◌, ◌-◌, ◌<◌, ◌≤◌, Bool, true, false, cond, eqb, leb, not, ◌||◌, ◌&&◌, List}
 use Rattle.std.proofs.Common.{length, get_or, Option, Some, None, IfSome, subst, refl, sym, ◌∙◌, ap, arith, inl, inr}
 use Rattle.std.specs.Option.{option_and_then, option_map_or}
 use Rattle.std.proofs.Math.Bool.{and-false, or-false}
 use Rattle.std.proofs.lemmas.Bool.{eq-eqb, ne_eqb, eqb-true, le-leb, lt-leb, cases_eq, cases_lt, cases_Bool, and_parts}
+use Rattle.std.proofs.lemmas.Bool.{and_from}
 use Rattle.argus_actions.specs.declared.node.TheConstants.{NONE}
 use Rattle.argus_actions.specs.declared.node.Node.{Node}
 use Rattle.argus_actions.specs.declared.origin.Origin.{Origin}
@@ -12,9 +13,12 @@ use Rattle.argus_actions.specs.declared.origin.Origin.TheVariants.{Top, Sub, Nes
 use Rattle.argus_actions.specs.declared.status.Status.TheVariants.{Aborted}
 use Rattle.argus_actions.specs.Row.{Row, under_of, is_begun_under, is_live, with_status}
 use Rattle.argus_actions.specs.Rows.{numbered, is_above, mark, newest_child_below, under_at, is_live_at, is_child_of}
-use Rattle.argus_actions.specs.Rows.{is_live_sibling_of, has_ancestor}
+use Rattle.argus_actions.specs.Rows.{is_live_sibling_of, has_ancestor, live_count}
 use Rattle.argus_actions.specs.Nodes.{row_of_node, rows_of, AreNodes, link_to}
 use Rattle.argus_actions.proofs.RowsLemmas.{some_row, row_begun, linked_at}
+use Rattle.argus_actions.proofs.Counted.{count, count_same, count_none, count_some, count_down, count_but}
+use Rattle.argus_actions.proofs.Counted.{is_live_child_of, live_count_is}
+use Rattle.argus_actions.proofs.Marks.{one}
 use Rattle.argus_actions.proofs.Marks.{newest_where-mark, is_above-mark, mark-mark, mark-same, mark_none, numbered-mark}
 use Rattle.argus_actions.proofs.NodesLemmas.{some_node, length-rows_of, row_at}
 use Rattle.argus_actions.proofs.Newest.{came_row, newest_where_at, newest_where_most, newest_where_no}
@@ -63,18 +67,6 @@ module _ (n : ℕ) (rows : List Row) (a under : ℕ) (came : under_at n rows a �
   pub swept_first : (bound k : ℕ) → k < bound → is_swept n rows a bound k ≡ false
   swept_first bound k less = ap (λ b. b && is_live_sibling_of n rows a k) (lt-leb bound k less)
 
-  -- where no child is below the bound, all are from there on
-  pub swept_all : (bound k : ℕ) → newest_child_below n rows under bound ≡ None
-      → is_swept n rows a bound k ≡ is_live_sibling_of n rows a k
-  swept_all bound k none =
-      elim (cases_Bool (is_live_sibling_of n rows a k)) [
-        | inl is ↦
-            let row = sibling_row k is in
-            ap (λ b. b && is_live_sibling_of n rows a k) (le-leb bound k
-            (newest_where_no (is_begun_under under) n rows bound k row.0 none row.1.0 row.1.1))
-        | inr isnt ↦ ap (λ b. leb bound k && b) isnt ∙ and-false (leb bound k) ∙ sym isnt
-      ]
-
   -- between the newest child below the bound and the bound there is no other
   pub swept_more : (bound link k : ℕ) → newest_child_below n rows under bound ≡ Some link
       → is_swept n rows a link k ≡ (is_swept n rows a bound k || (eqb k link && is_live_sibling_of n rows a link))
@@ -96,13 +88,94 @@ module _ (n : ℕ) (rows : List Row) (a under : ℕ) (came : under_at n rows a �
         ])
       ]
 
+  -- a live sibling is a live child, and another
+  sibling_is : (x : ℕ) → is_live_sibling_of n rows a x ≡ (is_live_child_of n rows under x && not (eqb x a))
+  sibling_is x =
+      ap (λ o. is_live_at n rows x && (not (eqb x a) && option_map_or (λ u. is_child_of n rows u x) o false)) came
+      ∙ turned (is_live_at n rows x) (not (eqb x a)) (is_child_of n rows under x)
+    where
+      turned : (live other child : Bool) → (live && (other && child)) ≡ ((child && live) && other)
+      turned true true true = refl
+      turned true true false = refl
+      turned true false true = refl
+      turned true false false = refl
+      turned false other true = refl
+      turned false other false = refl
+
+  -- of the live children of the same action all but one are its live siblings
+  pub others_first : is_live_at n rows a ≡ true
+      → live_count rows under ≡ 1 + count (is_live_sibling_of n rows a) (n + length rows)
+  others_first live =
+      let row = under_row n rows a under came in
+      let child : is_child_of n rows under a ≡ true =
+      ap (λ o. option_map_or (λ (w : Row). is_begun_under under w.origin) o false) row.1.0
+      ∙ ap (λ o. option_map_or (λ u. eqb u under) o false) row.1.1 ∙ eq-eqb under under refl in
+      live_count_is n rows under
+      ∙ count_but (is_live_child_of n rows under) a (n + length rows) (row_begun n rows a row.0 row.1.0).1
+      (and_from (is_child_of n rows under a) (is_live_at n rows a) child live)
+      ∙ ap (λ k. 1 + k) (count_same (λ x. is_live_child_of n rows under x && not (eqb x a))
+      (is_live_sibling_of n rows a) (n + length rows) (λ x low. sym (sibling_is x)))
+
+  -- the newest child below the bound is one of those that are left, where it is a live sibling
+  pub others_step : (bound link : ℕ) → newest_child_below n rows under bound ≡ Some link
+      → count (is_live_sibling_of n rows a) bound
+      ≡ one (is_live_sibling_of n rows a link) + count (is_live_sibling_of n rows a) link
+  others_step bound link found =
+      count_down (is_live_sibling_of n rows a) bound link
+      (newest_where_at (is_begun_under under) n rows bound link found).1.1.0
+      (λ x past below. elim (cases_Bool (is_live_sibling_of n rows a x)) [
+        | inl is ↦
+            let row = sibling_row x is in
+            let most : x ≤ link =
+            newest_where_most (is_begun_under under) n rows bound link x row.0 found row.1.0 row.1.1 below in
+            absurd (omega arith)
+        | inr isnt ↦ isnt
+      ])
+
+  -- where some are left, there is a child below the bound
+  pub others_there : (bound : ℕ) → 0 < count (is_live_sibling_of n rows a) bound
+      → newest_child_below n rows under bound ≡ None → ⊥
+  others_there bound some none =
+      let no_more : count (is_live_sibling_of n rows a) bound ≡ 0 =
+      count_none (is_live_sibling_of n rows a) bound
+      (λ x below. elim (cases_Bool (is_live_sibling_of n rows a x)) [
+        | inl is ↦
+            let row = sibling_row x is in
+            let past : bound ≤ x =
+            newest_where_no (is_begun_under under) n rows bound x row.0 none row.1.0 row.1.1 in
+            absurd (omega arith)
+        | inr isnt ↦ isnt
+      ]) in
+      omega arith
+
+  -- where none is left, all are from the bound on
+  pub others_past : (bound k : ℕ) → count (is_live_sibling_of n rows a) bound ≡ 0
+      → is_live_sibling_of n rows a k ≡ true → bound ≤ k
+  others_past bound k none is =
+      elim (cases_lt k bound) [
+        | inl below ↦
+            let some : 0 < count (is_live_sibling_of n rows a) bound =
+            count_some (is_live_sibling_of n rows a) bound k below is in
+            absurd (omega arith)
+        | inr past ↦ past
+      ]
+
+  pub swept_all : (bound k : ℕ) → count (is_live_sibling_of n rows a) bound ≡ 0
+      → is_swept n rows a bound k ≡ is_live_sibling_of n rows a k
+  swept_all bound k none =
+      elim (cases_Bool (is_live_sibling_of n rows a k)) [
+        | inl is ↦ ap (λ b. b && is_live_sibling_of n rows a k) (le-leb bound k (others_past bound k none is))
+        | inr isnt ↦ ap (λ b. leb bound k && b) isnt ∙ and-false (leb bound k) ∙ sym isnt
+      ]
+
 -- of the old rows those are Aborted that have a live sibling from the bound on as an ancestor; the next sibling has
--- this link
-pub record IsSwept (n : ℕ) (old nodes : List Node) (a under link : ℕ) : Type 0 where
+-- this link; and so many live ones are below the bound
+pub record IsSwept (n : ℕ) (old nodes : List Node) (a under link left : ℕ) : Type 0 where
   pub bound : ℕ
   pub next : link ≡ link_to (newest_child_below n (rows_of old) under bound)
   pub rows : rows_of nodes ≡ mark n (has_ancestor (is_swept n (rows_of old) a bound) n (rows_of old)) Aborted
       (rows_of old)
+  pub others : left ≡ count (is_live_sibling_of n (rows_of old) a) bound
 
 module _ (n : ℕ) (old : List Node) (a under : ℕ) (kept : AreNodes n old)
     (came : under_at n (rows_of old) a ≡ Some under) where
@@ -114,8 +187,20 @@ module _ (n : ℕ) (old : List Node) (a under : ℕ) (kept : AreNodes n old)
       subst P row.1.1 (linked_at n (rows_of old) a row.0 kept.linked row.1.0) in
       (between.0, omega (arith, between.1, (row_begun n (rows_of old) a row.0 row.1.0).1, length-rows_of old))
 
-  pub sweep_start : (j : ℕ) → under ≡ n + j → IsSwept n old old a under (get_or old j some_node).newest_child
-  sweep_start j at = record {
+  -- the action itself is one of the live ones
+  first_others : (j : ℕ) → under ≡ n + j → is_live_at n (rows_of old) a ≡ true → (get_or old j some_node).live_children
+      ≡ 1 + count (is_live_sibling_of n (rows_of old) a) (n + length (rows_of old))
+  first_others j at live = (kept.each under j some_node at (omega (arith, under_begun.1))).children
+      ∙ others_first n (rows_of old) a under came live
+
+  pub has_live : (j : ℕ) → under ≡ n + j → is_live_at n (rows_of old) a ≡ true
+      → 1 ≤ (get_or old j some_node).live_children
+  has_live j at live = omega (arith, first_others j at live)
+
+  pub sweep_start : (j : ℕ) → under ≡ n + j → is_live_at n (rows_of old) a ≡ true
+      → IsSwept n old old a under (get_or old j some_node).newest_child
+      ((get_or old j some_node).live_children - 1)
+  sweep_start j at live = record {
     bound = n + length (rows_of old);
     next = (kept.each under j some_node at (omega (arith, under_begun.1))).newest_child;
     rows = sym (mark_none n (has_ancestor (is_swept n (rows_of old) a (n + length (rows_of old))) n (rows_of old))
@@ -123,28 +208,30 @@ module _ (n : ℕ) (old : List Node) (a under : ℕ) (kept : AreNodes n old)
         (λ y low high. has_ancestor_none (is_swept n (rows_of old) a (n + length (rows_of old))) n (rows_of old)
         y kept.linked
         (λ x le. swept_first n (rows_of old) a under came (n + length (rows_of old)) x (omega arith))));
+    others = omega (arith, first_others j at live);
   }
 
-  module _ (nodes : List Node) (link : ℕ) (swept : IsSwept n old nodes a under link) where
-    pub sweep_end : link ≡ NONE → rows_of nodes ≡ mark n (has_ancestor (is_live_sibling_of n (rows_of old) a) n
+  module _ (nodes : List Node) (link left : ℕ) (swept : IsSwept n old nodes a under link left) where
+    pub sweep_end : left ≡ 0 → rows_of nodes ≡ mark n (has_ancestor (is_live_sibling_of n (rows_of old) a) n
         (rows_of old)) Aborted (rows_of old)
     sweep_end none =
-        let done : newest_child_below n (rows_of old) under swept.bound ≡ None =
-        link_none (newest_child_below n (rows_of old) under swept.bound) link swept.next none
-        (λ c e. omega (
-          arith,
-          (newest_where_at (is_begun_under under) n (rows_of old) swept.bound c e).1.0,
-          length-rows_of old,
-          kept.few,
-        )) in
         swept.rows ∙ mark-same n (has_ancestor (is_swept n (rows_of old) a swept.bound) n (rows_of old))
         (has_ancestor (is_live_sibling_of n (rows_of old) a) n (rows_of old)) Aborted (rows_of old)
         (λ y low high. has_ancestor_same (is_swept n (rows_of old) a swept.bound) (is_live_sibling_of n (rows_of old) a)
-        n (rows_of old) y (λ x from to. swept_all n (rows_of old) a under came swept.bound x done))
+        n (rows_of old) y (λ x from to. swept_all n (rows_of old) a under came swept.bound x (sym swept.others ∙ none)))
 
-    module _ (there : link ≢ NONE) where
+    module _ (some : 0 < left) where
       found : newest_child_below n (rows_of old) under swept.bound ≡ Some link
-      found = link_some (newest_child_below n (rows_of old) under swept.bound) link swept.next there
+      found =
+          link_some (newest_child_below n (rows_of old) under swept.bound) link swept.next
+          (λ none. others_there n (rows_of old) a under came swept.bound (omega (arith, swept.others))
+          (link_none (newest_child_below n (rows_of old) under swept.bound) link swept.next none
+          (λ c e. omega (
+            arith,
+            (newest_where_at (is_begun_under under) n (rows_of old) swept.bound c e).1.0,
+            length-rows_of old,
+            kept.few,
+          ))))
 
       pub sweep_begun : (n ≤ link) × (link < n + length old)
       sweep_begun =
@@ -183,6 +270,25 @@ module _ (n : ℕ) (old : List Node) (a under : ℕ) (kept : AreNodes n old)
           and_true : (b : Bool) → (b && true) ≡ b
           and_true true = refl
           and_true false = refl
+
+      -- how many are left
+      left_is : left ≡ one (is_live_sibling_of n (rows_of old) a link)
+          + count (is_live_sibling_of n (rows_of old) a) link
+      left_is = swept.others ∙ others_step n (rows_of old) a under came swept.bound link found
+
+      pub left_spared : is_live_sibling_of n (rows_of old) a link ≡ false
+          → left ≡ count (is_live_sibling_of n (rows_of old) a) link
+      left_spared isnt =
+          let same : left ≡ 0 + count (is_live_sibling_of n (rows_of old) a) link =
+          left_is ∙ ap (λ b. one b + count (is_live_sibling_of n (rows_of old) a) link) isnt in
+          omega arith
+
+      pub left_aborted : is_live_sibling_of n (rows_of old) a link ≡ true
+          → left - 1 ≡ count (is_live_sibling_of n (rows_of old) a) link
+      left_aborted is =
+          let same : left ≡ 1 + count (is_live_sibling_of n (rows_of old) a) link =
+          left_is ∙ ap (λ b. one b + count (is_live_sibling_of n (rows_of old) a) link) is in
+          omega arith
 
       -- a sibling that is not aborted changes nothing
       pub sweep_spared : is_live_sibling_of n (rows_of old) a link ≡ false
@@ -252,8 +358,9 @@ module _ (n : ℕ) (old : List Node) (a under : ℕ) (kept : AreNodes n old)
             ∙ ap link_to (newest_where-mark (is_begun_under under) n
             (has_ancestor (is_swept n (rows_of old) a link) n (rows_of old)) Aborted (rows_of old) link)
 
-        pub sweep_step : IsSwept n old new a under (get_or new i some_node).older_child
-        sweep_step = record { bound = link; next = next_link; rows = rows_is }
+        pub sweep_step : (left' : ℕ) → left' ≡ count (is_live_sibling_of n (rows_of old) a) link
+            → IsSwept n old new a under (get_or new i some_node).older_child left'
+        sweep_step left' left'_is = record { bound = link; next = next_link; rows = rows_is; others = left'_is }
 
         pub sweep_smaller : steps_left (get_or new i some_node).older_child < steps_left link
         sweep_smaller =

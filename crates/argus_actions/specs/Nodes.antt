@@ -1,5 +1,5 @@
 -- What a tree keeps of its actions, oldest first, and what its nodes say beside their rows.
-use Rattle.std.specs.Prelude.{◌≡◌, ℕ, ◌+◌, ◌<◌, ◌≤◌, ◌&&◌, ◌==◌, if◌then◌else◌, List, [], ◌∷◌}
+use Rattle.std.specs.Prelude.{◌≡◌, ℕ, ◌+◌, ◌<◌, ◌≤◌, ◌==◌, if◌then◌else◌, List, [], ◌∷◌}
 use Rattle.std.specs.Prelude.{length, reverse, map, get_or, Option, Some, None, IfSome}
 use Rattle.std.specs.Option.{option_and_then}
 use Rattle.argus_contents.specs.declared.limits.TheConstants.{MAX_ACTIONS, MAX_ACTION_DEPTH}
@@ -8,8 +8,9 @@ use Rattle.argus_actions.specs.declared.action_id.ActionId.{ActionId}
 use Rattle.argus_actions.specs.declared.node.Node.{Node}
 use Rattle.argus_actions.specs.declared.origin.Origin.{Origin}
 use Rattle.argus_actions.specs.declared.status.Status.TheVariants.{Live}
-use Rattle.argus_actions.specs.Row.{Row, at_parent, under_of, is_sub_of, is_begun_under, is_live}
-use Rattle.argus_actions.specs.Rows.{AreInStep, depth_at, newest_below, newest_child_below}
+use Rattle.argus_actions.specs.Row.{Row, at_parent, under_of, is_sub_of, is_begun_under}
+use Rattle.argus_actions.specs.Rows.{AreInStep, depth_at, live_count, newest_below}
+use Rattle.argus_actions.specs.Rows.{newest_child_below}
 use Rattle.argus_actions.specs.Tree.{Tree, row_of}
 
 -- the row that a node keeps
@@ -39,12 +40,6 @@ link_to (Some a) = a
 -- the action that a link leads to
 abbrev pub link_end : ℕ → Option ActionId
 link_end link = if link == NONE then None else Some (record { 0 = link })
-
--- how many live actions were begun under this one
-abbrev pub live_count : List Row → ℕ → ℕ
-live_count [] a = 0
-live_count (row ∷ older) a =
-    (if is_begun_under a row.origin && is_live row.status then 1 else 0) + live_count older a
 
 -- what the node of this number says beside its row
 pub record IsNode (folded : ℕ) (rows : List Row) (a : ℕ) (node : Node) : Type 0 where

@@ -35,6 +35,12 @@ depth_at folded (row ∷ older) a =
 abbrev pub is_live_under : List Row → ℕ → Bool
 is_live_under rows a = list_any (λ row. is_begun_under a row.origin && is_live row.status) rows
 
+-- how many live actions were begun under this one, as its subactions or as its nested topactions
+abbrev pub live_count : List Row → ℕ → ℕ
+live_count [] a = 0
+live_count (row ∷ older) a =
+    (if is_begun_under a row.origin && is_live row.status then 1 else 0) + live_count older a
+
 -- the rows with the status of some of them changed
 abbrev pub mark : ℕ → (ℕ → Bool) → Status → List Row → List Row
 mark folded which status [] = []

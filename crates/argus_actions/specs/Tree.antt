@@ -8,7 +8,7 @@ use Rattle.argus_actions.specs.declared.origin.Origin.TheVariants.{Top, Sub, Nes
 use Rattle.argus_actions.specs.declared.status.Status.{Status}
 use Rattle.argus_actions.specs.declared.status.Status.TheVariants.{Live, Committed, Aborted, Folded}
 use Rattle.argus_actions.specs.Row.{Row, at_parent, under_of}
-use Rattle.argus_actions.specs.Rows.{numbered, is_above, depth_at, is_live_under}
+use Rattle.argus_actions.specs.Rows.{numbered, is_above, depth_at, is_live_under, live_count}
 use Rattle.argus_actions.specs.Rows.{is_live_sibling_of, has_ancestor, mark, newest_below}
 use Rattle.argus_actions.specs.Rows.{newest_child_below}
 
@@ -59,6 +59,10 @@ is_ancestor tree x y = is_above tree.folded tree.rows x y
 -- a live subaction of it, or a live nested topaction that it created
 abbrev pub has_live_child : Tree → ℕ → Bool
 has_live_child tree a = is_live_under tree.rows a
+
+-- how many live subactions and live nested topactions it has
+abbrev pub live_children : Tree → ℕ → ℕ
+live_children tree a = live_count tree.rows a
 
 -- the number of its ancestors
 abbrev pub depth_of : Tree → ℕ → Option ℕ

@@ -1,7 +1,7 @@
 //! `ActionTree`: the actions that were begun.
 
-ghost use Rattle.std.specs.Prelude.{◌≡◌, ℕ, ◌<◌, ◌≤◌, ◌+◌, ◌-◌, true, [], None, Some, OnOk};
-ghost use Rattle.std.specs.Prelude.{OnErr, IfOk};
+ghost use Rattle.std.specs.Prelude.{◌≡◌, ℕ, ◌<◌, ◌≤◌, ◌+◌, ◌-◌, false, true, [], None, Some, OnOk};
+ghost use Rattle.std.specs.Prelude.{OnErr, IfSome};
 ghost use Rattle.std.specs.Option.{option_and_then};
 ghost use Rattle.std.specs.Result.{result_err};
 ghost use Rattle.argus_actions.specs.declared.origin.Origin.TheVariants.{Top, Sub, Nested};
@@ -11,15 +11,15 @@ ghost use Rattle.argus_actions.specs.Rows.{depth_at, under_at, is_live_at, is_su
 ghost use Rattle.argus_actions.specs.Rows.{AreInStep};
 ghost use Rattle.argus_actions.specs.Tree.{Tree, next, status_of, parent_of, creator_of};
 ghost use Rattle.argus_actions.specs.Tree.{newest_sub_of, older_sub_of, newest_child_of};
-ghost use Rattle.argus_actions.specs.Tree.{older_sibling_of, is_ancestor, has_live_child, depth_of};
+ghost use Rattle.argus_actions.specs.Tree.{older_sibling_of, is_ancestor, has_live_child};
+ghost use Rattle.argus_actions.specs.Tree.{live_children, depth_of};
 ghost use Rattle.argus_actions.specs.Tree.{IsGreatestBelow, SameActions, after_begin, after_commit};
 ghost use Rattle.argus_actions.specs.Tree.{after_abort, after_abort_others};
 ghost use Rattle.argus_actions.specs.Nodes.{IsNodeOf, AreLinked, IsBegunBetween, link_end};
 ghost use Rattle.argus_actions.specs.Refusals.{begin_top_refusal, begin_sub_refusal};
 ghost use Rattle.argus_actions.specs.Refusals.{begin_nested_refusal, commit_refusal, abort_refusal};
-ghost use Rattle.argus_actions.specs.Refusals.{abort_others_refusal, IsRefusedBy};
+ghost use Rattle.argus_actions.specs.Refusals.{abort_others_refusal};
 
-use crate::action_error::ActionError;
 use crate::action_id::ActionId;
 use crate::action_refusal::ActionRefusal;
 use crate::node::{NONE, Node};
@@ -180,20 +180,34 @@ impl ActionTree {
     /// The number of the action's ancestors, itself among them: 1 to 64. None where it was not
     /// begun, or is folded.
     pub fn depth(&self, a: ActionId) -> Option<u32>
-        ensures { result ≡ depth_of self.now a.0 }
+        ensures value { result ≡ depth_of self.now a.0 }
+        ensures least { IfSome result (λ depth. 1 ≤ depth) }
+        ensures greatest { IfSome result (λ depth. depth ≤ MAX_ACTION_DEPTH) }
     {
         self.node(a).map(|node| u32::from(node.depth))
+    }
+
+    /// How many live subactions and live nested topactions the action has; 0 where it was not begun
+    /// or is folded.
+    pub fn live_children(&self, a: ActionId) -> u32
+        ensures value { result ≡ live_children self.now a.0 }
+        ensures folded { a.0 < self.now.folded → result ≡ 0 }
+        ensures unbegun { next self.now ≤ a.0 → result ≡ 0 }
+    {
+        match self.node(a) {
+            Some(node) => node.live_children,
+            None => 0,
+        }
     }
 
     /// Whether a live subaction has the action as its parent, or a live nested topaction as its
     /// creator; false where it was not begun or is folded.
     pub fn has_live_child(&self, a: ActionId) -> bool
-        ensures { result ≡ has_live_child self.now a.0 }
+        ensures value { result ≡ has_live_child self.now a.0 }
+        ensures folded { a.0 < self.now.folded → result ≡ false }
+        ensures unbegun { next self.now ≤ a.0 → result ≡ false }
     {
-        match self.node(a) {
-            Some(node) => node.live_children > 0,
-            None => false,
-        }
+        self.live_children(a) > 0
     }
 
     /// Whether `x` is an ancestor of `y`; false where either was not begun or is folded.
@@ -286,56 +300,6 @@ impl ActionTree {
         }
     }
 
-    /// Begins a topaction, and gives its number. Refusals: `TooMany`, then `OutOfMemory`.
-    pub fn begin_top(&mut self) -> Result<ActionId, ActionError>
-        ensures refused { IsRefusedBy (begin_top_refusal self.old) result }
-        ensures number { IfOk result (λ a. a.0 ≡ next self.old) }
-        ensures ok { OnOk result (SameActions (after_begin self.old Top) self.new) }
-        ensures err { OnErr result (self.new ≡ self.old) }
-    {
-        if let Some(refusal) = self.begin_top_refusal() {
-            return Err(ActionError::Refused(refusal));
-        }
-        match self.reserve() {
-            Ok(()) => Ok(self.begin_top_reserved()),
-            Err(OutOfMemory) => Err(ActionError::OutOfMemory),
-        }
-    }
-
-    /// Begins a subaction of a live parent, and gives its number. Refusals: `NoAction`, `Over`,
-    /// `TooDeep` where the parent has 64 ancestors, `TooMany`, then `OutOfMemory`.
-    pub fn begin_sub(&mut self, parent: ActionId) -> Result<ActionId, ActionError>
-        ensures refused { IsRefusedBy (begin_sub_refusal self.old parent.0) result }
-        ensures number { IfOk result (λ a. a.0 ≡ next self.old) }
-        ensures ok { OnOk result (SameActions (after_begin self.old (Sub parent.0)) self.new) }
-        ensures err { OnErr result (self.new ≡ self.old) }
-    {
-        if let Some(refusal) = self.begin_sub_refusal(parent) {
-            return Err(ActionError::Refused(refusal));
-        }
-        match self.reserve() {
-            Ok(()) => Ok(self.begin_sub_reserved(parent)),
-            Err(OutOfMemory) => Err(ActionError::OutOfMemory),
-        }
-    }
-
-    /// Begins a nested topaction of a live creator, and gives its number. It has no ancestor but
-    /// itself. Refusals: `NoAction`, `Over`, `TooMany`, then `OutOfMemory`.
-    pub fn begin_nested(&mut self, creator: ActionId) -> Result<ActionId, ActionError>
-        ensures refused { IsRefusedBy (begin_nested_refusal self.old creator.0) result }
-        ensures number { IfOk result (λ a. a.0 ≡ next self.old) }
-        ensures ok { OnOk result (SameActions (after_begin self.old (Nested creator.0)) self.new) }
-        ensures err { OnErr result (self.new ≡ self.old) }
-    {
-        if let Some(refusal) = self.begin_nested_refusal(creator) {
-            return Err(ActionError::Refused(refusal));
-        }
-        match self.reserve() {
-            Ok(()) => Ok(self.begin_nested_reserved(creator)),
-            Err(OutOfMemory) => Err(ActionError::OutOfMemory),
-        }
-    }
-
     /// Begins a topaction that nothing refuses, in the room that `reserve` has made.
     pub fn begin_top_reserved(&mut self) -> ActionId
         requires room { 0 < self.old.room }
@@ -425,7 +389,7 @@ impl ActionTree {
     /// Aborts all live siblings of an action, each with its subactions, theirs, and so on. A
     /// sibling is another action with the same parent or creator, of either kind. Committed
     /// siblings and those begun later are untouched, and nested topactions begun under a sibling go
-    /// on.
+    /// on. It visits no sibling that is older than the oldest live one.
     ///
     /// Refusals: `NoAction`, `Over`, `ChildrenLive`, then `NoSiblings`.
     pub fn abort_others(&mut self, a: ActionId) -> Result<(), ActionRefusal>

@@ -10,6 +10,7 @@ mod action_error;
 mod action_id;
 mod action_refusal;
 mod action_tree;
+mod beginning;
 mod node;
 mod origin;
 mod refusing;

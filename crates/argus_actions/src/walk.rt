@@ -1,14 +1,14 @@
 //! What is done to the nodes of a tree, oldest first: the climb to an ancestor, one action's begin
 //! and end, and aborts. The action `first` has the first of the nodes; those below it are folded.
 
-ghost use Rattle.std.specs.Prelude.{◌≡◌, ℕ, ◌+◌, ◌<◌, ◌≤◌, ◌==◌, false, ◌∷◌, Some, length};
+ghost use Rattle.std.specs.Prelude.{◌≡◌, ℕ, ◌+◌, ◌<◌, ◌≤◌, ◌==◌, false, true, ◌∷◌, Some, length};
 ghost use Rattle.std.specs.Prelude.{slice_index_or, vec_len};
 ghost use Rattle.std.specs.Vec.{vec_capacity};
 ghost use Rattle.argus_actions.specs.declared.node.Node.{Node};
 ghost use Rattle.argus_actions.specs.declared.status.Status.TheVariants.{Live, Aborted};
 ghost use Rattle.argus_actions.specs.Row.{at_parent, is_live};
 ghost use Rattle.argus_actions.specs.Rows.{is_above, depth_at, mark, has_ancestor};
-ghost use Rattle.argus_actions.specs.Rows.{is_live_sibling_of, under_at};
+ghost use Rattle.argus_actions.specs.Rows.{is_live_at, is_live_sibling_of, under_at};
 ghost use Rattle.argus_actions.specs.Nodes.{rows_of, AreLinked, AreNodes, IsBegunBetween, adopted};
 ghost use Rattle.argus_actions.specs.Nodes.{fresh, older_sub_link, older_child_link};
 
@@ -146,21 +146,27 @@ pub(crate) fn abort_under(nodes: &mut [Node], first: u32, a: u32)
     }
 }
 
-/// Aborts the live siblings of an action that was begun under this one, each with its subactions,
-/// theirs, and so on; of the others it visits the siblings alone.
+/// Aborts the live siblings of a live action that was begun under this one, each with its
+/// subactions, theirs, and so on; of the others it visits those alone that are newer than the
+/// oldest live sibling.
 pub(crate) fn abort_siblings(nodes: &mut [Node], first: u32, a: u32, under: u32)
     requires nodes { AreNodes first nodes.old }
+    requires live { is_live_at first (rows_of nodes.old) a ≡ true }
     requires under { under_at first (rows_of nodes.old) a ≡ Some under }
     ensures nodes { AreNodes first nodes.new }
     ensures rows { let rows = rows_of nodes.old in
         rows_of nodes.new ≡ mark first (has_ancestor (is_live_sibling_of first rows a) first rows)
         Aborted rows }
 {
-    let mut child = nodes[(under - first) as usize].newest_child;
-    while child != NONE {
+    let above = (under - first) as usize;
+    let mut child = nodes[above].newest_child;
+    // The action itself is one of the live ones.
+    let mut others = nodes[above].live_children - 1;
+    while others > 0 {
         let at = (child - first) as usize;
         if child != a && nodes[at].status.is_live() {
             abort_under(nodes, first, child);
+            others -= 1;
         }
         child = nodes[at].older_child;
     }

@@ -1,20 +1,23 @@
--- The walk over the siblings of an action: which of them were ended so far.
+-- The walk over the siblings of an action: which of them were ended so far, and how many live ones are left.
 use Rattle.std.proofs.Common.{Bool, List, None, Option, Some, [], ap, arith, cond, false, inl, inr, length, refl, subst}
-use Rattle.std.proofs.Common.{sym, true, ℕ, ◌+◌, ◌<◌, ◌≤◌, ◌∙◌, ◌∷◌, ◌≡◌, eqb, ◌||◌}
+use Rattle.std.proofs.Common.{sym, true, ℕ, ◌+◌, ◌-◌, ◌<◌, ◌≤◌, ◌∙◌, ◌∷◌, ◌≡◌, eqb, ◌||◌}
 use Rattle.std.specs.List.{filter}
 use Rattle.std.specs.Option.{option_and_then, option_map_or}
 use Rattle.std.specs.Prelude.{nat_le, not, slice_index_or, ◌&&◌, ◌==◌}
 use Rattle.std.proofs.lemmas.Bool.{and_from, and_parts, and_right, cases_Bool, cases_eq, cases_lt, eq-eqb, false≢true}
 use Rattle.std.proofs.lemmas.Bool.{le-leb, lt-leb, ne_eqb, or_left, or_right}
 use Rattle.std.proofs.lemmas.List.Elements.{filter_agree}
+use Rattle.argus_actions.proofs.Counted.{count}
+use Rattle.argus_actions.proofs.Marks.{one}
 use Rattle.argus_actions.proofs.Newest.{came_row, newest_where_at, newest_where_most, newest_where_no}
 use Rattle.argus_actions.proofs.RowsLemmas.{row_begun}
-use Rattle.argus_actions.proofs.Siblings.{comes_under}
+use Rattle.argus_actions.proofs.Siblings.{comes_under, others_first, others_past, others_step}
 use Rattle.argus_actions.specs.Row.{Row, is_begun_under, under_of}
 use Rattle.argus_actions.specs.Row as tree_row
 use Rattle.argus_actions.specs.Rows.{has_ancestor, is_above, is_child_of, is_live_at, is_sibling_of, newest_child_below}
 use Rattle.argus_actions.specs.Rows.{numbered, under_at}
-use Rattle.argus_actions.specs.Tree.{Tree, is_ancestor, is_live_sibling, named, newest_child_of, next, older_sibling_of}
+use Rattle.argus_actions.specs.Tree.{Tree, is_ancestor, is_live_sibling, live_children, named, newest_child_of, next}
+use Rattle.argus_actions.specs.Tree.{older_sibling_of}
 use Rattle.argus_actions.specs.declared.action_id.ActionId.{ActionId}
 use Rattle.argus_actions.specs.declared.origin.Origin as tree_origin
 use Rattle.argus_actions.specs.declared.origin.Origin.TheVariants as begun
@@ -240,12 +243,14 @@ ended_lawful t ended old new held held' k = λ o d lt. (k.cell o d (subst (λ n.
 abbrev pub is_seen : Tree → ℕ → ℕ → ℕ → Bool
 is_seen t a bound x = is_live_sibling t a x && nat_le bound x
 
--- in the midst of the loop: the siblings from the bound on were ended, and the next is the newest below it
-pub record IsSwung (t : Tree) (a u : ℕ) (old new : List AtomicObject) (held held' : Holdings)
+-- in the midst of the loop: the siblings from the bound on were ended, the next is the newest below it, and so many
+-- live ones are below it
+pub record IsSwung (t : Tree) (a u : ℕ) (old new : List AtomicObject) (held held' : Holdings) (left : ℕ)
     (child : Option ActionId) : Type 0 where
   pub bound : ℕ
   pub next_child : child ≡ named (newest_child_below t.folded t.rows u bound)
   pub ended : AreEnded t (has_ancestor (is_seen t a bound) t.folded t.rows) old new held held'
+  pub others : left ≡ count (is_live_sibling t a) bound
 
 module _ (t : Tree) (a u : ℕ) (under : under_at t.folded t.rows a ≡ Some u) where
   -- a live sibling was begun under the same action
@@ -310,16 +315,25 @@ module _ (t : Tree) (a u : ℕ) (under : under_at t.folded t.rows a ≡ Some u) 
             | inr ne ↦ and_right (is_live_sibling t a c) (c == x) (ne_eqb c x ne)
           ]
 
-  module _ (old new : List AtomicObject) (held held' : Holdings) where
+  -- of the live actions that were begun under the same one all but one are its live siblings
+  pub first_left : is_live_at t.folded t.rows a ≡ true → live_children t u ≡ 1 + count (is_live_sibling t a) (next t)
+  first_left live = others_first t.folded t.rows a u under live
+
+  left_next : (bound c : ℕ) → newest_child_below t.folded t.rows u bound ≡ Some c
+      → count (is_live_sibling t a) bound ≡ one (is_live_sibling t a c) + count (is_live_sibling t a) c
+  left_next bound c e = others_step t.folded t.rows a u under bound c e
+
+  module _ (old new : List AtomicObject) (held held' : Holdings) (left : ℕ) where
     -- before the first
     pub swing_start : (child : Option ActionId) → child ≡ newest_child_of t u → AreLawful t old
-        → IsSwung t a u old old held held child
-    swing_start child is l = record {
+        → left ≡ count (is_live_sibling t a) (next t) → IsSwung t a u old old held held left child
+    swing_start child is l others = record {
       bound = next t;
       next_child = is;
       ended = none_ended t (has_ancestor (is_seen t a (next t)) t.folded t.rows)
           (λ x. has_same (is_seen t a (next t)) (λ x. false) none t.folded t.rows x ∙ has_none t.folded t.rows x)
           old held l;
+      others = others;
     }
       where
         none : (x : ℕ) → is_seen t a (next t) x ≡ false
@@ -333,14 +347,14 @@ module _ (t : Tree) (a u : ℕ) (under : under_at t.folded t.rows a ≡ Some u) 
             ]
 
     -- the sibling that comes next has begun
-    pub swing_next : (c : ActionId) → IsSwung t a u old new held held' (Some c) → (c.0 < next t) × (t.folded ≤ c.0)
+    pub swing_next : (c : ActionId) → IsSwung t a u old new held held' left (Some c) → (c.0 < next t) × (t.folded ≤ c.0)
     swing_next c k =
         let at = newest_where_at (is_begun_under u) t.folded t.rows k.bound c.0
         (named_some (newest_child_below t.folded t.rows u k.bound) c k.next_child) in
         (at.1.0, at.0)
 
     -- whether it is a live sibling
-    pub sibling_here : (c : ActionId) → IsSwung t a u old new held held' (Some c)
+    pub sibling_here : (c : ActionId) → IsSwung t a u old new held held' left (Some c)
         → is_live_sibling t a c.0 ≡ (is_live_at t.folded t.rows c.0 && not (c.0 == a))
     sibling_here c k =
         let at = newest_where_at (is_begun_under u) t.folded t.rows k.bound c.0
@@ -356,7 +370,7 @@ module _ (t : Tree) (a u : ℕ) (under : under_at t.folded t.rows a ≡ Some u) 
         and_all false = refl
 
     -- the steps get fewer
-    pub swing_fewer : (c : ActionId) → IsSwung t a u old new held held' (Some c)
+    pub swing_fewer : (c : ActionId) → IsSwung t a u old new held held' left (Some c)
         → steps_left (older_sibling_of t c.0) < c.0 + 1
     swing_fewer c k =
         let e = named_some (newest_child_below t.folded t.rows u k.bound) c k.next_child in
@@ -370,8 +384,8 @@ module _ (t : Tree) (a u : ℕ) (under : under_at t.folded t.rows a ≡ Some u) 
 
     -- a live sibling was ended
     pub swing_step : (c : ActionId) (more : List AtomicObject) (held2 : Holdings) → is_live_sibling t a c.0 ≡ true
-        → IsSwung t a u old new held held' (Some c) → AreEnded t (is_ancestor t c.0) new more held' held2
-        → IsSwung t a u old more held held2 (older_sibling_of t c.0)
+        → IsSwung t a u old new held held' left (Some c) → AreEnded t (is_ancestor t c.0) new more held' held2
+        → IsSwung t a u old more held held2 (left - 1) (older_sibling_of t c.0)
     swing_step c more held2 live k m =
         let e = named_some (newest_child_below t.folded t.rows u k.bound) c k.next_child in
         record {
@@ -386,11 +400,15 @@ module _ (t : Tree) (a u : ℕ) (under : under_at t.folded t.rows a ≡ Some u) 
               ∙ has_either (is_seen t a k.bound) (λ x. c.0 == x) t.folded t.rows y
               ∙ ap (λ b. has_ancestor (is_seen t a k.bound) t.folded t.rows y || b) (has_one c.0 t.folded t.rows y))
               old new more held held' held2 k.ended m;
+          others =
+              let one_more : left ≡ 1 + count (is_live_sibling t a) c.0 =
+              k.others ∙ left_next k.bound c.0 e ∙ ap (λ b. one b + count (is_live_sibling t a) c.0) live in
+              omega arith;
         }
 
     -- another one is passed over
-    pub swing_pass : (c : ActionId) → is_live_sibling t a c.0 ≡ false → IsSwung t a u old new held held' (Some c)
-        → IsSwung t a u old new held held' (older_sibling_of t c.0)
+    pub swing_pass : (c : ActionId) → is_live_sibling t a c.0 ≡ false → IsSwung t a u old new held held' left (Some c)
+        → IsSwung t a u old new held held' left (older_sibling_of t c.0)
     swing_pass c off k =
         let e = named_some (newest_child_below t.folded t.rows u k.bound) c k.next_child in
         record {
@@ -403,29 +421,46 @@ module _ (t : Tree) (a u : ℕ) (under : under_at t.folded t.rows a ≡ Some u) 
               (λ x. seen_more k.bound c.0 e x ∙ ap (λ b. is_seen t a k.bound x || (b && c.0 == x)) off
               ∙ or_off (is_seen t a k.bound x)) t.folded t.rows y)
               old new held held' k.ended;
+          others =
+              let no_more : left ≡ 0 + count (is_live_sibling t a) c.0 =
+              k.others ∙ left_next k.bound c.0 e ∙ ap (λ b. one b + count (is_live_sibling t a) c.0) off in
+              omega arith;
         }
       where
         or_off : (b : Bool) → (b || false) ≡ b
         or_off true = refl
         or_off false = refl
 
-    -- none is left
-    pub swing_end : IsSwung t a u old new held held' None
+    all_seen : (bound : ℕ) → ((x : ℕ) → is_live_sibling t a x ≡ true → bound ≤ x)
+        → AreEnded t (has_ancestor (is_seen t a bound) t.folded t.rows) old new held held'
         → AreEnded t (has_ancestor (is_live_sibling t a) t.folded t.rows) old new held held'
-    swing_end k =
-        all_same t (has_ancestor (is_seen t a k.bound) t.folded t.rows)
+    all_seen bound past ended =
+        all_same t (has_ancestor (is_seen t a bound) t.folded t.rows)
         (has_ancestor (is_live_sibling t a) t.folded t.rows)
-        (λ y. has_same (is_live_sibling t a) (is_seen t a k.bound) all t.folded t.rows y)
-        old new held held' k.ended
+        (λ y. has_same (is_live_sibling t a) (is_seen t a bound) all t.folded t.rows y)
+        old new held held' ended
       where
-        all : (x : ℕ) → is_live_sibling t a x ≡ is_seen t a k.bound x
+        all : (x : ℕ) → is_live_sibling t a x ≡ is_seen t a bound x
         all x =
             elim (cases_Bool (is_live_sibling t a x)) [
               | inl live ↦
-                  let r = sibling_row x live in
                   live
-                  ∙ sym (and_from (is_live_sibling t a x) (nat_le k.bound x) live
-                  (le-leb k.bound x (newest_where_no (is_begun_under u) t.folded t.rows k.bound x r.0
-                  (named_none (newest_child_below t.folded t.rows u k.bound) k.next_child) r.1.0 r.1.1)))
-              | inr off ↦ off ∙ sym (ap (λ b. b && nat_le k.bound x) off)
+                  ∙ sym (and_from (is_live_sibling t a x) (nat_le bound x) live (le-leb bound x (past x live)))
+              | inr off ↦ off ∙ sym (ap (λ b. b && nat_le bound x) off)
             ]
+
+    -- no sibling is left
+    pub swing_end : IsSwung t a u old new held held' left None
+        → AreEnded t (has_ancestor (is_live_sibling t a) t.folded t.rows) old new held held'
+    swing_end k =
+        all_seen k.bound
+        (λ x live. let r = sibling_row x live in
+        newest_where_no (is_begun_under u) t.folded t.rows k.bound x r.0
+        (named_none (newest_child_below t.folded t.rows u k.bound) k.next_child) r.1.0 r.1.1) k.ended
+
+    -- no live one is left
+    pub swing_done : (child : Option ActionId) → left ≡ 0 → IsSwung t a u old new held held' left child
+        → AreEnded t (has_ancestor (is_live_sibling t a) t.folded t.rows) old new held held'
+    swing_done child none k =
+        all_seen k.bound
+        (λ x live. others_past t.folded t.rows a u under k.bound x (sym k.others ∙ none) live) k.ended

@@ -1,7 +1,7 @@
 //! What becomes of the objects that actions hold which an abort ends: the walk visits the objects
 //! on their lists and no other.
 
-ghost use Rattle.std.specs.Prelude.{◌≡◌, ◌<◌, ◌≤◌, length, None, Some};
+ghost use Rattle.std.specs.Prelude.{◌≡◌, ◌<◌, ◌≤◌, length, true, None, Some};
 ghost use Rattle.std.specs.Option.{option_map};
 ghost use Rattle.argus_actions.specs.Nodes.{AreLinked};
 ghost use Rattle.argus_actions.specs.Refusals.{abort_others_refusal};
@@ -61,8 +61,8 @@ pub(crate) fn discard_under(
     sweep_under(objects, holdings, tree, a, a);
 }
 
-/// Discards what the live siblings of an action hold, which was begun under this one, and all that
-/// stand under them, and clears their lists.
+/// Discards what the live siblings of a live action hold, which was begun under this one, and all
+/// that stand under them, and clears their lists. It goes no further than to the oldest of them.
 fn discard_siblings(
     objects: &mut [AtomicObject],
     holdings: &mut Holdings,
@@ -71,6 +71,7 @@ fn discard_siblings(
     under: ActionId,
 )
     requires linked { AreLinked tree.now.folded tree.now.rows }
+    requires live { is_live_at tree.now.folded tree.now.rows a.0 ≡ true }
     requires under { under_at tree.now.folded tree.now.rows a.0 ≡ Some under.0 }
     requires lawful { AreLawful tree.now objects.old }
     requires there { AreAllThere holdings.old (length objects.old) }
@@ -80,9 +81,15 @@ fn discard_siblings(
         objects.old objects.new holdings.old holdings.new }
 {
     let mut child = tree.newest_child(under);
+    // The action itself is one of the live ones.
+    let mut others = tree.live_children(under) - 1;
     while let Some(sibling) = child {
+        if others == 0 {
+            return;
+        }
         if sibling.0 != a.0 && is_live(tree, sibling) {
             discard_under(objects, holdings, tree, sibling);
+            others -= 1;
         }
         child = tree.older_sibling(sibling);
     }

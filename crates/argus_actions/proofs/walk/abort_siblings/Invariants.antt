@@ -5,12 +5,12 @@ use Rattle.argus_actions.proofs.Walks.{steps_left}
 use Rattle.argus_actions.proofs.Siblings.{IsSwept}
 use Rattle.argus_actions.proofs.walk.abort_siblings.Given as goal
 
-abbrev pub invariant-loop-child : goal.invariant-loop-child
-invariant-loop-child l = record {
+abbrev pub invariant-loop-others : goal.invariant-loop-others
+invariant-loop-others l = record {
   nodes : AreNodes l.first l.nodes;
   long : length l.nodes ≡ length l.fn.nodes;
-  swept : IsSwept l.first l.fn.nodes l.nodes l.a l.under l.child;
+  swept : IsSwept l.first l.fn.nodes l.nodes l.a l.under l.child l.others;
 }
 
-abbrev pub decreases-loop-child : goal.decreases-loop-child
-decreases-loop-child l = steps_left l.child
+abbrev pub decreases-loop-others : goal.decreases-loop-others
+decreases-loop-others l = steps_left l.child

@@ -1,12 +1,20 @@
 -- All below a live sibling are Aborted.
-use Rattle.std.proofs.Common.{◌≡◌, List, length, subst, ap, arith}
+use Rattle.std.proofs.Common.{◌≡◌, List, length, true, subst, sym, ap, arith}
 use Rattle.std.proofs.lemmas.List.{with_items_is}
 use Rattle.argus_actions.specs.declared.node.Node.{Node}
 use Rattle.argus_actions.specs.declared.status.Status.TheVariants.{Aborted}
-use Rattle.argus_actions.specs.Rows.{mark, has_ancestor, is_live_sibling_of}
+use Rattle.argus_actions.specs.Rows.{mark, has_ancestor, is_live_at, is_live_sibling_of}
 use Rattle.argus_actions.specs.Nodes.{rows_of}
+use Rattle.argus_actions.proofs.Accepted.{accepted_live, none_first}
 use Rattle.argus_actions.proofs.InStep.{ancestor_down, in_step_aborted}
 use Rattle.argus_actions.proofs.action_tree.ActionTree.abort_others_ready.Goals as goal
+
+pub abort_siblings-requires-clause-live : goal.abort_siblings-requires-clause-live
+abort_siblings-requires-clause-live c =
+    let live = accepted_live c.args.self.now c.args.a.0 (none_first _ _ (none_first _ _ c.requires)) in
+    let here = rw (← c.self.view_is) at live in
+    let P : List Node → Type 0 = λ xs. is_live_at c.self.inside.first (rows_of xs) c.args.a.0 ≡ true in
+    subst P (sym c.as_mut_slice.ensures.value) here
 
 pub invariant_of-self : goal.invariant_of-self
 invariant_of-self c =

@@ -1,7 +1,12 @@
 -- An action whose siblings may be aborted was begun under another.
+use Rattle.argus_actions.proofs.Accepted.{accepted_live, none_first}
 use Rattle.argus_actions.specs.Rows.{under_at}
 use Rattle.argus_core.proofs.Under.{named_under, none_under, others_under}
 use Rattle.argus_core.proofs.engine.discarding.discard_others.Goals as goal
+
+pub discard_siblings-requires-clause-live : goal.discard_siblings-requires-clause-live
+discard_siblings-requires-clause-live c =
+    accepted_live c.args.tree.now c.args.a.0 (none_first _ _ (none_first _ _ c.requires.accepted))
 
 pub discard_siblings-requires-clause-under : goal.discard_siblings-requires-clause-under
 discard_siblings-requires-clause-under c =
