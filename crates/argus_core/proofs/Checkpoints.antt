@@ -53,7 +53,7 @@ event_folds None h = refl
 event_folds (Some e) h = refl
 
 -- no event folds more
-folded_is : (s : Opening) (j : List PlainEntry) → folded (history s j) ≡ s.first_action
+pub folded_is : (s : Opening) (j : List PlainEntry) → folded (history s j) ≡ s.first_action
 folded_is s [] = refl
 folded_is s (e ∷ older) =
     event_folds (event_of (history s older) e.call e.reply e) (history s older) ∙ folded_is s older
@@ -69,17 +69,17 @@ no_versions (v ∷ vs) f =
     (or_left (eqb v.holder.0 v.holder.0) (has_version v.holder vs) (eq-eqb v.holder.0 v.holder.0 refl)))
 
 -- the shapes and the bases of objects as an opening has them
-shapes_opened : (xs : List AtomicObject) → map (λ object. object.0) (opened_objects xs) ≡ map (λ k. k.shape) xs
+pub shapes_opened : (xs : List AtomicObject) → map (λ object. object.0) (opened_objects xs) ≡ map (λ k. k.shape) xs
 shapes_opened [] = refl
 shapes_opened (x ∷ xs) = ap (λ ys. x.shape ∷ ys) (shapes_opened xs)
 
-base_opened : (xs : List AtomicObject) (o : ℕ) (d : AtomicObject) → o < length xs
+pub base_opened : (xs : List AtomicObject) (o : ℕ) (d : AtomicObject) → o < length xs
     → content_in (opened_objects xs) o ≡ (slice_index_or xs o d).cell.base
 base_opened [] o d lt = absurd (omega (arith, lt))
 base_opened (x ∷ xs) zero d lt = refl
 base_opened (x ∷ xs) (suc o) d lt = base_opened xs o d (omega (arith, lt))
 
-length_opened : (xs : List AtomicObject) → length (opened_objects xs) ≡ length xs
+pub length_opened : (xs : List AtomicObject) → length (opened_objects xs) ≡ length xs
 length_opened [] = refl
 length_opened (x ∷ xs) = ap suc (length_opened xs)
 

@@ -23,3 +23,6 @@ pub mod Alters
 pub mod Tests
 pub mod FreeLocks
 pub mod OfState
+pub mod StatusTold
+pub mod Started
+pub mod AbortingLive

@@ -8,3 +8,5 @@ pub mod Moving
 pub mod GuardianState
 pub mod CommitStep
 pub mod Sweeping
+pub mod Statuses
+pub mod AbortingLive

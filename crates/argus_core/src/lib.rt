@@ -1,6 +1,7 @@
 //! Atomic objects under nested transactions: each call is one step.
 #![tactic(auto)]
 
+mod aborting_live;
 mod accessing;
 mod beginning;
 mod calling;
@@ -14,6 +15,8 @@ mod guardian;
 mod laws;
 mod objects;
 mod ready_commit;
+mod starting;
+mod statuses;
 mod testing;
 
 pub use checkpoint_error::CheckpointError;

@@ -1,7 +1,9 @@
+pub use Rattle.argus_core.specs.AbortingLive
 pub use Rattle.argus_core.specs.Checkpoint
 pub use Rattle.argus_core.specs.Effect
 pub use Rattle.argus_core.specs.Objects
 pub use Rattle.argus_core.specs.ReadyCommit
+pub use Rattle.argus_core.specs.Statuses
 pub use Rattle.argus_receipts.specs.Checking
 pub use Rattle.argus_receipts.specs.Receipt
 pub use Rattle.argus_board.specs.BoardView

@@ -1,7 +1,6 @@
 //! The guardian: the crate that users name.
 //!
-//! It passes on `argus_core` (the guardian of one thread), `argus_sharing` (the guardian that
-//! threads
+//! It passes on `argus_core` (the guardian of one thread), `argus_sharing` (the guardian that threads
 //! share), `argus_receipts` (receipts of its calls), `argus_board` (the readers' board) and
 //! `argus_listings` (what is listed of a guardian), with the writer that a listing goes to.
 //!
