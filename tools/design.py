@@ -51,7 +51,10 @@ LAYERS = [
         ]),
     ],
     [
-        ("surface", "argus_journal", "calls, replies, what a legal journal is", [("argus_entries", "entries and their lines")]),
+        ("surface", "argus_journal", "calls, replies, what a legal journal is", [
+            ("argus_entries", "entries and their lines"),
+            ("argus_reading", "lines, read back"),
+        ]),
         ("laws", "argus_refinement", "trees and cells are what the journal says", []),
         ("laws", "argus_model", "nested transactions: definitions and laws", []),
     ],

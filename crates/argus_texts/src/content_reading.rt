@@ -56,7 +56,7 @@ fn whole_content(heap: Heap, text: &str) -> Result<Content, Stop>
 }
 
 /// The content at the front, and what is behind it.
-fn one_content(heap: Heap, text: &str) -> Result<(Content, &str), Stop>
+pub fn one_content(heap: Heap, text: &str) -> Result<(Content, &str), Stop>
     ensures read { IfOk result
         (λ r. Reads (Contents MAX_VALUE_DEPTH) text.now (plain_content r.0) r.1.now) }
     ensures stops { IfErr result

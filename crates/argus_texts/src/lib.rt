@@ -14,6 +14,7 @@
 
 mod content_reading;
 mod content_writing;
+pub mod front;
 mod laws;
 mod number;
 mod quoted;

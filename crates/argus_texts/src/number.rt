@@ -9,7 +9,7 @@ use crate::scan::{split_ascii, strip};
 use crate::stop::Stop;
 
 /// The integer at the front, and what is behind it.
-pub(crate) fn int(text: &str) -> Result<(i64, &str), Stop>
+pub fn int(text: &str) -> Result<(i64, &str), Stop>
     ensures read { IfOk result (λ r. Reads Ints text.now r.0 r.1.now) }
     ensures stops { IfErr result (λ e. OnLeft e (λ left. Stops Ints text.now left)) }
 {
@@ -29,7 +29,7 @@ fn negative(number: u64) -> i64
 }
 
 /// The number at the front, from least (0 or 1) to most, and what is behind it.
-pub(crate) fn number(text: &str, least: u8, most: u64) -> Result<(u64, &str), Stop>
+pub fn number(text: &str, least: u8, most: u64) -> Result<(u64, &str), Stop>
     requires { (least ≤ 1) × (9 ≤ most) }
     ensures read { IfOk result (λ r. Reads (Numbers least most) text.now r.0 r.1.now) }
     ensures stops { IfErr result

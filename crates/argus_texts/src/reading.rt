@@ -54,7 +54,7 @@ fn whole_value(heap: Heap, text: &str) -> Result<Value, Stop>
 
 /// The value at the front, and what is behind it.
 #[cycle(reading)]
-pub(crate) fn one_value(heap: Heap, text: &str, levels: usize) -> Result<(Value, &str), Stop>
+pub fn one_value(heap: Heap, text: &str, levels: usize) -> Result<(Value, &str), Stop>
     requires { 0 < levels }
     ensures read { IfOk result (λ r. Reads (Values levels) text.now (plain_value r.0) r.1.now) }
     ensures stops { IfErr result (λ e. OnLeft e (λ left. Stops (Values levels) text.now left)) }

@@ -40,7 +40,7 @@ pub(crate) fn strip(text: &str, wanted: u8) -> Option<&str>
 }
 
 /// What is behind the byte, which must come.
-pub(crate) fn expect(text: &str, wanted: u8) -> Result<&str, Stop>
+pub fn expect(text: &str, wanted: u8) -> Result<&str, Stop>
     requires { wanted < 128 }
     ensures read { IfOk result (λ rest. text.now ≡ wanted ∷ rest.now) }
     ensures stops { IfErr result
@@ -61,7 +61,7 @@ pub(crate) fn strip_word<'a>(text: &'a str, word: &str) -> Option<&'a str>
 }
 
 /// What is behind the word, which is ASCII and must come.
-pub(crate) fn word<'a>(text: &'a str, word: &str) -> Result<&'a str, Stop>
+pub fn word<'a>(text: &'a str, word: &str) -> Result<&'a str, Stop>
     requires { list_all (λ b. nat_lt b 128) word.now ≡ true }
     ensures read { IfOk result (λ rest. text.now ≡ word.now ++ rest.now) }
     ensures stops { IfErr result (λ e. OnLeft e (λ left. Stops (Word word.now) text.now left)) }

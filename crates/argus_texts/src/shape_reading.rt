@@ -44,7 +44,7 @@ fn whole_shape(heap: Heap, text: &str) -> Result<Shape, Unread>
 }
 
 /// The shape at the front, and what is behind it.
-fn one_shape(heap: Heap, text: &str) -> Result<(Shape, &str), Unread>
+pub fn one_shape(heap: Heap, text: &str) -> Result<(Shape, &str), Unread>
     ensures read { IfOk result (λ r. Reads Shapes text.now r.0 r.1.now) }
     ensures refused { IfErr result (λ e. OnNoForm e (BeginsNo Shapes text.now)) }
 {

@@ -3,12 +3,15 @@
 use argus_memory::OutOfMemory;
 use std::alloc::{AllocError, AllocFailed};
 
-// The bytes that are left are counted, and not those that were read: so a part hands on what a part
-// of it answers, as it is.
+/// Why a part of a text wasn't read.
+///
+/// The bytes that are left are counted, and not those that were read: so a part hands on what a part
+/// of it answers, as it is.
 #[derive(Debug, Drop)]
-pub(crate) enum Stop {
-    // So many bytes are left where the text stops being the beginning of a form.
+pub enum Stop {
+    /// So many bytes are left where the text stops being the beginning of a form.
     Left(usize),
+    /// There was no memory for what was read.
     Memory,
 }
 

@@ -2,10 +2,12 @@
 
 use std::alloc::AllocFailed;
 
+/// Why no part of a shape was read.
 #[derive(Debug, Drop)]
-pub(crate) enum Unread {
-    // The text begins with no form that could be a part of a shape there.
+pub enum Unread {
+    /// The text begins with no form that could be a part of a shape there.
     NoForm,
+    /// There was no memory for what was read.
     Memory,
 }
 

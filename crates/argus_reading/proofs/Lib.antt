@@ -1,0 +1,10 @@
+pub mod Unions
+pub mod Words
+pub mod Joints
+pub mod Parts
+pub mod Operations
+pub mod Replies
+pub mod Calls
+pub mod CallParts
+pub mod Lacks
+pub mod Whole

@@ -1,0 +1,224 @@
+-- A text begins with one query and change at most.
+use Rattle.std.proofs.Common.{◌≡◌, ℕ, ◌+◌, true, List, [], ◌∷◌, ◌++◌, get_or, arith, refl, sym, ap}
+use Rattle.std.proofs.Common.{◌∙◌, append_assoc, inl}
+use Rattle.std.specs.Fmt.{decimal, signed_decimal}
+use Rattle.std.specs.Prelude.{codes, if◌then◌else◌, ◌==◌}
+use Rattle.std.proofs.lemmas.Bool.{eq-eqb, false≢true}
+use Rattle.argus_contents.specs.Change.{PlainChange}
+use Rattle.argus_contents.specs.Change as change
+use Rattle.argus_contents.specs.declared.query.Query.{Query}
+use Rattle.argus_contents.specs.declared.query.Query.TheVariants as query
+use Rattle.argus_contents.specs.Value.{PlainValue}
+use Rattle.argus_texts.specs.Languages.{Contents, ValueEnds, Values}
+use Rattle.argus_texts.specs.Spelling.{spelling}
+use Rattle.argus_texts.proofs.Contents.{contents_clear}
+use Rattle.argus_texts.proofs.Digits.{ints_clear}
+use Rattle.argus_texts.proofs.Forms.{ends_first, value_ends, values_clear}
+use Rattle.argus_texts.proofs.Lists.{cancel}
+use Rattle.argus_texts.proofs.Stops.{Clear, Precedes}
+use Rattle.argus_entries.specs.Laws.{ChangeWithin, QueryWithin}
+use Rattle.argus_entries.specs.OperationSpelling.{change_spelling, query_spelling}
+use Rattle.argus_reading.specs.Operations.{ChangeEnds, Changes, Queries, QueryEnds}
+use Rattle.argus_reading.proofs.Joints.{byte_joint, bytes_clear, int_joint, ints_joint, worded_ints_clear}
+use Rattle.argus_reading.proofs.Words.{joint_clear, worded_clear}
+
+-- QUERIES
+
+-- what tells the words of queries apart
+abbrev query_key : List ℕ → ℕ
+query_key t =
+    if get_or t 0 0 == 102 then 256 + get_or t 1 0 else if get_or t 0 0 == 116 then 512 + get_or t 1 0 else get_or t 0 0
+
+abbrev query_kind : Query → ℕ
+query_kind query.Whole = 119
+query_kind (query.Field i) = 361
+query_kind query.Low = 108
+query_kind query.High = 104
+query_kind query.Size = 115
+query_kind (query.Fetch i) = 357
+query_kind query.Bottom = 98
+query_kind query.Top = 623
+query_kind (query.IsTag t) = 105
+query_kind (query.TagValue t) = 609
+
+query_key_is : (q : Query) (x : List ℕ) → query_key (query_spelling q ++ x) ≡ query_kind q
+query_key_is query.Whole x = refl
+query_key_is (query.Field i) x = refl
+query_key_is query.Low x = refl
+query_key_is query.High x = refl
+query_key_is query.Size x = refl
+query_key_is (query.Fetch i) x = refl
+query_key_is query.Bottom x = refl
+query_key_is query.Top x = refl
+query_key_is (query.IsTag t) x = refl
+query_key_is (query.TagValue t) x = refl
+
+query_told : (q r : Query) (x y : List ℕ) → QueryWithin q → QueryWithin r → QueryEnds q x → QueryEnds r y
+    → (query_kind q == query_kind r) ≡ true → query_spelling q ++ x ≡ query_spelling r ++ y → (q ≡ r) × (x ≡ y)
+query_told query.Whole query.Whole x y a b p q k e = (refl, cancel (codes "whole") x y e)
+query_told (query.Field i) (query.Field j) x y a b p q k e =
+    let r = (bytes_clear (codes "field ")).one i j x y (omega arith, omega arith) (omega arith, omega arith) p q e in
+    (ap query.Field r.0, r.1)
+query_told query.Low query.Low x y a b p q k e = (refl, cancel (codes "low") x y e)
+query_told query.High query.High x y a b p q k e = (refl, cancel (codes "high") x y e)
+query_told query.Size query.Size x y a b p q k e = (refl, cancel (codes "size") x y e)
+query_told (query.Fetch i) (query.Fetch j) x y a b p q k e =
+    let r = (worded_ints_clear (codes "fetch ")).one i j x y a b p q e in (ap query.Fetch r.0, r.1)
+query_told query.Bottom query.Bottom x y a b p q k e = (refl, cancel (codes "bottom") x y e)
+query_told query.Top query.Top x y a b p q k e = (refl, cancel (codes "top") x y e)
+query_told (query.IsTag t) (query.IsTag u) x y a b p q k e =
+    let r = (bytes_clear (codes "is_tag ")).one t u x y (omega arith, omega arith) (omega arith, omega arith) p q e in
+    (ap query.IsTag r.0, r.1)
+query_told (query.TagValue t) (query.TagValue u) x y a b p q k e =
+    let r = (bytes_clear (codes "tag_value ")).one t u x y (omega arith, omega arith)
+    (omega arith, omega arith) p q e in
+    (ap query.TagValue r.0, r.1)
+query_told _ _ x y a b p q k e = absurd (false≢true k)
+
+pub query_nil : (q : Query) → QueryEnds q []
+query_nil query.Whole = tt
+query_nil _ = tt
+
+pub query_first : (q : Query) (c : ℕ) (x y : List ℕ) → QueryEnds q (c ∷ x) → QueryEnds q (c ∷ y)
+query_first query.Whole c x y e = e
+query_first _ c x y e = e
+
+pub queries_clear : Clear Queries
+queries_clear = record {
+  one = λ q r x y a b p s e.
+      query_told q r x y a b p s
+      (eq-eqb (query_kind q) (query_kind r) (sym (query_key_is q x) ∙ ap query_key e ∙ query_key_is r y)) e;
+  nil = query_nil;
+  first = query_first;
+}
+
+-- CHANGES
+
+-- what tells the words of changes apart
+abbrev change_key : List ℕ → ℕ
+change_key t =
+    if get_or t 0 0 == 99 then 256 + get_or t 1 0 else if get_or t 0 0 == 97 then 512 + get_or t 3 0 else
+    if get_or t 0 0 == 114 then 768 + get_or t 3 0 else if get_or t 0 0 == 116 then 1024 + get_or t 1 0 else
+    if get_or t 1 0 == 116 then 1 else get_or t 4 0
+
+abbrev change_kind : PlainChange → ℕ
+change_kind (change.create c) = 370
+change_kind (change.set_field i v) = 102
+change_kind (change.store i v) = 1
+change_kind (change.addh v) = 616
+change_kind (change.addl v) = 620
+change_kind change.remh = 872
+change_kind change.reml = 876
+change_kind (change.set_low i) = 108
+change_kind (change.trim i n) = 1138
+change_kind (change.change_tag t v) = 360
+change_kind change.touch = 1135
+
+change_key_is : (c : PlainChange) (x : List ℕ) → change_key (change_spelling c ++ x) ≡ change_kind c
+change_key_is (change.create c) x = refl
+change_key_is (change.set_field i v) x = refl
+change_key_is (change.store i v) x = refl
+change_key_is (change.addh v) x = refl
+change_key_is (change.addl v) x = refl
+change_key_is change.remh x = refl
+change_key_is change.reml x = refl
+change_key_is (change.set_low i) x = refl
+change_key_is (change.trim i n) x = refl
+change_key_is (change.change_tag t v) x = refl
+change_key_is change.touch x = refl
+
+-- two things behind a word, with a blank between
+blank_between : (w s x : List ℕ) → (w ++ codes " " ++ s) ++ x ≡ (w ++ 32 ∷ s) ++ x
+blank_between w s x = ap (λ (z : List ℕ). z ++ x) (append_assoc w (32 ∷ []) s)
+
+between : (v w s t x y : List ℕ) → (v ++ codes " " ++ s) ++ x ≡ (w ++ codes " " ++ t) ++ y
+    → (v ++ 32 ∷ s) ++ x ≡ (w ++ 32 ∷ t) ++ y
+between v w s t x y e = sym (blank_between v s x) ∙ e ∙ blank_between w t y
+
+change_told : (c d : PlainChange) (x y : List ℕ) → ChangeWithin 16 c → ChangeWithin 16 d → ChangeEnds c x
+    → ChangeEnds d y → (change_kind c == change_kind d) ≡ true → change_spelling c ++ x ≡ change_spelling d ++ y
+    → (c ≡ d) × (x ≡ y)
+change_told (change.create c) (change.create d) x y a b p q k e =
+    let r = (worded_clear (codes "create ") (Contents 16) (contents_clear 16)).one c d x y a b p q e in
+    (ap change.create r.0, r.1)
+change_told (change.set_field i v) (change.set_field j w) x y a b p q k e =
+    let l = codes "set_field " in
+    let r = (joint_clear (byte_joint l) (values_clear 16)).one (i, v) (j, w) x y
+    ((omega arith, omega (arith, a.0)), a.1) ((omega arith, omega (arith, b.0)), b.1) p q
+    (between (l ++ decimal i) (l ++ decimal j) (spelling v) (spelling w) x y e) in
+    (ap (λ z. change.set_field z.0 z.1) r.0, r.1)
+change_told (change.store i v) (change.store j w) x y a b p q k e =
+    let l = codes "store " in
+    let r = (joint_clear (int_joint l) (values_clear 16)).one (i, v) (j, w) x y (a.0, a.1) (b.0, b.1) p q
+    (between (l ++ signed_decimal i) (l ++ signed_decimal j) (spelling v) (spelling w) x y e) in
+    (ap (λ z. change.store z.0 z.1) r.0, r.1)
+change_told (change.addh v) (change.addh w) x y a b p q k e =
+    let r = (worded_clear (codes "addh ") (Values 16) (values_clear 16)).one v w x y a b p q e in
+    (ap change.addh r.0, r.1)
+change_told (change.addl v) (change.addl w) x y a b p q k e =
+    let r = (worded_clear (codes "addl ") (Values 16) (values_clear 16)).one v w x y a b p q e in
+    (ap change.addl r.0, r.1)
+change_told change.remh change.remh x y a b p q k e = (refl, cancel (codes "remh") x y e)
+change_told change.reml change.reml x y a b p q k e = (refl, cancel (codes "reml") x y e)
+change_told (change.set_low i) (change.set_low j) x y a b p q k e =
+    let r = (worded_ints_clear (codes "set_low ")).one i j x y a b p q e in (ap change.set_low r.0, r.1)
+change_told (change.trim i m) (change.trim j n) x y a b p q k e =
+    let l = codes "trim " in
+    let r = (joint_clear (ints_joint l) ints_clear).one (i, m) (j, n) x y (a.0, a.1) (b.0, b.1) p q
+    (between (l ++ signed_decimal i) (l ++ signed_decimal j) (signed_decimal m) (signed_decimal n) x y e) in
+    (ap (λ z. change.trim z.0 z.1) r.0, r.1)
+change_told (change.change_tag t v) (change.change_tag u w) x y a b p q k e =
+    let l = codes "change_tag " in
+    let r = (joint_clear (byte_joint l) (values_clear 16)).one (t, v) (u, w) x y
+    ((omega arith, omega (arith, a.0)), a.1) ((omega arith, omega (arith, b.0)), b.1) p q
+    (between (l ++ decimal t) (l ++ decimal u) (spelling v) (spelling w) x y e) in
+    (ap (λ z. change.change_tag z.0 z.1) r.0, r.1)
+change_told change.touch change.touch x y a b p q k e = (refl, cancel (codes "touch") x y e)
+change_told _ _ x y a b p q k e = absurd (false≢true k)
+
+pub change_nil : (c : PlainChange) → ChangeEnds c []
+change_nil (change.set_field i v) = value_ends v [] tt
+change_nil (change.store i v) = value_ends v [] tt
+change_nil (change.addh v) = value_ends v [] tt
+change_nil (change.addl v) = value_ends v [] tt
+change_nil (change.change_tag t v) = value_ends v [] tt
+change_nil _ = tt
+
+pub change_first : (d : PlainChange) (c : ℕ) (x y : List ℕ) → ChangeEnds d (c ∷ x) → ChangeEnds d (c ∷ y)
+change_first (change.set_field i v) c x y e = ends_first v c x y e
+change_first (change.store i v) c x y e = ends_first v c x y e
+change_first (change.addh v) c x y e = ends_first v c x y e
+change_first (change.addl v) c x y e = ends_first v c x y e
+change_first (change.change_tag t v) c x y e = ends_first v c x y e
+change_first _ c x y e = e
+
+pub changes_clear : Clear Changes
+changes_clear = record {
+  one = λ c d x y a b p q e.
+      change_told c d x y a b p q
+      (eq-eqb (change_kind c) (change_kind d) (sym (change_key_is c x) ∙ ap change_key e ∙ change_key_is d y)) e;
+  nil = change_nil;
+  first = change_first;
+}
+
+-- A BLANK BEHIND THEM
+
+pub query_precedes : Precedes Queries 32
+query_precedes (query.Field i) y = inl (omega arith)
+query_precedes (query.Fetch i) y = inl (omega arith)
+query_precedes (query.IsTag t) y = inl (omega arith)
+query_precedes (query.TagValue t) y = inl (omega arith)
+query_precedes _ y = tt
+
+value_blank : (v : PlainValue) (y : List ℕ) → ValueEnds v (32 ∷ y)
+value_blank v y = value_ends v (32 ∷ y) (inl (omega arith))
+
+pub change_precedes : Precedes Changes 32
+change_precedes (change.set_field i v) y = value_blank v y
+change_precedes (change.store i v) y = value_blank v y
+change_precedes (change.addh v) y = value_blank v y
+change_precedes (change.addl v) y = value_blank v y
+change_precedes (change.set_low i) y = inl (omega arith)
+change_precedes (change.trim i n) y = inl (omega arith)
+change_precedes (change.change_tag t v) y = value_blank v y
+change_precedes _ y = tt

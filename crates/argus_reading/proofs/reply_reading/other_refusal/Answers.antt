@@ -1,0 +1,13 @@
+-- Reading stops where the last of the ways to go on stops.
+use Rattle.argus_reading.proofs.Unions.{latter}
+use Rattle.argus_reading.proofs.reply_reading.other_refusal.Goals as goal
+
+pub returns-clause-stops : goal.returns-clause-stops
+returns-clause-stops c =
+    let text = c.args.text.now in
+    let but_two = latter _ _ text c.in-Err-word-2.stop c.in-Err-word-3.stop c.farther.result
+    c.in-Err-word-2.ensures.stops c.in-Err-word-3.ensures.stops c.farther.ensures in
+    let but_one = latter _ _ text c.in-Err-word.stop c.farther.result c.farther-2.result
+    c.in-Err-word.ensures.stops but_two c.farther-2.ensures in
+    latter _ _ text c.in-Err.stop c.farther-2.result c.farther-3.result
+    c.in-Err.ensures.stops but_one c.farther-3.ensures

@@ -1,0 +1,17 @@
+-- Reading stops where the last of the ways to go on stops.
+use Rattle.argus_reading.proofs.Unions.{latter}
+use Rattle.argus_texts.proofs.Exits.{passed}
+use Rattle.argus_texts.proofs.Stops.{stops_behind}
+use Rattle.std.proofs.Common.{[]}
+use Rattle.argus_reading.proofs.Parts.{covered, refusals}
+use Rattle.argus_reading.specs.Replies.{RefusalParts, Refusals}
+use Rattle.argus_reading.proofs.reply_reading.refusal.Goals as goal
+
+pub returns-clause-stops : goal.returns-clause-stops
+returns-clause-stops c =
+    let text = c.args.text.now in
+    let all = latter _ _ text c.in-Err.stop c.in-Err-other_refusal.stop c.farther.result
+    c.in-Err.ensures.stops c.in-Err-other_refusal.ensures.stops c.farther.ensures in
+    passed c.farther.result _ _
+    (λ left s. stops_behind [] RefusalParts Refusals (covered RefusalParts Refusals refusals) text left s)
+    all

@@ -1,0 +1,15 @@
+-- The law of lines that are read back.
+use Rattle.std.specs.Prelude.{◌≡◌, ℕ, ◌<◌, ◌^◌}
+use Rattle.argus_entries.specs.Entry.{PlainEntry}
+use Rattle.argus_entries.specs.EntrySpelling.{entry_spelling}
+use Rattle.argus_reading.specs.Line.{IsReadable, Tells}
+use Rattle.argus_reading.specs.declared.read_entry_error.ReadEntryError.{ReadEntryError}
+use Rattle.argus_reading.specs.declared.read_entry_error.ReadEntryError.TheVariants.{OutOfMemory}
+
+-- of the line of a readable entry an error tells of want of memory alone, and the line is that of
+-- no other number and entry
+abbrev pub EntriesAreReadBack : Type 0
+EntriesAreReadBack = (n : ℕ) (e : PlainEntry) → n < 2 ^ 64 → IsReadable e
+    → ((error : ReadEntryError) → Tells error (entry_spelling n e) → error ≡ OutOfMemory)
+    × ((m : ℕ) (d : PlainEntry) → m < 2 ^ 64 → IsReadable d
+    → entry_spelling n e ≡ entry_spelling m d → (m ≡ n) × (d ≡ e))

@@ -1,0 +1,7 @@
+pub mod Farther
+pub mod Combined
+pub mod Operations
+pub mod Replies
+pub mod Calls
+pub mod Line
+pub mod Laws

@@ -1,0 +1,22 @@
+//! Where a text stops that may go on in several ways.
+
+ghost use Rattle.std.specs.Prelude.{◌≡◌};
+ghost use Rattle.argus_reading.specs.Farther.{farther};
+
+use argus_texts::front::Stop;
+
+/// Where a text stops that may go on in either of two ways: where the later of them stops.
+pub(crate) fn farther(one: Stop, other: Stop) -> Stop
+    ensures { result ≡ farther one other }
+{
+    let Stop::Left(a) = one else {
+        return Stop::Memory;
+    };
+    let Stop::Left(b) = other else {
+        return Stop::Memory;
+    };
+    if a < b {
+        return Stop::Left(a);
+    }
+    Stop::Left(b)
+}

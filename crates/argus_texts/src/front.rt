@@ -1,0 +1,9 @@
+//! The front of a text, read part by part: for rooms whose own texts have these forms as parts.
+
+pub use crate::content_reading::one_content;
+pub use crate::number::{int, number};
+pub use crate::reading::one_value;
+pub use crate::scan::{expect, word};
+pub use crate::shape_reading::one_shape;
+pub use crate::stop::Stop;
+pub use crate::unread::Unread;
