@@ -1,8 +1,9 @@
 /* A guardian of atomic objects under nested transactions, for programs in C and in whatever calls C.
  *
- * The functions argus_c_* are exported by libargus_c.a, which is proved; that the declarations below are those of its
- * source isn't: hosts/declarations.py compares the texts. They take no null pointer. The inline functions after them
- * are what a C program calls: they answer ARGUS_NULL to a null pointer, and give each answer as a status and a number.
+ * The functions argus_c_* are exported by libargus.a and libargus.so, which are made of the proved archive; that the
+ * declarations below are those of its source isn't proved: hosts/declarations.py compares the texts. They take no null
+ * pointer. The inline functions after them are what a C program calls: they answer ARGUS_NULL to a null pointer, and
+ * give each answer as a status and a number.
  *
  *     // An account of so much, or 0: and why.
  *     int open_account(argus_guardian *bank, const char *content) {
@@ -84,14 +85,15 @@ typedef struct argus_guardian {
 #endif
 
 /* What came of a call. From ARGUS_DONE to ARGUS_REFUSED the call was made: a journalled call is one entry longer in the
- * journal. From ARGUS_NO_MEMORY on nothing was made, and the guardian is as before. */
+ * journal. From ARGUS_NO_MEMORY on nothing was made, and the guardian is as before; of a list that is so of the call
+ * that failed. */
 typedef enum argus_status {
     ARGUS_DONE = 0,        /* made; there is no more to say. The number is 0 */
     ARGUS_OBJECT = 1,      /* an object was declared; the number is its own, from 0 */
     ARGUS_ACTION = 2,      /* an action was begun; the number is its own, from 0 */
-    ARGUS_NUMBER = 3,      /* an integer, which is the number */
-    ARGUS_FLAG = 4,        /* the number is 1 for true, 0 for false */
-    ARGUS_VALUE = 5,       /* a value; argus_reply gives its written form */
+    ARGUS_NUMBER = 3,      /* an integer, which is the number: a bound, a size, a count, or a value of type int */
+    ARGUS_FLAG = 4,        /* the number is 1 for true, 0 for false: of a test, or a value of type bool */
+    ARGUS_VALUE = 5,       /* a value of another type; argus_reply gives its written form */
     ARGUS_CONTENT = 6,     /* a content; argus_reply gives its written form */
     ARGUS_TEXT = 7,        /* a text, of argus_tell; argus_reply gives it */
     ARGUS_SIGNAL = 8,      /* the operation signalled: its lock was granted, the content is unchanged. The number says
@@ -112,7 +114,10 @@ typedef enum argus_status {
                               checkpoint had); there is no reply with a text */
     ARGUS_BUSY = 19,       /* a checkpoint while an action is live */
     ARGUS_FULL = 20,       /* a checkpoint whose next entry's number would be above 2^63 - 1 */
-    ARGUS_NULL = 21        /* a pointer was null. Only the inline functions answer it */
+    ARGUS_NULL = 21,       /* a pointer was null. Only the inline functions answer it */
+    ARGUS_UNMET = 22,      /* of a list alone: the outcome of the last call that was made isn't as demanded */
+    ARGUS_NOT_BEGUN = 23,  /* of a call of a list: begun_by names no earlier call, or one that began no action */
+    ARGUS_BAD_DEMAND = 24  /* of a call of a list: no demand has this number */
 } argus_status;
 
 /* The signals of operations. An operation of another kind than the content signals ARGUS_ABSENT; the guardian refuses
@@ -175,6 +180,37 @@ typedef enum argus_kind {
     ARGUS_CHANGE_TAG = 28, /* first: a tag; text: its value. ARGUS_DONE */
     ARGUS_TOUCH = 29       /* nothing changes, and the write lock is had: argus_lock. ARGUS_DONE */
 } argus_kind;
+
+/* What the outcome of a call of a list must be for the calls after it to be made. */
+typedef enum argus_demand {
+    ARGUS_NO_REFUSAL = 0, /* no refusal */
+    ARGUS_NOTHING = 1,    /* it may be anything */
+    ARGUS_NO_SIGNAL = 2   /* no refusal and no signal */
+} argus_demand;
+
+/* One call of a list: what a call takes, and what came of it. What an initialiser leaves out is 0:
+ *
+ *     argus_listed_call calls[] = {
+ *         {.kind = ARGUS_BEGIN_TOP},
+ *         {.kind = ARGUS_FIELD, .begun_by = 1, .object = account},
+ *         {.kind = ARGUS_SET_FIELD, .begun_by = 1, .object = account, .text = "7", .text_size = 1},
+ *         {.kind = ARGUS_COMMIT, .begun_by = 1},
+ *     };
+ *     argus_answer made = argus_call_each(&bank, calls, 4);      // ARGUS_DONE, 4
+ */
+typedef struct argus_listed_call {
+    uint32_t kind;     /* which call: argus_kind */
+    uint32_t demand;   /* what its outcome must be for the calls after it to be made: argus_demand */
+    uint32_t action;   /* the action, where begun_by is 0 */
+    uint32_t begun_by; /* 1, 2 and so on: the action is the one that this call of the list began, counted from 1 */
+    uint32_t object;
+    uint32_t status;   /* written once it was made, or failed: the status that a single call would have had */
+    int64_t first;
+    int64_t second;
+    int64_t number;    /* written with the status: the number that goes with it */
+    const void *text;
+    size_t text_size;  /* in bytes */
+} argus_listed_call;
 
 /* The questions, which aren't journalled and change nothing. */
 typedef enum argus_question {
@@ -253,6 +289,9 @@ static inline const char *argus_status_name(uint32_t status) {
         ARGUS_NAMED(ARGUS_BUSY);
         ARGUS_NAMED(ARGUS_FULL);
         ARGUS_NAMED(ARGUS_NULL);
+        ARGUS_NAMED(ARGUS_UNMET);
+        ARGUS_NAMED(ARGUS_NOT_BEGUN);
+        ARGUS_NAMED(ARGUS_BAD_DEMAND);
     default:
         return "?";
     }
@@ -278,10 +317,27 @@ uint32_t argus_c_close(argus_guardian *guardian);
 uint32_t argus_c_call(argus_guardian *guardian, uint32_t kind, uint32_t action, uint32_t object, int64_t first,
                       int64_t second, const uint8_t *text, size_t text_size, int64_t *number);
 
+/* Makes so many calls one after another, from the first on, up to the first whose outcome isn't as demanded. Each is a
+ * call of its own: one entry of the journal. `made` is written at each status: how many were made. Of the calls, each
+ * that was made gets its status and its number, and so does the one that failed; the others stay as they are.
+ * ARGUS_DONE: all were made. ARGUS_UNMET: the last one that was made isn't as demanded. Any other status is that of the
+ * call after those that were made, which failed: it changes nothing, and what has come of those before it stays.
+ * It is ARGUS_NO_MEMORY (of the first call, too, where there is no memory for so many replies), ARGUS_NOT_UTF8,
+ * ARGUS_BAD_TEXT, ARGUS_BAD_SHAPE, ARGUS_BAD_NUMBER, ARGUS_BAD_KIND, ARGUS_NOT_BEGUN, ARGUS_BAD_DEMAND. ARGUS_NOT_OPEN
+ * is that of the handle: no call gets a status.
+ * What is kept for argus_c_reply is a line, with its line feed, for each reply that has a text, in their order; no
+ * written form has a line feed in it. Where no call was made, what was kept stays. */
+uint32_t argus_c_call_each(argus_guardian *guardian, argus_listed_call *calls, size_t count, size_t *made);
+
 /* Answers a question. A text is kept in the place of the reply, as a reply is. `number` is written at each status.
  * What `question` says, or ARGUS_NO_MEMORY, ARGUS_NOT_OPEN, ARGUS_BAD_KIND, ARGUS_NOT_THERE. */
 uint32_t argus_c_tell(argus_guardian *guardian, uint32_t question, uint32_t action, uint32_t object, uint64_t entry,
                       int64_t *number);
+
+/* Aborts all that is live: one call ARGUS_ABORT for each live topaction, nested ones too, in increasing number, each an
+ * entry of the journal. What is kept stays. ARGUS_DONE; ARGUS_NOT_OPEN; ARGUS_NO_MEMORY: some of them were aborted, from
+ * the first one on, and a further call aborts the others. */
+uint32_t argus_c_abort_live(argus_guardian *guardian);
 
 /* Folds the journal's entries away: objects keep what they hold for good, and entries and actions their numbers.
  * ARGUS_DONE, ARGUS_NO_MEMORY, ARGUS_NOT_OPEN, ARGUS_BUSY, ARGUS_FULL. */
@@ -347,6 +403,34 @@ static inline argus_answer argus_call(argus_guardian *guardian, uint32_t kind, u
     return argus_answer_of(status, number);
 }
 
+/* Points each text that is null at an empty one. How many calls come before one whose text is null and has a size. */
+static inline size_t argus_texts_given(argus_listed_call *calls, size_t count) {
+    static const uint8_t empty[1] = {0};
+    size_t at;
+    for (at = 0; at < count; at++) {
+        if (calls[at].text == NULL && calls[at].text_size != 0) break;
+        if (calls[at].text == NULL) calls[at].text = empty;
+    }
+    return at;
+}
+
+/* Makes so many calls one after another, as argus_c_call_each does; the number is how many were made. A text of size 0
+ * may be null: then it is pointed at an empty one. A null text with a size fails as ARGUS_NULL. */
+static inline argus_answer argus_call_each(argus_guardian *guardian, argus_listed_call *calls, size_t count) {
+    static argus_listed_call none;
+    size_t made = 0, given;
+    uint32_t status;
+    if (guardian == NULL || (calls == NULL && count != 0)) return argus_answer_of(ARGUS_NULL, 0);
+    given = argus_texts_given(calls, count);
+    status = argus_c_call_each(guardian, calls == NULL ? &none : calls, given, &made);
+    if (status == ARGUS_DONE && given < count) {
+        status = ARGUS_NULL;
+        calls[given].status = ARGUS_NULL;
+        calls[given].number = 0;
+    }
+    return argus_answer_of(status, (int64_t)made);
+}
+
 /* Answers a question. */
 static inline argus_answer argus_tell(argus_guardian *guardian, uint32_t question, uint32_t action, uint32_t object,
                                       uint64_t entry) {
@@ -357,13 +441,19 @@ static inline argus_answer argus_tell(argus_guardian *guardian, uint32_t questio
     return argus_answer_of(status, number);
 }
 
+/* Aborts all that is live. */
+static inline argus_answer argus_abort_live(argus_guardian *guardian) {
+    if (guardian == NULL) return argus_answer_of(ARGUS_NULL, 0);
+    return argus_answer_of(argus_c_abort_live(guardian), 0);
+}
+
 /* Folds the journal's entries away. */
 static inline argus_answer argus_checkpoint(argus_guardian *guardian) {
     if (guardian == NULL) return argus_answer_of(ARGUS_NULL, 0);
     return argus_answer_of(argus_c_checkpoint(guardian), 0);
 }
 
-/* Puts the reply's text into the room; the number is its size in bytes. No zero is put behind it. */
+/* Puts the reply's text into the room; the number is its size in bytes. No zero is put after it. */
 static inline argus_answer argus_reply(argus_guardian *guardian, void *room, size_t room_size) {
     size_t size = 0;
     uint32_t status;

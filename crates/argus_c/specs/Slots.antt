@@ -1,9 +1,15 @@
 -- What an export says of the guardian in a slot, before and after.
-use Rattle.std.specs.Prelude.{List, None, Option, Some, length, take, ℕ, ℤ, ◌<◌, ◌≡◌, ◌⊎◌}
-use Rattle.argus_embed.specs.Codes.{outcome_codes}
-use Rattle.argus_embed.specs.Questions.{Asks, IsAnswerTo}
-use Rattle.argus_embed.specs.Requests.{IsCalled}
-use Rattle.argus_embed.specs.Embedded.{EmbeddedState}
+use Rattle.std.specs.Prelude.{List, None, Option, Some, length, take, ℕ, ℤ, ◌<◌, ◌↔◌, ◌≡◌, ◌⊎◌}
+use Rattle.argus_embed.specs.CallEach.{AreCalled}
+use Rattle.argus_embed.specs.Codes.{error_codes, outcome_codes}
+use Rattle.argus_embed.specs.Questions.{Asks, IsAnswerTo, text_to}
+use Rattle.argus_embed.specs.Requests.{IsCalled, IsUnread}
+use Rattle.argus_embed.specs.Embedded.{EmbeddedState, IsBusy, IsFull}
+use Rattle.argus_embed.specs.declared.calls_made.CallsMade.{CallsMade}
+use Rattle.argus_embed.specs.declared.embed_error.EmbedError.{EmbedError}
+use Rattle.argus_embed.specs.declared.list_end.ListEnd.{ListEnd}
+use Rattle.argus_embed.specs.declared.list_end.ListEnd.TheVariants.{Failed, Unmet, Whole}
+use Rattle.argus_embed.specs.declared.listed_call.ListedCall.{ListedCall}
 use Rattle.argus_embed.specs.declared.outcome.Outcome.{Outcome}
 use Rattle.argus_embed.specs.declared.question.Question.{Question}
 use Rattle.argus_embed.specs.declared.request.Request.{Request}
@@ -21,11 +27,38 @@ abbrev pub IsMade : Request → List ℕ → ℕ × ℤ → EmbeddedState → Em
 IsMade r text codes old new =
     (outcome : Outcome) × IsCalled r text old new outcome × (codes ≡ outcome_codes outcome)
 
+-- the status with which a list of calls ended
+abbrev pub end_status : ListEnd → ℕ
+end_status Whole = 0
+end_status Unmet = 22
+end_status (Failed e) = (error_codes e).0
+
+-- so many calls of the list were made, and it has their outcomes; or the slot is closed
+abbrev pub IsListAnswered : Option EmbeddedState → Option EmbeddedState → List ListedCall
+    → List ListedCall → ℕ → ℕ → Type 0
+IsListAnswered (Some old) (Some new) listed after count status =
+    (made : CallsMade) × AreCalled listed after old new made × (count ≡ made.count)
+    × (status ≡ end_status made.end)
+IsListAnswered None None listed after count status =
+    (status ≡ 11) × (after ≡ listed) × (count ≡ 0)
+IsListAnswered (Some old) None listed after count status = ⊥
+IsListAnswered None (Some new) listed after count status = ⊥
+
 -- the question that the numbers stand for was answered, and its codes are these
 abbrev pub IsAnswered : ℕ → ℕ → ℕ → ℕ → ℕ × ℤ → EmbeddedState → EmbeddedState → Type 0
 IsAnswered kind a o n codes old new =
     (question : Question) × Asks kind a o n question × ((outcome : Outcome)
     × IsAnswerTo question old new outcome × (codes ≡ outcome_codes outcome))
+
+-- why the call of an open guardian wasn't made, with its codes
+abbrev pub IsUncalled : Request → List ℕ → ℕ × ℤ → Type 0
+IsUncalled r text codes = (e : EmbedError) × IsUnread r text e × (codes ≡ error_codes e)
+
+-- the guardian hasn't what the question is asked of
+abbrev pub IsNotThere : Option EmbeddedState → ℕ → ℕ → ℕ → ℕ → Type 0
+IsNotThere None kind a o n = ⊥
+IsNotThere (Some state) kind a o n =
+    (question : Question) × Asks kind a o n question × (text_to state.journal question ≡ None)
 
 -- a text so long is at the front of the room
 abbrev pub IsFront : Option (List ℕ) → ℕ → List ℕ → Type 0
@@ -47,16 +80,16 @@ abbrev pub IsTooLong : Option EmbeddedState → ℕ → List ℕ → Type 0
 IsTooLong None size room = ⊥
 IsTooLong (Some state) size room = IsPast state.text size room
 
--- a checkpoint is answered so: it is made, there is no memory for it, an action is live, or the
--- next
--- entry's number is past the greatest that a first entry may have; or the slot is closed
+-- the status of a checkpoint: 19 exactly where an action is live; else 20 exactly where the next
+-- entry's number is past the greatest that a first entry may have; else it is made, or there is no
+-- memory for it; or the slot is closed
 abbrev pub IsStatusOfFold : Option EmbeddedState → ℕ → Type 0
 IsStatusOfFold None status = status ≡ 11
 IsStatusOfFold (Some state) status =
-    (status ≡ 0) ⊎ (status ≡ 10) ⊎ (status ≡ 19) ⊎ (status ≡ 20)
+    ((status ≡ 19) ↔ IsBusy state) × ((status ≡ 20) ↔ IsFull state)
+    × ((status ≡ 0) ⊎ (status ≡ 10) ⊎ (status ≡ 19) ⊎ (status ≡ 20))
 
--- the host that asks for the text is answered so: it has it, there is no memory for it, it is
--- longer
+-- the status for a host that asks for the text: it has it, there is no memory for it, it is longer
 -- than the room, or none is kept; or the slot is closed
 abbrev pub IsStatusOfReply : Option EmbeddedState → ℕ → Type 0
 IsStatusOfReply None status = status ≡ 11

@@ -5,9 +5,14 @@
 //! A host gives each slot to one call at a time.
 #![tactic(auto)]
 
-ghost use Rattle.std.specs.Prelude.{IsSome, None, Some, length, ◌<◌, ◌≡◌, ◌≢◌, ◌≤◌};
+ghost use Rattle.std.specs.Prelude.{IfErr, IsSome, None, OnOk, Some, length, pos, ◌<◌, ◌≡◌, ◌≢◌};
+ghost use Rattle.std.specs.Prelude.{◌≤◌, ◌↔◌, ◌⊎◌};
+ghost use Rattle.std.specs.Str.{IsUtf8};
 ghost use Rattle.argus_c.specs.Slots.{Becomes, IsAnswered, IsGiven, IsMade, IsStatusOfFold};
-ghost use Rattle.argus_c.specs.Slots.{IsStatusOfReply, IsTooLong};
+ghost use Rattle.argus_c.specs.Slots.{IsListAnswered, IsNotThere, IsStatusOfReply, IsTooLong};
+ghost use Rattle.argus_c.specs.Slots.{IsUncalled, end_status};
+ghost use Rattle.argus_embed.specs.Codes.{error_codes};
+ghost use Rattle.argus_embed.specs.Embedded.{IsAbortedInPart, after_abort_live};
 ghost use Rattle.argus_embed.specs.Embedded.{after_fold, empty_state};
 
 mod held;
@@ -15,7 +20,7 @@ mod opening;
 mod raw_box;
 mod slot;
 
-use argus_embed::{Question, Request};
+use argus_embed::{CallsMade, EmbedError, ListEnd, ListedCall, Question, Request};
 use opening::opened_beside;
 use slot::Slot;
 use std::alloc::Global;
@@ -35,6 +40,8 @@ const BAD_KIND: u32 = 16;
 const TOO_SMALL: u32 = 17;
 
 const NOT_THERE: u32 = 18;
+
+const UNMET: u32 = 22;
 
 /// Opens a guardian in the slot, in the heap of the one beside it where that is open. What was open
 /// in the slot is closed.
@@ -88,6 +95,16 @@ pub extern "C" fn argus_c_call(
           second = second;
         }) text.now (result, number.new)) }
     ensures unmade { 10 ≤ result → slot.new.held.store ≡ slot.old.held.store }
+    ensures not_utf8 { (result ≡ 12) ↔ (IsUtf8 text.now → ⊥) }
+    ensures not_open { (result ≡ 11) ↔ (IsUtf8 text.now × (slot.old.held.store ≡ None)) }
+    ensures unread { 10 ≤ result → result ≢ 11 → result ≢ 12 → IsUncalled (record {
+      kind = kind;
+      action = action;
+      object = object;
+      first = first;
+      second = second;
+    }) text.now (result, number.new) }
+    ensures zero { (result ≡ 11) ⊎ (result ≡ 12) → number.new ≡ pos 0 }
 {
     *number = 0;
     let Ok(text) = from_utf8(text) else {
@@ -112,6 +129,38 @@ pub extern "C" fn argus_c_call(
     status
 }
 
+/// Makes the calls of a list one after another, up to the first whose outcome isn't as demanded.
+#[unsafe(no_mangle)]
+pub extern "C" fn argus_c_call_each(
+    alloc: Global,
+    slot: &mut Slot,
+    calls: &mut [ListedCall<'_>],
+    made: &mut usize,
+) -> u32
+    ensures { IsListAnswered slot.old.held.store slot.new.held.store calls.old calls.new made.new
+        result }
+{
+    *made = 0;
+    let Some(mut guardian) = slot.take(alloc) else {
+        return NOT_OPEN;
+    };
+    let CallsMade { count, end } = guardian.call_each(calls);
+    *slot = Slot::opened(guardian);
+    *made = count;
+    end_status(end)
+}
+
+/// The status with which a list ended.
+fn end_status(end: ListEnd) -> u32
+    ensures { result ≡ end_status end }
+{
+    match end {
+        ListEnd::Whole => DONE,
+        ListEnd::Unmet => UNMET,
+        ListEnd::Failed(error) => error.codes().0,
+    }
+}
+
 /// Answers the question that the numbers stand for.
 #[unsafe(no_mangle)]
 pub extern "C" fn argus_c_tell(
@@ -126,6 +175,12 @@ pub extern "C" fn argus_c_tell(
     ensures made { result < 10 → Becomes slot.old.held.store slot.new.held.store
         (IsAnswered kind action object entry (result, number.new)) }
     ensures unmade { 10 ≤ result → slot.new.held.store ≡ slot.old.held.store }
+    ensures bad_kind { (result ≡ 16) ↔ (13 ≤ kind) }
+    ensures not_open { (result ≡ 11) ↔ ((kind < 13) × (slot.old.held.store ≡ None)) }
+    ensures not_there { result ≡ 18 → IsNotThere slot.old.held.store kind action object entry }
+    ensures status { 10 ≤ result
+        → (result ≡ 10) ⊎ (result ≡ 11) ⊎ (result ≡ 16) ⊎ (result ≡ 18) }
+    ensures zero { 10 ≤ result → number.new ≡ pos 0 }
 {
     *number = 0;
     let Some(question) = Question::of(kind, action, object, entry) else {
@@ -143,6 +198,36 @@ pub extern "C" fn argus_c_tell(
     status
 }
 
+/// The status of what was made, or of the error with which it wasn't.
+fn status_of(made: Result<(), EmbedError>) -> u32
+    ensures done { OnOk made (result ≡ 0) }
+    ensures error { IfErr made (λ e. result ≡ (error_codes e).0) }
+{
+    match made {
+        Ok(()) => DONE,
+        Err(error) => error.codes().0,
+    }
+}
+
+/// Aborts each live topaction, nested ones too.
+#[unsafe(no_mangle)]
+pub extern "C" fn argus_c_abort_live(alloc: Global, slot: &mut Slot) -> u32
+    ensures done { result ≡ 0 → Becomes slot.old.held.store slot.new.held.store
+        (λ old new. new ≡ after_abort_live old) }
+    ensures memory { result ≡ 10
+        → Becomes slot.old.held.store slot.new.held.store IsAbortedInPart }
+    ensures not_open { (result ≡ 11) ↔ (slot.old.held.store ≡ None) }
+    ensures closed { result ≡ 11 → slot.new.held.store ≡ None }
+    ensures status { (result ≡ 0) ⊎ (result ≡ 10) ⊎ (result ≡ 11) }
+{
+    let Some(mut guardian) = slot.take(alloc) else {
+        return NOT_OPEN;
+    };
+    let status = status_of(guardian.abort_live());
+    *slot = Slot::opened(guardian);
+    status
+}
+
 /// Folds the journal's entries into its opening.
 #[unsafe(no_mangle)]
 pub extern "C" fn argus_c_checkpoint(alloc: Global, slot: &mut Slot) -> u32
@@ -154,10 +239,7 @@ pub extern "C" fn argus_c_checkpoint(alloc: Global, slot: &mut Slot) -> u32
     let Some(mut guardian) = slot.take(alloc) else {
         return NOT_OPEN;
     };
-    let status = match guardian.checkpoint() {
-        Ok(()) => DONE,
-        Err(error) => error.codes().0,
-    };
+    let status = status_of(guardian.checkpoint());
     *slot = Slot::opened(guardian);
     status
 }
@@ -176,6 +258,7 @@ pub extern "C" fn argus_c_reply(
     ensures status { IsStatusOfReply slot.old.held.store result }
     ensures same { slot.new.held.store ≡ slot.old.held.store }
     ensures room { length room.new ≡ length room.old }
+    ensures none { result ≢ 0 → result ≢ 17 → (size.new ≡ 0) × (room.new ≡ room.old) }
 {
     *size = 0;
     let Some(guardian) = slot.take(alloc) else {

@@ -11,11 +11,12 @@ use std::mem::replace;
 const OPEN: u32 = 1;
 
 /// A guardian, where `mark` is 1; with any other number it is closed. All bytes zero is a closed
-/// one. This is `argus_guardian` of the C header.
+/// one. This is `argus_guardian` of the C header. Contracts see the guardian, or None, as
+/// `held.store`.
 #[repr(C)]
 pub struct Slot {
     mark: u32,
-    held: Held,
+    pub held: Held,
     ghost there: { mark ≡ 1 → IsSome held.store },
     ghost none: { IsSome held.store → mark ≡ 1 },
 }

@@ -1,6 +1,5 @@
 -- The names of objects, one after another.
-use Rattle.std.proofs.Common.{List, [], ap, arith, map, refl, sym, ℕ, ◌++◌, ◌+◌, ◌∙◌, ◌∷◌, ◌≡◌}
-use Rattle.std.specs.List.{range_with_len}
+use Rattle.std.proofs.Common.{List, [], ap, arith, sym, ℕ, ◌++◌, ◌+◌, ◌∙◌, ◌∷◌, ◌≡◌}
 use Rattle.std.proofs.lemmas.List.FromFn.{map-range_with_len_more}
 use Rattle.argus_embed.specs.Questions.{object_name, object_names}
 

@@ -63,6 +63,7 @@ outcome_codes (outcome.Refused refusal) = (9, refusal_code refusal)
 -- the status and the number where no call was made
 abbrev pub error_codes : EmbedError → ℕ × ℤ
 error_codes error.OutOfMemory = (10, pos 0)
+error_codes error.NotUtf8 = (12, pos 0)
 error_codes (error.BadText at) = (13, as_number at)
 error_codes error.BadShape = (14, pos 0)
 error_codes error.BadNumber = (15, pos 0)
@@ -70,3 +71,5 @@ error_codes error.BadKind = (16, pos 0)
 error_codes error.NotThere = (18, pos 0)
 error_codes error.Busy = (19, pos 0)
 error_codes error.Full = (20, pos 0)
+error_codes error.NotBegun = (23, pos 0)
+error_codes error.BadDemand = (24, pos 0)

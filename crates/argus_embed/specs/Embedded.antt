@@ -1,10 +1,16 @@
 -- What contracts see of an embedded guardian, and what a call and a question leave of it.
 use Rattle.std.specs.Coded.{Coded, code_by, coded_list, coded_option, coded_ℕ, coded×}
-use Rattle.std.specs.Prelude.{List, None, Option, Some, [], pos, refl, ℕ, ℤ, ◌+ℤ◌}
+use Rattle.std.specs.List.{flat_map}
+use Rattle.std.specs.Prelude.{List, None, Option, Some, [], false, pos, refl, true, ℕ, ℤ, ◌++◌, ◌+ℤ◌, ◌<◌, ◌∷◌, ◌≡◌}
 use Rattle.argus_values.specs.Answer.{PlainAnswer, body, done, flag, num, signal, val}
+use Rattle.argus_values.specs.Value.{PlainValue}
+use Rattle.argus_values.specs.Value as value
 use Rattle.argus_journal.specs.Call.{PlainCall}
 use Rattle.argus_journal.specs.Reply.{PlainReply, answered, begun, object, refused}
-use Rattle.argus_guardian.specs.Checkpoint.{after_checkpoint}
+use Rattle.argus_guardian.specs.AbortingLive.{IsPartlyAborted, after_aborts, live_topactions}
+use Rattle.argus_guardian.specs.Checkpoint.{after_checkpoint, is_quiet}
+use Rattle.argus_journal.specs.Folding.{next_entry_number}
+use Rattle.argus_journal.specs.declared.limits.TheConstants.{MAX_FIRST_ENTRY}
 use Rattle.argus_journal.specs.Opening.{empty}
 use Rattle.argus_journal.specs.JournalView.{JournalView, after, journal_view_coded, reply_to}
 use Rattle.argus_values.specs.ContentSpelling.{content_spelling}
@@ -35,9 +41,20 @@ empty_state = record {
       = None;
 }
 
--- the written form of an answer that is a value or a content
+-- the written form of a value that no number says: of all but integers and truth values
+abbrev pub value_text : PlainValue → Option (List ℕ)
+value_text value.null = Some (spelling value.null)
+value_text (value.bool truth) = None
+value_text (value.int n) = None
+value_text (value.text bytes) = Some (spelling (value.text bytes))
+value_text (value.atomic o) = Some (spelling (value.atomic o))
+value_text (value.sequence values) = Some (spelling (value.sequence values))
+value_text (value.fields values) = Some (spelling (value.fields values))
+value_text (value.choice tag v) = Some (spelling (value.choice tag v))
+
+-- the written form of an answer that is a content, or such a value
 abbrev pub answer_text : PlainAnswer → Option (List ℕ)
-answer_text (val v) = Some (spelling v)
+answer_text (val v) = value_text v
 answer_text (body c) = Some (content_spelling c)
 answer_text done = None
 answer_text (num n) = None
@@ -50,6 +67,15 @@ reply_text (answered a) = answer_text a
 reply_text (object o) = None
 reply_text (begun a) = None
 reply_text (refused why) = None
+
+-- a line with the text, if any
+abbrev pub text_line : Option (List ℕ) → List ℕ
+text_line (Some text) = text ++ 10 ∷ []
+text_line None = []
+
+-- a line for each reply that has a text
+abbrev pub reply_lines : List PlainReply → List ℕ
+reply_lines replies = flat_map (λ reply. text_line (reply_text reply)) replies
 
 -- the newest action, after this reply
 abbrev pub newest_by : PlainReply → Option ℕ → Option ℕ
@@ -71,6 +97,16 @@ after_call state call = record {
   text = reply_text (reply_to state.journal call);
 }
 
+-- an action is live
+abbrev pub IsBusy : EmbeddedState → Type 0
+IsBusy state = is_quiet state.journal ≡ false
+
+-- none is live, and the next entry's number is past the greatest that a first entry may have
+abbrev pub IsFull : EmbeddedState → Type 0
+IsFull state =
+    (is_quiet state.journal ≡ true)
+    × (MAX_FIRST_ENTRY < next_entry_number state.journal.opening state.journal.entries)
+
 -- the same with the journal's entries folded into its opening
 abbrev pub after_fold : EmbeddedState → EmbeddedState
 after_fold state = record {
@@ -79,16 +115,40 @@ after_fold state = record {
   text = state.text;
 }
 
--- what an operation's answer is told as
+-- the same with all that was live aborted
+abbrev pub after_abort_live : EmbeddedState → EmbeddedState
+after_abort_live state = record {
+  journal = after_aborts state.journal (live_topactions state.journal);
+  newest = state.newest;
+  text = state.text;
+}
+
+-- the same with some of it aborted, from the first topaction on
+abbrev pub IsAbortedInPart : EmbeddedState → EmbeddedState → Type 0
+IsAbortedInPart old new =
+    IsPartlyAborted old.journal new.journal × (new.newest ≡ old.newest) × (new.text ≡ old.text)
+
+-- the outcome that a value is: an integer is a number, a truth value a flag
+abbrev pub value_outcome : PlainValue → Outcome
+value_outcome value.null = outcome.Value
+value_outcome (value.bool truth) = outcome.Flag truth
+value_outcome (value.int n) = outcome.Number n
+value_outcome (value.text bytes) = outcome.Value
+value_outcome (value.atomic o) = outcome.Value
+value_outcome (value.sequence values) = outcome.Value
+value_outcome (value.fields values) = outcome.Value
+value_outcome (value.choice tag v) = outcome.Value
+
+-- the outcome that an operation's answer is
 abbrev pub answer_outcome : PlainAnswer → Outcome
 answer_outcome done = outcome.Done
-answer_outcome (val v) = outcome.Value
+answer_outcome (val v) = value_outcome v
 answer_outcome (num n) = outcome.Number n
 answer_outcome (flag truth) = outcome.Flag truth
 answer_outcome (body c) = outcome.Content
 answer_outcome (signal s) = outcome.Signal s
 
--- what a reply is told as
+-- the outcome that a reply is
 abbrev pub outcome_of : PlainReply → Outcome
 outcome_of (object o) = outcome.Object o
 outcome_of (begun a) = outcome.Action a

@@ -1,14 +1,15 @@
 -- The text that is kept.
-use Rattle.std.specs.Prelude.{List, None, Option, Some, length, take, ℕ, ◌<◌, ◌≡◌, ◌≤◌}
+use Rattle.std.specs.Prelude.{Bool, List, None, Option, Some, false, length, map, take, true, ℕ, ◌++◌, ◌<◌, ◌≡◌, ◌≤◌}
 use Rattle.argus_journal.specs.Reply.{plain_reply}
-use Rattle.argus_embed.specs.Embedded.{reply_text}
+use Rattle.argus_embed.specs.Embedded.{reply_lines, reply_text}
 use Rattle.argus_embed.specs.declared.kept.Kept.{Kept}
 use Rattle.argus_embed.specs.declared.kept.Kept.TheVariants as kept
 
--- the text of the reply, or the text itself
+-- the text of the reply, a line for each text of the replies, or the text itself
 abbrev pub kept_text : Kept → Option (List ℕ)
 kept_text kept.Nothing = None
 kept_text (kept.Reply reply) = reply_text (plain_reply reply)
+kept_text (kept.Replies replies) = Some (reply_lines (map plain_reply replies.items))
 kept_text (kept.Text text) = Some text.items
 
 -- the bytes are at the front of the room, where they fit; else the room is as it was
@@ -23,3 +24,10 @@ IsCopied (Some text) (Some size) old new = (size ≡ length text) × IsPut text 
 IsCopied None None old new = new ≡ old
 IsCopied (Some text) None old new = ⊥
 IsCopied None (Some size) old new = ⊥
+
+-- the text was appended, where there is one
+abbrev pub IsAppended : Option (List ℕ) → Bool → List ℕ → List ℕ → Type 0
+IsAppended (Some text) true old new = new ≡ old ++ text
+IsAppended None false old new = new ≡ old
+IsAppended (Some text) false old new = ⊥
+IsAppended None true old new = ⊥

@@ -3,3 +3,4 @@ pub mod Kept
 pub mod Questions
 pub mod Requests
 pub mod Embedded
+pub mod CallEach

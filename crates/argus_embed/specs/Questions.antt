@@ -137,3 +137,6 @@ IsUnanswered text error.BadNumber = ⊥
 IsUnanswered text error.BadKind = ⊥
 IsUnanswered text error.Busy = ⊥
 IsUnanswered text error.Full = ⊥
+IsUnanswered text error.NotUtf8 = ⊥
+IsUnanswered text error.NotBegun = ⊥
+IsUnanswered text error.BadDemand = ⊥

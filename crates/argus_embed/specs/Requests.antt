@@ -83,6 +83,9 @@ IsUnread r text error.OutOfMemory = Unit {0}
 IsUnread r text error.NotThere = ⊥
 IsUnread r text error.Busy = ⊥
 IsUnread r text error.Full = ⊥
+IsUnread r text error.NotUtf8 = ⊥
+IsUnread r text error.NotBegun = ⊥
+IsUnread r text error.BadDemand = ⊥
 
 -- the call that the request stands for was made, and this came of it
 abbrev pub IsCalled : Request → List ℕ → EmbeddedState → EmbeddedState → Outcome → Type 0

@@ -21,6 +21,9 @@ pub enum EmbedError {
     /// Memory was wanting.
     #[error("out of memory")]
     OutOfMemory,
+    /// The text isn't UTF-8. Only a call of a list, whose text is bytes, says so.
+    #[error("the text isn't UTF-8")]
+    NotUtf8,
     /// The text is no written form, of a content for a creation and else of a value: so many bytes
     /// of it begin one, and no more.
     #[error("no written form from byte {0} on")]
@@ -43,6 +46,12 @@ pub enum EmbedError {
     /// A checkpoint past the greatest number that a journal's first entry may have.
     #[error("the journal is full")]
     Full,
+    /// The call of the list that is to have begun the action isn't an earlier one, or began none.
+    #[error("no earlier call of the list began this action")]
+    NotBegun,
+    /// There is no demand with this number.
+    #[error("no demand with this number")]
+    BadDemand,
 }
 
 impl EmbedError {
@@ -54,6 +63,7 @@ impl EmbedError {
     {
         match self {
             EmbedError::OutOfMemory => (10, 0),
+            EmbedError::NotUtf8 => (12, 0),
             EmbedError::BadText(at) => (13, as_number(at as u64)),
             EmbedError::BadShape => (14, 0),
             EmbedError::BadNumber => (15, 0),
@@ -61,6 +71,8 @@ impl EmbedError {
             EmbedError::NotThere => (18, 0),
             EmbedError::Busy => (19, 0),
             EmbedError::Full => (20, 0),
+            EmbedError::NotBegun => (23, 0),
+            EmbedError::BadDemand => (24, 0),
         }
     }
 }

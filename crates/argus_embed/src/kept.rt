@@ -3,11 +3,13 @@
 use argus_journal::Reply;
 use argus_values::Room;
 
-/// What is kept until the next call or question: a reply, whose text is made when it is asked for,
-/// so that no memory is wanted between a call and its reply; or the text of a question's answer.
+/// What is kept until the next call or question: a reply, or those of a list of calls, whose texts
+/// are made when they are asked for, so that no memory is wanted between a call and its reply; or the
+/// text of a question's answer.
 #[derive(Drop)]
 pub(crate) enum Kept {
     Nothing,
     Reply(Reply),
+    Replies(Vec<Reply, Room>),
     Text(Vec<u8, Room>),
 }

@@ -8,24 +8,35 @@
 //! ```
 #![tactic(auto)]
 
+mod aborting_live;
 mod answering;
 mod calling;
+mod calling_each;
+mod calls_made;
 mod checkpointing;
 mod codes;
+mod demand;
 mod embed_error;
 mod embedded;
 mod journal_writing;
 mod kept;
+mod list_end;
+mod listed_call;
+mod listed_reading;
 mod object_writing;
 mod outcome;
+mod outcome_writing;
 mod question;
 mod replying;
 mod reporting;
 mod request;
 mod requesting;
 
+pub use calls_made::CallsMade;
 pub use embed_error::EmbedError;
 pub use embedded::Embedded;
+pub use list_end::ListEnd;
+pub use listed_call::ListedCall;
 pub use outcome::Outcome;
 pub use question::Question;
 pub use request::Request;

@@ -23,11 +23,11 @@ pub enum Outcome {
     Object(u32),
     /// The number of the action that was begun.
     Action(u32),
-    /// A bound, a size or a count.
+    /// A bound, a size, a count, or a value that is an integer.
     Number(i64),
-    /// Whether a lock may be had, or the variant has the tag.
+    /// Whether a lock may be had, or the variant has the tag; or a value that is a truth value.
     Flag(bool),
-    /// A value, whose written form is kept.
+    /// Any other value, whose written form is kept.
     Value,
     /// A content, whose written form is kept.
     Content,

@@ -7,8 +7,7 @@ use argus_actions::ActionId;
 use argus_guardian::Listing;
 use argus_values::ObjId;
 
-/// What a host asks without an entry in the journal. Nothing changes by it, but for the text that
-/// is
+/// What a host asks without an entry in the journal. Nothing changes by it, but for the text that is
 /// kept where it is answered by one.
 ///
 /// | Kind | Question | Answer |

@@ -1,24 +1,28 @@
 //! The text that is kept, as it is given to the host.
 
 ghost use Rattle.std.specs.Option.{option_map};
-ghost use Rattle.std.specs.Prelude.{IfOk, length, ◌≡◌};
+ghost use Rattle.std.specs.Prelude.{IfOk, OnErr, OnOk, length, map, string_bytes, ◌++◌, ◌≡◌};
 ghost use Rattle.argus_values.specs.Answer.{plain_answer};
-ghost use Rattle.argus_embed.specs.Kept.{IsCopied, IsPut};
-ghost use Rattle.argus_embed.specs.Embedded.{answer_text, reply_text};
+ghost use Rattle.argus_embed.specs.Kept.{IsAppended, IsCopied, IsPut};
+ghost use Rattle.argus_values.specs.Value.{plain_value};
+ghost use Rattle.argus_embed.specs.Embedded.{answer_text, reply_lines, reply_text, text_line};
+ghost use Rattle.argus_embed.specs.Embedded.{value_text};
 ghost use Rattle.argus_journal.specs.Reply.{plain_reply};
 
 use crate::embedded::Embedded;
 use crate::kept::Kept;
 use argus_journal::Reply;
-use argus_values::{Answer, Heap, OutOfMemory, Room, write_content, write_value};
+use argus_values::{Answer, Heap, OutOfMemory, Room, Value, write_content, write_value};
 
 impl Embedded {
     /// The size of the text that is kept, which is put at the front of the room where it fits; a
     /// room that is too small stays as it is. None where no text is kept: after a call whose reply
-    /// has none, or before the first one. It can be had again as long as it is kept.
+    /// has none, or before the first one. Of a list of calls it is a line for each reply that has a
+    /// text, in their order. It can be had again as long as it is kept.
     pub fn reply(&self, room: &mut [u8]) -> Result<Option<usize>, OutOfMemory>
         ensures copied { IfOk result (λ size. IsCopied self.now.text size room.old room.new) }
         ensures room { length room.new ≡ length room.old }
+        ensures err { OnErr result (room.new ≡ room.old) }
     {
         match &self.kept {
             Kept::Nothing => Ok(None),
@@ -27,6 +31,10 @@ impl Embedded {
                 Some(text) => Ok(Some(put(room, text.as_slice()))),
                 None => Ok(None),
             },
+            Kept::Replies(replies) => {
+                let lines = lines_bytes(self.heap, replies.as_slice())?;
+                Ok(Some(put(room, lines.as_slice())))
+            }
         }
     }
 }
@@ -36,24 +44,76 @@ fn reply_bytes(heap: Heap, reply: &Reply) -> Result<Option<Vec<u8, Room>>, OutOf
     ensures { IfOk result (λ bytes. option_map (λ b. b.items) bytes
         ≡ reply_text (plain_reply reply.now)) }
 {
-    match reply {
-        Reply::Answered(answer) => answer_bytes(heap, answer),
-        Reply::Object(_) | Reply::Begun(_) | Reply::Refused(_) => Ok(None),
+    let mut text = String::new(heap.room());
+    if append_text(reply, &mut text)? {
+        Ok(Some(text.into_bytes()))
+    } else {
+        Ok(None)
     }
 }
 
-/// The written form of an answer that is a value or a content.
-fn answer_bytes(heap: Heap, answer: &Answer) -> Result<Option<Vec<u8, Room>>, OutOfMemory>
-    ensures { IfOk result (λ bytes. option_map (λ b. b.items) bytes
-        ≡ answer_text (plain_answer answer.now)) }
+/// A line for each reply that has a text.
+fn lines_bytes(heap: Heap, replies: &[Reply]) -> Result<Vec<u8, Room>, OutOfMemory>
+    ensures { IfOk result (λ bytes. bytes.items ≡ reply_lines (map plain_reply replies.now)) }
 {
     let mut text = String::new(heap.room());
-    match answer {
-        Answer::Val(value) => write_value(value, &mut text)?,
-        Answer::Body(content) => write_content(content, &mut text)?,
-        Answer::Done | Answer::Num(_) | Answer::Flag(_) | Answer::Signal(_) => return Ok(None),
+    for reply in replies {
+        append_line(reply, &mut text)?;
     }
-    Ok(Some(text.into_bytes()))
+    Ok(text.into_bytes())
+}
+
+fn append_line(reply: &Reply, text: &mut String<Room>) -> Result<(), OutOfMemory>
+    ensures { OnOk result (string_bytes text.new
+        ≡ string_bytes text.old ++ text_line (reply_text (plain_reply reply.now))) }
+{
+    if append_text(reply, text)? {
+        text.push_str("\n")?;
+    }
+    Ok(())
+}
+
+/// Appends the text that belongs to the reply; false where there is none.
+fn append_text(reply: &Reply, text: &mut String<Room>) -> Result<bool, OutOfMemory>
+    ensures { IfOk result (λ is_there. IsAppended (reply_text (plain_reply reply.now)) is_there
+        (string_bytes text.old) (string_bytes text.new)) }
+{
+    match reply {
+        Reply::Answered(answer) => append_answer(answer, text),
+        Reply::Object(_) | Reply::Begun(_) | Reply::Refused(_) => Ok(false),
+    }
+}
+
+/// Appends the written form of an answer that is a content, or a value that no number says.
+fn append_answer(answer: &Answer, text: &mut String<Room>) -> Result<bool, OutOfMemory>
+    ensures { IfOk result (λ is_there. IsAppended (answer_text (plain_answer answer.now)) is_there
+        (string_bytes text.old) (string_bytes text.new)) }
+{
+    match answer {
+        Answer::Val(value) => append_value(value, text),
+        Answer::Body(content) => {
+            write_content(content, text)?;
+            Ok(true)
+        }
+        Answer::Done | Answer::Num(_) | Answer::Flag(_) | Answer::Signal(_) => Ok(false),
+    }
+}
+
+fn append_value(value: &Value, text: &mut String<Room>) -> Result<bool, OutOfMemory>
+    ensures { IfOk result (λ is_there. IsAppended (value_text (plain_value value.now)) is_there
+        (string_bytes text.old) (string_bytes text.new)) }
+{
+    match value {
+        Value::Bool(_) | Value::Int(_) => return Ok(false),
+        Value::Null
+        | Value::Text(_)
+        | Value::Atomic(_)
+        | Value::Sequence(_)
+        | Value::Fields(_)
+        | Value::Choice(_, _) => {}
+    }
+    write_value(value, text)?;
+    Ok(true)
 }
 
 /// Copies the bytes to the front of the room, where they fit; their number either way.

@@ -1,15 +1,16 @@
-//! What a reply is told as.
+//! The outcome that a reply is.
 
 ghost use Rattle.std.specs.Prelude.{◌≡◌};
 ghost use Rattle.argus_values.specs.Answer.{plain_answer};
-ghost use Rattle.argus_embed.specs.Embedded.{answer_outcome, newest_by, outcome_of};
+ghost use Rattle.argus_values.specs.Value.{plain_value};
+ghost use Rattle.argus_embed.specs.Embedded.{answer_outcome, newest_by, outcome_of, value_outcome};
 ghost use Rattle.argus_journal.specs.Reply.{plain_reply};
 ghost use Rattle.argus_journal.specs.Journal.{action_number_of};
 
 use crate::outcome::Outcome;
 use argus_actions::ActionId;
 use argus_journal::Reply;
-use argus_values::Answer;
+use argus_values::{Answer, Value};
 
 pub(crate) fn outcome_of(reply: &Reply) -> Outcome
     ensures { result ≡ outcome_of (plain_reply reply.now) }
@@ -27,11 +28,26 @@ fn answer_outcome(answer: &Answer) -> Outcome
 {
     match answer {
         Answer::Done => Outcome::Done,
-        Answer::Val(_) => Outcome::Value,
+        Answer::Val(value) => value_outcome(value),
         Answer::Num(number) => Outcome::Number(*number),
         Answer::Flag(truth) => Outcome::Flag(*truth),
         Answer::Body(_) => Outcome::Content,
         Answer::Signal(signal) => Outcome::Signal(*signal),
+    }
+}
+
+fn value_outcome(value: &Value) -> Outcome
+    ensures { result ≡ value_outcome (plain_value value.now) }
+{
+    match value {
+        Value::Bool(truth) => Outcome::Flag(*truth),
+        Value::Int(number) => Outcome::Number(*number),
+        Value::Null
+        | Value::Text(_)
+        | Value::Atomic(_)
+        | Value::Sequence(_)
+        | Value::Fields(_)
+        | Value::Choice(_, _) => Outcome::Value,
     }
 }
 

@@ -1,0 +1,51 @@
+-- What a call of a list stands for.
+use Rattle.std.proofs.Common.{List, None, Some, ap, get_or, length, map, refl, suc, sym, zero, ℕ, ◌<◌, ◌∙◌, ◌≡◌, ◌≢◌, ◌≤◌}
+use Rattle.std.proofs.lemmas.Option.{slice_get-get_or, slice_get-map, slice_get_past}
+use Rattle.std.specs.Option.{option_map}
+use Rattle.std.specs.Prelude.{Option}
+use Rattle.argus_journal.specs.Reply.{PlainReply, plain_reply}
+use Rattle.argus_journal.specs.declared.Reply.{Reply}
+use Rattle.argus_embed.specs.CallEach.{IsUnreadAfter, action_begun, action_by, demand_of, request_of}
+use Rattle.argus_embed.specs.Requests.{IsUnread}
+use Rattle.argus_embed.specs.declared.embed_error.EmbedError.{EmbedError}
+use Rattle.argus_embed.specs.declared.embed_error.EmbedError.TheVariants as error
+use Rattle.argus_embed.specs.declared.listed_call.ListedCall.{ListedCall}
+
+-- why its request can't be read is why it can't, whatever its action is
+pub unread_after : (replies : List PlainReply) (each : ListedCall) (action : ℕ) (e : EmbedError)
+    → IsUnread (request_of each action) each.text.now e → IsUnreadAfter replies each e
+unread_after replies each action error.OutOfMemory unread = tt
+unread_after replies each action error.NotUtf8 unread = absurd unread
+unread_after replies each action (error.BadText at) unread = unread
+unread_after replies each action error.BadShape unread = unread
+unread_after replies each action error.BadNumber unread = unread
+unread_after replies each action error.BadKind unread = unread
+unread_after replies each action error.NotThere unread = absurd unread
+unread_after replies each action error.Busy unread = absurd unread
+unread_after replies each action error.Full unread = absurd unread
+unread_after replies each action error.NotBegun unread = absurd unread
+unread_after replies each action error.BadDemand unread = absurd unread
+
+-- there are three demands
+pub no_demand : (n : ℕ) → n ≢ 0 → n ≢ 1 → n ≢ 2 → None ≡ demand_of n
+no_demand zero first second third = absurd (first refl)
+no_demand (suc zero) first second third = absurd (second refl)
+no_demand (suc (suc zero)) first second third = absurd (third refl)
+no_demand (suc (suc (suc n))) first second third = refl
+
+-- the action is the one that an earlier call began, as its reply says
+pub begun_there : (items : List Reply) (n place action : ℕ) (r d : Reply) → n ≡ suc place → place < length items
+    → r ≡ get_or items place d → action_begun (Some (plain_reply r)) ≡ action_by (map plain_reply items) n action
+begun_there items n place action r d number there is =
+    sym (ap (λ (k : ℕ). action_by (map plain_reply items) k action) number
+    ∙ ap (λ (o : Option PlainReply). action_begun o) (slice_get-map plain_reply items place
+    ∙ ap (λ (o : Option Reply). option_map plain_reply o) (slice_get-get_or items place d there
+    ∙ ap (λ (x : Reply). Some x) (sym is))))
+
+-- there is none where that call isn't an earlier one
+pub begun_past : (items : List Reply) (n place action : ℕ) → n ≡ suc place → length items ≤ place
+    → None ≡ action_by (map plain_reply items) n action
+begun_past items n place action number past =
+    sym (ap (λ (k : ℕ). action_by (map plain_reply items) k action) number
+    ∙ ap (λ (o : Option PlainReply). action_begun o) (slice_get-map plain_reply items place
+    ∙ ap (λ (o : Option Reply). option_map plain_reply o) (slice_get_past items place past)))

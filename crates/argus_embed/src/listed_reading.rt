@@ -1,0 +1,71 @@
+//! The call that a call of a list stands for.
+
+ghost use Rattle.std.specs.Prelude.{IfErr, IfOk, Some, map, ◌≡◌};
+ghost use Rattle.argus_embed.specs.CallEach.{IsUnreadAfter, SaysAfter, action_begun};
+ghost use Rattle.argus_embed.specs.CallEach.{action_by, request_of};
+ghost use Rattle.argus_journal.specs.Call.{plain_call};
+ghost use Rattle.argus_journal.specs.Reply.{plain_reply};
+
+use crate::embed_error::EmbedError;
+use crate::listed_call::ListedCall;
+use crate::request::Request;
+use crate::requesting::call_of;
+use argus_journal::{Call, Reply};
+use argus_values::Heap;
+use std::str::from_utf8;
+
+/// The call that it stands for, after these replies of the list.
+pub(crate) fn listed_call_of(
+    heap: Heap,
+    each: &ListedCall<'_>,
+    replies: &[Reply],
+) -> Result<Call, EmbedError>
+    ensures says { IfOk result (λ call.
+        SaysAfter (map plain_reply replies.now) each.now (plain_call call)) }
+    ensures unread { IfErr result (λ e.
+        IsUnreadAfter (map plain_reply replies.now) each.now e) }
+{
+    let Some(action) = action_by(replies, each.begun_by, each.action) else {
+        return Err(EmbedError::NotBegun);
+    };
+    let Ok(text) = from_utf8(each.text) else {
+        return Err(EmbedError::NotUtf8);
+    };
+    call_of(heap, &request_of(each, action), text)
+}
+
+fn request_of(each: &ListedCall<'_>, action: u32) -> Request
+    ensures { result ≡ request_of each.now action }
+{
+    Request {
+        kind: each.kind,
+        action,
+        object: each.object,
+        first: each.first,
+        second: each.second,
+    }
+}
+
+/// The action itself, or the one that a call of the list began, counted from 1; None where that
+/// isn't one of those that were made, or began none.
+fn action_by(replies: &[Reply], begun_by: u32, action: u32) -> Option<u32>
+    ensures { result ≡ action_by (map plain_reply replies.now) begun_by action }
+{
+    if begun_by == 0 {
+        return Some(action);
+    }
+    match replies.get(begun_by as usize - 1) {
+        Some(reply) => action_begun(reply),
+        None => None,
+    }
+}
+
+/// The action that the reply says was begun, if any.
+fn action_begun(reply: &Reply) -> Option<u32>
+    ensures { result ≡ action_begun (Some (plain_reply reply.now)) }
+{
+    match reply {
+        Reply::Begun(a) => Some(a.0),
+        Reply::Object(_) | Reply::Answered(_) | Reply::Refused(_) => None,
+    }
+}
