@@ -4,6 +4,7 @@ use crate::answering::tell_answer;
 use crate::listing::{names_in, tell_listing};
 use crate::row::Row;
 use crate::row_reading::row_of;
+use crate::starting::later;
 use argus_guardian::{CheckpointError, Guardian};
 use argus_journal::{Call, Entry, Journal, Reply, write_entry};
 use argus_values::{OutOfMemory, Room};
@@ -32,6 +33,14 @@ pub(crate) fn tell_row(
     match row {
         Row::Call(call) => tell_call(guardian, call, asked, out),
         Row::Checkpoint => tell_checkpoint(guardian.checkpoint(), out),
+        Row::AbortLive => {
+            guardian.abort_live()?;
+            tell_word("done", out)
+        }
+        Row::Later => {
+            *guardian = later(setting.heap)?;
+            tell_word("done", out)
+        }
         Row::Question(question) => tell_answer(guardian, setting.heap, question, out),
         Row::List(listing) => {
             let names = names_in(setting.texts, asked)?;

@@ -2,7 +2,7 @@
 
 use crate::object_telling::{tell_base, tell_readers, tell_shape, tell_versions};
 use crate::question::Question;
-use argus_actions::ActionId;
+use argus_actions::{ActionId, Status};
 use argus_guardian::Guardian;
 use argus_journal::{Owner, owner_of, replay_base, replay_for, write_entry};
 use argus_values::{Content, Heap, ObjId, OutOfMemory, Room};
@@ -25,6 +25,8 @@ pub(crate) fn tell_answer(
         Question::CanWrite(a, o) => tell_flag(guardian.can_write(a, o), out),
         Question::Effect(a) => tell_effect(guardian, a, out),
         Question::Status(a) => tell_word(status_in(guardian, a), out),
+        Question::Standing(a) => tell_word(standing_of(guardian, a), out),
+        Question::Live(from) => tell_live(guardian, from, out),
         Question::Owner(a) => tell_owner(guardian, a, out),
         Question::Replay(a, o) => tell_replay(guardian, heap, a, o, out),
         Question::ReplayBase(o) => tell_replay_base(guardian, heap, o, out),
@@ -79,6 +81,24 @@ fn status_in(guardian: &Guardian, a: ActionId) -> &'static str {
         Some(Owner::Gone) => "aborted",
         Some(Owner::Base) => "committed",
         Some(Owner::Held(holder)) => { if holder == a { "live" } else { "committed" } }
+    }
+}
+
+// What the guardian says itself.
+fn standing_of(guardian: &Guardian, a: ActionId) -> &'static str {
+    match guardian.status(a) {
+        None => "unbegun",
+        Some(Status::Folded) => "folded",
+        Some(Status::Aborted) => "aborted",
+        Some(Status::Committed) => "committed",
+        Some(Status::Live) => "live",
+    }
+}
+
+fn tell_live(guardian: &Guardian, from: u32, out: &mut String<Room>) -> Result<(), OutOfMemory> {
+    match guardian.live(from) {
+        Some(a) => tell_action(a, out),
+        None => tell_word("none", out),
     }
 }
 

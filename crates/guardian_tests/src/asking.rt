@@ -16,7 +16,8 @@ pub(crate) fn question_of(word: &str, rest: &str) -> Result<Option<Question>, Ro
         "shape" | "base" | "readers" | "versions" | "replay_base" => {
             Ok(of_object(word, object(rest)?))
         }
-        "status" | "owner" | "effect" => Ok(of_action(word, action(rest)?)),
+        "live" => Ok(Some(Question::Live(action(rest)?.0))),
+        "status" | "standing" | "owner" | "effect" => Ok(of_action(word, action(rest)?)),
         "can_read" | "can_write" | "replay" => {
             let (a, o) = pair(rest)?;
             Ok(of_pair(word, a, o))
@@ -39,6 +40,7 @@ fn of_object(word: &str, o: ObjId) -> Option<Question> {
 fn of_action(word: &str, a: ActionId) -> Option<Question> {
     match word {
         "status" => Some(Question::Status(a)),
+        "standing" => Some(Question::Standing(a)),
         "owner" => Some(Question::Owner(a)),
         "effect" => Some(Question::Effect(a)),
         _ => None,

@@ -1,7 +1,7 @@
 //! `Host`: who calls an embedded guardian, as the rows say.
 
-use crate::request_reading::{question_of, request_of};
-use argus_embed::{EmbedError, Embedded, Outcome};
+use crate::request_reading::{has_outcome, listed_of, question_of, request_of};
+use argus_embed::{EmbedError, Embedded, ListEnd, ListedCall, Outcome};
 use argus_values::{Heap, OutOfMemory, Room};
 use std::fmt::Write;
 use std::str::from_utf8;
@@ -48,11 +48,16 @@ impl Subject for Host {
                 setting.limit();
                 self.bank.checkpoint().map(|()| Outcome::Done)
             }
+            "abort_live" => {
+                setting.limit();
+                self.bank.abort_live().map(|()| Outcome::Done)
+            }
             "beside" => {
                 self.bank = self.bank.beside();
                 Ok(Outcome::Done)
             }
             "room" => return self.copied(setting, rest),
+            "each" => return self.called_each(setting, rest),
             _ => return Err(RowFault::NotSpelled),
         };
         setting.lift();
@@ -81,6 +86,22 @@ impl Host {
             Err(EmbedError::OutOfMemory) => Err(RowFault::OutOfMemory),
             Err(error) => Ok(codes_text(texts, error.codes())?),
         }
+    }
+
+    // How many calls of a list were made, and why no more; then the two numbers of each, `-` for one
+    // that has none, and the lines that are kept. None of its allocations is refused here:
+    // what was made before would stay.
+    fn called_each(&mut self, setting: Setting, row: &str) -> Result<String<Room>, RowFault> {
+        let mut calls = listed_of(setting, row)?;
+        let made = self.bank.call_each(calls.as_mut_slice());
+        let mut out = String::new(setting.texts.room());
+        let count = made.count;
+        write!(out, "{count} {}", end_text(made.end))?;
+        for call in &calls {
+            tell_listed(call, &mut out)?;
+        }
+        tell_word(self.kept(setting.texts)?.as_str(), &mut out)?;
+        Ok(out)
     }
 
     // The size that is told for so much room, with the text or `too small`; or `none`.
@@ -117,6 +138,23 @@ impl Host {
         }
         Ok(out)
     }
+}
+
+fn end_text(end: ListEnd) -> &'static str {
+    match end {
+        ListEnd::Whole => "whole:",
+        ListEnd::Unmet => "unmet:",
+        ListEnd::Failed(_) => "failed:",
+    }
+}
+
+fn tell_listed(call: &ListedCall<'_>, out: &mut String<Room>) -> Result<(), OutOfMemory> {
+    if has_outcome(call) {
+        write!(out, " {} {},", call.status, call.number)?;
+    } else {
+        out.push_str(" -,")?;
+    }
+    Ok(())
 }
 
 fn has_text(outcome: Outcome) -> bool {

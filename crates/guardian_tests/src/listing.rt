@@ -46,31 +46,33 @@ pub(crate) fn tell_listing(
     }
     let written = writer.get_ref().as_slice();
     for room in 0..written.len() {
-        if !is_cut_at(guardian, texts, names, listing, written, room) {
+        let is_cut = |fails| is_cut_at(guardian, texts, names, listing, &written[..room], fails);
+        if !is_cut(false) || !is_cut(true) {
             return tell_word("something else where the writer is full", out);
         }
     }
     tell_lines(written, out)
 }
 
-// Whether a writer with so much room gets just the front, and is not tried again.
+// Whether a writer that has room for this front, and then fails or takes nothing, gets just that, and
+// is not tried again.
 fn is_cut_at(
     guardian: &Guardian,
     texts: Heap,
     names: &[Name],
     listing: Listing,
-    written: &[u8],
-    room: usize,
+    front: &[u8],
+    fails: bool,
 ) -> bool {
     let mut writer = FailStop::new(Full {
         taken: Vec::new(texts.room()),
-        room,
-        fails: room % 2 == 0,
+        room: front.len(),
+        fails,
         writes_behind: 0,
     });
     let fault = write_listing(texts, guardian, names, listing, &mut writer).err();
     let full = writer.get_ref();
-    let is_front = full.taken.len() == room && written.starts_with(full.taken.as_slice());
+    let is_front = full.taken.as_slice() == front;
     fault == Some(ListError::Write) && is_front && full.writes_behind == 1
 }
 

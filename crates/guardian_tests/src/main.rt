@@ -11,6 +11,7 @@ mod calling_each;
 mod closing;
 mod crowd;
 mod host;
+mod host_lists;
 mod listing;
 mod making;
 mod memory_refusing;
@@ -28,6 +29,7 @@ mod shared_row;
 mod shared_telling;
 mod shared_testing;
 mod sharing;
+mod starting;
 mod tally;
 mod task;
 mod tested_guardian;
@@ -47,7 +49,7 @@ use tested_guardian::TestedGuardian;
 
 // The files in data/ for a guardian by itself, and whether their calls are made once more, by the
 // seat of a shared one.
-const ALONE: [(&str, bool); 9] = [
+const ALONE: [(&str, bool); 10] = [
     ("locks.rows", true),
     ("ends.rows", true),
     ("contents.rows", true),
@@ -55,6 +57,7 @@ const ALONE: [(&str, bool); 9] = [
     ("replays.rows", true),
     ("listings.rows", false),
     ("checkpoints.rows", false),
+    ("outliving.rows", false),
     ("limits.rows", false),
     ("memory.rows", false),
 ];
@@ -63,13 +66,13 @@ const ALONE: [(&str, bool); 9] = [
 const SHARED: [&str; 3] = ["lookers.rows", "settling.rows", "waiting.rows"];
 
 // Those for a guardian that a host holds.
-const HELD: [&str; 2] = ["host_calls.rows", "host_questions.rows"];
+const HELD: [&str; 3] = ["host_calls.rows", "host_lists.rows", "host_questions.rows"];
 
 fn main(rt: HostRuntime) -> Result<()> {
     let setting = Setting::new(rt.alloc())?;
     let is_alone_right = test_alone(rt, setting)?;
     let is_shared_right = test_shared(rt, setting)?;
-    let is_held_right = test_held(&rt)?;
+    let is_held_right = test_held(&rt, setting)?;
     ensure!(
         is_alone_right && is_shared_right && is_held_right,
         "not all rows are answered as they say"
@@ -120,13 +123,16 @@ fn test_shared<R: Threads + Wait + Files + Print + AllocGlobal + Copy + Drop + S
     Ok(tally.is_content())
 }
 
-fn test_held(rt: &(impl Files + Print + AllocGlobal)) -> Result<bool> {
+fn test_held(rt: &(impl Files + Print + AllocGlobal), setting: Setting) -> Result<bool> {
     rt.println("a guardian that a host holds:")?;
     let mut tester = Tester::<Host>::new(rt.alloc())?;
     for name in HELD {
         let text = fs::read_to_string(rt, name)?;
         tester.run_text(rt, text.as_str())?;
     }
+    host_lists::call_within_budgets(setting)?;
+    host_lists::end_at_other_bytes(setting)?;
+    rt.println("lists_of_a_host_are_refused_memory_and_other_bytes")?;
     tester.tell_counts(rt)?;
     Ok(tester.is_content())
 }

@@ -19,6 +19,8 @@ pub(crate) enum Question {
     CanWrite(ActionId, ObjId),
     Effect(ActionId),
     Status(ActionId),
+    Standing(ActionId),
+    Live(u32),
     Owner(ActionId),
     Replay(ActionId, ObjId),
     ReplayBase(ObjId),

@@ -15,6 +15,10 @@ pub(crate) enum Row {
     Call(Call),
     /// A checkpoint.
     Checkpoint,
+    /// All that is live is aborted.
+    AbortLive,
+    /// From here on it's another guardian, which goes on where one ended.
+    Later,
     /// A question, after which all is as before.
     Question(Question),
     /// A listing, after which all is as before; the names stand in the row.

@@ -8,10 +8,13 @@ use test_rows::{RowFault, call_of, first_word};
 
 /// What the text before a row's arrow asks for.
 pub(crate) fn row_of(heap: Heap, text: &str) -> Result<Row, RowFault> {
-    if text == "checkpoint" {
-        return Ok(Row::Checkpoint);
-    }
     let (word, rest) = first_word(text);
+    match word {
+        "checkpoint" => return Ok(Row::Checkpoint),
+        "abort_live" => return Ok(Row::AbortLive),
+        "later" => return Ok(Row::Later),
+        _ => {}
+    }
     if word == "list" {
         return Ok(Row::List(listing_of(rest)?));
     }

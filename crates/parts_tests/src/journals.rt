@@ -1,4 +1,4 @@
-//! Entries, journals and receipts: writes and copies entries, fills journals, opens and folds them,
+//! Entries, journals and receipts: writes, reads and copies entries, fills journals, opens and folds them,
 //! and holds receipts against them. It calls each law of `argus_journal`.
 
 mod calling_laws;
@@ -8,6 +8,7 @@ mod copying;
 mod entry_reading;
 mod journal_making;
 mod legal_journals;
+mod line_reading;
 mod openings;
 mod questions;
 mod receipts;

@@ -21,6 +21,7 @@ pub(crate) fn answer_question(
         }
         "status" => tell_word(status_name(tree.status(action(rest)?)), out)?,
         "is_live" => tell_flag(is_live(tree, action(rest)?), out)?,
+        "live_children" => tell_number(u64::from(tree.live_children(action(rest)?)), out)?,
         "has_live_child" => tell_flag(tree.has_live_child(action(rest)?), out)?,
         "depth" => match tree.depth(action(rest)?) {
             Some(depth) => tell_number(u64::from(depth), out)?,

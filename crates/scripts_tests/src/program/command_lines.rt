@@ -1,32 +1,51 @@
 //! What command lines ask for, by rows: `--list stacks -> stacks`.
 
-use anyhow::{Result, ensure};
+use anyhow::{Result, bail, ensure};
 use argus_cli::{Listing, NoOptions, Options, options};
 use argus_values::OutOfMemory;
 use std::alloc::Global;
 use std::fmt::Write;
 
-// The words of a command line, parted by blanks.
+// The words of a command line, with blanks between them. One in quotes may have blanks in it, or
+// nothing.
 pub(crate) fn words_of(alloc: Global, row: &str) -> Result<Vec<String>> {
     let mut words = Vec::new(alloc);
-    for word in row.split(' ') {
-        if !word.is_empty() {
-            words.push(String::from_str(alloc, word)?)?;
+    for (place, piece) in row.split('"').enumerate() {
+        if place % 2 == 1 {
+            words.push(String::from_str(alloc, piece)?)?;
+        } else {
+            push_words(alloc, piece, &mut words)?;
         }
     }
     Ok(words)
 }
 
-// Checks that each row's words ask for what stands behind them. Answers how many rows there are.
+fn push_words(alloc: Global, row: &str, words: &mut Vec<String>) -> Result<()> {
+    for word in row.split(' ') {
+        if !word.is_empty() {
+            words.push(String::from_str(alloc, word)?)?;
+        }
+    }
+    Ok(())
+}
+
+// Checks that each row's words ask for what stands after them. Returns how many rows there are.
 pub(crate) fn check_command_lines(alloc: Global, text: &str) -> Result<u64> {
     let mut rows = 0u64;
     for line in text.lines() {
         if let Some((words, wanted)) = line.split_once("->") {
             check_row(alloc, words, wanted.strip_prefix(' ').unwrap_or(wanted))?;
             rows = rows.saturating_add(1);
+        } else if !is_comment(line) {
+            bail!("a line that is no row");
         }
     }
     Ok(rows)
+}
+
+/// Whether the line says nothing.
+pub(crate) fn is_comment(line: &str) -> bool {
+    line.is_empty() || line.starts_with('#')
 }
 
 fn check_row(alloc: Global, words: &str, wanted: &str) -> Result<()> {

@@ -12,8 +12,7 @@ use test_rows::{Failing, Full};
 // More allocations, and more reads, than `draw` makes for any row.
 const MANY: u64 = 10_000;
 
-// A picture has some thousand bytes: the writer's room grows by this. It is odd, so that a full
-// writer fails and takes nothing in turns.
+// A picture has some thousand bytes: the writer's room grows by this.
 const STEP: usize = 97;
 
 // What comes of a listing.
@@ -74,27 +73,26 @@ fn check_memory(heaps: Heaps, listing: &[u8], wanted: &Picture) -> Result<()> {
 // tried again.
 fn check_writer(heap: Heap, listing: &[u8], text: &[u8]) -> Result<()> {
     for room in (0..text.len()).step_by(STEP) {
-        let mut reader = FailStop::new(listing);
-        let mut writer = FailStop::new(Full {
-            taken: Vec::new(heap.room()),
-            room,
-            fails: room % 2 == 0,
-            writes_behind: 0,
-        });
-        let result = draw(heap, &mut reader, &mut writer);
-        ensure!(
-            result == Err(DrawError::Write),
-            "the writer's fault isn't told"
-        );
-        ensure!(
-            writer.get_ref().writes_behind == 1,
-            "a write was tried again"
-        );
-        ensure!(
-            writer.get_ref().taken.as_slice() == &text[..room],
-            "other bytes"
-        );
+        check_full_writer(heap, listing, &text[..room], false)?;
+        check_full_writer(heap, listing, &text[..room], true)?;
     }
+    Ok(())
+}
+
+// To a writer that has room for this front alone, and then fails or takes nothing.
+fn check_full_writer(heap: Heap, listing: &[u8], front: &[u8], fails: bool) -> Result<()> {
+    let mut reader = FailStop::new(listing);
+    let mut writer = FailStop::new(Full {
+        taken: Vec::new(heap.room()),
+        room: front.len(),
+        fails,
+        writes_behind: 0,
+    });
+    let result = draw(heap, &mut reader, &mut writer);
+    ensure!(result == Err(DrawError::Write), "another fault");
+    let full = writer.get_ref();
+    ensure!(full.writes_behind == 1, "a write was tried again");
+    ensure!(full.taken.as_slice() == front, "other bytes");
     Ok(())
 }
 

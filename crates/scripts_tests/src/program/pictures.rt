@@ -1,6 +1,7 @@
 //! Listings by rows: whether a picture is drawn of each, or which line is faulty; then each
 //! allocation, each read and each write fails in turn.
 
+use crate::program::command_lines::is_comment;
 use crate::program::drawing::check_draw;
 use crate::program::heaps::Heaps;
 use anyhow::{Result, bail, ensure};
@@ -10,7 +11,7 @@ use argus_values::{Heap, Room};
 // More allocations than a picture of any row takes.
 const MANY: u64 = 10_000;
 
-// Checks what comes of each row's listing. Answers how many rows there are.
+// Checks what comes of each row's listing. Returns how many rows there are.
 pub(crate) fn check_pictures(heaps: Heaps, text: &str) -> Result<u64> {
     let mut rows = 0u64;
     for line in text.lines() {
@@ -20,6 +21,8 @@ pub(crate) fn check_pictures(heaps: Heaps, text: &str) -> Result<u64> {
             check_memory(heaps, listing.as_bytes())?;
             check_draw(heaps, listing.as_bytes())?;
             rows = rows.saturating_add(1);
+        } else if !is_comment(line) {
+            bail!("a line that is no row");
         }
     }
     Ok(rows)

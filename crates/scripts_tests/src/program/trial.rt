@@ -6,7 +6,7 @@ ghost use Rattle.argus_commands.specs.FailStop.{has_failed};
 
 use crate::program::heaps::Heaps;
 use crate::program::row::Row;
-use anyhow::{Result, ensure};
+use anyhow::{Result, bail, ensure};
 use argus_cli::{CliFault, Options, run};
 use argus_commands::FailStop;
 use argus_values::Heap;
@@ -93,29 +93,37 @@ pub(crate) fn check_writer<T: Threads + Wait + Copy + Drop + Send + Sync>(
     requires { KeepsRanges asked }
 {
     for room in 0..row.listing.len() {
-        let mut reader = FailStop::new(row.script.as_slice());
-        let mut writer = FailStop::new(Full {
-            taken: Vec::new(heap.room()),
-            room,
-            fails: room % 2 == 0,
-            writes_behind: 0,
-        });
-        let result = run(rt, heap, &mut reader, &mut writer, asked);
-        ensure!(
-            result == Err(CliFault::Write),
-            "the writer's fault isn't told"
-        );
-        ensure!(writer.has_failed(), "the writer has failed");
-        ensure!(
-            writer.get_ref().writes_behind == 1,
-            "a write was tried again"
-        );
-        ensure!(writer.get_ref().taken.len() == room, "bytes are lacking");
-        ensure!(
-            row.is_front(writer.get_ref().taken.as_slice()),
-            "other bytes"
-        );
+        check_full_writer(rt, heap, row, asked, room, false)?;
+        check_full_writer(rt, heap, row, asked, room, true)?;
     }
+    Ok(())
+}
+
+// To a writer with so much room, which then fails or takes nothing.
+fn check_full_writer<T: Threads + Wait + Copy + Drop + Send + Sync>(
+    rt: &T,
+    heap: Heap,
+    row: &Row<'_>,
+    asked: Options,
+    room: usize,
+    fails: bool,
+) -> Result<()>
+    requires { KeepsRanges asked }
+{
+    let mut reader = FailStop::new(row.script.as_slice());
+    let mut writer = FailStop::new(Full {
+        taken: Vec::new(heap.room()),
+        room,
+        fails,
+        writes_behind: 0,
+    });
+    let result = run(rt, heap, &mut reader, &mut writer, asked);
+    ensure!(result == Err(CliFault::Write), "another fault");
+    ensure!(writer.has_failed(), "the writer has failed");
+    let full = writer.get_ref();
+    ensure!(full.writes_behind == 1, "a write was tried again");
+    ensure!(full.taken.len() == room, "bytes are lacking");
+    ensure!(row.is_front(full.taken.as_slice()), "other bytes");
     Ok(())
 }
 
@@ -149,5 +157,5 @@ pub(crate) fn check_memory<T: Threads + Wait + Copy + Drop + Send + Sync>(
             return Ok(n);
         }
     }
-    Ok(MANY)
+    bail!("there is never enough memory")
 }

@@ -1,6 +1,7 @@
 //! `RunRow`: a script, and what its run writes.
 
-use test_rows::{Block, block_of};
+use crate::heading::heading_of;
+use test_rows::RowFault;
 
 // A script, what was called on its guardian before, and what its run writes.
 #[derive(Clone, Copy)]
@@ -15,25 +16,21 @@ pub(crate) struct RunRow<'a> {
 }
 
 impl<'a> RunRow<'a> {
-    // The row that a block of text has; None where the block is none.
-    pub(crate) fn of_block(block: &'a str) -> Option<RunRow<'a>> {
-        match block_of(block) {
-            Block::Test {
-                name,
-                is_large,
-                lines,
-            } => {
-                let (script, lines) = lines.split_once("writes\n")?;
-                let (before, script) = script.split_once("then\n").unwrap_or(("", script));
-                Some(RunRow {
-                    name,
-                    is_large,
-                    before,
-                    script,
-                    lines,
-                })
-            }
-            Block::Comment | Block::Unheaded => None,
-        }
+    // The row that a block of text has; None where the block is a comment.
+    pub(crate) fn of_block(block: &'a str) -> Result<Option<RunRow<'a>>, RowFault> {
+        let Some(heading) = heading_of(block)? else {
+            return Ok(None);
+        };
+        let parts = heading.lines.split_once("writes\n");
+        let (script, lines) = parts.ok_or(RowFault::NotSpelled)?;
+        let (before, script) = script.split_once("then\n").unwrap_or(("", script));
+        Ok(Some(RunRow {
+            name: heading.name,
+            is_large: heading.is_large,
+            before,
+            script,
+            // The last row of a file has the file's last line feed.
+            lines: lines.strip_suffix('\n').unwrap_or(lines),
+        }))
     }
 }

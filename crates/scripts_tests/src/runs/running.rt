@@ -1,5 +1,4 @@
-//! Scripts, run: the lines that a run writes are compared; then each of its allocations is refused
-//! in
+//! Scripts, run: the lines that a run writes are compared; then each of its allocations is refused in
 //! turn, and it writes to a writer that is full after each byte.
 
 ghost use Rattle.std.specs.Prelude.{false, ◌≡◌};
@@ -7,7 +6,7 @@ ghost use Rattle.argus_commands.specs.FailStop.{has_failed};
 
 use crate::runs::run_row::RunRow;
 use crate::standing::guardian_after;
-use anyhow::{Result, ensure};
+use anyhow::{Result, bail, ensure};
 use argus_commands::{FailStop, RunFault, parse, run_serial};
 use std::io::{Print, Write};
 use test_rows::{Full, Setting};
@@ -15,21 +14,27 @@ use test_rows::{Full, Setting};
 // More allocations than any run here makes.
 const MANY: u64 = 2_000;
 
-// Runs the scripts of a text. Each row's name is told ahead, so that what is wrong stands behind
-// it.
+// Runs the scripts of a text. Each row's name is printed first, so that what is wrong stands after it.
 pub(crate) fn check_text<T: Print>(rt: &T, setting: Setting, text: &str) -> Result<()> {
     for block in text.split("\n\n") {
-        if let Some(row) = RunRow::of_block(block) {
-            rt.print(format_args!("{}: ", row.name))?;
-            check_lines(setting, row)?;
-            if !row.is_large {
-                let refused = check_memory(setting, row)?;
-                check_writer(setting, row)?;
-                ensure!(refused > 3, "too few allocations are refused");
-            }
-            rt.println(format_args!("{} lines", row.lines.lines().count()))?;
+        match RunRow::of_block(block) {
+            Ok(Some(row)) => check_row(rt, setting, row)?,
+            Ok(None) => {}
+            Err(_) => bail!("lines that are no test"),
         }
     }
+    Ok(())
+}
+
+fn check_row<T: Print>(rt: &T, setting: Setting, row: RunRow<'_>) -> Result<()> {
+    rt.print(format_args!("{}: ", row.name))?;
+    check_lines(setting, row)?;
+    if !row.is_large {
+        let refused = check_memory(setting, row)?;
+        check_writer(setting, row)?;
+        ensure!(refused > 3, "too few allocations are refused");
+    }
+    rt.println(format_args!("{} lines", row.lines.lines().count()))?;
     Ok(())
 }
 
@@ -54,11 +59,9 @@ fn check_lines(setting: Setting, row: RunRow<'_>) -> Result<()> {
     let fault = run_row(setting, row, &mut writer)?;
     ensure!(fault.is_none(), "a run failed");
     ensure!(
-        writer.get_ref().starts_with(row.lines.as_bytes()),
+        is_whole(writer.get_ref().as_slice(), row.lines),
         "other lines are written"
     );
-    let more = writer.get_ref().len().saturating_sub(row.lines.len());
-    ensure!(more <= 1, "more lines are written");
     Ok(())
 }
 
@@ -67,48 +70,57 @@ fn check_memory(setting: Setting, row: RunRow<'_>) -> Result<u64> {
     for n in 0..MANY {
         let mut writer = FailStop::new(Vec::new(setting.texts.room()));
         let fault = run_row(setting.allowing(n), row, &mut writer)?;
-        ensure!(
-            is_front(writer.get_ref().as_slice(), row.lines),
-            "other lines are written"
-        );
+        let written = writer.get_ref().as_slice();
         match fault {
-            None => return Ok(n),
-            Some(RunFault::Memory) => {}
-            Some(RunFault::Write) => ensure!(false, "no write failed"),
+            None => {
+                ensure!(is_whole(written, row.lines), "other lines are written");
+                return Ok(n);
+            }
+            Some(RunFault::Memory) => ensure!(
+                is_front(written, row.lines),
+                "other lines are written"
+            ),
+            Some(RunFault::Write) => bail!("no write failed"),
         }
     }
-    Ok(MANY)
+    bail!("there is never enough memory")
 }
 
 fn check_writer(setting: Setting, row: RunRow<'_>) -> Result<()> {
     for room in 0..row.lines.len() {
-        let mut writer = FailStop::new(Full {
-            taken: Vec::new(setting.texts.room()),
-            room,
-            fails: room % 2 == 0,
-            writes_behind: 0,
-        });
-        let fault = run_row(setting, row, &mut writer)?;
-        ensure!(
-            fault == Some(RunFault::Write),
-            "the writer's fault isn't told"
-        );
-        ensure!(writer.has_failed(), "the writer has failed");
-        ensure!(
-            writer.get_ref().writes_behind == 1,
-            "a write was tried again"
-        );
-        ensure!(writer.get_ref().taken.len() == room, "bytes are lacking");
-        ensure!(
-            is_front(writer.get_ref().taken.as_slice(), row.lines),
-            "other bytes"
-        );
+        check_full_writer(setting, row, room, false)?;
+        check_full_writer(setting, row, room, true)?;
     }
     Ok(())
 }
 
+// To a writer with so much room, which then fails or takes nothing.
+fn check_full_writer(setting: Setting, row: RunRow<'_>, room: usize, fails: bool) -> Result<()> {
+    let mut writer = FailStop::new(Full {
+        taken: Vec::new(setting.texts.room()),
+        room,
+        fails,
+        writes_behind: 0,
+    });
+    let fault = run_row(setting, row, &mut writer)?;
+    ensure!(fault == Some(RunFault::Write), "another fault");
+    ensure!(writer.has_failed(), "the writer has failed");
+    let full = writer.get_ref();
+    ensure!(full.writes_behind == 1, "a write was tried again");
+    ensure!(full.taken.len() == room, "bytes are lacking");
+    ensure!(is_front(full.taken.as_slice(), row.lines), "other bytes");
+    Ok(())
+}
+
+// Whether the bytes are the lines, each with its line feed. The row lacks the last one.
+fn is_whole(bytes: &[u8], lines: &str) -> bool {
+    match bytes.split_last() {
+        Some((last, front)) => *last == b'\n' && front == lines.as_bytes(),
+        None => lines.is_empty(),
+    }
+}
+
 // Whether the bytes are the front of the lines. The row lacks the last line feed.
 fn is_front(bytes: &[u8], lines: &str) -> bool {
-    let all = lines.as_bytes();
-    all.starts_with(bytes) || bytes.starts_with(all)
+    lines.as_bytes().starts_with(bytes) || is_whole(bytes, lines)
 }

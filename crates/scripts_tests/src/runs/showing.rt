@@ -1,10 +1,9 @@
 //! Receipts written by hand, checked against scripts: what they show is compared, with ample memory
-//! and
-//! with each allocation refused in turn.
+//! and with each allocation refused in turn.
 
 use crate::runs::receipt_reading::receipts_of;
 use crate::runs::shown_row::ShownRow;
-use anyhow::{Result, ensure};
+use anyhow::{Result, bail, ensure};
 use argus_commands::{ArmOutcome, check_run, parse};
 use argus_values::{Heap, Room};
 use std::io::Print;
@@ -13,15 +12,18 @@ use test_rows::Setting;
 // More allocations than any test here makes.
 const MANY: u64 = 1_000;
 
-// Holds the receipts of a text against its scripts. Each row's name is told ahead, so that what is
-// wrong
-// stands behind it.
+// Checks the receipts of a text against its scripts. Each row's name is printed first, so that what
+// is wrong stands after it.
 pub(crate) fn check_text<T: Print>(rt: &T, setting: Setting, text: &str) -> Result<()> {
     for block in text.split("\n\n") {
-        if let Some(row) = ShownRow::of_block(block) {
-            rt.print(format_args!("{}: ", row.name))?;
-            let told = check_row(setting, row)?;
-            rt.println(told)?;
+        match ShownRow::of_block(block) {
+            Ok(Some(row)) => {
+                rt.print(format_args!("{}: ", row.name))?;
+                let told = check_row(setting, row)?;
+                rt.println(told)?;
+            }
+            Ok(None) => {}
+            Err(_) => bail!("lines that are no test"),
         }
     }
     Ok(())

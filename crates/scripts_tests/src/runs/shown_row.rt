@@ -1,5 +1,8 @@
 //! `ShownRow`: a script, receipts, and what they show.
 
+use crate::heading::heading_of;
+use test_rows::RowFault;
+
 // A script, receipts in script order, and what they show of a run of it.
 #[derive(Clone, Copy)]
 pub(crate) struct ShownRow<'a> {
@@ -10,17 +13,20 @@ pub(crate) struct ShownRow<'a> {
 }
 
 impl<'a> ShownRow<'a> {
-    // The row that a block of text has; None where the block is none.
-    pub(crate) fn of_block(block: &'a str) -> Option<ShownRow<'a>> {
-        let (head, rest) = block.split_once("\n")?;
-        let name = head.strip_prefix("test ")?;
-        let (script, rest) = rest.split_once("receipts\n")?;
-        let (receipts, shown) = rest.split_once("show\n")?;
-        Some(ShownRow {
-            name,
+    // The row that a block of text has; None where the block is a comment.
+    pub(crate) fn of_block(block: &'a str) -> Result<Option<ShownRow<'a>>, RowFault> {
+        let Some(heading) = heading_of(block)? else {
+            return Ok(None);
+        };
+        let parts = heading.lines.split_once("receipts\n");
+        let (script, rest) = parts.ok_or(RowFault::NotSpelled)?;
+        let parts = rest.split_once("show\n");
+        let (receipts, shown) = parts.ok_or(RowFault::NotSpelled)?;
+        Ok(Some(ShownRow {
+            name: heading.name,
             script,
             receipts,
             shown,
-        })
+        }))
     }
 }
