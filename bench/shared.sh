@@ -32,6 +32,8 @@ own:1 40000 W6 plain-shared 40000 1 disjoint
 own:4 40000 W6 plain-shared 40000 4 disjoint
 hot:1 40000 W6 plain-shared 40000 1 hot
 hot:4 40000 W6 plain-shared 40000 4 hot
+batch:1 40000 W6 plain-batch 40000 1 disjoint
+batch:4 40000 W6 plain-batch 40000 4 disjoint
 busy:1 $millis W5 guardian-board-c $millis 1
 busy:3 $millis W5 guardian-board-c $millis 3
 idle:1 $millis W5 guardian-board-c@0 $millis 1

@@ -1,10 +1,12 @@
 //! Topactions of threads, which count in records of a shared guardian.
 
+use crate::batching::count_in_lists;
 use crate::bench_error::BenchError;
 use crate::circle::Circle;
 use crate::client::Client;
 use crate::draws::Draws;
 use crate::figure::Figure;
+use crate::manner::Manner;
 use crate::outcome::Outcome;
 use crate::part::Part;
 use crate::seated::Seated;
@@ -18,14 +20,12 @@ use std::rt::Clock;
 use std::sync::Wait;
 use std::thread::{Threads, map_vec};
 
-// A thread's number, how many turns it makes, and whether it chooses from the records that all
-// others
-// choose from.
+// A thread's number, how many turns it makes, and how.
 #[derive(Clone, Copy)]
 struct Job {
     number: u32,
     turns: u32,
-    is_hot: bool,
+    manner: Manner,
 }
 
 /// So many turns in all, by a thread for each of the seats. What is in the records then is read by
@@ -39,12 +39,12 @@ pub(crate) fn time_threads<
     shared: &Shared<N, R>,
     last: Seat<N>,
     seats: Vec<Seat<N>, Room>,
-    is_hot: bool,
+    manner: Manner,
     turns: u32,
 ) -> Result<Outcome, BenchError> {
     let threads = u32::try_from(seats.len()).unwrap_or(u32::MAX);
     let each = turns.checked_div(threads).unwrap_or(0);
-    let jobs = jobs_for(heap, seats, each, is_hot)?;
+    let jobs = jobs_for(heap, seats, each, manner)?;
     let figure = time_jobs(rt, heap, shared, jobs)?;
     let mut client = Client::of(heap, Seated::new(rt, shared, last));
     let sum = add_records(&mut client, RECORDS)?;
@@ -71,7 +71,7 @@ fn jobs_for<N: Sharing>(
     heap: Heap,
     seats: Vec<Seat<N>, Room>,
     turns: u32,
-    is_hot: bool,
+    manner: Manner,
 ) -> Result<Vec<(Job, Seat<N>), Room>, OutOfMemory> {
     let mut jobs = Vec::new(heap.room());
     let mut number = 0u32;
@@ -79,7 +79,7 @@ fn jobs_for<N: Sharing>(
         let job = Job {
             number,
             turns,
-            is_hot,
+            manner,
         };
         jobs.push((job, seat))?;
         number = number.wrapping_add(1);
@@ -107,18 +107,29 @@ fn count_often<N: Sharing, R: Wait + Drop>(
     let Job {
         number,
         turns,
-        is_hot,
+        manner,
     } = job;
     let mut client = Client::of(heap, Seated::new(rt, shared, seat));
     let mut draws = Draws::seeded(u64::from(number) + 42);
-    let circle = if is_hot {
-        Circle::hot()
-    } else {
-        Circle::own(number)
-    };
+    match manner {
+        Manner::Own => count_by_calls(&mut client, Circle::own(number), &mut draws, turns),
+        Manner::Hot => count_by_calls(&mut client, Circle::hot(), &mut draws, turns),
+        Manner::Batch => {
+            let made = count_in_lists(&mut client, Circle::own(number), &mut draws, turns);
+            made.unwrap_or(0)
+        }
+    }
+}
+
+fn count_by_calls<N: Sharing, R: Wait + Drop>(
+    client: &mut Client<Seated<'_, N, R>>,
+    circle: Circle,
+    draws: &mut Draws,
+    turns: u32,
+) -> u32 {
     for turn in 0..turns {
-        let records = circle.four(&mut draws);
-        if turn_counts(&mut client, records).is_err() {
+        let records = circle.four(draws);
+        if turn_counts(client, records).is_err() {
             return turn;
         }
     }

@@ -1,13 +1,13 @@
 //! Times a guardian's calls: `argus_bench TURNS WORK..`.
 //!
 //! With no words it makes a small run of each work, and prints what the calls have read and left.
-//! `bench/guardian.sh`, `bench/shared.sh` and `bench/workers.sh` print the figures, beside those of
-//! a
+//! `bench/guardian.sh`, `bench/shared.sh` and `bench/workers.sh` print the figures, beside those of a
 //! guardian by hand where there is one.
 #![tactic(auto)]
 
 mod arm_script;
 mod arm_timing;
+mod batching;
 mod bench_error;
 mod callee;
 mod circle;
@@ -17,6 +17,7 @@ mod draws;
 mod figure;
 mod looking;
 mod looks;
+mod manner;
 mod outcome;
 mod part;
 mod publishing;
@@ -66,6 +67,8 @@ or one of these, on a shared guardian of 1,000 records:
   own:N      N threads, each with a seat and with 250 records of its own, make so many turns
              in all: a topaction that locks 4 records, reads each and adds 1: 14 calls
   hot:N      the same, all on the same 10 records
+  batch:N    that of own, of which each topaction is begun, and then makes its 13 other calls
+             under one lock
   busy:N     N lookers look at 2 records again and again, for so many milliseconds, while a
              topaction after the other sets 2 records: 4 calls; the looks, and the commits
   idle:N     the same, while nothing happens
@@ -77,8 +80,8 @@ or one of these, on a shared guardian of 1,000 records:
              is published
 
 It prints WORK PART n=N ns_each=NANOSECONDS sum=SUM for each part that is timed. The sum is
-that of what was read and of what the objects then hold, each times its place; of own and hot
-that of what the records hold; of busy and idle the looks that didn't show one number twice;
+that of what was read and of what the objects then hold, each times its place; of own, hot and
+batch that of what the records hold; of busy and idle the looks that didn't show one number twice;
 of arms the calls.";
 
 // The turns of the small runs.
@@ -97,6 +100,7 @@ const WORKS: &[&str] = &[
     "shared:nested",
     "own:2",
     "hot:2",
+    "batch:2",
     "busy:2",
     "idle:1",
     "arms:1",

@@ -3,8 +3,10 @@
 use crate::bench_error::BenchError;
 use crate::callee::Callee;
 use crate::reply_summary::ReplySummary;
-use argus_guardian::{Receipt, Seat, Shared, Sharing};
+use argus_guardian::{CallsEnd, DemandedCall, Receipt, Seat, Shared, Sharing};
 use argus_journal::Call;
+use argus_values::Room;
+use std::collections::VecDeque;
 use std::sync::Wait;
 
 // More wake-ups than come.
@@ -26,6 +28,19 @@ pub(crate) struct Seated<'a, N: Sharing, R: Wait + Drop> {
 impl<'a, N: Sharing, R: Wait + Drop> Seated<'a, N, R> {
     pub(crate) fn new(rt: &'a R, shared: &'a Shared<N, R>, seat: Seat<N>) -> Seated<'a, N, R> {
         Seated { rt, shared, seat }
+    }
+
+    /// Makes the calls under one lock; none may be refused.
+    pub(crate) fn answer_each(
+        &mut self,
+        calls: &mut VecDeque<DemandedCall, Room>,
+    ) -> Result<(), BenchError> {
+        let Seated { rt, shared, seat } = self;
+        match shared.call_each(*rt, seat, calls).end {
+            CallsEnd::Whole => Ok(()),
+            CallsEnd::Unmet => Err(BenchError::OtherReply),
+            CallsEnd::OutOfMemory => Err(BenchError::OutOfMemory),
+        }
     }
 }
 

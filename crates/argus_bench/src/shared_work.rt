@@ -1,6 +1,7 @@
 //! `SharedWork`: a piece of work on a shared guardian whose time is taken.
 
 use crate::bench_error::BenchError;
+use crate::manner::Manner;
 use crate::work::Work;
 use std::str::FromStr;
 
@@ -17,6 +18,8 @@ pub(crate) enum SharedWork {
     Own(u8),
     /// Topactions of so many threads on the same ten records.
     Hot(u8),
+    /// Those of `Own`, each as a list of calls.
+    Batch(u8),
     /// So many lookers, while a thread commits.
     Busy(u8),
     /// So many lookers, while nothing happens.
@@ -45,6 +48,7 @@ fn of_count(name: &str, count: u8) -> Result<SharedWork, BenchError> {
     match name {
         "own" => Ok(SharedWork::Own(count)),
         "hot" => Ok(SharedWork::Hot(count)),
+        "batch" => Ok(SharedWork::Batch(count)),
         "busy" => Ok(SharedWork::Busy(count)),
         "idle" => Ok(SharedWork::Idle(count)),
         "arms" => Ok(SharedWork::Arms(count)),
@@ -64,15 +68,24 @@ impl SharedWork {
     pub(crate) fn seats(self) -> u8 {
         match self {
             SharedWork::Turns(_) | SharedWork::Busy(_) | SharedWork::Idle(_) => 1,
-            SharedWork::Own(threads) | SharedWork::Hot(threads) | SharedWork::Arms(threads) => {
-                threads.saturating_add(1)
-            }
+            SharedWork::Own(threads)
+            | SharedWork::Hot(threads)
+            | SharedWork::Batch(threads)
+            | SharedWork::Arms(threads) => threads.saturating_add(1),
         }
     }
 
-    /// Whether its threads all count in the same records.
-    pub(crate) fn is_hot(self) -> bool {
-        matches!(self, SharedWork::Hot(_))
+    /// How its threads count.
+    pub(crate) fn manner(self) -> Manner {
+        match self {
+            SharedWork::Hot(_) => Manner::Hot,
+            SharedWork::Batch(_) => Manner::Batch,
+            SharedWork::Turns(_)
+            | SharedWork::Own(_)
+            | SharedWork::Busy(_)
+            | SharedWork::Idle(_)
+            | SharedWork::Arms(_) => Manner::Own,
+        }
     }
 
     /// Whether a thread commits while its lookers look.
@@ -83,8 +96,11 @@ impl SharedWork {
     /// How many lookers it takes.
     pub(crate) fn lookers(self) -> u8 {
         match self {
-            SharedWork::Turns(_) | SharedWork::Own(_) | SharedWork::Hot(_) | SharedWork::Arms(_) =>
-                0,
+            SharedWork::Turns(_)
+            | SharedWork::Own(_)
+            | SharedWork::Hot(_)
+            | SharedWork::Batch(_)
+            | SharedWork::Arms(_) => 0,
             SharedWork::Busy(lookers) | SharedWork::Idle(lookers) => lookers,
         }
     }

@@ -105,8 +105,8 @@ fn time_parts<N: Sharing + Send + Sync, R: Threads + Wait + Clock + Drop + Send 
     };
     match work {
         SharedWork::Turns(work) => time_seat(rt, heap, &shared, last, work, turns),
-        SharedWork::Own(_) | SharedWork::Hot(_) => {
-            time_threads(rt, heap, &shared, last, seats, work.is_hot(), turns)
+        SharedWork::Own(_) | SharedWork::Hot(_) | SharedWork::Batch(_) => {
+            time_threads(rt, heap, &shared, last, seats, work.manner(), turns)
         }
         SharedWork::Busy(_) | SharedWork::Idle(_) => {
             time_lookers(rt, heap, &shared, last, lookers, work.is_busy(), turns)
