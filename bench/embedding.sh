@@ -35,7 +35,8 @@ median() {
 }
 
 mkdir -p "$top/build"
-make -s -C "$top/hosts/c" OUT="$top/build/hosts/c"
+"$top/tools/dist.sh" "$top/build/hosts/dist" > "$top/build/dist.log"
+make -s -C "$top/hosts/c" OUT="$top/build/hosts/c" DIST="$top/build/hosts/dist"
 [ -x "$program" ] || (cd "$top/crates/argus_bench" && rt run > "$top/build/argus_bench.log")
 for _ in $(seq "$reps"); do
     took rattle "$program" "$turns" flat

@@ -2,7 +2,7 @@
 """Prints how many calls a second the Python package makes, by one thread, in processor time; and how
 many transactions of the same work SQLite in memory.
 
-    ARGUS_LIBRARY=build/hosts/python/libargus_c.so bench/python.py [FOLDER]
+    ARGUS_LIBRARY=dist/lib/libargus.so.0 bench/python.py [FOLDER]
 
 Each figure is the best of 15 runs; a checkpoint behind each isn't in it. FOLDER is that of the package, else
 hosts/python.

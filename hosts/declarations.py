@@ -4,8 +4,9 @@
     hosts/declarations.py
 
 The calls are read from the source of argus_c: each has to be declared everywhere with the same
-parameters, in their order, and the same result. A number that has a name in argus.h has to be the
-same wherever that name stands. Each difference is told, and then the status is 1.
+parameters, in their order, and the same result. A call of a list has to have the same fields, in
+their order, wherever it is declared. A number that has a name in argus.h has to be the same wherever
+that name stands. Each difference is printed, and then the status is 1.
 """
 
 import importlib.util
@@ -15,6 +16,7 @@ from pathlib import Path
 
 TOP = Path(__file__).resolve().parent.parent
 EXPORTS = TOP / "crates/argus_c/src/lib.rt"
+LISTED = TOP / "crates/argus_embed/src/listed_call.rt"
 HEADER = TOP / "crates/argus_c/include/argus.h"
 RUST = TOP / "hosts/rust/src/sys.rs"
 PYTHON = TOP / "hosts/python/argus_guardian/library.py"
@@ -23,18 +25,21 @@ PYTHON = TOP / "hosts/python/argus_guardian/library.py"
 IN_RATTLE = {
     "Global": (), "&mut Slot": ("handle",), "&[u8]": ("bytes", "size"), "&mut [u8]": ("bytes", "size"),
     "u32": ("u32",), "u64": ("u64",), "i64": ("i64",), "&mut i64": ("number",), "&mut usize": ("length",),
+    "&mut [ListedCall<'_>]": ("calls", "size"), "&'a [u8]": ("bytes", "size"),
 }  # fmt: skip
 IN_C = {
     "argus_guardian *": "handle", "const uint8_t *": "bytes", "uint8_t *": "bytes", "size_t": "size", "uint32_t": "u32",
     "uint64_t": "u64", "int64_t": "i64", "int64_t *": "number", "size_t *": "length",
+    "argus_listed_call *": "calls", "const void *": "bytes",
 }  # fmt: skip
 IN_RUST = {
     "*mut Handle": "handle", "*const u8": "bytes", "*mut u8": "bytes", "usize": "size", "u32": "u32", "u64": "u64",
-    "i64": "i64", "*mut i64": "number", "*mut usize": "length",
+    "i64": "i64", "*mut i64": "number", "*mut usize": "length", "*mut ListedCall": "calls",
 }  # fmt: skip
 IN_PYTHON = {
     "handle": "handle", "ctypes.c_char_p": "bytes", "size": "size", "u32": "u32", "u64": "u64", "i64": "i64",
-    "number": "number", "ctypes.POINTER(size)": "length",
+    "number": "number", "ctypes.POINTER(size)": "length", "listed": "calls", "made": "length",
+    "ctypes.c_uint32": "u32", "ctypes.c_int64": "i64", "ctypes.c_size_t": "size",
 }  # fmt: skip
 
 
@@ -70,6 +75,34 @@ def declared_in_python(text):
     return {name: ([IN_PYTHON[it] for it in parted(given)], "u32") for name, given in found}
 
 
+def fields_of(text, struct, field, kinds):
+    """The fields of a call of a list, each with its type; those of a slice are an address and a size."""
+    found = re.search(struct, text, re.S)
+    fields = []
+    for it in re.finditer(field, found[1], re.M):
+        kind = kinds[it["kind"].strip()]
+        if isinstance(kind, tuple):
+            fields += [(it["name"] + after, part) for after, part in zip(("", "_size"), kind)]
+        else:
+            fields.append((it["name"], kind))
+    return fields
+
+
+def listed_fields():
+    """By file."""
+    declared = {
+        LISTED: (r"pub struct ListedCall<'a> \{(.*?)\n\}", r"pub (?P<name>\w+): (?P<kind>.*),$", IN_RATTLE),
+        HEADER: (r"typedef struct argus_listed_call \{(.*?)\n\}", r"^    (?P<kind>[\w ]+[ *])(?P<name>\w+);", IN_C),
+        RUST: (r"pub\(crate\) struct ListedCall \{(.*?)\n\}", r"pub\(crate\) (?P<name>\w+): (?P<kind>.*),$", IN_RUST),
+        PYTHON: (r"class ListedCall.*?_fields_ = \[(.*?)\n    \]", r'\("(?P<name>\w+)", (?P<kind>.*)\),$', IN_PYTHON),
+    }
+    kinds = {LISTED: {**IN_RATTLE, "u32": "u32", "i64": "i64"}}
+    return {
+        file: fields_of(file.read_text(encoding="utf-8"), struct, field, kinds.get(file, types))
+        for file, (struct, field, types) in declared.items()
+    }
+
+
 def numbers_in_rust(text):
     return [(name, int(value)) for name, value in re.findall(r"const (\w+): u32 = (\d+);", text)]
 
@@ -78,7 +111,7 @@ def numbers_in_python():
     spec = importlib.util.spec_from_file_location("library", PYTHON)
     library = importlib.util.module_from_spec(spec)
     spec.loader.exec_module(library)
-    kinds = library.Status, library.Kind, library.Question
+    kinds = library.Status, library.Kind, library.Question, library.Demand
     return [(name, value) for kind in kinds for name, value in vars(kind).items() if name.isupper()]
 
 
@@ -91,12 +124,17 @@ def main():
         for name in sorted({*wanted, *calls}):
             if wanted.get(name) != calls.get(name):
                 failed.append(f"{file}: {name} is {calls.get(name)}, and exported as {wanted.get(name)}")
+    fields = listed_fields()
+    for file, it in fields.items():
+        if it != fields[LISTED]:
+            failed.append(f"{file}: a call of a list is {it}, not {fields[LISTED]}")
     named = {name: int(value) for name, value in re.findall(r"ARGUS_(\w+) = (\d+)", header)}
     told = {EXPORTS: numbers_in_rust(exports), RUST: numbers_in_rust(rust), PYTHON: numbers_in_python()}
     for file, numbers in told.items():
         failed += [f"{file}: {name} is {it}, not {named.get(name)}" for name, it in numbers if named.get(name) != it]
-    print(*failed, f"{len(wanted)} calls, {sum(map(len, told.values()))} numbers", sep="\n")
-    return 1 if failed or not wanted or not all(told.values()) else 0
+    counts = f"{len(wanted)} calls, {len(fields[LISTED])} fields, {sum(map(len, told.values()))} numbers"
+    print(*failed, counts, sep="\n")
+    return 1 if failed or not wanted or not fields[LISTED] or not all(told.values()) else 0
 
 
 sys.exit(main())

@@ -1,7 +1,7 @@
 #!/usr/bin/env bash
 # SPDX-License-Identifier: MIT
 # Builds the archive for programs in C over the libraries that .ci/run has just proved, in a minute
-# or two: crates/argus_c/out/libargus_c.a.
+# or two: crates/argus_c/out/libargus_c.a. Of that it makes dist/ (tools/dist.sh says what is in it).
 #
 # The gate proves the static library but builds no archive, and leaves the libraries below it without
 # the stamp by which `rt lib` knows its own, so that `rt lib` would prove each of them again. Here the
@@ -16,6 +16,11 @@ most=
 rt=$(find_kit)
 kit=$(dirname "$("$rt" doc)")
 
+# Makes dist/ of the archive that has just been built.
+make_dist() {
+    env -u ARGUS_ARCHIVE "$top/tools/dist.sh"
+}
+
 # is_new CRATE: whether the library is there, and none of its sources is newer
 is_new() {
     local crate=$top/crates/$1 newer
@@ -28,7 +33,9 @@ cd "$top/crates/$name"
 below=$(crates | sed '$d')
 for crate in $below; do
     if [ -f "$top/crates/$crate/out/rlib/stamp" ]; then
-        exec "$rt" lib
+        "$rt" lib
+        make_dist
+        exit
     fi
     if ! is_new "$crate"; then
         say "$crate isn't proved as it stands: .ci/run proves all, or rt lib in crates/$name"
@@ -55,3 +62,4 @@ words+=(--links "$name=" --crate-type staticlib --toolchain "$kit/toolchain" --b
 
 mkdir -p out
 "$kit/bin/rattle" build "${words[@]}" -o "out/lib$name.a"
+make_dist

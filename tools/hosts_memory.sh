@@ -6,6 +6,7 @@
 #
 #   [ARGUS_ARCHIVE=FOLDER] tools/hosts_memory.sh
 #
+# FOLDER is that of libargus_c.a, as for tools/dist.sh, which makes here what the hosts stand on.
 # It needs valgrind (Debian: valgrind) and gcc's sanitizers (Debian: gcc). The archive itself is not
 # compiled for the sanitizers: these see its memory by malloc, and the hosts' own code. Each guardian
 # leaves one word of 8 bytes for good, by design, which valgrind reports as lost.
@@ -13,10 +14,11 @@ set -euo pipefail
 
 top=$(cd "$(dirname "$0")/.." && pwd)
 room=$top/build/hosts/memory
-export ARGUS_ARCHIVE=${ARGUS_ARCHIVE:-$top/crates/argus_c/out}
-export RATTLE_KIT=${RATTLE_KIT:-$(dirname "$(rt doc)")}
+dist=$room/dist
+export ARGUS_LIB_DIR=$dist/lib ARGUS_LIBRARY=$dist/lib/libargus.so.0 PYTHONDONTWRITEBYTECODE=1
 failed=0
 mkdir -p "$room"
+"$top/tools/dist.sh" "$dist"
 
 # The bytes of a word, and so what may be lost of one guardian.
 word=8
@@ -50,7 +52,7 @@ python_under_valgrind() {
 
 # sanitized KINDS: builds the host in C so, and runs its tests, its bank and its many calls
 sanitized() {
-    make -C "$top/hosts/c" OUT="$room/$1" ARCHIVE="$ARGUS_ARCHIVE/libargus_c.a" \
+    make -C "$top/hosts/c" OUT="$room/$1" DIST="$dist" \
         CFLAGS="-O1 -g -fno-omit-frame-pointer -fsanitize=$1 -fno-sanitize-recover=all" &&
         ASAN_OPTIONS=detect_leaks=0 "$room/$1/host" test &&
         ASAN_OPTIONS=detect_leaks=0 "$room/$1/host" bank 50 &&
@@ -66,7 +68,7 @@ wants_memory() {
 
 tried "hosts/c, address and undefined behaviour" sanitized address,undefined
 tried "hosts/c, threads" sanitized thread
-make -s -C "$top/hosts/c" OUT="$room/plain" ARCHIVE="$ARGUS_ARCHIVE/libargus_c.a"
+make -s -C "$top/hosts/c" OUT="$room/plain" DIST="$dist"
 tried "hosts/c, want of memory" wants_memory
 if ! command -v valgrind > /dev/null; then
     echo "valgrind: LEFT OUT: not installed"
@@ -82,8 +84,6 @@ else
     echo "hosts/rust: LEFT OUT: no cargo"
 fi
 if python3 --version > /dev/null 2>&1; then
-    export ARGUS_LIBRARY=$room/libargus_c.so PYTHONDONTWRITEBYTECODE=1
-    make -s -C "$top/hosts/python" OUT="$room" ARCHIVE="$ARGUS_ARCHIVE/libargus_c.a"
     tried "hosts/python, bank, valgrind" python_under_valgrind "$top/hosts/python/bank.py" 5
 else
     echo "hosts/python: LEFT OUT: no python3"

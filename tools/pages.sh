@@ -20,9 +20,16 @@ tools/maps.py --check || status=1
 tools/design.py --check || status=1
 tools/readme.py --texts || status=1
 version=$(sed -n 's/^## \([0-9.]*\).*/\1/p' CHANGELOG.md | head -n 1)
-for place in crates/argus_usage/src/command.rt hosts/rust/Cargo.toml; do
+places=(crates/argus_usage/src/command.rt crates/argus_c/include/argus.h hosts/rust/Cargo.toml
+    hosts/python/argus_guardian/__init__.py)
+for place in "${places[@]}"; do
     grep -qF "\"$version\"" "$place" && continue
     echo "$place: its version isn't $version, that of CHANGELOG.md"
     status=1
 done
+numbers=$(sed -n 's/^#define ARGUS_VERSION_[A-Z]* //p' crates/argus_c/include/argus.h | paste -sd .)
+if [ "$numbers" != "$version" ]; then
+    echo "crates/argus_c/include/argus.h: its numbers say $numbers, not $version"
+    status=1
+fi
 exit "$status"

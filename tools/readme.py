@@ -7,7 +7,7 @@
                                what it costs with bench/README.md, where a line has all those of a row
     tools/readme.py            also runs what it shows: the command lines, by ./argus, and the picture, by
                                ./picture, have to print what stands there; so does the Python, over the
-                               archive, where hosts/run has made build/hosts/python/libargus_c.so
+                               library, where hosts/run has made build/hosts/dist
 
 It says what isn't so, and what it leaves out. The status tells whether all is. Python 3 is all that it needs.
 """
@@ -19,7 +19,7 @@ import subprocess
 import sys
 
 TOP = pathlib.Path(__file__).resolve().parent.parent
-LIBRARY = TOP / "build/hosts/python/libargus_c.so"
+LIBRARY = TOP / "build/hosts/dist/lib/libargus.so.0"
 
 
 def block(text, language):

@@ -1,5 +1,6 @@
-/* The flat work of crates/argus_bench: a topaction that reads and sets 4 of 1,000 records in turn, 10 calls. The same
- * calls in the same order as there, and the same sum, so that one sees what the way through C costs. No mutex. */
+/* The flat work of crates/argus_bench: a topaction that reads and sets 4 of 1,000 records in turn, 10 calls, one by one
+ * or as a list. The same calls in the same order as there, and the same sum, so that one sees what the way through C
+ * costs. No mutex. */
 #include "argus.h"
 #include "clock.h"
 #include "draws.h"
@@ -22,10 +23,7 @@ static int64_t number_of(argus_answer answer, uint32_t status) {
 }
 
 static int64_t get(argus_guardian *guardian, uint32_t action, uint32_t object) {
-    char room[32];
-    number_of(argus_ask(guardian, action, object, ARGUS_FIELD, 0), ARGUS_VALUE);
-    room[number_of(argus_reply(guardian, room, sizeof room - 1), ARGUS_DONE)] = '\0';
-    return strtoll(room, NULL, 10);
+    return number_of(argus_ask(guardian, action, object, ARGUS_FIELD, 0), ARGUS_NUMBER);
 }
 
 static int64_t turn(argus_guardian *guardian, uint64_t *draws, int64_t number) {
@@ -43,6 +41,31 @@ static int64_t turn(argus_guardian *guardian, uint64_t *draws, int64_t number) {
     return sum;
 }
 
+/* The sum of the integers that a list has read. */
+static int64_t sum_read(const argus_listed_call *calls, size_t count) {
+    int64_t sum = 0;
+    for (size_t place = 0; place < count; place++)
+        if (calls[place].status == ARGUS_NUMBER) sum += calls[place].number;
+    return sum;
+}
+
+/* The same turn as one list of calls. */
+static int64_t turn_listed(argus_guardian *guardian, uint64_t *draws, int64_t number) {
+    argus_listed_call calls[10] = {{.kind = ARGUS_BEGIN_TOP}};
+    char values[4][24];
+    uint32_t object = draws_below(draws, RECORDS);
+    for (int place = 0; place < 4; place++) {
+        int size = snprintf(values[place], sizeof values[place], "%" PRId64, 4 * number + place);
+        calls[2 * place + 1] = (argus_listed_call){.kind = ARGUS_FIELD, .begun_by = 1, .object = object};
+        calls[2 * place + 2] = (argus_listed_call){.kind = ARGUS_SET_FIELD, .begun_by = 1, .object = object,
+                                                   .text = values[place], .text_size = (size_t)size};
+        object = (object + STEP) % RECORDS;
+    }
+    calls[9] = (argus_listed_call){.kind = ARGUS_COMMIT, .begun_by = 1};
+    number_of(argus_call_each(guardian, calls, 10), ARGUS_DONE);
+    return sum_read(calls, 10);
+}
+
 /* What is in the records for good, each times its place from 1 on. */
 static int64_t weigh(argus_guardian *guardian) {
     int64_t sum = 0;
@@ -52,14 +75,17 @@ static int64_t weigh(argus_guardian *guardian) {
     return sum;
 }
 
-int flat(uint32_t turns) {
+int flat(uint32_t turns, int is_listed) {
     store records;
     uint64_t draws = 42;
     int64_t sum = 0;
     store_open(&records, 0);
     for (int at = 0; at < RECORDS; at++) store_declare(&records, 0);
     double begin = clock_seconds();
-    for (uint32_t number = 0; number < turns; number++) sum += turn(&records.guardian, &draws, number);
+    for (uint32_t number = 0; number < turns; number++) {
+        argus_guardian *guardian = &records.guardian;
+        sum += is_listed ? turn_listed(guardian, &draws, number) : turn(guardian, &draws, number);
+    }
     double nanos = (clock_seconds() - begin) * 1e9;
     sum += weigh(&records.guardian);
     printf("flat turns n=%" PRIu32 " ns_each=%.1f sum=%" PRId64 "\n", turns, turns ? nanos / turns : 0.0, sum);

@@ -1,4 +1,5 @@
-/* A host of a guardian in C: host [bank [ORDERS] | stress [CALLS] | flat [TURNS] | test]. */
+/* A host of a guardian in C: host [bank [ORDERS] | each | statuses | stress [CALLS] | flat [TURNS] |
+ * listed [TURNS] | test]. */
 #include "modes.h"
 
 #include <errno.h>
@@ -7,7 +8,7 @@
 #include <string.h>
 
 static int usage(void) {
-    fprintf(stderr, "host [bank [ORDERS] | stress [CALLS] | flat [TURNS] | test]\n");
+    fprintf(stderr, "host [bank [ORDERS] | each | statuses | stress [CALLS] | flat [TURNS] | listed [TURNS] | test]\n");
     return 2;
 }
 
@@ -23,7 +24,10 @@ int main(int count, char **words) {
     }
     if (strcmp(mode, "bank") == 0) return bank(count == 3 ? (uint32_t)number : 250);
     if (strcmp(mode, "stress") == 0) return stress(count == 3 ? number : 10000000);
-    if (strcmp(mode, "flat") == 0) return flat(count == 3 ? (uint32_t)number : 90000);
+    if (strcmp(mode, "flat") == 0) return flat(count == 3 ? (uint32_t)number : 90000, 0);
+    if (strcmp(mode, "listed") == 0) return flat(count == 3 ? (uint32_t)number : 90000, 1);
+    if (strcmp(mode, "each") == 0 && count <= 2) return each();
+    if (strcmp(mode, "statuses") == 0 && count == 2) return statuses();
     if (strcmp(mode, "test") == 0 && count == 2) return tests();
     return usage();
 }

@@ -10,8 +10,15 @@ int bank(uint32_t orders);
 /* So many calls, with a checkpoint now and then, and what memory is in use after each. */
 int stress(uint64_t calls);
 
-/* The flat work of crates/argus_bench, so many turns, with its time and its sum. */
-int flat(uint32_t turns);
+/* The flat work of crates/argus_bench, so many turns, with its time and its sum: call by call, or a list of calls for
+ * each topaction. */
+int flat(uint32_t turns, int is_listed);
+
+/* Lists of calls, each looked at. */
+int each(void);
+
+/* Each status of the header, returned once. */
+int statuses(void);
 
 /* Tests of the store and of the header; 0 where all pass. */
 int tests(void);

@@ -222,10 +222,7 @@ int store_get(store *it, const store_action *action, uint32_t object, int64_t *n
     if (is_conflict(answer) && wait_until_had(it, ARGUS_CAN_READ, action, object))
         answer = argus_ask(&it->guardian, action->number, object, ARGUS_FIELD, 0);
     int is_had = !is_conflict(answer);
-    if (is_had) {
-        expect(answer, ARGUS_VALUE, "get");
-        *number = number_told(&it->guardian);
-    }
+    if (is_had) *number = expect(answer, ARGUS_NUMBER, "get");
     pthread_mutex_unlock(&it->lock);
     return is_had;
 }

@@ -108,14 +108,14 @@ static void test_example(void) {
 }
 
 static void test_names(void) {
-    for (uint32_t status = ARGUS_DONE; status <= ARGUS_NULL; status++)
+    for (uint32_t status = ARGUS_DONE; status <= ARGUS_BAD_DEMAND; status++)
         CHECK(strncmp(argus_status_name(status), "ARGUS_", 6) == 0);
     for (int64_t signal = ARGUS_ABSENT; signal <= ARGUS_LIMITS; signal++)
         CHECK(strncmp(argus_signal_name(signal), "ARGUS_", 6) == 0);
     for (int64_t refusal = ARGUS_NO_ACTION; refusal <= ARGUS_NO_SIBLINGS; refusal++)
         CHECK(strncmp(argus_refusal_name(refusal), "ARGUS_", 6) == 0);
     CHECK(strcmp(argus_status_name(ARGUS_BAD_TEXT), "ARGUS_BAD_TEXT") == 0);
-    CHECK(strcmp(argus_status_name(22), "?") == 0);
+    CHECK(strcmp(argus_status_name(25), "?") == 0);
     CHECK(strcmp(argus_signal_name(0), "?") == 0 && strcmp(argus_refusal_name(10), "?") == 0);
     CHECK(strcmp(argus_answer_name(argus_answer_of(ARGUS_REFUSED, ARGUS_CONFLICT)), "ARGUS_CONFLICT") == 0);
     CHECK(strcmp(argus_answer_name(argus_answer_of(ARGUS_SIGNAL, ARGUS_BOUNDS)), "ARGUS_BOUNDS") == 0);

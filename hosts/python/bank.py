@@ -10,11 +10,13 @@ audits: all that one topaction reads is of one moment, so the sum is always the 
 What is printed on standard output doesn't depend on time. ORDERS is how many each thread carries out.
 """
 
+from __future__ import annotations
+
 import sys
 import time
 from concurrent.futures import ThreadPoolExecutor
 
-from argus_guardian import Busy, Guardian
+from argus_guardian import Action, Busy, Guardian
 
 ACCOUNTS = 16
 BALANCE = 1_000_000_000
@@ -23,6 +25,7 @@ ORDERS = 250
 AUDITS = 20
 TRANSFERS = 4
 FOLD_AFTER = 100
+Transfer = tuple[int, int, int]
 ALL = ACCOUNTS * BALANCE
 WORD = 2**64
 
@@ -38,15 +41,15 @@ class Cancelled(Exception):
 class Draws:
     """Numbers as if by chance, the same at each run: a linear congruential generator."""
 
-    def __init__(self, state):
+    def __init__(self, state: int) -> None:
         self.state = state
 
-    def below(self, count):
+    def below(self, count: int) -> int:
         self.state = (self.state * 6364136223846793005 + 1442695040888963407) % WORD
         return (self.state >> 33) % count
 
 
-def drawn_order(draws):
+def drawn_order(draws: Draws) -> list[Transfer]:
     """Four transfers (from, to, amount), of which the last can't be made."""
     order = []
     for _ in range(TRANSFERS):
@@ -57,7 +60,7 @@ def drawn_order(draws):
     return [*order, (source, target, ALL + 1)]
 
 
-def make(top, source, target, amount):
+def make(top: Action, source: int, target: int, amount: int) -> None:
     """Makes the transfer in a subaction. TooLittle: nothing is left of it."""
     with top.subaction() as sub:
         sub.set_field(target, 0, sub.field(target, 0) + amount)
@@ -70,11 +73,11 @@ def make(top, source, target, amount):
 class Clerk:
     """What one thread does, and what came of it."""
 
-    def __init__(self, bank, number):
+    def __init__(self, bank: Guardian, number: int) -> None:
         self.bank, self.draws = bank, Draws(number)
         self.carried_out = self.cancelled = self.made = self.refused = self.made_in_vain = 0
 
-    def carry_out(self, order, is_cancelled):
+    def carry_out(self, order: list[Transfer], is_cancelled: bool) -> None:
         made = 0
         try:
             with self.bank.topaction() as top:
@@ -96,14 +99,14 @@ class Clerk:
             self.carried_out += 1
             self.made += made
 
-    def work(self, orders):
+    def work(self, orders: int) -> Clerk:
         for number in range(orders):
             self.carry_out(drawn_order(self.draws), number % 10 == 9)
             if number % FOLD_AFTER == FOLD_AFTER - 1:
                 self.fold()
         return self
 
-    def fold(self):
+    def fold(self) -> None:
         # Where an audit takes its time, the next fold does it.
         try:
             self.bank.checkpoint(patience=1)
@@ -111,7 +114,7 @@ class Clerk:
             pass
 
 
-def audit(bank):
+def audit(bank: Guardian) -> int:
     """How many audits find what the bank began with."""
     right = 0
     for _ in range(AUDITS):
@@ -120,14 +123,14 @@ def audit(bank):
     return right
 
 
-def open_bank(bank):
+def open_bank(bank: Guardian) -> None:
     for _ in range(ACCOUNTS):
         account = bank.declare("atomic_record[balance:int]")
         with bank.topaction() as top:
             top.create(account, (BALANCE,))
 
 
-def run(bank, orders):
+def run(bank: Guardian, orders: int) -> tuple[list[Clerk], int]:
     """Has all threads work; what the clerks did, and how many audits were right."""
     with ThreadPoolExecutor(THREADS + 1) as pool:
         audits = pool.submit(audit, bank)
@@ -135,14 +138,17 @@ def run(bank, orders):
         return [it.result() for it in clerks], audits.result()
 
 
-def main(orders):
+def main(orders: int) -> None:
     with Guardian(patience=100) as bank:
         open_bank(bank)
         before, begin = bank.entries, time.monotonic()
         clerks, right = run(bank, orders)
         taken, calls = time.monotonic() - begin, bank.entries - before
         print(f"{calls} calls in {taken:.2f} s, {calls / taken:.0f} a second", file=sys.stderr)
-        total = lambda name: sum(getattr(clerk, name) for clerk in clerks)
+
+        def total(name: str) -> int:
+            return sum(getattr(clerk, name) for clerk in clerks)
+
         print(f"accounts {ACCOUNTS}, threads {THREADS}")
         print(f"orders {THREADS * orders}: {total('carried_out')} carried out, {total('cancelled')} cancelled")
         print(

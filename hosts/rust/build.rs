@@ -1,88 +1,57 @@
-//! Links the proved archive, and the archive of the Rattle kit that maps its allocator to malloc.
+//! Links the proved library: `libargus.a`, which has all that it needs.
 //!
-//! `ARGUS_LIB_DIR` names a folder with both, `libargus_c.a` and `liblibc_c.a`: then nothing else is
-//! needed. Without it `ARGUS_ARCHIVE` names the folder of the first (else it is where `rt lib` leaves
-//! it), and `RATTLE_KIT` names the kit with the second (else the command `rt` does).
+//! `ARGUS_LIB_DIR` names the folder that it lies in. Without that it is looked for in `dist/lib` of the
+//! folders above this crate: `tools/archive.sh` makes `dist/` at the top of the repository.
 
 use std::env;
-use std::path::{Path, PathBuf};
-use std::process::Command;
+use std::path::{Path, PathBuf, absolute};
 
-const ARCHIVE: &str = "libargus_c.a";
-const ALLOCATOR: &str = "liblibc_c.a";
+const ARCHIVE: &str = "libargus.a";
 
 fn main() {
-    for name in ["ARGUS_LIB_DIR", "ARGUS_ARCHIVE", "RATTLE_KIT"] {
-        println!("cargo::rerun-if-env-changed={name}");
-    }
-    match folders() {
-        Ok(folders) => link(&folders),
+    println!("cargo::rerun-if-env-changed=ARGUS_LIB_DIR");
+    match folder() {
+        Ok(folder) => link(&folder),
         Err(words) => words
             .lines()
             .for_each(|line| println!("cargo::error={line}")),
     }
 }
 
-fn link(folders: &[PathBuf; 2]) {
-    for (folder, file) in folders.iter().zip([ARCHIVE, ALLOCATOR]) {
-        println!("cargo::rustc-link-search=native={}", folder.display());
-        println!("cargo::rerun-if-changed={}", folder.join(file).display());
-    }
-    println!("cargo::rustc-link-lib=static=argus_c");
-    println!("cargo::rustc-link-lib=static=libc_c");
+fn link(folder: &Path) {
+    println!("cargo::rustc-link-search=native={}", folder.display());
+    println!("cargo::rerun-if-changed={}", folder.join(ARCHIVE).display());
+    println!("cargo::rustc-link-lib=static=argus");
 }
 
-// Where the two archives lie, or in words what is missing.
-fn folders() -> Result<[PathBuf; 2], String> {
-    if let Some(folder) = named_by("ARGUS_LIB_DIR") {
-        let it = "ARGUS_LIB_DIR names the folder";
-        there(&folder, ARCHIVE, it)?;
-        there(&folder, ALLOCATOR, it)?;
-        return Ok([folder.clone(), folder]);
+// Where the archive lies, or in words what is missing.
+fn folder() -> Result<PathBuf, String> {
+    let Some(named) = env::var_os("ARGUS_LIB_DIR") else {
+        return above().ok_or_else(|| told("no dist/lib above this crate has it"));
+    };
+    let folder = absolute(&named).unwrap_or_else(|_| named.into());
+    if folder.join(ARCHIVE).is_file() {
+        return Ok(folder);
     }
-    let archive = named_by("ARGUS_ARCHIVE").unwrap_or_else(where_rt_leaves_it);
-    there(
-        &archive,
-        ARCHIVE,
-        "the proved archive isn't built, or ARGUS_ARCHIVE names another folder than",
-    )?;
-    let kit = named_by("RATTLE_KIT").or_else(kit_of_path);
-    let kit = kit.ok_or_else(|| told("no Rattle kit: the command rt isn't on the path"))?;
-    let allocator = kit.join("c");
-    there(&allocator, ALLOCATOR, "RATTLE_KIT names a kit with")?;
-    Ok([archive, allocator])
+    Err(told(&format!(
+        "ARGUS_LIB_DIR names the folder {}, which hasn't got it",
+        folder.display()
+    )))
 }
 
-// Whether the file is in the folder.
-fn there(folder: &Path, file: &str, words: &str) -> Result<(), String> {
-    if folder.join(file).is_file() {
-        return Ok(());
-    }
-    let folder = folder.display();
-    Err(told(&format!("{words} {folder}: no {file} is there")))
+// The nearest dist/lib above the crate that has the archive.
+fn above() -> Option<PathBuf> {
+    let here = PathBuf::from(env::var_os("CARGO_MANIFEST_DIR")?);
+    here.ancestors()
+        .map(|folder| folder.join("dist/lib"))
+        .find(|folder| folder.join(ARCHIVE).is_file())
 }
 
 fn told(missing: &str) -> String {
     format!(
-        "{missing}\n\
-         this crate links two archives, {ARCHIVE} and {ALLOCATOR}. Either ARGUS_LIB_DIR names a folder with both,\n\
-         or `rt lib` in crates/argus_c builds the first (tools/archive.sh does after .ci/run), \
-         and the second is the Rattle kit's"
+        "no {ARCHIVE}: {missing}\n\
+         this crate links that archive. ARGUS_LIB_DIR names the folder that it lies in, as dist/lib or /usr/local/lib;\n\
+         in the repository of the guardian `(cd crates/argus_c && rt lib) && tools/dist.sh` makes dist/, \
+         for which the Rattle kit is needed"
     )
-}
-
-fn named_by(variable: &str) -> Option<PathBuf> {
-    env::var_os(variable).map(PathBuf::from)
-}
-
-fn where_rt_leaves_it() -> PathBuf {
-    let here = env::var_os("CARGO_MANIFEST_DIR").expect("cargo sets it");
-    Path::new(&here).join("../../crates/argus_c/out")
-}
-
-// The kit whose command `rt` is on the path. `rt doc` prints the path of a file in its folder.
-fn kit_of_path() -> Option<PathBuf> {
-    let told = Command::new("rt").arg("doc").output().ok()?;
-    let page = String::from_utf8(told.stdout).ok()?;
-    Some(Path::new(page.trim()).parent()?.to_owned())
 }

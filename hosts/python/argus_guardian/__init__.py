@@ -18,6 +18,7 @@ from .action import Action
 from .errors import (
     Absent,
     ArgusError,
+    BadDemand,
     BadKind,
     BadNumber,
     BadShape,
@@ -34,6 +35,7 @@ from .errors import (
     NoAction,
     NoObject,
     NoSiblings,
+    NotBegun,
     NotThere,
     OutOfMemory,
     Over,
@@ -46,31 +48,41 @@ from .errors import (
     WrongTag,
 )
 from .guardian import Guardian
+from .library import Demand, Kind
+from .lists import CallsMade, Listed
 from .values import Array, Choice, Ref, read_content, read_value, write_content, write_value
+
+__version__ = "0.1.0"
 
 __all__ = [
     "Absent",
     "Action",
     "ArgusError",
     "Array",
+    "BadDemand",
     "BadKind",
     "BadNumber",
     "BadShape",
     "BadText",
     "Bounds",
     "Busy",
+    "CallsMade",
     "Choice",
     "Closed",
     "Conflict",
+    "Demand",
     "Exists",
     "Full",
     "Guardian",
     "IllTyped",
+    "Kind",
     "Limits",
+    "Listed",
     "NegativeSize",
     "NoAction",
     "NoObject",
     "NoSiblings",
+    "NotBegun",
     "NotThere",
     "OutOfMemory",
     "Over",

@@ -1,14 +1,18 @@
 """`Archive`: one guardian of the library, for one call at a time."""
 
-import ctypes
+from __future__ import annotations
 
+import ctypes
+from collections.abc import Iterator
+from typing import Any
+
+from .errors import Refused, Signal
 from .library import Handle, Status, bare, load
-from .telling import error_of, error_of_call, error_of_question
+from .telling import Call, error_of, error_of_call, error_of_question
 from .values import read_content, read_value
 
 # The two that come most often.
-VALUE, DONE = Status.VALUE, Status.DONE
-_WORDS = {b"null": None, b"true": True, b"false": False}
+NUMBER, DONE = Status.NUMBER, Status.DONE
 
 
 class Archive:
@@ -17,11 +21,13 @@ class Archive:
     Numbers are as large as the library takes them: ctypes would cut off what is past that.
     """
 
-    def __init__(self):
+    def __init__(self) -> None:
         library = load()
         self._call, self._tell = bare(library, "argus_c_call"), bare(library, "argus_c_tell")
         self._reply = bare(library, "argus_c_reply")
         self._checkpoint, self._close = library.argus_c_checkpoint, library.argus_c_close
+        self._abort_live = library.argus_c_abort_live
+        self._call_each = library.argus_c_call_each
         # What the calls take, of the types that library.py declares.
         self._handle, self._number, self._size = Handle(), ctypes.c_int64(), ctypes.c_size_t()
         self._handle_at, self._number_at = ctypes.byref(self._handle), ctypes.byref(self._number)
@@ -33,46 +39,79 @@ class Archive:
         if status != Status.DONE:
             raise error_of(status)
 
-    def close(self):
+    def close(self) -> None:
         self._close(self._handle_at)
 
-    def leave_behind(self):
+    def leave_behind(self) -> None:
         """Is closed, and its memory is left as it is."""
         self._handle = Handle()
         self._handle_at = ctypes.byref(self._handle)
 
-    def make(self, kind, action=0, obj=0, first=0, second=0, text=b""):
+    def make(
+        self, kind: int, action: int = 0, obj: int = 0, first: int = 0, second: int = 0, text: bytes = b""
+    ) -> tuple[int, int]:
         """The status and the number of a call."""
         self._first.value, self._second.value = first, second
         self._text_size.value = len(text)
         given = self._first, self._second, text, self._text_size, self._number_at
         return self._call(self._handle_at, kind, action, obj, *given), self._number.value
 
-    def ask(self, question, action=0, obj=0, entry=0):
+    def make_each(self, array: Any) -> tuple[int, int]:
+        """The status of a list of calls, and how many of them were made."""
+        status = self._call_each(self._handle_at, array, len(array), self._size_at)
+        return status, self._size.value
+
+    def ask(self, question: int, action: int = 0, obj: int = 0, entry: int = 0) -> tuple[int, int]:
         """The status and the number of a question."""
         self._entry.value = entry
         given = question, action, obj, self._entry, self._number_at
         return self._tell(self._handle_at, *given), self._number.value
 
-    def fold(self):
+    def abort_live(self) -> int:
+        """The status of an abort of all that is live."""
+        return self._abort_live(self._handle_at)
+
+    def fold(self) -> int:
         """The status of a checkpoint."""
         return self._checkpoint(self._handle_at)
 
-    def answer(self, status, number, call):
+    def answer(self, status: int, number: int, call: Call) -> Any:
         """What a call answers, by its status and its number. Raises what they say."""
-        if status == VALUE:
-            return _value(self._text())
+        if status == NUMBER:
+            return number
         if status == DONE:
             return None
         if status == Status.FLAG:
             return number != 0
+        if status == Status.VALUE:
+            return _value(self._text())
         if status == Status.CONTENT:
             return read_content(self._text().decode())
-        if status in (Status.OBJECT, Status.ACTION, Status.NUMBER):
+        if status in (Status.OBJECT, Status.ACTION):
             return number
         raise error_of_call(status, number, call)
 
-    def told(self, question, action=0, obj=0, entry=0):
+    def answers(self, outcomes: list[tuple[int, int]], calls: list[Call]) -> list[Any]:
+        """What the calls of a list that were made answer, a Refused and a Signal among them.
+
+        The outcomes are statuses with their numbers. What they say is kept until the next call.
+        """
+        has_text = any(status in (Status.VALUE, Status.CONTENT) for status, _ in outcomes)
+        lines = iter(self._text().split(b"\n") if has_text else [])
+        return [self._answer_in(lines, *it, call) for it, call in zip(outcomes, calls)]
+
+    def _answer_in(self, lines: Iterator[bytes], status: int, number: int, call: Call) -> Any:
+        """What a call of a list answers, of which the next of these lines may be the text."""
+        if status == Status.VALUE:
+            return _value(next(lines))
+        if status == Status.CONTENT:
+            return read_content(next(lines).decode())
+        try:
+            return self.answer(status, number, call)
+        except (Refused, Signal) as error:
+            return error.with_traceback(None)
+
+    def told(self, question: int, action: int = 0, obj: int = 0, entry: int = 0) -> Any:
         """What a question tells: a text, a number or a flag. Raises what its status says."""
         status, number = self.ask(question, action, obj, entry)
         if status == Status.TEXT:
@@ -83,7 +122,7 @@ class Archive:
             return number
         raise error_of_question(status, number, question, entry, obj)
 
-    def _text(self):
+    def _text(self) -> bytes:
         """The text that the library keeps. OutOfMemory here comes after a call that was made."""
         status = self._reply(self._handle_at, self._room, self._room_size, self._size_at)
         if status == Status.TOO_SMALL:
@@ -93,14 +132,13 @@ class Archive:
             raise error_of(status)
         return self._room[: self._size.value]
 
-    def _make_room(self, size):
+    def _make_room(self, size: int) -> None:
+        self._room: Any
         self._room, self._room_size = ctypes.create_string_buffer(size), ctypes.c_size_t(size)
 
 
-def _value(written):
-    """The value that the library has written so. Most are integers and short texts."""
-    if written.isdigit():
-        return int(written)
+def _value(written: bytes) -> Any:
+    """The value that the library has written so. Most are short texts."""
     if written[:1] == b'"' and b"\\" not in written:
         return written[1:-1].decode()
-    return _WORDS[written] if written in _WORDS else read_value(written.decode())
+    return None if written == b"null" else read_value(written.decode())

@@ -6,7 +6,7 @@ class ArgusError(Exception):
 
     why = "not as wanted"
 
-    def __str__(self):
+    def __str__(self) -> str:
         return str(self.args[0]) if self.args else self.why
 
 
@@ -19,11 +19,11 @@ class OutOfMemory(ArgusError, MemoryError):
 class BadText(ArgusError, ValueError):
     """A text is no written form; `at` is how many of its bytes could be read. Nothing was journalled."""
 
-    def __init__(self, at):
+    def __init__(self, at: int) -> None:
         super().__init__(at)
         self.at = at
 
-    def __str__(self):
+    def __str__(self) -> str:
         return f"no written form: bad at byte {self.at}"
 
 
@@ -43,6 +43,18 @@ class BadKind(ArgusError, ValueError):
     """No call and no question has this number. Nothing was journalled."""
 
     why = "no call has this kind"
+
+
+class NotBegun(ArgusError, LookupError):
+    """Of a call of a list: `begun_by` names no earlier one, or one that began no action. It wasn't journalled."""
+
+    why = "no earlier call of the list began this action"
+
+
+class BadDemand(ArgusError, ValueError):
+    """Of a call of a list: no demand has this number. It wasn't journalled."""
+
+    why = "no demand has this number"
 
 
 class NotThere(ArgusError, LookupError):
@@ -72,7 +84,7 @@ class Full(ArgusError):
 class UnknownStatus(ArgusError):
     """The library answered a number that this package doesn't know: they are of two versions."""
 
-    def __str__(self):
+    def __str__(self) -> str:
         return "the library answered {}".format(*self.args)
 
 
@@ -179,5 +191,6 @@ class Limits(Signal):
 
 
 # By the library's numbers, from 1.
+REFUSALS: tuple[type[Refused], ...]
 REFUSALS = (NoAction, Over, Suspended, NoObject, IllTyped, Conflict, TooDeep, TooMany, NoSiblings)
-SIGNALS = (Absent, Exists, Bounds, WrongTag, NegativeSize, Limits)
+SIGNALS: tuple[type[Signal], ...] = (Absent, Exists, Bounds, WrongTag, NegativeSize, Limits)

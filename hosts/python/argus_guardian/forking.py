@@ -4,18 +4,24 @@ The child has a copy of each, maybe in the midst of a call of a thread that it h
 closed there, and their memory is left as it is.
 """
 
+from __future__ import annotations
+
 import os
 import weakref
+from typing import TYPE_CHECKING
 
-_OPEN = weakref.WeakSet()
+if TYPE_CHECKING:
+    from .guardian import Guardian
+
+_OPEN: weakref.WeakSet[Guardian] = weakref.WeakSet()
 
 
-def add(guardian):
+def add(guardian: Guardian) -> None:
     """From now on the guardian is closed in each process that is forked."""
     _OPEN.add(guardian)
 
 
-def _close_all():
+def _close_all() -> None:
     for guardian in list(_OPEN):
         guardian._leave_behind()
 

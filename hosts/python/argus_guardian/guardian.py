@@ -1,18 +1,25 @@
 """`Guardian`: atomic objects, and the actions that use them."""
 
+from __future__ import annotations
+
 import random
 import threading
 import time
 import warnings
+from collections.abc import Callable, Iterable
+from typing import Any, NoReturn, TypeVar
 
 from . import errors, forking
 from .action import Action
 from .archive import Archive
 from .library import Kind, Question, Status
+from .lists import CallsMade, Listed, array_of, calls_of
 from .owners import Owners
 from .ranges import LEAST, MOST, U32, U64, i64, u32, within
-from .telling import deed, error_of, error_of_call
-from .values import object_number, read_content
+from .telling import Call, deed, error_of, error_of_call
+from .values import Object, object_number, read_content
+
+_Done = TypeVar("_Done")
 
 _LISTINGS = {
     "bases": Question.LIST_BASES,
@@ -46,7 +53,7 @@ class Guardian:
     million actions in its life, and declares 65,535 objects.
     """
 
-    def __init__(self, patience=1.0):
+    def __init__(self, patience: float = 1.0) -> None:
         self.patience = patience
         self._archive = Archive()
         self._make_lock()
@@ -56,7 +63,7 @@ class Guardian:
         self._is_open = True
         forking.add(self)
 
-    def _make_lock(self):
+    def _make_lock(self) -> None:
         # The lock is held around each call with its reply. The condition is told when actions end.
         self._lock = threading.Lock()
         self._ended = threading.Condition(self._lock)
@@ -64,9 +71,9 @@ class Guardian:
         self._waiting = 0
         self._folding = 0
         # For each object the lineages of those that wait to write it.
-        self._writing = {}
+        self._writing: dict[int, list[set[int]]] = {}
 
-    def close(self):
+    def close(self) -> None:
         """Gives its memory back, but for a word of 8 bytes. Live actions come to nothing."""
         with self._lock:
             self._is_open = False
@@ -74,44 +81,44 @@ class Guardian:
             self._aborts += 1
             self._wake()
 
-    def _leave_behind(self):
+    def _leave_behind(self) -> None:
         """Closes it in a process that was forked. Its memory and its lock are the parent's."""
         self._is_open = False
         self._archive.leave_behind()
         self._make_lock()
 
-    def __del__(self, warn=warnings.warn):
+    def __del__(self, warn: Callable[..., None] = warnings.warn) -> None:
         # Nobody has it any more, so nobody has its lock.
         if getattr(self, "_is_open", False):
             self._archive.close()
             warn(f"unclosed guardian {self!r}", ResourceWarning, source=self)
 
-    def __reduce__(self):
+    def __reduce__(self) -> NoReturn:
         raise TypeError("a guardian is neither pickled nor copied: it lives in one process")
 
-    def __enter__(self):
+    def __enter__(self) -> Guardian:
         return self
 
-    def __exit__(self, *_):
+    def __exit__(self, *_: object) -> None:
         self.close()
 
-    def declare(self, shape):
+    def declare(self, shape: str) -> int:
         """Declares an object of this shape, as `atomic_record[balance:int]`; its number."""
         return self.call(Kind.DECLARE, text=shape)
 
-    def topaction(self):
+    def topaction(self) -> Action:
         """Begins a topaction. While a thread waits in `checkpoint`, it waits for that."""
         with self._lock:
             while self._folding:
                 self._wait_until(time.monotonic() + _LOOK_AFTER)
             return self._begin(Kind.BEGIN_TOP)
 
-    def _begin_below(self, kind, parent):
+    def _begin_below(self, kind: int, parent: Action) -> Action:
         """Begins a subaction of an `Action`, or a nested topaction of it."""
         with self._lock:
             return self._begin(kind, parent)
 
-    def _begin(self, kind, parent=None):
+    def _begin(self, kind: int, parent: Action | None = None) -> Action:
         """Begins an action. Where an interrupt comes before anybody has it, it is aborted."""
         before = self._archive.told(Question.ACTIONS)
         try:
@@ -127,7 +134,7 @@ class Guardian:
                 self._archive.make(Kind.ABORT, before)
             raise
 
-    def run(self, work, tries=20):
+    def run(self, work: Callable[[Action], _Done], tries: int = 20) -> _Done:
         """Carries out `work(top)` as a topaction, and returns what it returns.
 
         At a Conflict the topaction is aborted, and tried again after a wait: up to a millisecond at
@@ -144,11 +151,11 @@ class Guardian:
                 time.sleep(random.uniform(0, 0.001 * min(2**number, 100)))
         return self._run_once(work)
 
-    def _run_once(self, work):
+    def _run_once(self, work: Callable[[Action], _Done]) -> _Done:
         with self.topaction() as top:
             return work(top)
 
-    async def arun(self, work, tries=20):
+    async def arun(self, work: Callable[[Action], _Done], tries: int = 20) -> _Done:
         """`run` for asyncio: `work`, which is no coroutine, runs in a thread of asyncio's pool.
 
         A task that is cancelled meanwhile doesn't stop it: the topaction goes on to its end.
@@ -156,9 +163,22 @@ class Guardian:
         # It takes longer to load than the rest of the package, and most programs need none.
         from asyncio import to_thread
 
-        return await to_thread(self.run, work, tries)
+        return await to_thread(lambda: self.run(work, tries))
 
-    def checkpoint(self, patience=0.0):
+    def abort_live(self) -> None:
+        """Aborts all that is live, nested topactions too; what others still do by them raises Over.
+
+        For a program that goes on where actions are left that nobody ends. At OutOfMemory some were
+        aborted, from the first one on, and a further call aborts the others.
+        """
+        with self._lock:
+            status = self._archive.abort_live()
+            self._aborts += 1
+            self._wake()
+            if status != Status.DONE:
+                raise error_of(status)
+
+    def checkpoint(self, patience: float = 0.0) -> None:
         """Folds the journal's entries away once no action is live.
 
         Until then it holds back each `topaction`, at most `patience` seconds; then Busy. So a thread
@@ -178,58 +198,93 @@ class Guardian:
             if status != Status.DONE:
                 raise error_of(status)
 
-    def _fold(self):
+    def _fold(self) -> int:
         self._abort_dropped()
         return self._archive.fold()
 
     @property
-    def objects(self):
+    def objects(self) -> int:
         """How many objects are declared."""
         return self._tell(Question.OBJECTS)
 
     @property
-    def actions(self):
+    def actions(self) -> int:
         """How many actions are begun: the next one's number."""
         return self._tell(Question.ACTIONS)
 
     @property
-    def entries(self):
+    def entries(self) -> int:
         """How many entries the journal has had: the next one's number."""
         return self._tell(Question.ENTRIES)
 
-    def base(self, obj):
+    def base(self, obj: Object) -> Any:
         """What is in the object for good; None where it has no content yet."""
         return read_content(self._tell(Question.BASE, obj=object_number(obj)))
 
-    def readers(self, obj):
+    def readers(self, obj: Object) -> list[int]:
         """Who holds the object for reading, in increasing number."""
         return _actions(self._tell(Question.READERS, obj=object_number(obj)))
 
-    def versions(self, obj):
+    def versions(self, obj: Object) -> list[tuple[int, Any]]:
         """Who holds the object for writing, from ancestor to descendant, each with what it sees."""
         lines = _lines(self._tell(Question.VERSIONS, obj=object_number(obj)))
         pairs = (line.split(" ", 1) for line in lines)
         return [(int(holder[1:]), read_content(content)) for holder, content in pairs]
 
-    def entry(self, number):
+    def entry(self, number: int) -> str:
         """The line of a journal's entry. NotThere where a checkpoint has folded it."""
         return self._tell(Question.ENTRY, entry=within(number, 0, U64, "entry"))
 
-    def list(self, listing):
+    def list(self, listing: str) -> str:
         """A listing: of `bases`, `stacks`, `journal` or `audit`."""
         return self._tell(_LISTINGS[listing])
 
-    def call(self, kind, action=0, obj=0, first=0, second=0, text=""):
+    def call(
+        self, kind: int, action: int = 0, obj: Object = 0, first: int = 0, second: int = 0, text: str = ""
+    ) -> Any:
         """Makes one call, of a Kind. What it answers; raises Refused or Signal where it says so."""
-        call = u32(kind, "kind"), u32(action, "action"), object_number(obj)
-        call = *call, i64(first, "number"), i64(second, "number"), text.encode()
+        named = u32(kind, "kind"), u32(action, "action"), object_number(obj)
+        call = *named, i64(first, "number"), i64(second, "number"), text.encode()
         with self._lock:
             answer = self._make(*call)
             if kind in _ENDS:
                 self._note_end(kind, action, answer)
             return self._archive.answer(*answer, call)
 
-    def _end(self, kind, action):
+    def call_each(self, calls: Iterable[Listed]) -> CallsMade:
+        """Makes these calls, each a `Listed`, up to the first whose answer isn't as demanded.
+
+        All of them are one way into the library. Each is an entry of the journal, and none waits. A
+        call that fails ends the list, too, and what came of those before it stays. What came of them,
+        a `CallsMade`.
+
+        Where it raises an exception, an action that the list began is aborted if it is still live.
+        OutOfMemory: calls were made, but memory for what they answered wasn't there. At Closed, and
+        where a number is none that the library takes (OverflowError, TypeError), nothing was called.
+        """
+        array = array_of(list(calls))
+        with self._lock:
+            before = self._archive.told(Question.ACTIONS)
+            try:
+                return self._make_each(array)
+            except BaseException:
+                for number in range(before, self._archive.told(Question.ACTIONS)):
+                    self._archive.make(Kind.ABORT, number)
+                raise
+
+    def _make_each(self, array: Any) -> CallsMade:
+        if self._owners.dropped:
+            self._abort_dropped()
+        status, count = self._archive.make_each(array)
+        made = array[:count]
+        calls, outcomes = calls_of(made), [(it.status, it.number) for it in made]
+        for call, outcome in zip(calls, outcomes):
+            if call[0] in _ENDS:
+                self._note_end(call[0], call[1], outcome)
+        answers = self._archive.answers(outcomes, calls)
+        return CallsMade(answers, _end_of(status, answers, array))
+
+    def _end(self, kind: int, action: int) -> None:
         """Commits an action, or aborts it."""
         with self._lock:
             answer = self._make(kind, action)
@@ -237,14 +292,14 @@ class Guardian:
             if answer != _DONE:
                 self._archive.answer(*answer, (kind, action))
 
-    def _note_end(self, kind, action, answer):
+    def _note_end(self, kind: int, action: int, answer: tuple[int, int]) -> None:
         if kind != Kind.ABORT_OTHERS and answer in (_DONE, _OVER):
             self._owners.remove(action)
         if answer == _DONE:
             self._aborts += kind != Kind.COMMIT
             self._wake()
 
-    def _abort_dropped(self):
+    def _abort_dropped(self) -> None:
         """Aborts what nobody has any more."""
         for number in self._owners.take_dropped():
             answer = self._archive.make(Kind.ABORT, number)
@@ -253,18 +308,27 @@ class Guardian:
                 # The next call tries once more.
                 break
 
-    def access(self, kind, action, obj, first=0, second=0, text="", lineage=None):
+    def access(
+        self,
+        kind: int,
+        action: int,
+        obj: Object,
+        first: int = 0,
+        second: int = 0,
+        text: str = "",
+        lineage: Callable[[], set[int]] | None = None,
+    ) -> Any:
         """Makes an access, which waits for its object as long as patience lasts.
 
         Each time that it is made is an entry of the journal: at first, where the lock may be had,
         where other actions were aborted (and maybe its own), and when the patience is over. `lineage`
         gives the numbers of the action and its ancestors.
         """
-        if obj.__class__ is not int or not 0 <= obj <= U32:
+        if type(obj) is not int or not 0 <= obj <= U32:
             obj = object_number(obj)
-        if first.__class__ is not int or not LEAST <= first <= MOST:
+        if type(first) is not int or not LEAST <= first <= MOST:
             first = i64(first, "number")
-        if second.__class__ is not int or not LEAST <= second <= MOST:
+        if type(second) is not int or not LEAST <= second <= MOST:
             second = i64(second, "number")
         call = kind, action, obj, first, second, text.encode()
         archive = self._archive
@@ -276,7 +340,7 @@ class Guardian:
                 return self._access_refused(call, lineage() if lineage else {action})
             return archive.answer(status, number, call)
 
-    def _access_refused(self, call, lineage):
+    def _access_refused(self, call: Call, lineage: set[int]) -> Any:
         """Waits for the object of a refused access, and makes it again."""
         answer, is_reading = _CONFLICT, call[0] < Kind.CREATE
         is_in_vain = not is_reading and self._is_in_vain(call[2], lineage)
@@ -288,7 +352,7 @@ class Guardian:
             raise errors.Conflict(self._conflict(call, lineage, is_in_vain))
         return self._archive.answer(*answer, call)
 
-    def _make_waiting_to_write(self, call, lineage):
+    def _make_waiting_to_write(self, call: Call, lineage: set[int]) -> tuple[int, int]:
         waiting = self._writing.setdefault(call[2], [])
         waiting.append(lineage)
         try:
@@ -298,7 +362,7 @@ class Guardian:
             if not waiting:
                 del self._writing[call[2]]
 
-    def _make_once_had(self, call, question):
+    def _make_once_had(self, call: Call, question: int) -> tuple[int, int]:
         """Makes a refused access again each time that it may be had, until the patience is over."""
         limit, answer = time.monotonic() + self.patience, _CONFLICT
         while answer == _CONFLICT and time.monotonic() < limit:
@@ -310,7 +374,7 @@ class Guardian:
             answer = self._make(*call)
         return answer
 
-    def _is_in_vain(self, obj, lineage):
+    def _is_in_vain(self, obj: int, lineage: set[int]) -> bool:
         """Whether who waits to write the object waits for this one's read lock, and this one for its."""
         if obj not in self._writing:
             return False
@@ -319,7 +383,7 @@ class Guardian:
         others = self._writing[obj]
         return any(mine - other and readers & other - lineage for other in others)
 
-    def _holders(self, obj, *questions):
+    def _holders(self, obj: int, *questions: int) -> set[int]:
         """The numbers of those that hold the object, by these questions. None without memory for them."""
         try:
             texts = [self._archive.told(question, obj=obj) for question in questions]
@@ -327,14 +391,14 @@ class Guardian:
             return set()
         return {number for text in texts for number in _actions(text)}
 
-    def _conflict(self, call, lineage, is_in_vain):
+    def _conflict(self, call: Call, lineage: set[int], is_in_vain: bool) -> str:
         """Who holds the object against an access, as `a7 wants to write o3, held by a5`."""
         holders = self._holders(call[2], Question.READERS, Question.VERSIONS) - lineage
         named = ", ".join(f"a{number}" for number in sorted(holders))
         too = ", and one of them has read it and waits to write it, too" if is_in_vain else ""
         return f"{deed(*call)}, held by {named or 'another one'}{too}"
 
-    def _wait_until(self, limit):
+    def _wait_until(self, limit: float) -> None:
         # Nobody is told of actions that are dropped, so it looks from time to time.
         self._waiting += 1
         try:
@@ -342,34 +406,41 @@ class Guardian:
         finally:
             self._waiting -= 1
 
-    def _wake(self):
+    def _wake(self) -> None:
         if self._waiting:
             self._ended.notify_all()
 
-    def _make(self, *call):
+    def _make(self, *call: Any) -> tuple[int, int]:
         """The status and the number of a call. The lock is held."""
         if self._owners.dropped:
             self._abort_dropped()
         return self._archive.make(*call)
 
-    def _ask(self, question, action, obj):
+    def _ask(self, question: int, action: int, obj: int) -> tuple[int, int]:
         """The status and the number of a question. The lock is held."""
         if self._owners.dropped:
             self._abort_dropped()
         return self._archive.ask(question, action, obj)
 
-    def _tell(self, question, obj=0, entry=0):
+    def _tell(self, question: int, obj: int = 0, entry: int = 0) -> Any:
         with self._lock:
             if self._owners.dropped:
                 self._abort_dropped()
             return self._archive.told(question, 0, obj, entry)
 
 
-def _actions(text):
+def _end_of(status: int, answers: list[Any], array: Any) -> errors.ArgusError | None:
+    """Why no more calls of a list were made than these have answers, as an exception; None: all were."""
+    if status == Status.DONE:
+        return None
+    return answers[-1] if status == Status.UNMET else error_of(status, array[len(answers)].number)
+
+
+def _actions(text: str) -> list[int]:
     """The numbers of actions, of which each begins a line, as a7."""
     return [int(line.split(" ", 1)[0][1:]) for line in _lines(text)]
 
 
-def _lines(text):
+def _lines(text: str) -> list[str]:
     """The lines of a text. A line feed alone ends one: texts in values may hold other ends of lines."""
     return [line for line in text.split("\n") if line]

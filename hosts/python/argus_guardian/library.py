@@ -1,8 +1,14 @@
 """The library, as `argus.h` has it: what it exports, and the numbers that it speaks in."""
 
+from __future__ import annotations
+
 import ctypes
 import os
+from collections.abc import Callable
 from pathlib import Path
+from typing import Any
+
+NAME = "libargus.so.0"
 
 
 class Handle(ctypes.Structure):
@@ -11,12 +17,37 @@ class Handle(ctypes.Structure):
     _fields_ = [("mark", ctypes.c_uint32), ("at", ctypes.c_void_p)]
 
 
+class ListedCall(ctypes.Structure):
+    """One call of a list, with what came of it."""
+
+    _fields_ = [
+        ("kind", ctypes.c_uint32),
+        ("demand", ctypes.c_uint32),
+        ("action", ctypes.c_uint32),
+        ("begun_by", ctypes.c_uint32),
+        ("object", ctypes.c_uint32),
+        ("status", ctypes.c_uint32),
+        ("first", ctypes.c_int64),
+        ("second", ctypes.c_int64),
+        ("number", ctypes.c_int64),
+        ("text", ctypes.c_char_p),
+        ("text_size", ctypes.c_size_t),
+    ]
+
+
 class Status:
     """What came of a call."""
 
     DONE, OBJECT, ACTION, NUMBER, FLAG, VALUE, CONTENT, TEXT, SIGNAL, REFUSED = range(10)
     NO_MEMORY, NOT_OPEN, NOT_UTF8, BAD_TEXT, BAD_SHAPE, BAD_NUMBER, BAD_KIND = range(10, 17)
     TOO_SMALL, NOT_THERE, BUSY, FULL = range(17, 21)
+    UNMET, NOT_BEGUN, BAD_DEMAND = range(22, 25)
+
+
+class Demand:
+    """What the answer of a call of a list must be for the calls after it to be made."""
+
+    NO_REFUSAL, NOTHING, NO_SIGNAL = range(3)
 
 
 class Kind:
@@ -35,17 +66,32 @@ class Question:
     LIST_BASES, LIST_STACKS, LIST_JOURNAL, LIST_AUDIT = range(9, 13)
 
 
-def load():
-    """The shared object that `ARGUS_LIBRARY` names, or else the one that `make` leaves."""
-    built = Path(__file__).resolve().parents[3] / "build/hosts/python/libargus_c.so"
-    library = ctypes.CDLL(os.environ.get("ARGUS_LIBRARY") or str(built))
+def where() -> str:
+    """The shared object that `ARGUS_LIBRARY` names; or else the one in this folder, where pip puts it, that of
+    the repository's dist/, or that which the system's loader finds."""
+    here = Path(__file__).resolve().parent
+    places = [here, *(above / "dist/lib" for above in here.parents[2:3])]
+    found = (str(place / NAME) for place in places if (place / NAME).is_file())
+    return os.environ.get("ARGUS_LIBRARY", "") or next(found, NAME)
+
+
+def load() -> ctypes.CDLL:
+    """The library, with what its calls take. OSError where it isn't to be had."""
+    try:
+        library = ctypes.CDLL(where())
+    except OSError as error:
+        words = "tools/dist.sh makes it in dist/lib, pip puts it into the package, ARGUS_LIBRARY names another"
+        raise OSError(f"no library {NAME} is to be had: {words} ({error})") from None
     handle, number = ctypes.POINTER(Handle), ctypes.POINTER(ctypes.c_int64)
+    listed, made = ctypes.POINTER(ListedCall), ctypes.POINTER(ctypes.c_size_t)
     u32, u64, i64, size = ctypes.c_uint32, ctypes.c_uint64, ctypes.c_int64, ctypes.c_size_t
     calls = {
         "argus_c_open": (handle, handle),
         "argus_c_close": (handle,),
         "argus_c_call": (handle, u32, u32, u32, i64, i64, ctypes.c_char_p, size, number),
+        "argus_c_call_each": (handle, listed, size, made),
         "argus_c_tell": (handle, u32, u32, u32, u64, number),
+        "argus_c_abort_live": (handle,),
         "argus_c_checkpoint": (handle,),
         "argus_c_reply": (handle, ctypes.c_char_p, size, ctypes.POINTER(size)),
     }
@@ -55,7 +101,7 @@ def load():
     return library
 
 
-def bare(library, name):
+def bare(library: ctypes.CDLL, name: str) -> Callable[..., Any]:
     """A call to which ctypes hands what it is given as it is: whoever calls it gives the declared types.
 
     Kinds, actions and objects are an int of 32 bits, all else is of a type of ctypes. To turn each into

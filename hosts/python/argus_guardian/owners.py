@@ -1,13 +1,21 @@
 """`Owners`: which actions of a guardian somebody still has."""
 
+from __future__ import annotations
+
 import collections
 import weakref
+from collections.abc import Callable, Iterator
+from typing import TYPE_CHECKING, Any
+
+if TYPE_CHECKING:
+    from .action import Action
 
 
-class _Owner(weakref.ref):
+class _Owner(weakref.ref["Action"]):
     """A reference to an `Action` that doesn't keep it, with the action's number."""
 
     __slots__ = ("number",)
+    number: int
 
 
 class Owners:
@@ -18,19 +26,20 @@ class Owners:
     interpreter, not by a `__del__`, in which an interrupt would be lost.
     """
 
-    def __init__(self):
-        self._live = {}
-        self.dropped = collections.deque()
+    def __init__(self) -> None:
+        self._live: dict[int, _Owner] = {}
+        self.dropped: collections.deque[_Owner] = collections.deque()
 
-    def add(self, action):
-        owner = _Owner(action, self.dropped.append)
+    def add(self, action: Action) -> None:
+        drop: Callable[[Any], None] = self.dropped.append
+        owner = _Owner(action, drop)
         owner.number = action.number
         self._live[action.number] = owner
 
-    def remove(self, number):
+    def remove(self, number: int) -> None:
         self._live.pop(number, None)
 
-    def take_dropped(self):
+    def take_dropped(self) -> Iterator[int]:
         """The numbers that were dropped. Each is told until it is removed."""
         while self.dropped:
             owner = self.dropped[0]

@@ -1,6 +1,7 @@
 """Which numbers the library takes. ctypes would cut off what is past them."""
 
 from operator import index
+from typing import SupportsIndex
 
 U32 = 2**32 - 1
 U64 = 2**64 - 1
@@ -10,17 +11,17 @@ MOST = 2**63 - 1
 BYTE = 2**8 - 1
 
 
-def within(number, low, high, what):
+def within(number: SupportsIndex, low: int, high: int, what: str) -> int:
     """The number, an int. OverflowError where it isn't within these bounds, TypeError where it is none."""
-    number = index(number)
-    if low <= number <= high:
-        return number
-    raise OverflowError(f"{what} {number} is not within {low} to {high}")
+    plain = index(number)
+    if low <= plain <= high:
+        return plain
+    raise OverflowError(f"{what} {plain} is not within {low} to {high}")
 
 
-def i64(number, what):
+def i64(number: SupportsIndex, what: str) -> int:
     return within(number, LEAST, MOST, what)
 
 
-def u32(number, what):
+def u32(number: SupportsIndex, what: str) -> int:
     return within(number, 0, U32, what)

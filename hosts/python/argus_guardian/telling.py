@@ -1,9 +1,16 @@
 """What an exception says of the call that it comes of."""
 
+from __future__ import annotations
+
+from typing import Any, TypeAlias
+
 from . import errors
 from .library import Kind, Question, Status
 
-_NAMES = {number: name.lower() for name, number in vars(Kind).items() if name.isupper()}
+# A kind, and in their order what comes behind it of an action, an object, two numbers and a text.
+Call: TypeAlias = "tuple[Any, ...]"
+
+_NAMES: dict[int, str] = {number: name.lower() for name, number in vars(Kind).items() if name.isupper()}
 _DEEDS = {
     Kind.DECLARE: "a declaration",
     Kind.BEGIN_TOP: "a topaction wants to begin",
@@ -15,47 +22,51 @@ _DEEDS = {
     Kind.TEST_READ: "a{} wants to read o{}",
     Kind.TEST_WRITE: "a{} wants to write o{}",
 }
-_NUMBERED = (Kind.FIELD, Kind.FETCH, Kind.IS_TAG, Kind.TAG_VALUE, Kind.SET_FIELD, Kind.STORE)
+_NUMBERED: tuple[int, ...] = (Kind.FIELD, Kind.FETCH, Kind.IS_TAG, Kind.TAG_VALUE, Kind.SET_FIELD, Kind.STORE)
 _NUMBERED += (Kind.SET_LOW, Kind.CHANGE_TAG)
-_ERRORS = {
+_ERRORS: dict[int, type[errors.ArgusError]] = {
     Status.NO_MEMORY: errors.OutOfMemory,
     Status.NOT_OPEN: errors.Closed,
     Status.BAD_SHAPE: errors.BadShape,
     Status.BAD_NUMBER: errors.BadNumber,
     Status.BAD_KIND: errors.BadKind,
+    Status.NOT_BEGUN: errors.NotBegun,
+    Status.BAD_DEMAND: errors.BadDemand,
     Status.NOT_THERE: errors.NotThere,
     Status.BUSY: errors.Busy,
     Status.FULL: errors.Full,
 }
 
 
-def deed(kind, action=0, obj=0, *_):
+def deed(kind: int, action: int = 0, obj: int = 0, *_: object) -> str:
     """What the call wants, as `a7 wants to write o3`."""
     if kind > Kind.TEST_WRITE:
         kind = Kind.TEST_READ if kind < Kind.CREATE else Kind.TEST_WRITE
     return _DEEDS[kind].format(action, obj)
 
 
-def _operation(kind, action, obj, first=0, second=0, *_):
+def _operation(kind: int, action: int, obj: int, first: int = 0, second: int = 0, *_: object) -> str:
     """The operation of an access, as `set_field 0`."""
     if kind in _NUMBERED:
         return f"{_NAMES[kind]} {first}"
     return f"trim {first} {second}" if kind == Kind.TRIM else _NAMES[kind]
 
 
-def error_of_call(status, number, call):
+def error_of_call(status: int, number: int, call: Call) -> errors.ArgusError:
     """What the status and the number of a call say, as an exception."""
     if status == Status.REFUSED and 1 <= number <= len(errors.REFUSALS):
-        error = errors.REFUSALS[number - 1]
-        operation = f" by {_operation(*call)}" if error is errors.IllTyped else ""
-        return error(f"{deed(*call)}{operation}: {error.why}")
+        refused = errors.REFUSALS[number - 1]
+        operation = f" by {_operation(*call)}" if refused is errors.IllTyped else ""
+        return refused(f"{deed(*call)}{operation}: {refused.why}")
     if status == Status.SIGNAL and 1 <= number <= len(errors.SIGNALS):
-        error = errors.SIGNALS[number - 1]
-        return error(f"{deed(*call)} by {_operation(*call)}: {error.why}")
+        signal = errors.SIGNALS[number - 1]
+        return signal(f"{deed(*call)} by {_operation(*call)}: {signal.why}")
     return error_of(status, number)
 
 
-def error_of_question(status, number, question, entry=0, obj=0):
+def error_of_question(
+    status: int, number: int, question: int, entry: int = 0, obj: int = 0
+) -> errors.ArgusError:
     """What the status and the number of a question say, as an exception."""
     if status == Status.NOT_THERE and question == Question.ENTRY:
         return errors.NotThere(f"entry {entry} isn't there, or not any more")
@@ -64,7 +75,7 @@ def error_of_question(status, number, question, entry=0, obj=0):
     return error_of(status, number)
 
 
-def error_of(status, number=0):
+def error_of(status: int, number: int = 0) -> errors.ArgusError:
     """What a status and a number say of themselves, as an exception."""
     if status == Status.BAD_TEXT:
         return errors.BadText(number)

@@ -120,6 +120,7 @@ class Exits(unittest.TestCase):
     def test_a_library_that_isnt_there(self):
         told, status = run("import os\nos.environ['ARGUS_LIBRARY'] = '/nothing'\n" + self.BEGIN)
         self.assertEqual(status, 1)
+        self.assertIn("no library libargus.so.0 is to be had", told)
         self.assertNotIn("Exception ignored", told)
 
 

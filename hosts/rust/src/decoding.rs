@@ -1,7 +1,13 @@
 //! What the library's numbers and texts stand for.
 
+use crate::answer::Answer;
 use crate::error::Error;
-use crate::sys::status;
+use crate::refusal::Refusal;
+use crate::reply::Reply;
+use crate::signal::Signal;
+use crate::sys::{kind, status};
+use crate::value::Value;
+use crate::{ActionId, ObjId};
 use std::str::FromStr;
 
 /// What the library has written, at this status.
@@ -21,6 +27,46 @@ pub(crate) fn one_of<T: Copy>(all: &[T], status: u32, number: i64) -> Result<T, 
     one.copied().ok_or(Error::Unknown(status))
 }
 
+/// The reply to a call of this kind, by its status and its number; its value or content is asked for
+/// where the number doesn't say it.
+pub(crate) fn reply_of(
+    kind: u32,
+    status: u32,
+    number: i64,
+    answer: impl FnOnce() -> Result<Answer, Error>,
+) -> Result<Reply, Error> {
+    let answer = match status {
+        status::DONE => Answer::Done,
+        status::OBJECT => return number_of(status, number).map(|o| Reply::Object(ObjId(o))),
+        status::ACTION => return number_of(status, number).map(|a| Reply::Begun(ActionId(a))),
+        status::NUMBER if gives_value(kind) => Answer::Val(Value::Int(number)),
+        status::NUMBER => Answer::Num(number),
+        status::FLAG if gives_value(kind) => Answer::Val(Value::Bool(number != 0)),
+        status::FLAG => Answer::Flag(number != 0),
+        status::VALUE | status::CONTENT => answer()?,
+        status::SIGNAL => Answer::Signal(one_of(&Signal::ALL, status, number)?),
+        status::REFUSED => {
+            return one_of(&Refusal::ALL, status, number).map(Reply::Refused);
+        }
+        _ => return Err(error_of(status, number)),
+    };
+    Ok(Reply::Answered(answer))
+}
+
+// Whether a call of this kind answers a value, where it is answered and doesn't signal.
+fn gives_value(kind: u32) -> bool {
+    matches!(
+        kind,
+        kind::FIELD
+            | kind::FETCH
+            | kind::BOTTOM
+            | kind::TOP
+            | kind::TAG_VALUE
+            | kind::REMH
+            | kind::REML
+    )
+}
+
 /// Why nothing was called.
 pub(crate) fn error_of(status: u32, number: i64) -> Error {
     match status {
@@ -30,6 +76,7 @@ pub(crate) fn error_of(status: u32, number: i64) -> Error {
         },
         status::BAD_SHAPE => Error::BadShape,
         status::NOT_THERE => Error::NotThere,
+        status::NOT_BEGUN => Error::NotBegun,
         other => Error::Unknown(other),
     }
 }

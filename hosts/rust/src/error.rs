@@ -30,6 +30,9 @@ pub enum Error {
     BadShape,
     /// The object isn't declared, or no entry has this number.
     NotThere,
+    /// The call of the list that is to have begun the action isn't an earlier one, or began none.
+    /// Nothing has changed, and nothing was journalled.
+    NotBegun,
     /// The call was made and stands in the journal, but memory for what it answered wasn't there.
     /// `Guardian::answer_again` asks for it once more.
     NoRoom,
@@ -66,6 +69,7 @@ impl fmt::Display for Error {
             Error::BadText { at } => write!(f, "no written form: bad at byte {at}"),
             Error::BadShape => f.write_str("no written form of a shape"),
             Error::NotThere => f.write_str("no such object or entry"),
+            Error::NotBegun => f.write_str("no earlier call of the list began this action"),
             Error::NoRoom => f.write_str("called, but no memory for the answer"),
             Error::Refused(refusal) => write!(f, "refused: {refusal}"),
             Error::Signal(signal) => write!(f, "signal: {signal}"),

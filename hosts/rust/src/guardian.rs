@@ -5,13 +5,11 @@ use crate::answer::Answer;
 use crate::call::Call;
 use crate::checkpoint_error::CheckpointError;
 use crate::content::Content;
-use crate::decoding::{error_of, number_of, one_of, read_as};
+use crate::decoding::{self, error_of, read_as};
 use crate::error::Error;
 use crate::listing::Listing;
 use crate::reader::Reader;
-use crate::refusal::Refusal;
 use crate::reply::Reply;
-use crate::signal::Signal;
 use crate::sys::{self, Handle, question, status};
 use crate::words::Words;
 use crate::{ActionId, ObjId};
@@ -31,11 +29,11 @@ use std::fmt;
 /// # Ok::<(), argus_guardian::Error>(())
 /// ```
 pub struct Guardian {
-    handle: Handle,
+    pub(crate) handle: Handle,
     // Where replies are copied to.
     room: Vec<u8>,
     // What came of the last call: of which kind the text is that the library keeps.
-    kept: u32,
+    pub(crate) kept: u32,
 }
 
 // SAFETY: the archive's handle is proved to be such as may go to another thread, and all calls that
@@ -124,31 +122,19 @@ impl Guardian {
                 &raw mut number,
             )
         };
-        self.reply_of(status, number)
+        self.reply_of(words.kind, status, number)
     }
 
-    fn reply_of(&mut self, status: u32, number: i64) -> Result<Reply, Error> {
+    fn reply_of(&mut self, kind: u32, status: u32, number: i64) -> Result<Reply, Error> {
         if status <= status::REFUSED {
             self.kept = status;
         }
-        let answer = match status {
-            status::DONE => Answer::Done,
-            status::OBJECT => return number_of(status, number).map(|o| Reply::Object(ObjId(o))),
-            status::ACTION => return number_of(status, number).map(|a| Reply::Begun(ActionId(a))),
-            status::NUMBER => Answer::Num(number),
-            status::FLAG => Answer::Flag(number != 0),
-            status::VALUE | status::CONTENT => self.answer_again()?,
-            status::SIGNAL => Answer::Signal(one_of(&Signal::ALL, status, number)?),
-            status::REFUSED => {
-                return one_of(&Refusal::ALL, status, number).map(Reply::Refused);
-            }
-            _ => return Err(error_of(status, number)),
-        };
-        Ok(Reply::Answered(answer))
+        decoding::reply_of(kind, status, number, || self.answer_again())
     }
 
-    /// The value or the content that the last call answered, once more. For who had no room for it
-    /// ([`Error::NoRoom`]), since a second call would be a second entry.
+    /// The value or the content that the last call answered, once more: for a caller that had no room
+    /// for it ([`Error::NoRoom`]), since a second call would be a second entry. An integer and a truth
+    /// value take no room, and aren't kept.
     ///
     /// # Errors
     ///
@@ -158,11 +144,11 @@ impl Guardian {
     /// ```
     /// use argus_guardian::{Answer, Change, Content, Guardian, Query, Value};
     /// let mut guardian = Guardian::new()?;
-    /// let object = guardian.declare("atomic_record[n:int]")?;
+    /// let object = guardian.declare("atomic_record[n:null]")?;
     /// let mut top = guardian.topaction()?;
-    /// top.alter(object, Change::Create(Content::Record(vec![Value::Int(3)])))?.done()?;
-    /// assert_eq!(top.ask(object, Query::Field(0))?.int()?, 3);
-    /// assert_eq!(top.guardian().answer_again()?, Answer::Val(Value::Int(3)));
+    /// top.alter(object, Change::Create(Content::Record(vec![Value::Null])))?.done()?;
+    /// assert_eq!(top.ask(object, Query::Field(0))?.value()?, Value::Null);
+    /// assert_eq!(top.guardian().answer_again()?, Answer::Val(Value::Null));
     /// # Ok::<(), argus_guardian::Error>(())
     /// ```
     pub fn answer_again(&mut self) -> Result<Answer, Error> {
@@ -174,7 +160,7 @@ impl Guardian {
     }
 
     // The text that the library keeps.
-    fn text(&mut self) -> Result<&str, Error> {
+    pub(crate) fn text(&mut self) -> Result<&str, Error> {
         let mut size = 0;
         loop {
             // SAFETY: the handle is this guardian's alone; handle, room and size are three memories,
@@ -240,6 +226,30 @@ impl Guardian {
     /// ```
     pub fn topaction(&mut self) -> Result<Action<'_>, Error> {
         Action::begun(self, &Call::BeginTop)
+    }
+
+    /// Aborts all that is live: each topaction, nested ones too, in increasing number, with its
+    /// subactions. For actions that nobody has any more, as after a panic or `mem::forget`.
+    ///
+    /// # Errors
+    ///
+    /// [`Error::OutOfMemory`]: some were aborted, from the first one on; a further call aborts the
+    /// others.
+    ///
+    /// ```
+    /// use argus_guardian::{Call, Guardian};
+    /// let mut guardian = Guardian::new()?;
+    /// guardian.call(&Call::BeginTop)?;
+    /// guardian.abort_live()?;
+    /// assert_eq!(guardian.entry(1)?, "1 abort a0 -> done");
+    /// # Ok::<(), argus_guardian::Error>(())
+    /// ```
+    pub fn abort_live(&mut self) -> Result<(), Error> {
+        // SAFETY: the handle is this guardian's alone.
+        match unsafe { sys::argus_c_abort_live(&raw mut self.handle) } {
+            status::DONE => Ok(()),
+            other => Err(error_of(other, 0)),
+        }
     }
 
     /// Folds the journal's entries away: objects keep what they hold for good, and entries and

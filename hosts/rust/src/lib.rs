@@ -1,4 +1,4 @@
-//! Atomic objects under nested transactions, in Rust over the proved archive `libargus_c.a`.
+//! Atomic objects under nested transactions, in Rust over the proved archive `libargus.a`.
 //!
 //! A [`Guardian`] keeps records, arrays and variants for many actions. Each access is made by an
 //! action: a topaction, a subaction of one, or a nested topaction. An action that aborts leaves no
@@ -33,12 +33,17 @@ mod action;
 mod action_id;
 mod answer;
 mod call;
+mod calling_each;
+mod calls_made;
 mod change;
 mod checkpoint_error;
 mod content;
 mod decoding;
+mod demand;
 mod error;
 mod guardian;
+mod list_end;
+mod listed_call;
 mod listing;
 mod may_conflict;
 mod obj_id;
@@ -60,11 +65,15 @@ pub use action::Action;
 pub use action_id::ActionId;
 pub use answer::Answer;
 pub use call::Call;
+pub use calls_made::CallsMade;
 pub use change::Change;
 pub use checkpoint_error::CheckpointError;
 pub use content::Content;
+pub use demand::Demand;
 pub use error::Error;
 pub use guardian::Guardian;
+pub use list_end::ListEnd;
+pub use listed_call::ListedCall;
 pub use listing::Listing;
 pub use may_conflict::MayConflict;
 pub use obj_id::ObjId;

@@ -17,6 +17,22 @@ impl Handle {
     };
 }
 
+/// One call of a list: `argus_listed_call`.
+#[repr(C)]
+pub(crate) struct ListedCall {
+    pub(crate) kind: u32,
+    pub(crate) demand: u32,
+    pub(crate) action: u32,
+    pub(crate) begun_by: u32,
+    pub(crate) object: u32,
+    pub(crate) status: u32,
+    pub(crate) first: i64,
+    pub(crate) second: i64,
+    pub(crate) number: i64,
+    pub(crate) text: *const u8,
+    pub(crate) text_size: usize,
+}
+
 // `hosts/declarations.py` compares these with the archive's source.
 unsafe extern "C" {
     pub(crate) fn argus_c_open(handle: *mut Handle, beside: *mut Handle) -> u32;
@@ -32,6 +48,12 @@ unsafe extern "C" {
         text_size: usize,
         number: *mut i64,
     ) -> u32;
+    pub(crate) fn argus_c_call_each(
+        handle: *mut Handle,
+        calls: *mut ListedCall,
+        count: usize,
+        made: *mut usize,
+    ) -> u32;
     pub(crate) fn argus_c_tell(
         handle: *mut Handle,
         question: u32,
@@ -40,6 +62,7 @@ unsafe extern "C" {
         entry: u64,
         number: *mut i64,
     ) -> u32;
+    pub(crate) fn argus_c_abort_live(handle: *mut Handle) -> u32;
     pub(crate) fn argus_c_checkpoint(handle: *mut Handle) -> u32;
     pub(crate) fn argus_c_reply(
         handle: *mut Handle,
@@ -68,6 +91,15 @@ pub(crate) mod status {
     pub(crate) const NOT_THERE: u32 = 18;
     pub(crate) const BUSY: u32 = 19;
     pub(crate) const FULL: u32 = 20;
+    pub(crate) const UNMET: u32 = 22;
+    pub(crate) const NOT_BEGUN: u32 = 23;
+}
+
+/// What the outcome of a call of a list must be: `argus_demand`.
+pub(crate) mod demand {
+    pub(crate) const NO_REFUSAL: u32 = 0;
+    pub(crate) const NOTHING: u32 = 1;
+    pub(crate) const NO_SIGNAL: u32 = 2;
 }
 
 /// The journalled calls: `argus_kind`.

@@ -1,0 +1,183 @@
+/* Each status, signal and refusal of argus.h, returned once; and a null pointer to each inline function. Two are left
+ * out: ARGUS_FULL, which takes 2^63 entries, and those of lists, which each.c has. */
+#include "argus.h"
+#include "modes.h"
+
+#include <inttypes.h>
+#include <stdio.h>
+#include <stdlib.h>
+#include <string.h>
+#include <sys/resource.h>
+#include <sys/wait.h>
+#include <unistd.h>
+
+/* The process ends where this isn't so. */
+static void want(int is_so, const char *what) {
+    if (!is_so) {
+        fprintf(stderr, "statuses: not as it should be: %s\n", what);
+        exit(1);
+    }
+}
+
+static void want_answer(argus_answer answer, uint32_t status, int64_t number, const char *what) {
+    if (answer.status != status || answer.number != number)
+        fprintf(stderr, "statuses: %s %" PRId64 "\n", argus_status_name(answer.status), answer.number);
+    want(answer.status == status && answer.number == number, what);
+}
+
+/* A call with its text, and the two numbers of its answer. */
+typedef struct step {
+    uint32_t kind, action, object;
+    int64_t first, second;
+    const char *text;
+    uint32_t status;
+    int64_t number;
+} step;
+
+static const step STEPS[] = {
+    {ARGUS_DECLARE, 0, 0, 0, 0, "atomic_record[n:int,is:bool,t:text]", ARGUS_OBJECT, 0},
+    {ARGUS_DECLARE, 0, 0, 0, 0, "atomic_array[int]", ARGUS_OBJECT, 1},
+    {ARGUS_DECLARE, 0, 0, 0, 0, "atomic_variant[no:null,yes:int]", ARGUS_OBJECT, 2},
+    {ARGUS_BEGIN_TOP, 0, 0, 0, 0, "", ARGUS_ACTION, 0},
+    {ARGUS_CREATE, 0, 0, 0, 0, "{5,true,\"a\"}", ARGUS_DONE, 0},
+    {ARGUS_FIELD, 0, 0, 0, 0, "", ARGUS_NUMBER, 5},
+    {ARGUS_FIELD, 0, 0, 1, 0, "", ARGUS_FLAG, 1},
+    {ARGUS_FIELD, 0, 0, 2, 0, "", ARGUS_VALUE, 0},
+    {ARGUS_WHOLE, 0, 0, 0, 0, "", ARGUS_CONTENT, 0},
+    {ARGUS_SIZE, 0, 1, 0, 0, "", ARGUS_SIGNAL, ARGUS_ABSENT},
+    {ARGUS_CREATE, 0, 1, 0, 0, "1[10]", ARGUS_DONE, 0},
+    {ARGUS_CREATE, 0, 1, 0, 0, "1[]", ARGUS_SIGNAL, ARGUS_EXISTS},
+    {ARGUS_FETCH, 0, 1, 9, 0, "", ARGUS_SIGNAL, ARGUS_BOUNDS},
+    {ARGUS_TRIM, 0, 1, 1, -1, "", ARGUS_SIGNAL, ARGUS_NEGATIVE_SIZE},
+    {ARGUS_SET_LOW, 0, 1, INT64_C(4294967296), 0, "", ARGUS_SIGNAL, ARGUS_LIMITS},
+    {ARGUS_CREATE, 0, 2, 0, 0, "<0:null>", ARGUS_DONE, 0},
+    {ARGUS_TAG_VALUE, 0, 2, 1, 0, "", ARGUS_SIGNAL, ARGUS_WRONG_TAG},
+    {ARGUS_COMMIT, 7, 0, 0, 0, "", ARGUS_REFUSED, ARGUS_NO_ACTION},
+    {ARGUS_BEGIN_SUB, 0, 0, 0, 0, "", ARGUS_ACTION, 1},
+    {ARGUS_FIELD, 0, 0, 0, 0, "", ARGUS_REFUSED, ARGUS_SUSPENDED},
+    {ARGUS_FIELD, 1, 9, 0, 0, "", ARGUS_REFUSED, ARGUS_NO_OBJECT},
+    {ARGUS_FIELD, 1, 1, 0, 0, "", ARGUS_REFUSED, ARGUS_ILL_TYPED},
+    {ARGUS_BEGIN_TOP, 0, 0, 0, 0, "", ARGUS_ACTION, 2},
+    {ARGUS_FIELD, 2, 0, 0, 0, "", ARGUS_REFUSED, ARGUS_CONFLICT},
+    {ARGUS_ABORT_OTHERS, 2, 0, 0, 0, "", ARGUS_REFUSED, ARGUS_NO_SIBLINGS},
+    {ARGUS_ABORT, 2, 0, 0, 0, "", ARGUS_DONE, 0},
+    {ARGUS_COMMIT, 2, 0, 0, 0, "", ARGUS_REFUSED, ARGUS_OVER},
+    {ARGUS_DECLARE, 0, 0, 0, 0, "int", ARGUS_BAD_SHAPE, 0},
+    {ARGUS_SET_FIELD, 1, 0, 0, 0, "[1,", ARGUS_BAD_TEXT, 3},
+    {ARGUS_SET_FIELD, 1, 0, 0, 0, "\xff", ARGUS_NOT_UTF8, 0},
+    {ARGUS_FIELD, 1, 0, 256, 0, "", ARGUS_BAD_NUMBER, 0},
+    {ARGUS_TOUCH + 1, 1, 0, 0, 0, "", ARGUS_BAD_KIND, 0},
+};
+
+static argus_answer made(argus_guardian *bank, const step *it) {
+    return argus_call(bank, it->kind, it->action, it->object, it->first, it->second, it->text, strlen(it->text));
+}
+
+static void make_steps(argus_guardian *bank) {
+    for (size_t at = 0; at < sizeof STEPS / sizeof STEPS[0]; at++) {
+        int64_t entries = argus_entries(bank).number;
+        want_answer(made(bank, &STEPS[at]), STEPS[at].status, STEPS[at].number, "a call's answer");
+        int is_made = STEPS[at].status <= ARGUS_REFUSED;
+        want(argus_entries(bank).number == entries + is_made, "the journal is longer by a call that was made");
+    }
+}
+
+/* 64 ancestors are as many as there may be, and 65,535 objects. */
+static void reach_limits(argus_guardian *bank) {
+    argus_answer below = argus_begin_top(bank);
+    for (int depth = 1; depth < 64; depth++) below = argus_begin_sub(bank, (uint32_t)below.number);
+    want_answer(argus_begin_sub(bank, (uint32_t)below.number), ARGUS_REFUSED, ARGUS_TOO_DEEP, "a 65th ancestor");
+    while (argus_objects(bank).number < 65535) argus_declare(bank, "atomic_array[int]");
+    want_answer(argus_declare(bank, "atomic_array[int]"), ARGUS_REFUSED, ARGUS_TOO_MANY, "a 65,536th object");
+}
+
+/* What a question and a reply are answered, and that a room stays as it is where nothing is put into it. */
+static void ask_and_copy(argus_guardian *bank) {
+    char room[3] = "???";
+    size_t size = 99;
+    want_answer(argus_can_read(bank, 1, 0), ARGUS_FLAG, 1, "a lock that may be had");
+    want_answer(argus_base(bank, 0), ARGUS_TEXT, 0, "a base");
+    want_answer(argus_reply(bank, room, sizeof room), ARGUS_TOO_SMALL, 6, "a room that is too small");
+    want(memcmp(room, "???", sizeof room) == 0, "such a room stays as it is");
+    want_answer(argus_tell(bank, ARGUS_LIST_AUDIT + 1, 0, 0, 0), ARGUS_BAD_KIND, 0, "no such question");
+    want_answer(argus_entry(bank, 1000000), ARGUS_NOT_THERE, 0, "no such entry");
+    want_answer(argus_checkpoint(bank), ARGUS_BUSY, 0, "a checkpoint while an action is live");
+    want(argus_begin_top(bank).status == ARGUS_ACTION, "a call whose reply has no text");
+    want(argus_c_reply(bank, (uint8_t *)room, sizeof room, &size) == ARGUS_NOT_THERE && size == 0, "no text");
+    want(memcmp(room, "???", sizeof room) == 0, "a room without a text stays as it is");
+}
+
+/* After it nothing is live, so a checkpoint can be made. */
+static void abort_all(argus_guardian *bank) {
+    want(argus_begin_nested(bank, (uint32_t)argus_begin_top(bank).number).status == ARGUS_ACTION, "a nested topaction");
+    want_answer(argus_abort_live(bank), ARGUS_DONE, 0, "an abort of all that is live");
+    want_answer(argus_checkpoint(bank), ARGUS_DONE, 0, "a checkpoint after it");
+    want_answer(argus_abort_live(bank), ARGUS_DONE, 0, "an abort of nothing");
+}
+
+static void be_closed(argus_guardian *bank) {
+    size_t size = 99;
+    uint8_t room[1] = {'?'};
+    want_answer(argus_close(bank), ARGUS_DONE, 0, "closing");
+    want_answer(argus_close(bank), ARGUS_NOT_OPEN, 0, "closing twice");
+    want_answer(argus_begin_top(bank), ARGUS_NOT_OPEN, 0, "a call of a closed one");
+    want_answer(argus_objects(bank), ARGUS_NOT_OPEN, 0, "a question of a closed one");
+    want_answer(argus_checkpoint(bank), ARGUS_NOT_OPEN, 0, "a checkpoint of a closed one");
+    want_answer(argus_abort_live(bank), ARGUS_NOT_OPEN, 0, "an abort of a closed one");
+    want(argus_c_reply(bank, room, 1, &size) == ARGUS_NOT_OPEN && size == 0 && room[0] == '?', "its reply");
+    want(argus_open_beside(bank, bank).status == ARGUS_NOT_OPEN, "one beside itself");
+}
+
+static void be_null(argus_guardian *bank) {
+    want(argus_open(NULL).status == ARGUS_NULL, "argus_open");
+    want(argus_open_beside(NULL, bank).status == ARGUS_NULL, "argus_open_beside");
+    want(argus_open_beside(bank, NULL).status == ARGUS_NULL, "argus_open_beside a null one");
+    want(argus_close(NULL).status == ARGUS_NULL, "argus_close");
+    want(argus_call(NULL, ARGUS_BEGIN_TOP, 0, 0, 0, 0, NULL, 0).status == ARGUS_NULL, "argus_call");
+    want(argus_call(bank, ARGUS_DECLARE, 0, 0, 0, 0, NULL, 1).status == ARGUS_NULL, "argus_call with a null text");
+    want(argus_declare(bank, NULL).status == ARGUS_NULL, "argus_declare with a null shape");
+    want(argus_tell(NULL, ARGUS_OBJECTS, 0, 0, 0).status == ARGUS_NULL, "argus_tell");
+    want(argus_checkpoint(NULL).status == ARGUS_NULL, "argus_checkpoint");
+    want(argus_abort_live(NULL).status == ARGUS_NULL, "argus_abort_live");
+    want(argus_reply(NULL, NULL, 0).status == ARGUS_NULL, "argus_reply");
+    want(argus_reply(bank, NULL, 1).status == ARGUS_NULL, "argus_reply into a null room");
+    want(argus_alter(bank, 0, 0, ARGUS_WHOLE, 0, 0, NULL).status == ARGUS_BAD_KIND, "argus_alter by a query");
+    want(argus_ask(bank, 0, 0, ARGUS_TOUCH, 0).status == ARGUS_BAD_KIND, "argus_ask by a change");
+    want(argus_list(bank, ARGUS_OBJECTS).status == ARGUS_BAD_KIND, "argus_list by another question");
+}
+
+/* A process that gets no more memory: the call that finds none changes nothing. */
+static int find_no_memory(void) {
+    argus_guardian bank = ARGUS_CLOSED;
+    struct rlimit none = {0, 0};
+    argus_answer answer = argus_open(&bank);
+    setrlimit(RLIMIT_AS, &none);
+    for (int calls = 0; calls < 1000000 && answer.status <= ARGUS_REFUSED; calls++) {
+        int64_t entries = argus_entries(&bank).number;
+        answer = argus_begin_top(&bank);
+        if (argus_entries(&bank).number != entries + (answer.status <= ARGUS_REFUSED)) return 2;
+    }
+    return answer.status == ARGUS_NO_MEMORY && answer.number == 0 && argus_close(&bank).status == ARGUS_DONE ? 0 : 1;
+}
+
+static void want_memory(void) {
+    int status = 0;
+    fflush(NULL);
+    pid_t child = fork();
+    if (child == 0) _exit(find_no_memory());
+    want(child > 0 && waitpid(child, &status, 0) == child && status == 0, "want of memory");
+}
+
+int statuses(void) {
+    argus_guardian bank = ARGUS_CLOSED;
+    want_memory();
+    want(argus_open(&bank).status == ARGUS_DONE, "opening");
+    be_null(&bank);
+    make_steps(&bank);
+    ask_and_copy(&bank);
+    reach_limits(&bank);
+    abort_all(&bank);
+    be_closed(&bank);
+    printf("each status is returned\n");
+    return 0;
+}

@@ -1,0 +1,12 @@
+"""The program of README.md in Python: a subaction sets 7 and gives up, so 5 is in the account for good."""
+
+from argus_guardian import Guardian, write_content
+
+with Guardian() as guardian:
+    account = guardian.declare("atomic_record[balance:int]")
+    with guardian.topaction() as top:
+        top.create(account, (5,))
+        sub = top.subaction()
+        sub.set_field(account, 0, 7)
+        sub.abort()
+    print("account", write_content(guardian.base(account)))

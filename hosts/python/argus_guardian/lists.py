@@ -1,0 +1,71 @@
+"""Lists of calls: several calls of a guardian at once."""
+
+from __future__ import annotations
+
+from typing import Any, NamedTuple
+
+from .errors import ArgusError
+from .library import Demand, ListedCall
+from .ranges import U32, i64, u32, within
+from .telling import Call
+from .values import Object, object_number
+
+
+class Listed(NamedTuple):
+    """One call of a list: a Kind, and what goes with it.
+
+    With `begun_by` its action is the one that the call at this place of the list, from 0, began. The
+    calls after it are made where its answer is as demanded: no refusal, or by another Demand.
+    """
+
+    kind: int
+    action: int = 0
+    obj: Object = 0
+    first: int = 0
+    second: int = 0
+    text: str = ""
+    begun_by: int | None = None
+    demand: int = Demand.NO_REFUSAL
+
+
+class CallsMade(NamedTuple):
+    """What came of a list of calls.
+
+    What each call that was made answers, a Refused or a Signal among them; and why no more were made:
+    None where all were, else the last answer, or the exception of the call that failed.
+    """
+
+    answers: list[Any]
+    end: ArgusError | None
+
+
+def array_of(calls: list[Listed]) -> Any:
+    """The calls as the library takes them, each with its text. Raises as `Guardian.call` does."""
+    array = (ListedCall * len(calls))()
+    for place, call in enumerate(calls):
+        array[place] = _listed_call(call)
+    return array
+
+
+def _listed_call(call: Listed) -> ListedCall:
+    text = call.text.encode()
+    return ListedCall(
+        kind=u32(call.kind, "kind"),
+        demand=u32(call.demand, "demand"),
+        action=u32(call.action, "action"),
+        begun_by=0 if call.begun_by is None else within(call.begun_by, 0, U32 - 1, "place") + 1,
+        object=object_number(call.obj),
+        first=i64(call.first, "number"),
+        second=i64(call.second, "number"),
+        text=text,
+        text_size=len(text),
+    )
+
+
+def calls_of(made: Any) -> list[Call]:
+    """Of the calls that were made, each with its action's number, as `Guardian.call` makes it."""
+    return [(it.kind, _action_of(it, made), it.object, it.first, it.second) for it in made]
+
+
+def _action_of(call: Any, made: Any) -> int:
+    return made[call.begun_by - 1].number if call.begun_by else call.action

@@ -1,0 +1,82 @@
+"""A shop that sells the seats of a hall: each order is a topaction, each seat a record.
+
+    python3 shop.py [PORT]
+
+The seats of an order are locked while it is paid. Who wants one of them waits for what comes of that; who wants
+others doesn't. shop_in_sqlite.py is the same over SQLite, shop_service.py what both have in common.
+"""
+
+from __future__ import annotations
+
+from argus_guardian import Action, Busy, Conflict, Guardian
+from shop_service import PATIENCE, SEATS, Card, Order, Taken, serve
+
+HOLDER = 0
+FOLD_AFTER = 20_000
+
+
+class GuardianShop:
+    """The seats, as records that have the holder's name; an empty one of a seat that is free."""
+
+    def __init__(self, card: Card) -> None:
+        self._card, self._guardian, self._folded = card, Guardian(patience=PATIENCE), 0
+        self._seats = [self._guardian.declare("atomic_record[holder:text]") for _ in range(SEATS)]
+        with self._guardian.topaction() as top:
+            for seat in self._seats:
+                top.create(seat, ("",))
+
+    def sell(self, order: Order) -> list[int]:
+        self._fold()
+        try:
+            with self._guardian.topaction() as top:
+                wish = self._take_first(top, order)
+                self._card.charge(order, len(wish))
+                return wish
+        except BaseException:
+            self._card.refund(order)
+            raise
+
+    def _take_first(self, top: Action, order: Order) -> list[int]:
+        """Takes all seats of the earliest wish that can be had."""
+        for wish in order.wishes:
+            try:
+                with top.subaction() as sub:
+                    for seat in sorted(wish):
+                        sub.lock(seat)
+                        if sub.field(seat, HOLDER):
+                            raise Taken
+                        sub.set_field(seat, HOLDER, order.customer)
+                return wish
+            except (Taken, Conflict):
+                pass
+        raise Taken
+
+    def states(self) -> list[str]:
+        return [self._state(seat) for seat in self._seats]
+
+    def _state(self, seat: int) -> str:
+        if self._guardian.versions(seat):
+            return "held"
+        return "sold" if self._guardian.base(seat)[HOLDER] else "free"
+
+    def sold(self) -> int:
+        def work(top: Action) -> int:
+            return sum(top.field(seat, HOLDER) != "" for seat in self._seats)
+
+        return self._guardian.run(work)
+
+    def close(self) -> None:
+        self._guardian.close()
+
+    def _fold(self) -> None:
+        """Folds the journal, once it is long, and has new orders wait for that. Else a later one does it."""
+        if self._guardian.entries > self._folded + FOLD_AFTER:
+            try:
+                self._guardian.checkpoint(PATIENCE)
+                self._folded = self._guardian.entries
+            except Busy:
+                pass
+
+
+if __name__ == "__main__":
+    serve(GuardianShop)

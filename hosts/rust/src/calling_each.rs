@@ -1,0 +1,94 @@
+//! Several calls of a guardian at once.
+
+use crate::answer::Answer;
+use crate::calls_made::CallsMade;
+use crate::decoding::{error_of, read_as, reply_of};
+use crate::error::Error;
+use crate::guardian::Guardian;
+use crate::list_end::ListEnd;
+use crate::listed_call::ListedCall;
+use crate::reply::Reply;
+use crate::sys::{self, status};
+use crate::words::Words;
+
+impl Guardian {
+    /// Makes the calls one after another, up to the first whose reply isn't as demanded: one way into
+    /// the library for all of them. Each is a call of its own, one entry of the journal. A call that
+    /// fails ends the list, too; what came of those before it stays.
+    ///
+    /// # Errors
+    ///
+    /// [`Error::NoRoom`]: calls were made, but memory for their values wasn't there.
+    ///
+    /// ```
+    /// use argus_guardian::{Call, Change, Guardian, ListEnd, ListedCall, Query, Value};
+    /// # use argus_guardian::Content;
+    /// let mut guardian = Guardian::new()?;
+    /// let account = guardian.declare("atomic_record[balance:int]")?;
+    /// # let five = Change::Create(Content::Record(vec![Value::Int(5)]));
+    /// # let mut top = guardian.topaction()?;
+    /// # top.alter(account, five)?.done()?;
+    /// # top.commit()?;
+    /// let set = Change::SetField(0, Value::Int(7));
+    /// let made = guardian.call_each(&[
+    ///     ListedCall::from(Call::BeginTop),
+    ///     ListedCall::by(0, |a| Call::Ask(a, account, Query::Field(0))),
+    ///     ListedCall::by(0, |a| Call::Alter(a, account, set)),
+    ///     ListedCall::by(0, Call::Commit),
+    /// ])?;
+    /// assert_eq!(made.end, ListEnd::Whole);
+    /// assert_eq!(made.replies[1].to_string(), "val 5");
+    /// # Ok::<(), argus_guardian::Error>(())
+    /// ```
+    pub fn call_each(&mut self, calls: &[ListedCall]) -> Result<CallsMade, Error> {
+        let words: Vec<Words> = calls.iter().map(ListedCall::words).collect();
+        let listed = calls
+            .iter()
+            .zip(&words)
+            .map(|(each, words)| each.with(words));
+        let mut listed: Vec<sys::ListedCall> = listed.collect();
+        let mut count = 0;
+        // SAFETY: the handle is this guardian's alone; handle, calls and count are three memories, no
+        // pointer is null, and each text is UTF-8 of words that are there until the end.
+        let status = unsafe {
+            sys::argus_c_call_each(
+                &raw mut self.handle,
+                listed.as_mut_ptr(),
+                listed.len(),
+                &raw mut count,
+            )
+        };
+        let (made, rest) = listed.split_at(count.min(listed.len()));
+        let end = match status {
+            status::DONE => ListEnd::Whole,
+            status::UNMET => ListEnd::Unmet,
+            status => ListEnd::Failed(error_of(status, rest.first().map_or(0, |it| it.number))),
+        };
+        let replies = self.replies_of(made)?;
+        Ok(CallsMade { replies, end })
+    }
+
+    // The replies of these calls, whose texts the library keeps, a line each.
+    fn replies_of(&mut self, made: &[sys::ListedCall]) -> Result<Vec<Reply>, Error> {
+        if made.is_empty() {
+            return Ok(Vec::new());
+        }
+        self.kept = status::DONE;
+        let lines = self.text()?.to_owned();
+        let mut lines = lines.split('\n');
+        let replies = made.iter().map(|call| {
+            let answer = || answer_of(call.status, lines.next().unwrap_or(""));
+            reply_of(call.kind, call.status, call.number, answer)
+        });
+        replies.collect()
+    }
+}
+
+// The value or the content that a line says.
+fn answer_of(status: u32, line: &str) -> Result<Answer, Error> {
+    if status == status::CONTENT {
+        read_as(status, line).map(Answer::Body)
+    } else {
+        read_as(status, line).map(Answer::Val)
+    }
+}

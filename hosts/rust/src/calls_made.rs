@@ -1,0 +1,25 @@
+//! `CallsMade`: what came of a list of calls.
+
+use crate::list_end::ListEnd;
+use crate::reply::Reply;
+
+/// What came of a list of calls: the replies of those that were made, from the first one on, and why
+/// no more were.
+///
+/// ```
+/// use argus_guardian::{ActionId, Answer, Call, Guardian, ListEnd, ListedCall, Reply};
+/// let mut guardian = Guardian::new()?;
+/// let list = [ListedCall::from(Call::BeginTop), ListedCall::by(0, Call::Commit)];
+/// let made = guardian.call_each(&list)?;
+/// assert_eq!(made.replies, [Reply::Begun(ActionId(0)), Reply::Answered(Answer::Done)]);
+/// assert_eq!(made.end, ListEnd::Whole);
+/// # Ok::<(), argus_guardian::Error>(())
+/// ```
+#[derive(Debug, Clone, PartialEq, Eq)]
+#[must_use = "it says whether all calls of the list were made"]
+pub struct CallsMade {
+    /// The replies, in the order of the calls.
+    pub replies: Vec<Reply>,
+    /// Why no more were made.
+    pub end: ListEnd,
+}

@@ -1,0 +1,23 @@
+//! `ListEnd`: why no more calls of a list were made.
+
+use crate::error::Error;
+
+/// Why no more calls of a list were made.
+///
+/// ```
+/// use argus_guardian::{ActionId, Call, Guardian, ListEnd, ListedCall};
+/// let mut guardian = Guardian::new()?;
+/// let made = guardian.call_each(&[ListedCall::from(Call::Commit(ActionId(7)))])?;
+/// assert_eq!(made.end, ListEnd::Unmet);
+/// # Ok::<(), argus_guardian::Error>(())
+/// ```
+#[derive(Debug, Clone, PartialEq, Eq)]
+#[must_use = "it says whether all calls of the list were made"]
+pub enum ListEnd {
+    /// All were made, and each reply is as demanded.
+    Whole,
+    /// The last reply isn't as demanded.
+    Unmet,
+    /// The call after those that were made wasn't made, and has changed nothing.
+    Failed(Error),
+}

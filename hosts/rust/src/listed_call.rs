@@ -1,0 +1,90 @@
+//! `ListedCall`: one call of a list.
+
+use crate::ActionId;
+use crate::call::Call;
+use crate::demand::Demand;
+use crate::sys;
+use crate::words::Words;
+use std::ptr;
+
+/// One call of a list, and what its reply must be for the calls after it to be made.
+///
+/// ```
+/// use argus_guardian::{Call, ListedCall};
+/// let list = [ListedCall::from(Call::BeginTop), ListedCall::by(0, Call::Commit)];
+/// assert_ne!(list[0], list[1]);
+/// ```
+#[derive(Debug, Clone, PartialEq, Eq, Hash)]
+pub struct ListedCall {
+    call: Call,
+    demand: Demand,
+    // At which place of the list its action was begun, counted from 1; 0: the action is the call's.
+    begun_by: u32,
+}
+
+impl ListedCall {
+    /// A call of the action that the call at this place of the list, counted from 0, begins.
+    ///
+    /// ```
+    /// use argus_guardian::{Call, ListedCall, ObjId, Query};
+    /// let ask = ListedCall::by(0, |action| Call::Ask(action, ObjId(0), Query::Whole));
+    /// assert_ne!(ask, ListedCall::by(1, |action| Call::Ask(action, ObjId(0), Query::Whole)));
+    /// ```
+    #[must_use]
+    pub fn by(place: usize, call: impl FnOnce(ActionId) -> Call) -> ListedCall {
+        let place = u32::try_from(place).unwrap_or(u32::MAX);
+        ListedCall {
+            begun_by: place.saturating_add(1),
+            ..ListedCall::from(call(ActionId(0)))
+        }
+    }
+
+    /// The same call with another demand.
+    ///
+    /// ```
+    /// use argus_guardian::{Call, Demand, ListedCall};
+    /// let abort = ListedCall::by(0, Call::Abort).demanding(Demand::Nothing);
+    /// assert_ne!(abort, ListedCall::by(0, Call::Abort));
+    /// ```
+    #[must_use]
+    pub fn demanding(self, demand: Demand) -> ListedCall {
+        ListedCall { demand, ..self }
+    }
+
+    /// The call's words, which hold its text.
+    pub(crate) fn words(&self) -> Words {
+        Words::of(&self.call)
+    }
+
+    /// The call as the library takes it, with the address of its words' text.
+    pub(crate) fn with(&self, words: &Words) -> sys::ListedCall {
+        sys::ListedCall {
+            kind: words.kind,
+            demand: match self.demand {
+                Demand::NoRefusal => sys::demand::NO_REFUSAL,
+                Demand::Nothing => sys::demand::NOTHING,
+                Demand::NoSignal => sys::demand::NO_SIGNAL,
+            },
+            action: words.action,
+            begun_by: self.begun_by,
+            object: words.object,
+            status: 0,
+            first: words.first,
+            second: words.second,
+            number: 0,
+            text: ptr::from_ref(words.text.as_bytes()).cast(),
+            text_size: words.text.len(),
+        }
+    }
+}
+
+impl From<Call> for ListedCall {
+    /// The call itself, whose reply must be no refusal.
+    fn from(call: Call) -> ListedCall {
+        ListedCall {
+            call,
+            demand: Demand::NoRefusal,
+            begun_by: 0,
+        }
+    }
+}

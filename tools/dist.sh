@@ -1,0 +1,101 @@
+#!/usr/bin/env bash
+# SPDX-License-Identifier: MIT
+# Makes dist/ of the archive that is built: what programs in C, Rust and Python need of the guardian,
+# so that they need neither the Rattle kit nor a proof.
+#
+#   [ARGUS_ARCHIVE=FOLDER] tools/dist.sh [DIST]
+#
+#   DIST/lib/libargus.a             the archive, with the kit's part that maps its allocator to malloc
+#   DIST/lib/libargus.so.0          the same as a shared object, which exports argus_* alone
+#   DIST/lib/libargus.so            a link to that
+#   DIST/lib/pkgconfig/argus.pc     what pkg-config says of them, wherever DIST is moved
+#   DIST/include/argus.h            the header
+#   DIST/share/doc/argus/LICENSE    the license
+#
+# FOLDER is that of libargus_c.a, else where `rt lib` in crates/argus_c leaves it. DIST is the folder dist
+# at the repository's top where nothing is said; make -C hosts/c install PREFIX=.. installs what is in it.
+# tools/archive.sh calls this once it has built the archive. The line that is printed says in which logic the
+# archive says it was proved: `rattle build` writes that into a section of the object, .comment.
+set -euo pipefail
+
+top=$(cd "$(dirname "$0")/.." && pwd)
+name=dist
+most=
+. "$top/tools/program.sh"
+archive=${ARGUS_ARCHIVE:-$top/crates/argus_c/out}/libargus_c.a
+header=$top/crates/argus_c/include/argus.h
+dist=${1:-$top/dist}
+kit=${RATTLE_KIT:-$(dirname "$("$(find_kit)" doc)")}
+version=$(sed -n 's/^#define ARGUS_VERSION "\(.*\)"$/\1/p' "$header")
+object=libargus.so.${version%%.*}
+room=$(mktemp -d)
+trap 'rm -r "$room"' EXIT
+
+# One archive: the objects of both, as they are.
+merge() {
+    "$kit/toolchain/bin/llvm-ar" qcLDs "$room/libargus.a" "$archive" "$kit/c/liblibc_c.a"
+}
+
+# The shared object. Code that isn't position-independent is refused by the linker, whose words are shown.
+link_object() {
+    printf '{ global: argus_*; local: *; };\n' > "$room/exports"
+    if cc -shared -o "$room/$object" "-Wl,-soname,$object" "-Wl,--version-script=$room/exports" \
+        -Wl,-z,text -Wl,-z,defs -Wl,-z,relro -Wl,-z,now \
+        -Wl,--whole-archive "$room/libargus.a" -Wl,--no-whole-archive 2> "$room/words"; then
+        return
+    fi
+    cat "$room/words" >&2
+    say "no $object: the linker refuses the archive, as the lines above say"
+    return 1
+}
+
+# What the archive says of its proof, which is something that was written there, and no proof.
+origin() {
+    local logic
+    logic=$(grep -a -o 'rattle logic=[0-9a-f]*' "$archive" | head -n 1 || true)
+    if [ -n "$logic" ]; then
+        echo "of an archive that says it was proved in logic ${logic#*=}"
+    else
+        echo "of an archive that DOESN'T SAY it was proved"
+    fi
+}
+
+# What pkg-config says. The folder is found from where this file lies.
+describe() {
+    cat << END
+# Where the guardian's header and library are, for pkg-config.
+prefix=\${pcfiledir}/../..
+includedir=\${prefix}/include
+libdir=\${prefix}/lib
+archive=\${libdir}/libargus.a
+
+Name: argus
+Description: A guardian of atomic objects under nested transactions, by a proved library
+Version: $version
+Cflags: -I\${includedir}
+Libs: -L\${libdir} -largus
+END
+}
+
+if [ ! -f "$archive" ]; then
+    say "no archive $archive: tools/archive.sh builds it after .ci/run, or rt lib in crates/argus_c"
+    exit 1
+fi
+merge
+if cc --version > /dev/null 2>&1; then
+    link_object
+else
+    say "$object LEFT OUT: no cc"
+fi
+describe > "$room/argus.pc"
+mkdir -p "$dist/lib/pkgconfig" "$dist/include" "$dist/share/doc/argus"
+rm -f "$dist"/lib/libargus.*
+install -m 644 "$room/libargus.a" "$dist/lib/"
+if [ -f "$room/$object" ]; then
+    install -m 755 "$room/$object" "$dist/lib/"
+    ln -s "$object" "$dist/lib/libargus.so"
+fi
+install -m 644 "$room/argus.pc" "$dist/lib/pkgconfig/"
+install -m 644 "$header" "$dist/include/"
+install -m 644 "$top/LICENSE" "$dist/share/doc/argus/"
+echo "dist: $(cd "$dist" && pwd) has argus $version, $(origin)"
