@@ -1,9 +1,10 @@
 -- What a shape says, and when one can be made.
-use Rattle.std.specs.Prelude.{ℕ, ◌+◌, max, nat_eq, nat_lt, Bool, true, false, ◌||◌, if◌then◌else◌}
+use Rattle.std.specs.Prelude.{◌≡◌, ℕ, ◌+◌, max, nat_eq, nat_lt, Bool, true, false, ◌||◌, if◌then◌else◌}
 use Rattle.std.specs.Prelude.{List, [], ◌∷◌}
 use Rattle.std.specs.Prelude.{length, Option, Some, None}
 use lib.Pointwise.{pointwise}
 use Rattle.std.specs.List.{list_any}
+use Rattle.argus_contents.specs.Name.{is_name}
 use Rattle.argus_contents.specs.Ty.{PlainTy, PlainFields, plain_ty, plain_fields}
 use Rattle.argus_contents.specs.Ty as ty
 use Rattle.argus_contents.specs.declared.limits.TheConstants.{MAX_NAMES, MAX_VALUE_DEPTH}
@@ -89,3 +90,31 @@ fault_of s =
     (if anywhere has_none s then Some NoNames else
     (if anywhere has_too_many s then Some TooManyNames else
     (if nat_lt MAX_VALUE_DEPTH (depth_in s) then Some TooDeep else None)))
+
+abbrev mutual
+  -- each name in the type has a name's form
+  pub IsNamed : PlainTy → Type 0
+  IsNamed (ty.sequence x) = IsNamed x
+  IsNamed (ty.fields fs) = AreNamed fs
+  IsNamed (ty.choice fs) = AreNamed fs
+  IsNamed ty.null = Unit {0}
+  IsNamed ty.bool = Unit {0}
+  IsNamed ty.int = Unit {0}
+  IsNamed ty.text = Unit {0}
+  IsNamed ty.atomic = Unit {0}
+
+  -- each name of the list, and in its types, has a name's form
+  pub AreNamed : PlainFields → Type 0
+  AreNamed ty.none = Unit {0}
+  AreNamed (ty.more name x fs) = (is_name name ≡ true) × IsNamed x × AreNamed fs
+
+-- each name in the shape has a name's form
+abbrev pub HasNames : PlainShape → Type 0
+HasNames (rec fs) = AreNamed fs
+HasNames (arr x) = IsNamed x
+HasNames (var fs) = AreNamed fs
+
+-- a shape that can be made: no fault applies, and each name has a name's form
+pub record IsMakeable (shape : PlainShape) : Type 0 where
+  pub no_fault : fault_of shape ≡ None
+  pub named : HasNames shape

@@ -70,6 +70,13 @@ impl Name {
         self.text.as_str()
     }
 
+    /// A law for proofs; it does nothing. The text has a name's form.
+    pub fn form_is_kept(&self)
+        ensures { is_name self.now ≡ true }
+    {
+        let _ = &self.text;
+    }
+
     /// A name equal to this one. `OutOfMemory`: nothing was copied.
     pub fn duplicate(&self, heap: Heap) -> Result<Name, OutOfMemory>
         ensures { IfOk result (λ name. name ≡ self.now) }

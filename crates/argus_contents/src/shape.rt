@@ -4,7 +4,7 @@ ghost use Rattle.std.specs.Prelude.{◌≡◌, ◌↔◌, true, IfOk};
 ghost use Rattle.std.specs.Result.{result_err};
 ghost use Rattle.argus_contents.specs.Decided.{said_equivalence, shape_decided};
 ghost use Rattle.argus_contents.specs.Same.{same_shape};
-ghost use Rattle.argus_contents.specs.Shape.{arr, fault_of, rec, var};
+ghost use Rattle.argus_contents.specs.Shape.{arr, fault_of, IsMakeable, rec, var};
 ghost use Rattle.argus_contents.specs.ShapeKind.{plain_kind};
 ghost use Rattle.argus_contents.specs.ShapeView.{plain_view};
 ghost use Rattle.argus_contents.specs.Ty.{plain_fields, plain_ty};
@@ -46,6 +46,10 @@ impl Model for Shape {
     ghost use Rattle.argus_contents.specs.ShapeKind.{plain_kind};
 
     ghost view = { λ shape. plain_kind shape.kind };
+
+    ghost use Rattle.argus_contents.specs.Shape.{IsMakeable};
+
+    ghost invariant = { λ shape. IsMakeable (plain_kind shape.kind) };
 }
 
 impl Shape {
@@ -94,6 +98,14 @@ impl Shape {
             ShapeKind::Arr(item) => ShapeView::Arr(item),
             ShapeKind::Var(tags) => ShapeView::Var(tags),
         }
+    }
+
+    /// A law for proofs; it does nothing. No fault applies to a shape, and each name in it has a
+    /// name's form, whoever made it.
+    pub fn limits_are_kept(&self)
+        ensures { IsMakeable self.now }
+    {
+        let _ = &self.kind;
     }
 
     /// A shape equal to this one. `OutOfMemory`: nothing was copied.

@@ -1,10 +1,11 @@
 //! Why no shape can be made of its parts.
 
 ghost use lib.Pointwise.{pointwise};
-ghost use Rattle.std.specs.Prelude.{◌≡◌, ◌||◌, nat_eq, nat_le};
+ghost use Rattle.std.specs.Prelude.{◌≡◌, ◌||◌, nat_eq, nat_le, true, IfNone};
 ghost use Rattle.std.specs.List.{list_any};
-ghost use Rattle.argus_contents.specs.Shape.{anywhere, deepest_of, depth_in, depth_of, fault_of};
-ghost use Rattle.argus_contents.specs.Shape.{has_twice, in_fields, in_ty, names_of};
+ghost use Rattle.argus_contents.specs.Shape.{anywhere, AreNamed, deepest_of, depth_in, depth_of};
+ghost use Rattle.argus_contents.specs.Shape.{fault_of, has_twice, HasNames, in_fields, in_ty};
+ghost use Rattle.argus_contents.specs.Shape.{IsMakeable, IsNamed, names_of};
 ghost use Rattle.argus_contents.specs.ShapeKind.{plain_kind, test_of};
 ghost use Rattle.argus_contents.specs.Ty.{plain_fields, plain_ty};
 
@@ -22,9 +23,11 @@ pub(crate) enum NameTest {
     TooMany,
 }
 
-/// The first fault that applies anywhere in the shape.
+/// The first fault that applies anywhere in the shape. Where there is none, the whole shape was gone
+/// through, so each name in it is known to have a name's form.
 pub(crate) fn fault_in(kind: &ShapeKind) -> Option<ShapeFault>
-    ensures { result ≡ fault_of (plain_kind kind.now) }
+    ensures fault { result ≡ fault_of (plain_kind kind.now) }
+    ensures makeable { IfNone result (IsMakeable (plain_kind kind.now)) }
 {
     if holds_anywhere(kind, NameTest::Twice) {
         return Some(ShapeFault::NameTwice);
@@ -119,7 +122,8 @@ fn has_name(fields: &[(Name, Ty)], name: &Name) -> bool
 }
 
 fn is_within_depth(kind: &ShapeKind, levels: usize) -> bool
-    ensures { result ≡ nat_le (depth_in (plain_kind kind.now)) levels }
+    ensures depth { result ≡ nat_le (depth_in (plain_kind kind.now)) levels }
+    ensures named { result ≡ true → HasNames (plain_kind kind.now) }
 {
     match kind {
         ShapeKind::Rec(fields) => are_within(fields, levels),
@@ -130,7 +134,8 @@ fn is_within_depth(kind: &ShapeKind, levels: usize) -> bool
 
 #[cycle(within)]
 fn is_within(ty: &Ty, levels: usize) -> bool
-    ensures { result ≡ nat_le (depth_of (plain_ty ty.now)) levels }
+    ensures depth { result ≡ nat_le (depth_of (plain_ty ty.now)) levels }
+    ensures named { result ≡ true → IsNamed (plain_ty ty.now) }
 {
     if levels == 0 {
         return false;
@@ -145,9 +150,11 @@ fn is_within(ty: &Ty, levels: usize) -> bool
 
 #[cycle(within)]
 fn are_within(fields: &[(Name, Ty)], levels: usize) -> bool
-    ensures { result ≡ nat_le (deepest_of (plain_fields fields.now)) levels }
+    ensures depth { result ≡ nat_le (deepest_of (plain_fields fields.now)) levels }
+    ensures named { result ≡ true → AreNamed (plain_fields fields.now) }
 {
-    for (_, ty) in fields {
+    for (name, ty) in fields {
+        name.form_is_kept();
         if !is_within(ty, levels) {
             return false;
         }

@@ -5,9 +5,11 @@ use Rattle.std.specs.Prelude.{ℤ}
 use Rattle.std.specs.Fmt.{decimal, signed_decimal}
 use Rattle.argus_contents.specs.Value.{PlainValue, PlainValues, none, more, listed}
 use Rattle.argus_contents.specs.Content.{PlainContent, rec, arr, var}
+use Rattle.argus_contents.specs.declared.limits.TheConstants.{MAX_VALUE_DEPTH}
 use Rattle.argus_texts.specs.ContentSpelling.{content_spelling, PartsWithin}
 use Rattle.argus_texts.specs.Fault.{IsContentText}
 use Rattle.argus_texts.specs.Language.{Reads, Starts, Stops, First, IsNot}
+use Rattle.argus_texts.specs.Laws.{IsReadBack}
 use Rattle.argus_texts.specs.Languages.{BeginsInt, Ints, Insides, Choices, Contents, Arrays}
 use Rattle.argus_texts.specs.Spelling.{spelling, inside, AllWithin}
 use Rattle.argus_texts.proofs.Digits.{one_decimal, ints_clear}
@@ -100,6 +102,13 @@ content_texts = record {
   from = λ u f. record { content = f.thing; within = f.good; is = f.is };
   to = λ u a. record { thing = a.content; good = a.within; is = a.is };
 }
+
+-- a content that the reader takes is read back
+pub read_back : (c : PlainContent) → PartsWithin MAX_VALUE_DEPTH c → IsReadBack c
+read_back c w = (
+  (λ at f. f.refused (record { content = c; within = w; is = refl })),
+  (λ d g e. sym (one_content MAX_VALUE_DEPTH c d [] [] w g (ap (λ x. x ++ []) e)).0),
+)
 
 -- RECORDS AND VARIANTS
 

@@ -4,6 +4,7 @@ pub mod Contents
 pub mod Digits
 pub mod Exits
 pub mod Faults
+pub mod Fitting
 pub mod Forms
 pub mod Grown
 pub mod Items

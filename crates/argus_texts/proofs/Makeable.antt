@@ -74,6 +74,10 @@ no_fault s e =
     let d = no_then (nat_lt MAX_VALUE_DEPTH (depth_in s)) TooDeep None c.1 in
     record { none = b.0; too_many = c.0; depth = ltb-false MAX_VALUE_DEPTH (depth_in s) d.0 }
 
+-- its types are as deep as the reader takes them
+pub makeable_depth : (s : PlainShape) → IsMakeable s → depth_in s ≤ MAX_VALUE_DEPTH
+makeable_depth s m = (no_fault s m.no_fault).depth
+
 list_from : (fs : PlainFields) → AreNamed fs → has_none (names_of fs) || in_fields has_none fs ≡ false
     → has_too_many (names_of fs) || in_fields has_too_many fs ≡ false → deepest_of fs ≤ MAX_VALUE_DEPTH
     → IsList MAX_NAMES MAX_VALUE_DEPTH fs

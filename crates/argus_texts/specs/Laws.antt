@@ -1,7 +1,8 @@
 -- The laws of the written forms.
-use Rattle.std.specs.Prelude.{◌≡◌, ℕ}
+use Rattle.std.specs.Prelude.{◌≡◌, ℕ, true}
 use Rattle.argus_contents.specs.Value.{PlainValue}
 use Rattle.argus_contents.specs.Content.{PlainContent}
+use Rattle.argus_contents.specs.Fitting.{is_fitting}
 use Rattle.argus_contents.specs.Shape.{PlainShape}
 use Rattle.argus_contents.specs.declared.limits.TheConstants.{MAX_VALUE_DEPTH}
 use Rattle.argus_texts.specs.Spelling.{spelling, Within}
@@ -20,13 +21,26 @@ abbrev pub ValueTextsAreUnambiguous : Type 0
 ValueTextsAreUnambiguous =
     (k : ℕ) (v w : PlainValue) → Within k v → Within k w → spelling v ≡ spelling w → v ≡ w
 
--- the written form of a content has no fault, and is that of no other content
+-- the written form of the content has no fault, and is that of no other content
+abbrev pub IsReadBack : PlainContent → Type 0
+IsReadBack c =
+    ((at : ℕ) → IsFault IsContentText (content_spelling c) at → ⊥)
+    × ((d : PlainContent) → PartsWithin MAX_VALUE_DEPTH d → content_spelling c ≡ content_spelling d
+    → d ≡ c)
+
+-- each content whose values have depth at most 16 is read back
 abbrev pub ContentsAreReadBack : Type 0
 ContentsAreReadBack =
     (c : PlainContent) → PartsWithin MAX_VALUE_DEPTH c
-    → ((at : ℕ) → IsFault IsContentText (content_spelling c) at → ⊥)
-    × ((d : PlainContent) → PartsWithin MAX_VALUE_DEPTH d → content_spelling c ≡ content_spelling d
-    → d ≡ c)
+    → IsReadBack c
+
+-- a content such as a program can hold that fits a shape that can be made has values of depth at
+-- most 16, whatever depth was known of them, and is read back
+abbrev pub FittingContentsAreReadBack : Type 0
+FittingContentsAreReadBack =
+    (s : PlainShape) (declared k : ℕ) (c : PlainContent) → IsMakeable s
+    → is_fitting s declared c ≡ true → PartsWithin k c
+    → PartsWithin MAX_VALUE_DEPTH c × IsReadBack c
 
 -- contents of whatever depth with one written form are the same
 abbrev pub ContentTextsAreUnambiguous : Type 0

@@ -1,6 +1,7 @@
 //! The laws of the written forms. Each function does nothing: its contract is the law.
 
 ghost use Rattle.argus_texts.specs.Laws.{ContentsAreReadBack, ContentTextsAreUnambiguous};
+ghost use Rattle.argus_texts.specs.Laws.{FittingContentsAreReadBack};
 ghost use Rattle.argus_texts.specs.Laws.{ShapeTextsAreUnambiguous};
 ghost use Rattle.argus_texts.specs.Laws.{ValueTextsAreUnambiguous, ShapesAreReadBack};
 ghost use Rattle.argus_texts.specs.Laws.{ValuesAreReadBack};
@@ -21,6 +22,15 @@ pub fn value_texts_are_unambiguous()
 /// [`read_content`](crate::read_content) reads back, whole.
 pub fn contents_are_read_back()
     ensures { ContentsAreReadBack }
+{}
+
+/// A content that fits a shape is read back, too: it is no deeper than the shape's types, which
+/// have a depth of at most 16. That a shape can be made,
+/// [`limits_are_kept`](argus_contents::Shape::limits_are_kept) says of each [`Shape`].
+///
+/// [`Shape`]: argus_contents::Shape
+pub fn fitting_contents_are_read_back()
+    ensures { FittingContentsAreReadBack }
 {}
 
 /// Two contents with one written form are the same content.

@@ -31,8 +31,9 @@ mod writing;
 pub use content_reading::read_content;
 pub use content_writing::write_content;
 pub use laws::{
-    content_texts_are_unambiguous, contents_are_read_back, shape_texts_are_unambiguous,
-    shapes_are_read_back, value_texts_are_unambiguous, values_are_read_back,
+    content_texts_are_unambiguous, contents_are_read_back, fitting_contents_are_read_back,
+    shape_texts_are_unambiguous, shapes_are_read_back, value_texts_are_unambiguous,
+    values_are_read_back,
 };
 pub use read_error::ReadError;
 pub use read_fault::ReadFault;

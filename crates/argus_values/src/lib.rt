@@ -15,7 +15,8 @@ pub use argus_contents::{
 };
 pub use argus_memory::{Budget, Heap, OutOfMemory, Room};
 pub use argus_texts::{
-    ReadError, ReadFault, content_texts_are_unambiguous, contents_are_read_back, read_content,
-    read_shape, read_value, shape_texts_are_unambiguous, shapes_are_read_back,
-    value_texts_are_unambiguous, values_are_read_back, write_content, write_shape, write_value,
+    ReadError, ReadFault, content_texts_are_unambiguous, contents_are_read_back,
+    fitting_contents_are_read_back, read_content, read_shape, read_value,
+    shape_texts_are_unambiguous, shapes_are_read_back, value_texts_are_unambiguous,
+    values_are_read_back, write_content, write_shape, write_value,
 };

@@ -4,12 +4,12 @@ use Rattle.argus_contents.proofs.Levels.{plain_ty-Fields, plain_ty-Choice}
 use Rattle.argus_contents.proofs.Types.{deeper}
 use Rattle.argus_contents.proofs.shaping.+within.Goals as goal
 
-pub is_within-returns-in-Fields : goal.is_within-returns-in-Fields
-is_within-returns-in-Fields t c =
+pub is_within-returns-in-Fields-clause-depth : goal.is_within-returns-in-Fields-clause-depth
+is_within-returns-in-Fields-clause-depth t c =
     rw (c.in-Fields.is, plain_ty-Fields c.in-Fields.fields, ← c.deref-in-Fields.ensures.value)
-    (c.are_within.ensures ∙ deeper _ c.args.levels c.if-levels-eq0.false)
+    (c.are_within.ensures.depth ∙ deeper _ c.args.levels c.if-levels-eq0.false)
 
-pub is_within-returns-in-Choice : goal.is_within-returns-in-Choice
-is_within-returns-in-Choice t c =
+pub is_within-returns-in-Choice-clause-depth : goal.is_within-returns-in-Choice-clause-depth
+is_within-returns-in-Choice-clause-depth t c =
     rw (c.in-Choice.is, plain_ty-Choice c.in-Choice.tags, ← c.deref-in-Choice.ensures.value)
-    (c.are_within-in-Choice.ensures ∙ deeper _ c.args.levels c.if-levels-eq0.false)
+    (c.are_within-in-Choice.ensures.depth ∙ deeper _ c.args.levels c.if-levels-eq0.false)
