@@ -10,10 +10,10 @@ use Rattle.argus_model.specs.History.{next_action}
 use Rattle.argus_model.specs.Holders.{readers, writers}
 use Rattle.argus_model.specs.Numbers.{contains, insert, without}
 use Rattle.argus_model.specs.Owner as model
-use Rattle.argus_model.specs.Owner.{owner}
+use Rattle.argus_model.specs.Owner.{is_base, owner}
 use Rattle.argus_model.specs.Status.{is_live, live_siblings}
-use Rattle.argus_model.specs.Work.{Access, committed_topactions, serial_order, serial_order_to}
-use Rattle.argus_model.specs.Work.{work}
+use Rattle.argus_model.specs.Work.{Access, accesses_by, committed_topactions, serial_order}
+use Rattle.argus_model.specs.Work.{serial_order_to, work}
 use Rattle.argus_journal.specs.Answers.{visible_in_history}
 use Rattle.argus_journal.specs.Entries.{entries}
 use Rattle.argus_journal.specs.Events.{history}
@@ -112,6 +112,10 @@ committed_in s j = all_in_program (committed_topactions (history s j))
 abbrev pub serial_run : Opening → List PlainEntry → List (Access PlainEntry)
 serial_run s j = serial_order (history s j)
 
--- the same, and after it those of the action's ancestors, the topmost first, and its own
+-- the accesses of the actions whose work is there for good, by when they were made, the newest first
+abbrev pub accesses_for_good : Opening → List PlainEntry → List (Access PlainEntry)
+accesses_for_good s j = accesses_by (λ a. is_base (owner (history s j) a)) (history s j)
+
+-- the serial run, and after it those of the action's ancestors, the topmost first, and its own
 abbrev pub serial_run_to : Opening → List PlainEntry → ℕ → List (Access PlainEntry)
 serial_run_to s j a = serial_order_to (history s j) (in_history a)

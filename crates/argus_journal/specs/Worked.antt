@@ -15,7 +15,7 @@ use Rattle.argus_entries.specs.Entry.{PlainEntry}
 use Rattle.argus_entries.specs.Reply.{PlainReply}
 use Rattle.argus_journal.specs.Answers.{answer}
 use Rattle.argus_journal.specs.Opening.{Opening, empty}
-use Rattle.argus_journal.specs.JournalFacts.{serial_run}
+use Rattle.argus_journal.specs.JournalFacts.{serial_run, serial_run_to}
 use Rattle.argus_journal.specs.declared.owner.Owner.{Owner}
 use Rattle.argus_journal.specs.declared.owner.Owner.TheVariants.{Held}
 
@@ -38,6 +38,10 @@ replies s j (call ∷ calls) =
 -- the calls of the serial run, the newest first
 abbrev pub calls_run : List PlainEntry → List PlainCall
 calls_run j = map (λ access. access.what.call) (serial_run empty j)
+
+-- the calls of the serial run up to a live action, the newest first
+abbrev pub calls_run_to : List PlainEntry → ℕ → List PlainCall
+calls_run_to j a = map (λ access. access.what.call) (serial_run_to empty j a)
 
 -- the action that answers for some work
 abbrev pub held : ℕ → Option Owner

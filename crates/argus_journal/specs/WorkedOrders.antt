@@ -53,6 +53,13 @@ a_test_below_a_write = begin_top ∷ alter 1 0 (set_to 1) ∷ begin_sub 1 ∷ te
 abbrev pub a_reader : List PlainCall
 a_reader = begin_top ∷ ask 1 0 (Field 0) ∷ commit 1 ∷ []
 
+-- topaction 1 sets object 0; its nested topaction 2 sets object 1 and commits; its subaction 3 reads
+-- object 1, sets object 0 and begins a subaction, 4, which is aborted after it has set object 1
+abbrev pub a_live_subaction : List PlainCall
+a_live_subaction =
+    begin_top ∷ alter 1 0 (set_to 1) ∷ begin_nested 1 ∷ alter 2 1 (set_to 2) ∷ commit 2 ∷ begin_sub 1
+    ∷ ask 3 1 (Field 0) ∷ alter 3 0 (set_to 3) ∷ begin_sub 3 ∷ alter 4 1 (set_to 4) ∷ abort 4 ∷ []
+
 -- so many actions were begun before the opening
 abbrev pub going_on_at : ℕ → Opening
 going_on_at n = record { objects = []; first_action = n; first_entry = 0 }

@@ -3,6 +3,7 @@
 //! opening.
 ghost use Rattle.std.specs.Prelude.{◌≡◌, ◌<◌, ◌≤◌, ◌∷◌, ◌++◌, ◌||◌, ◌↔◌, List, Option};
 ghost use Rattle.std.specs.Prelude.{reverse, true, ℕ};
+ghost use Rattle.std.specs.List.Sorted.{IsPermutation};
 ghost use Rattle.argus_contents.specs.Content.{KeepsLimits, PlainContent};
 ghost use Rattle.argus_contents.specs.declared.limits.TheConstants.{MAX_ACTIONS, MAX_OBJECTS};
 ghost use Rattle.argus_entries.specs.Entry.{PlainEntry};
@@ -15,7 +16,8 @@ ghost use Rattle.argus_journal.specs.Opening.{KeepsNumbers, Opening, content_in,
 ghost use Rattle.argus_journal.specs.Opening.{is_sound, model_opening};
 ghost use Rattle.argus_journal.specs.References.{OccursIn, references_in};
 ghost use Rattle.argus_journal.specs.Serial.{AnswersAt};
-ghost use Rattle.argus_journal.specs.JournalFacts.{base_of, effects_of, is_ancestor_in, is_live_in};
+ghost use Rattle.argus_journal.specs.JournalFacts.{accesses_for_good, base_of, effects_of};
+ghost use Rattle.argus_journal.specs.JournalFacts.{is_ancestor_in, is_live_in};
 ghost use Rattle.argus_journal.specs.JournalFacts.{next_action_number};
 ghost use Rattle.argus_journal.specs.JournalFacts.{readers_of, visible_to, serial_run};
 ghost use Rattle.argus_journal.specs.JournalFacts.{serial_run_to};
@@ -72,8 +74,15 @@ pub fn committed_work_runs_again()
         → run entries (content_in s.objects) (reverse (serial_run s j)) o ≡ base_of s j o }
 {}
 
-/// So does that run followed by the work of a live action's ancestors, the topmost first, and its
-/// own; it leaves in each object what the action sees.
+/// Nothing is left out of that run, and nothing stands in it twice: in another order perhaps, it is
+/// the accesses of all actions whose work is there for good.
+pub fn committed_work_is_complete()
+    ensures { (s : Opening) (j : List PlainEntry) → Legal s j
+        → IsPermutation (serial_run s j) (accesses_for_good s j) }
+{}
+
+/// That run, followed by the work of a live action's ancestors, the topmost first, and its own, gives
+/// each reply again, too; it leaves in each object what the action sees.
 pub fn live_work_runs_again()
     ensures begins { (s : Opening) (j : List PlainEntry) (a : ℕ) → Legal s j
         → is_live_in s j a ≡ true

@@ -33,7 +33,7 @@ pub mod worked_openings;
 pub mod worked_orders;
 pub mod worked_siblings;
 
-pub use argus_entries::{Call, Entry, Refusal, Reply, write_entry};
+pub use argus_entries::{Call, Entry, Refusal, Reply, write_entry, write_reply};
 pub use journal::Journal;
 pub use legal_journal::LegalJournal;
 pub use owner::Owner;

@@ -7,7 +7,9 @@ ghost use Rattle.argus_contents.specs.Value.{int};
 ghost use Rattle.argus_contents.specs.declared.limits.TheConstants.{MAX_ACTIONS, MAX_ACTION_DEPTH};
 ghost use Rattle.argus_contents.specs.declared.limits.TheConstants.{MAX_OBJECTS};
 ghost use Rattle.argus_contents.specs.declared.signal.Signal.TheVariants.{Absent};
-ghost use Rattle.argus_entries.specs.Call.{declare};
+ghost use Rattle.argus_contents.specs.Change.{create};
+ghost use Rattle.argus_contents.specs.declared.query.Query.TheVariants.{Field};
+ghost use Rattle.argus_entries.specs.Call.{alter, ask, declare};
 ghost use Rattle.argus_entries.specs.Reply.{answered, begun, object, refused};
 ghost use Rattle.argus_entries.specs.declared.refusal.Refusal.TheVariants.{Conflict, IllTyped};
 ghost use Rattle.argus_entries.specs.declared.refusal.Refusal.TheVariants.{NoAction, NoObject};
@@ -15,8 +17,10 @@ ghost use Rattle.argus_entries.specs.declared.refusal.Refusal.TheVariants.{Over,
 ghost use Rattle.argus_entries.specs.declared.refusal.Refusal.TheVariants.{TooDeep, TooMany};
 ghost use Rattle.argus_journal.specs.JournalFacts.{effects_of, readers_of, versions_of};
 ghost use Rattle.argus_journal.specs.Opening.{Opening, empty};
-ghost use Rattle.argus_journal.specs.Worked.{holding, journal, prepared, replies, then_calls};
-ghost use Rattle.argus_journal.specs.WorkedOrders.{a_reader, a_signalled_question};
+ghost use Rattle.argus_journal.specs.Worked.{calls_run, calls_run_to, holding, journal};
+ghost use Rattle.argus_journal.specs.Worked.{prepared, replies, set_to, then_calls};
+ghost use Rattle.argus_journal.specs.WorkedOrders.{a_live_subaction, a_reader};
+ghost use Rattle.argus_journal.specs.WorkedOrders.{a_signalled_question};
 ghost use Rattle.argus_journal.specs.WorkedOrders.{a_test_below_a_write, going_on_at};
 ghost use Rattle.argus_journal.specs.WorkedOrders.{ill_typed_and_held, over_and_suspended};
 ghost use Rattle.argus_journal.specs.WorkedOrders.{suspended_and_undeclared, tests_in_order};
@@ -73,6 +77,24 @@ pub fn a_reader_leaves_an_empty_effect()
         ≡ begun 1 ∷ answered (val (int (pos 0))) ∷ answered done ∷ [] }
     ensures effects { effects_of empty (journal (prepared ++ a_reader))
         ≡ ((0, Some (holding 0)) ∷ (1, Some (holding 0)) ∷ []) ∷ [] ∷ [] }
+{}
+
+/// The serial run up to a live action has first the committed topactions, and so what the nested
+/// topaction did before what its creator had done earlier. What an aborted subaction did isn't there.
+pub fn a_run_goes_up_to_a_live_action()
+    ensures replies { replies empty (journal prepared) a_live_subaction
+        ≡ begun 1 ∷ answered done ∷ begun 2 ∷ answered done ∷ answered done ∷ begun 3
+        ∷ answered (val (int (pos 2))) ∷ answered done ∷ begun 4 ∷ answered done ∷ answered done
+        ∷ [] }
+    ensures committed { calls_run (journal (prepared ++ a_live_subaction))
+        ≡ alter 2 1 (set_to 2) ∷ alter 0 1 (create (holding 0)) ∷ alter 0 0 (create (holding 0))
+        ∷ [] }
+    ensures to_parent { calls_run_to (journal (prepared ++ a_live_subaction)) 1
+        ≡ alter 1 0 (set_to 1) ∷ alter 2 1 (set_to 2) ∷ alter 0 1 (create (holding 0))
+        ∷ alter 0 0 (create (holding 0)) ∷ [] }
+    ensures to_subaction { calls_run_to (journal (prepared ++ a_live_subaction)) 3
+        ≡ alter 3 0 (set_to 3) ∷ ask 3 1 (Field 0) ∷ alter 1 0 (set_to 1) ∷ alter 2 1 (set_to 2)
+        ∷ alter 0 1 (create (holding 0)) ∷ alter 0 0 (create (holding 0)) ∷ [] }
 {}
 
 /// The last action that there may be begins, and no other; who is over or hasn't begun is refused

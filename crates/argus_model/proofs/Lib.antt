@@ -27,3 +27,6 @@ pub mod Commits
 pub mod Depth
 pub mod Siblings
 pub mod Recorded
+pub mod Begins
+pub mod Complete
+pub mod Topaction

@@ -49,7 +49,7 @@ owner_ancestor (Aborted z ▹ h) w a x e = owner_ancestor h w.1 a x (kept_cases 
 owner_ancestor (Accessed b o v ▹ h) w a x e = owner_ancestor h w.1 a x e
 
 -- a live ancestor is one of the owner
-ancestor_owner : {V : Type 0} (h : History V) → Orderly h → (a x z : ℕ) → owner_by_steps h a ≡ Some x
+pub ancestor_owner : {V : Type 0} (h : History V) → Orderly h → (a x z : ℕ) → owner_by_steps h a ≡ Some x
     → stands h z ≡ true → is_ancestor h z a ≡ true → is_ancestor h z x ≡ true
 ancestor_owner (Opened n) w a x z e l m =
     ⊎_elim (λ k. grind (arith, nat_tests)) (λ k. absurd (grind (arith, nat_tests))) (cases_eq a 0)

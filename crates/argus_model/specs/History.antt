@@ -1,6 +1,6 @@
 -- A history: what happened since an opening, newest first.
-use Rattle.std.specs.Prelude.{List, [], ℕ, ◌++◌, ◌+◌, ◌∷◌}
-use Rattle.argus_model.specs.Event.{Aborted, Accessed, Began, Committed, Event}
+use Rattle.std.specs.Prelude.{List, [], ℕ, ◌++◌, ◌+◌, ◌∷◌, ◌≡◌}
+use Rattle.argus_model.specs.Event.{Aborted, Accessed, Began, Committed, Event, Origin}
 
 -- Where a history begins. What went before is folded into it: the contents stay, the actions are
 -- over and forgotten.
@@ -43,3 +43,11 @@ begun_actions (Accessed a o v ▹ older) = begun_actions older
 abbrev pub followed_by : {V : Type 0} → History V → List (Event V) → History V
 followed_by h [] = h
 followed_by h (e ∷ later) = followed_by (e ▹ h) later
+
+-- the event by which the action began, with what went before it and what came after
+pub record ItsBegin {V : Type 0} (h : History V) (a : ℕ) : Type 0 where
+  pub older : History V
+  pub from : Origin
+  pub later : List (Event V)
+  pub is : h ≡ followed_by (Began from ▹ older) later
+  pub number : a ≡ next_action older

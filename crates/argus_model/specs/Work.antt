@@ -1,9 +1,10 @@
 -- The serial order: what each action did, with the work of its subactions where they committed.
-use Rattle.std.specs.Prelude.{List, [], if◌then◌else◌, ℕ, ◌++◌, ◌==◌, ◌∷◌, ◌≡◌, ◌⊎◌}
-use Rattle.argus_model.specs.Ancestors.{lineage, parent}
+use Rattle.std.specs.Prelude.{Bool, List, [], if◌then◌else◌, true, ℕ, ◌++◌, ◌==◌, ◌∷◌, ◌≡◌, ◌⊎◌}
+use Rattle.argus_model.specs.Ancestors.{is_ancestor, lineage, parent}
 use Rattle.argus_model.specs.Event.{Aborted, Accessed, Began, Committed}
 use Rattle.argus_model.specs.History.{History, Opened, ◌▹◌}
 use Rattle.argus_model.specs.Meaning.{Meaning}
+use Rattle.argus_model.specs.Numbers.{contains}
 
 -- an access with its object, apart from who made it
 pub record Access (V : Type 0) : Type 0 where
@@ -17,6 +18,16 @@ IsOnRecord (Accessed a o v ▹ older) e = (record { object = o; what = v } ≡ e
 IsOnRecord (Began from ▹ older) e = IsOnRecord older e
 IsOnRecord (Committed a ▹ older) e = IsOnRecord older e
 IsOnRecord (Aborted actions ▹ older) e = IsOnRecord older e
+
+-- the accesses by the actions that pass the test, newest first
+abbrev pub accesses_by : {V : Type 0} → (ℕ → Bool) → History V → List (Access V)
+accesses_by test (Opened n) = []
+accesses_by test (Accessed a o v ▹ older) =
+    if test a then record { object = o; what = v } ∷ accesses_by test older else
+    accesses_by test older
+accesses_by test (Began from ▹ older) = accesses_by test older
+accesses_by test (Committed a ▹ older) = accesses_by test older
+accesses_by test (Aborted actions ▹ older) = accesses_by test older
 
 -- the accesses of an action, newest first, with the whole work of each subaction where that
 -- committed
@@ -37,6 +48,13 @@ committed_topactions (Committed a ▹ older) =
 committed_topactions (Began from ▹ older) = committed_topactions older
 committed_topactions (Aborted actions ▹ older) = committed_topactions older
 committed_topactions (Accessed a o v ▹ older) = committed_topactions older
+
+-- of the committed topactions, t is an ancestor of a, and no other is one
+pub record IsItsTopaction {V : Type 0} (h : History V) (a t : ℕ) : Type 0 where
+  pub committed : contains (committed_topactions h) t ≡ true
+  pub above : is_ancestor h t a ≡ true
+  pub only : (u : ℕ) → contains (committed_topactions h) u ≡ true → is_ancestor h u a ≡ true
+      → u ≡ t
 
 -- what the function gives of each number, one after another
 abbrev pub all_of : {X : Type 0} → (ℕ → List X) → List ℕ → List X

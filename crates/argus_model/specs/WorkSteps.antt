@@ -1,6 +1,6 @@
 -- A second form of what an action sees and of what is lawful, for proofs: lists of accesses, and
 -- the events' own forms.
-use Rattle.std.specs.Prelude.{Bool, List, None, Option, Some, [], false, if◌then◌else◌, true, ℕ}
+use Rattle.std.specs.Prelude.{Bool, List, None, Option, Some, [], false, true, ℕ}
 use Rattle.std.specs.Prelude.{◌∷◌, ◌≡◌}
 use Rattle.argus_model.specs.Ancestors.{is_ancestor}
 use Rattle.argus_model.specs.Event.{Aborted, Accessed, Began, Committed, origin_parent}
@@ -9,16 +9,7 @@ use Rattle.argus_model.specs.HolderSteps.{may_by_steps}
 use Rattle.argus_model.specs.Meaning.{Fits, Meaning}
 use Rattle.argus_model.specs.OwnerSteps.{AllStand, StandsAlone, owner_by_steps, stands}
 use Rattle.argus_model.specs.Work.{Access, content_after}
-
--- the accesses by the actions that pass the test, newest first
-abbrev pub accesses_by : {V : Type 0} → (ℕ → Bool) → History V → List (Access V)
-accesses_by test (Opened n) = []
-accesses_by test (Accessed a o v ▹ older) =
-    if test a then record { object = o; what = v } ∷ accesses_by test older else
-    accesses_by test older
-accesses_by test (Began from ▹ older) = accesses_by test older
-accesses_by test (Committed a ▹ older) = accesses_by test older
-accesses_by test (Aborted actions ▹ older) = accesses_by test older
+pub use Rattle.argus_model.specs.Work.{accesses_by}
 
 -- there is an owner, and it passes the test
 abbrev pub owner_passes : (ℕ → Bool) → Option ℕ → Bool

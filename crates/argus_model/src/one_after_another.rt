@@ -1,11 +1,16 @@
 //! Committed work can't be told from work that was done one action after another.
-ghost use Rattle.std.specs.Prelude.{◌≡◌, ℕ, true, false, List, ◌∷◌, ◌++◌, reverse};
+ghost use Rattle.std.specs.Prelude.{◌≡◌, ℕ, true, false, List, ◌∷◌, ◌++◌, ◌&&◌, reverse};
+ghost use Rattle.std.specs.List.Sorted.{IsPermutation};
+ghost use Rattle.argus_model.specs.Ancestors.{is_ancestor};
 ghost use Rattle.argus_model.specs.Event.{Event};
 ghost use Rattle.argus_model.specs.History.{HistoryOpening, History, ◌▹◌};
 ghost use Rattle.argus_model.specs.Status.{is_begun, is_live};
 ghost use Rattle.argus_model.specs.Meaning.{Meaning, Fits};
+ghost use Rattle.argus_model.specs.Numbers.{contains};
+ghost use Rattle.argus_model.specs.Owner.{Base, is_base, is_held_by, owner};
 ghost use Rattle.argus_model.specs.Contents.{sees, base};
 ghost use Rattle.argus_model.specs.Work.{Access, IsOnRecord, work, serial_order, serial_order_to};
+ghost use Rattle.argus_model.specs.Work.{IsItsTopaction, accesses_by, committed_topactions};
 ghost use Rattle.argus_model.specs.Work.{content_after, content_before};
 ghost use Rattle.argus_model.specs.Run.{AnswersAgain, run};
 ghost use Rattle.argus_model.specs.Lawful.{Lawful};
@@ -60,6 +65,28 @@ pub fn live_work_runs_again<V, C, A>()
         → Lawful meaning opening h → is_live h a ≡ true
         → run meaning opening.contents (reverse (serial_order_to h a)) o
         ≡ sees meaning opening h a o }
+{}
+
+/// Nothing is left out of the serial order, and nothing stands in it twice: it is the accesses whose
+/// work is there for good, in another order perhaps. So is the work of each committed topaction
+/// those of them that were made under it, and the work of a live action what it answers for. Of each
+/// action whose work is there for good, one committed topaction is an ancestor, and no other: its
+/// accesses stand in the work of that one, and in no other's.
+pub fn work_is_complete<V, C, A>()
+    ensures serial { (meaning : Meaning V C A) (opening : HistoryOpening C) (h : History V)
+        → Lawful meaning opening h
+        → IsPermutation (serial_order h) (accesses_by (λ b. is_base (owner h b)) h) }
+    ensures committed { (meaning : Meaning V C A) (opening : HistoryOpening C) (h : History V)
+        (t : ℕ)
+        → Lawful meaning opening h → contains (committed_topactions h) t ≡ true
+        → IsPermutation (work h t)
+        (accesses_by (λ b. is_base (owner h b) && is_ancestor h t b) h) }
+    ensures live { (meaning : Meaning V C A) (opening : HistoryOpening C) (h : History V) (a : ℕ)
+        → Lawful meaning opening h → is_live h a ≡ true
+        → IsPermutation (work h a) (accesses_by (λ b. is_held_by a (owner h b)) h) }
+    ensures one { (meaning : Meaning V C A) (opening : HistoryOpening C) (h : History V) (a : ℕ)
+        → Lawful meaning opening h → is_begun h a ≡ true → owner h a ≡ Base
+        → (t : ℕ) × IsItsTopaction h a t }
 {}
 
 /// The work of an action that is over stays as it is.

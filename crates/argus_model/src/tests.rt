@@ -2,12 +2,13 @@
 use crate::locks::{exclusion, holders, lock_rules, views};
 use crate::next_event::{abort, access, base_sees, begin, commit};
 use crate::one_after_another::{
-    base_is_serial, committed_work_runs_again, live_work_runs_again, work_is_final,
+    base_is_serial, committed_work_runs_again, live_work_runs_again, work_is_complete,
+    work_is_final,
 };
 use crate::second_forms::{content_forms, holder_forms, owner_forms};
 use crate::tables::{checkpoint, effect_of_commit, table_of_effects};
 use crate::trees::{
-    ancestors, begun, rows_say_what_happened, rows_tell_ancestors_and_children, siblings,
+    ancestors, begins, begun, rows_say_what_happened, rows_tell_ancestors_and_children, siblings,
 };
 use crate::what_counts::{committed_topactions_stay, nothing_comes_back, owners, owners_are_live};
 use crate::worked::{
@@ -32,6 +33,7 @@ fn laws_of_the_serial_order_and_of_tables(_rt: HostRuntime) {
     base_is_serial::<u8, u32, bool>();
     committed_work_runs_again::<u8, u32, bool>();
     live_work_runs_again::<u8, u32, bool>();
+    work_is_complete::<u8, u32, bool>();
     work_is_final::<u8, u32, bool>();
     table_of_effects::<u8, u32, bool>();
     effect_of_commit::<u8, u32, bool>();
@@ -41,6 +43,7 @@ fn laws_of_the_serial_order_and_of_tables(_rt: HostRuntime) {
 #[test]
 fn laws_of_trees_and_of_the_next_event(_rt: HostRuntime) {
     ancestors::<u8, u32, bool>();
+    begins::<u8>();
     begun::<u8>();
     rows_say_what_happened::<u8, u32, bool>();
     rows_tell_ancestors_and_children::<u8, u32, bool>();

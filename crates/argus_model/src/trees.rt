@@ -1,11 +1,12 @@
 //! Ancestors, the actions as rows of a tree, and the siblings of an action.
 ghost use Rattle.std.specs.Prelude.{◌≡◌, ◌≢◌, ◌<◌, ◌≤◌, ℕ, ◌+◌, ◌-◌, true, false, ◌&&◌};
-ghost use Rattle.std.specs.Prelude.{length, Some};
+ghost use Rattle.std.specs.Prelude.{length, List, Some};
 ghost use Rattle.std.specs.List.{list_any};
 ghost use Rattle.std.specs.List.Sorted.{IsStrictlyIncreasing};
-ghost use Rattle.argus_model.specs.Event.{Aborted, origin_parent, origin_begun_by};
+ghost use Rattle.argus_model.specs.Event.{Aborted, Began, Event, Origin, origin_parent};
+ghost use Rattle.argus_model.specs.Event.{origin_begun_by};
 ghost use Rattle.argus_model.specs.History.{HistoryOpening, History, begun_actions, folded};
-ghost use Rattle.argus_model.specs.History.{next_action};
+ghost use Rattle.argus_model.specs.History.{ItsBegin, followed_by, next_action, ◌▹◌};
 ghost use Rattle.argus_model.specs.Numbers.{contains};
 ghost use Rattle.argus_model.specs.Ancestors.{parent, begun_by, lineage, is_ancestor, is_under};
 ghost use Rattle.argus_model.specs.Status.{is_begun, is_live, has_live_child, is_sibling};
@@ -44,6 +45,18 @@ pub fn ancestors<V, C, A>()
 pub fn begun<V>()
     ensures listed { (h : History V) (a : ℕ) → contains (begun_actions h) a ≡ is_begun h a }
     ensures in_order { (h : History V) → IsStrictlyIncreasing (begun_actions h) }
+{}
+
+/// Each action that has begun has the event by which it began, and its parent and its creator are
+/// who that event names, whatever came later.
+pub fn begins<V>()
+    ensures each { (h : History V) (a : ℕ) → is_begun h a ≡ true → ItsBegin h a }
+    ensures parent { (older : History V) (from : Origin) (later : List (Event V))
+        → parent (followed_by (Began from ▹ older) later) (next_action older)
+        ≡ origin_parent from }
+    ensures creator { (older : History V) (from : Origin) (later : List (Event V))
+        → begun_by (followed_by (Began from ▹ older) later) (next_action older)
+        ≡ origin_begun_by from }
 {}
 
 /// The rows, changed by each event in turn, say of each action what the history says: its origin

@@ -8,6 +8,7 @@ ghost use Rattle.argus_model.specs.Owner.{owner, Folded, Gone, Held, Base};
 ghost use Rattle.argus_model.specs.Holders.{readers, writers, may_read, may_write};
 ghost use Rattle.argus_model.specs.Contents.{sees, base};
 ghost use Rattle.argus_model.specs.Work.{work, committed_topactions, serial_order};
+ghost use Rattle.argus_model.specs.Work.{serial_order_to};
 ghost use Rattle.argus_model.specs.Effects.{effects, table};
 ghost use Rattle.argus_model.specs.Lawful.{Allowed, Lawful};
 ghost use Rattle.argus_model.specs.Fold.{fold};
@@ -39,6 +40,9 @@ pub fn parallel_pair()
     ensures then { map (λ a. sees numbers zeros pair_goes_on a 0) (1 ∷ 3 ∷ []) ≡ 1 ∷ 5 ∷ [] }
     ensures not_yet { base numbers zeros pair_goes_on 0 ≡ 0 }
     ensures work_so_far { work pair_goes_on 1 ≡ put 0 1 0 ∷ [] }
+    ensures serial_so_far { serial_order pair_goes_on ≡ [] }
+    ensures serial_to_second { serial_order_to pair_goes_on 3
+        ≡ looked 1 0 ∷ put 0 5 1 ∷ looked 0 1 ∷ put 0 1 0 ∷ [] }
 
     // 3 and 1 have committed
     ensures serial { serial_order pair_ends
@@ -105,6 +109,7 @@ pub fn siblings_are_aborted()
     ensures still_live { is_live siblings_end 8 ≡ true }
     ensures contents { map (base numbers opened_late siblings_end) (0 ∷ 1 ∷ []) ≡ 1 ∷ 0 ∷ [] }
     ensures own_view { sees numbers opened_late siblings_end 8 1 ≡ 3 }
+    ensures serial_to_nested { serial_order_to siblings_end 8 ≡ put 1 3 0 ∷ put 0 1 4 ∷ [] }
     ensures effects { effects numbers opened_late siblings_end ≡ ((0, 1) ∷ []) ∷ [] }
 {}
 

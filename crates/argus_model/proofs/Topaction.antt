@@ -1,0 +1,316 @@
+-- Each action whose work is there for good has one committed topaction above it, whose work has its accesses.
+use Rattle.std.proofs.Common.{Bool, List, None, Option, Some, [], ap, arith, cond, false, inl, inr, refl, subst, suc}
+use Rattle.std.proofs.Common.{sym, true, zero, ℕ, ⊎_elim, ◌++◌, ◌<◌, ◌∙◌, ◌∷◌, ◌≡◌, ◌≢◌}
+use Rattle.std.specs.List.Sorted.{IsPermutation}
+use Rattle.std.specs.Prelude.{◌&&◌, ◌==◌, ◌||◌}
+use Rattle.std.proofs.lemmas.Bool.{and_from, and_parts, both_ways, cases_Bool, cases_eq, eq-eqb, eqb-true}
+use Rattle.std.proofs.lemmas.Bool.{false_from_ne_true, false≢true, ne_eqb, or_cases, or_right}
+use Rattle.argus_model.specs.Ancestors.{is_ancestor, is_under, lineage, parent}
+use Rattle.argus_model.specs.Event.{Aborted, Accessed, Began, Committed, Event}
+use Rattle.argus_model.specs.History.{History, HistoryOpening, Opened, folded, next_action, ◌▹◌}
+use Rattle.argus_model.specs.Lawful.{Lawful}
+use Rattle.argus_model.specs.Meaning.{Meaning}
+use Rattle.argus_model.specs.Numbers.{contains}
+use Rattle.argus_model.specs.Owner.{Base, Held, is_base, is_held_by, owner}
+use Rattle.argus_model.specs.OwnerSteps.{as_owner, is_exactly, owner_by_steps, owner_inherited, stands}
+use Rattle.argus_model.specs.Status.{has_committed, is_begun, is_doomed, is_live}
+use Rattle.argus_model.specs.Work.{Access, IsItsTopaction, accesses_by, committed_topactions, serial_order, work}
+use Rattle.argus_model.proofs.Ancestors.{ParentsAreOlder, ancestor_le, ancestor_self, lineage_cases}
+use Rattle.argus_model.proofs.Ancestors.{next_pos, parent_older, split_lineage}
+use Rattle.argus_model.proofs.Bools.{and_none, same_bool}
+use Rattle.argus_model.proofs.Complete.{accesses_agree, handed_both, handed_other, kept_exact, standing_work}
+use Rattle.argus_model.proofs.Counting.{base_of, base_spared, tops_are}
+use Rattle.argus_model.proofs.Exclusion.{Related}
+use Rattle.argus_model.proofs.Lawful.{lawful_orderly}
+use Rattle.argus_model.proofs.Live.{is_begun_from, is_begun_parts, live_stands}
+use Rattle.argus_model.proofs.Numbers.{joined_cases}
+use Rattle.argus_model.proofs.Owner.{is_held_by_is, owner_is, parent_unfolded}
+use Rattle.argus_model.proofs.OwnerRules.{ancestor_owner, committed_begun, committed_unfolded, owner_ancestor}
+use Rattle.argus_model.proofs.OwnerRules.{owner_gone, owner_passed, owner_self}
+use Rattle.argus_model.proofs.Serial.{base_stands, lineage-base}
+use Rattle.argus_model.proofs.Standing.{Orderly, at_some, handed_cases, handed_from, owner_cases, parent_is, parents_are_older, some_at}
+use Rattle.argus_model.proofs.Standing.{stands_upward}
+use Rattle.argus_model.proofs.Topactions.{serial_tops, tops_over}
+use Rattle.argus_model.proofs.Work.{work_final}
+
+-- of two ancestors of an action one is an ancestor of the other
+related : {V : Type 0} (h : History V) → ParentsAreOlder h → (x y a : ℕ) → a < next_action h
+    → is_ancestor h x a ≡ true → is_ancestor h y a ≡ true → Related h x y
+related h f x y a l m n =
+    let s = split_lineage h x a f l m in
+    let r = split_lineage h y a f l n in
+    ⊎_elim
+    (λ j. ⊎_elim
+    (λ k. absurd (let p = s.above y j in let q = r.above x k in omega arith))
+    (λ k. inl k)
+    (joined_cases r.front (lineage h y) x (subst (λ t. contains t x ≡ true) r.is m)))
+    (λ j. inr j)
+    (joined_cases s.front (lineage h x) y (subst (λ t. contains t y ≡ true) s.is n))
+
+-- what is known of a committed topaction
+record Top {V : Type 0} (h : History V) (t : ℕ) : Type 0 where
+  committed : has_committed h t ≡ true
+  parent : parent h t ≡ 0
+  unfolded : folded h < t
+  begun : t < next_action h
+
+top_of : {V : Type 0} (h : History V) → Orderly h → (t : ℕ) → contains (committed_topactions h) t ≡ true → Top h t
+top_of h w t m =
+    let q = and_parts (has_committed h t) (parent h t == 0) (sym (tops_are h w t) ∙ m) in
+    record {
+      committed = q.0;
+      parent = eqb-true (parent h t) 0 q.1;
+      unfolded = committed_unfolded h w t q.0;
+      begun = (committed_begun h w t q.0).1;
+    }
+
+-- above a topaction is the base alone
+above_top : {V : Type 0} (h : History V) → Orderly h → (t x : ℕ) → 0 < t → t < next_action h → parent h t ≡ 0
+    → is_ancestor h x t ≡ true → x ≢ 0 → x ≡ t
+above_top h w t x z l p a n =
+    let o = parent_older h t (parents_are_older h w) z l in
+    let i : lineage h t ≡ t ∷ 0 ∷ [] =
+    o.1 ∙ ap (λ u. t ∷ lineage h u) p ∙ ap (λ u. t ∷ u) (lineage-base h) in
+    ⊎_elim
+    (λ k. eqb-true x t k)
+    (λ k. absurd (⊎_elim (λ e. n (eqb-true x 0 e)) (λ e. false≢true e) (or_cases (x == 0) false k)))
+    (or_cases (x == t) (contains (0 ∷ []) x) (subst (λ u. contains u x ≡ true) i a))
+
+-- what stands doesn't stand under a committed topaction
+not_under : {V : Type 0} (h : History V) → Orderly h → (t s a : ℕ) → contains (committed_topactions h) t ≡ true
+    → s ≢ 0 → stands h s ≡ true → owner_by_steps h a ≡ Some s → a < next_action h → is_ancestor h t a ≡ false
+not_under h w t s a m n l e b =
+    let q = top_of h w t m in
+    false_from_ne_true (is_ancestor h t a) (λ k.
+    both_ways (stands h t) (tops_over h w t m)
+    (⊎_elim
+    (λ j. stands_upward h w t s l j)
+    (λ j. subst (λ u. stands h u ≡ true)
+    (above_top h w t s (let u = q.unfolded in omega arith) q.begun q.parent j n) l)
+    (related h (parents_are_older h w) t s a b k (owner_ancestor h w a s e))))
+
+-- the accesses that are there for good and were made under t
+abbrev for_good_under : {V : Type 0} → History V → ℕ → ℕ → Bool
+for_good_under h t a = is_exactly (owner_by_steps h a) 0 && is_ancestor h t a
+
+same_ancestor : {V : Type 0} (h : History V) (e : Event V) (t a : ℕ) → a < next_action h
+    → is_ancestor h t a ≡ is_ancestor (e ▹ h) t a
+same_ancestor h (Began from) t a l =
+    ⊎_elim (λ k. absurd (omega (arith, k.0))) (λ k. sym (ap (λ u. contains u t) k.1)) (lineage_cases h from a)
+same_ancestor h (Committed s) t a l = refl
+same_ancestor h (Aborted z) t a l = refl
+same_ancestor h (Accessed b o v) t a l = refl
+
+both_same : (a b c d : Bool) → a ≡ c → b ≡ d → (a && b) ≡ (c && d)
+both_same a b c d e f = ap (λ x. x && b) e ∙ ap (λ x. c && x) f
+
+-- the commit of another topaction adds nothing that was made under t
+other_top : {V : Type 0} (h : History V) → Orderly h → (t s a : ℕ) → contains (committed_topactions h) t ≡ true
+    → s ≢ 0 → stands h s ≡ true → parent h s ≡ 0 → a < next_action h
+    → for_good_under h t a ≡ for_good_under (Committed s ▹ h) t a
+other_top h w t s a m n l p b =
+    let q = owner_by_steps h a in
+    let r = owner_inherited s (parent h s) q in
+    ⊎_elim
+    (λ k. let u = not_under h w t s a m n l (at_some q s k) b in
+    ap (λ c. is_exactly q 0 && c) u ∙ and_none (is_exactly q 0)
+    ∙ sym (ap (λ c. is_exactly r 0 && c) u ∙ and_none (is_exactly r 0)))
+    (λ k. ap (λ c. c && is_ancestor h t a)
+    (ap (λ d. d || is_exactly q 0) (sym k) ∙ handed_both s (parent h s) 0 q p (λ e. n (sym e))))
+    (cases_Bool (is_exactly q s))
+
+-- what a topaction answers for is there for good once it commits
+own_top : {V : Type 0} (h : History V) → Orderly h → (s a : ℕ) → s ≢ 0 → stands h s ≡ true → parent h s ≡ 0
+    → is_exactly (owner_by_steps h a) s ≡ for_good_under (Committed s ▹ h) s a
+own_top h w s a n l p =
+    let q = owner_by_steps h a in
+    let r = owner_inherited s (parent h s) q in
+    same_bool (is_exactly q s) (is_exactly r 0 && is_ancestor h s a)
+    (λ k. and_from (is_exactly r 0) (is_ancestor h s a)
+    (some_at r 0 (handed_from s (parent h s) q (at_some q s k) ∙ ap Some p))
+    (owner_ancestor h w a s (at_some q s k)))
+    (λ k. let d = and_parts (is_exactly r 0) (is_ancestor h s a) k in
+    ⊎_elim
+    (λ j. some_at q s j.0)
+    (λ j. absurd (n (let u = ancestor_le h s 0 (parents_are_older h w) (next_pos h)
+    (ancestor_owner h w a 0 s j.0 l d.1) in omega arith)))
+    (handed_cases s (parent h s) q 0 (at_some r 0 d.0)))
+
+moved : {V : Type 0} (h : History V) (e : Event V) → Orderly h → Orderly (e ▹ h) → (t : ℕ)
+    → contains (committed_topactions h) t ≡ true → (es fs : List (Access V)) → es ≡ fs → IsPermutation (work h t) es
+    → IsPermutation (work (e ▹ h) t) fs
+moved h e w v t m es fs same p =
+    subst (λ u. IsPermutation u fs) (sym (work_final h e v t (tops_over h w t m)))
+    (subst (λ u. IsPermutation (work h t) u) same p)
+
+-- the work of a committed topaction is what was made under it and is there for good
+pub top_work : {V : Type 0} (h : History V) → Orderly h → (t : ℕ) → contains (committed_topactions h) t ≡ true
+    → IsPermutation (work h t) (accesses_by (for_good_under h t) h)
+top_work (Opened n) w t m = absurd (false≢true m)
+top_work (Began from ▹ h) w t m =
+    let g = Began from ▹ h in
+    moved h (Began from) w.1 w t m (accesses_by (for_good_under h t) h) (accesses_by (for_good_under g t) h)
+    (accesses_agree (for_good_under h t) (for_good_under g t) h w.1
+    (λ a _ l. both_same (is_exactly (owner_by_steps h a) 0) (is_ancestor h t a) (is_exactly (owner_by_steps g a) 0)
+    (is_ancestor g t a)
+    (ap (λ q. is_exactly q 0) (⊎_elim (λ k. absurd (omega (arith, k.0))) (λ k. sym k.1) (owner_cases h from a)))
+    (same_ancestor h (Began from) t a l)))
+    (top_work h w.1 t m)
+top_work (Aborted z ▹ h) w t m =
+    let g = Aborted z ▹ h in
+    moved h (Aborted z) w.1 w t m (accesses_by (for_good_under h t) h) (accesses_by (for_good_under g t) h)
+    (accesses_agree (for_good_under h t) (for_good_under g t) h w.1
+    (λ a _ l. ap (λ b. b && is_ancestor h t a)
+    (kept_exact (is_under h z) 0 (owner_by_steps h a) (base_spared h z w))))
+    (top_work h w.1 t m)
+top_work {V} (Accessed b o v ▹ h) w t m =
+    let x : Access V = record { object = o; what = v } in
+    let es = accesses_by (for_good_under h t) h in
+    let not_yet : for_good_under h t b ≡ false =
+    ap (λ q. is_exactly q 0 && is_ancestor h t b) (at_some (owner_by_steps h b) b w.0.standing)
+    ∙ ap (λ c. c && is_ancestor h t b) (ne_eqb b 0 w.0.not_base) in
+    moved h (Accessed b o v) w.1 w t m es (cond (for_good_under h t b) (x ∷ es) es)
+    (sym (ap (λ c. cond c (x ∷ es) es) not_yet)) (top_work h w.1 t m)
+top_work (Committed s ▹ h) w t m =
+    let p = parent h s in
+    let g = Committed s ▹ h in
+    let tops = committed_topactions h in
+    let before = accesses_by (for_good_under h t) h in
+    ⊎_elim
+    (λ e. let p0 : p ≡ 0 = eqb-true p 0 e in
+    ⊎_elim
+    (λ k. let i = parent_is h (parents_are_older h w.1) s w.0.not_base w.0.standing in
+    let own : work g s ≡ work h s =
+    ap (λ q. cond q (work h s ++ work h s) (work h s)) (ne_eqb p s (omega (arith, i.0))) in
+    subst (λ u. IsPermutation (work g u) (accesses_by (for_good_under g u) h)) (sym (eqb-true t s k))
+    (subst (λ u. IsPermutation u (accesses_by (for_good_under g s) h)) (sym own)
+    (subst (λ u. IsPermutation (work h s) u)
+    (accesses_agree (λ a. is_exactly (owner_by_steps h a) s) (for_good_under g s) h w.1
+    (λ a _ l. own_top h w.1 s a w.0.not_base w.0.standing p0))
+    (standing_work h w.1 s w.0.standing))))
+    (λ k. moved h (Committed s) w.1 w t k before (accesses_by (for_good_under g t) h)
+    (accesses_agree (for_good_under h t) (for_good_under g t) h w.1
+    (λ a _ l. other_top h w.1 t s a k w.0.not_base w.0.standing p0 l))
+    (top_work h w.1 t k))
+    (or_cases (t == s) (contains tops t) (subst (λ b. contains (cond b (s ∷ tops) tops) t ≡ true) e m)))
+    (λ e. let k : contains tops t ≡ true = subst (λ b. contains (cond b (s ∷ tops) tops) t ≡ true) e m in
+    moved h (Committed s) w.1 w t k before (accesses_by (for_good_under g t) h)
+    (accesses_agree (for_good_under h t) (for_good_under g t) h w.1
+    (λ a _ l. ap (λ b. b && is_ancestor h t a)
+    (handed_other s p 0 (owner_by_steps h a)
+    (λ q. false≢true (sym e ∙ eq-eqb p 0 q)) (λ q. w.0.not_base (sym q)))))
+    (top_work h w.1 t k))
+    (cases_Bool (p == 0))
+
+-- no two committed topactions are ancestors of one action
+only_one : {V : Type 0} (h : History V) → Orderly h → (a t x : ℕ) → a < next_action h
+    → contains (committed_topactions h) t ≡ true → contains (committed_topactions h) x ≡ true
+    → is_ancestor h t a ≡ true → is_ancestor h x a ≡ true → x ≡ t
+only_one h w a t x b m k i j =
+    let p = top_of h w t m in
+    let q = top_of h w x k in
+    let t0 : 0 < t = let u = p.unfolded in omega arith in
+    let x0 : 0 < x = let u = q.unfolded in omega arith in
+    ⊎_elim
+    (λ r. above_top h w t x t0 p.begun p.parent r (omega arith))
+    (λ r. sym (above_top h w x t x0 q.begun q.parent r (omega arith)))
+    (related h (parents_are_older h w) x t a b j i)
+
+-- what is there for good has committed
+good_committed : {V : Type 0} (h : History V) → Orderly h → (a : ℕ) → folded h < a → a < next_action h
+    → owner_by_steps h a ≡ Some 0 → has_committed h a ≡ true
+good_committed h w a u b e =
+    ⊎_elim
+    (λ k. k)
+    (λ k. ⊎_elim
+    (λ d. let n = owner_gone h w a u b d in absurd (grind arith))
+    (λ d. let n = owner_self h w a u b d k in let z : a ≡ 0 = grind arith in absurd (omega arith))
+    (cases_Bool (is_doomed h a)))
+    (cases_Bool (has_committed h a))
+
+its_top : {V : Type 0} (h : History V) → Orderly h → (n a : ℕ) → a < n → folded h < a → a < next_action h
+    → owner_by_steps h a ≡ Some 0 → (t : ℕ) × IsItsTopaction h a t
+its_top h w zero a l u b e = absurd (omega arith)
+its_top h w (suc n) a l u b e =
+    let c = good_committed h w a u b e in
+    let p = parent h a in
+    let o = parent_older h a (parents_are_older h w) (omega arith) b in
+    ⊎_elim
+    (λ k. let m : contains (committed_topactions h) a ≡ true =
+    tops_are h w a ∙ and_from (has_committed h a) (p == 0) c (eq-eqb p 0 k) in (
+      a,
+      record {
+        committed = m;
+        above = ancestor_self h a;
+        only = λ x j i. only_one h w a a x b m j (ancestor_self h a) i;
+      },
+    ))
+    (λ k. let r = its_top h w n p (omega (arith, o.0)) (parent_unfolded h w a u b k) (omega (arith, o.0))
+    (sym (owner_passed h w a c) ∙ e) in
+    let above : is_ancestor h r.0 a ≡ true =
+    subst (λ us. contains us r.0 ≡ true) (sym o.1)
+    (or_right (r.0 == a) (contains (lineage h p) r.0) r.1.above) in (
+      r.0,
+      record {
+        committed = r.1.committed;
+        above = above;
+        only = λ x j i. only_one h w a r.0 x b r.1.committed j above i;
+      },
+    ))
+    (cases_eq p 0)
+
+base_exact : (q : Option ℕ) → is_exactly q 0 ≡ is_base (as_owner q)
+base_exact None = refl
+base_exact (Some x) =
+    ⊎_elim
+    (λ e. eq-eqb x 0 e ∙ sym (ap (λ b. is_base (cond b Base (Held x))) (eq-eqb x 0 e)))
+    (λ n. ne_eqb x 0 n ∙ sym (ap (λ b. is_base (cond b Base (Held x))) (ne_eqb x 0 n)))
+    (cases_eq x 0)
+
+plain_base : {V : Type 0} (h : History V) → Orderly h → (a : ℕ) → folded h < a → a < next_action h
+    → is_exactly (owner_by_steps h a) 0 ≡ is_base (owner h a)
+plain_base h w a u b =
+    base_exact (owner_by_steps h a) ∙ sym (ap is_base (owner_is h w a (is_begun_from h a u b)))
+
+module _ {V C A : Type 0} (meaning : Meaning V C A) (opening : HistoryOpening C) where
+  -- the serial order is each access that is there for good
+  pub serial_complete : (h : History V) → Lawful meaning opening h
+      → IsPermutation (serial_order h) (accesses_by (λ b. is_base (owner h b)) h)
+  serial_complete h l =
+      let w = lawful_orderly meaning opening h l in
+      let plain = accesses_by (λ b. is_base (owner h b)) h in
+      subst (λ es. IsPermutation es plain) (serial_tops h w)
+      (subst (λ es. IsPermutation (work h 0) es)
+      (accesses_agree (λ a. is_exactly (owner_by_steps h a) 0) (λ a. is_base (owner h a)) h w (plain_base h w))
+      (standing_work h w 0 (base_stands h w)))
+
+  -- the work of a committed topaction is each access under it that is there for good
+  pub committed_complete : (h : History V) (t : ℕ) → Lawful meaning opening h
+      → contains (committed_topactions h) t ≡ true
+      → IsPermutation (work h t) (accesses_by (λ b. is_base (owner h b) && is_ancestor h t b) h)
+  committed_complete h t l m =
+      let w = lawful_orderly meaning opening h l in
+      subst (λ es. IsPermutation (work h t) es)
+      (accesses_agree (for_good_under h t) (λ b. is_base (owner h b) && is_ancestor h t b) h w
+      (λ a u b. ap (λ c. c && is_ancestor h t a) (plain_base h w a u b)))
+      (top_work h w t m)
+
+  -- the work of a live action is each access that it answers for
+  pub live_complete : (h : History V) (a : ℕ) → Lawful meaning opening h → is_live h a ≡ true
+      → IsPermutation (work h a) (accesses_by (λ b. is_held_by a (owner h b)) h)
+  live_complete h a l k =
+      let w = lawful_orderly meaning opening h l in
+      let s = live_stands h w a k in
+      subst (λ es. IsPermutation (work h a) es)
+      (accesses_agree (λ b. is_exactly (owner_by_steps h b) a) (λ b. is_held_by a (owner h b)) h w
+      (λ b u c. sym (ap (is_held_by a) (owner_is h w b (is_begun_from h b u c))
+      ∙ is_held_by_is a (owner_by_steps h b) s.0)))
+      (standing_work h w a s.1)
+
+  -- what is there for good has one committed topaction above it
+  pub one_topaction : (h : History V) (a : ℕ) → Lawful meaning opening h → is_begun h a ≡ true → owner h a ≡ Base
+      → (t : ℕ) × IsItsTopaction h a t
+  one_topaction h a l k e =
+      let w = lawful_orderly meaning opening h l in
+      let q = is_begun_parts h a k in
+      its_top h w (suc a) a (omega arith) q.0 q.1 (base_of (owner_by_steps h a) (sym (owner_is h w a k) ∙ e))
