@@ -1,9 +1,12 @@
--- The law of lines, and the entries that it speaks of: those such as a program can hold.
-use Rattle.std.specs.Prelude.{ℕ, ◌<◌, ◌^◌, ◌≡◌}
+-- The laws of lines, and the entries that they speak of: those such as a program can hold.
+use Rattle.std.specs.Prelude.{ℕ, ◌<◌, ◌^◌, ◌≡◌, true}
 use Rattle.argus_contents.specs.Answer.{PlainAnswer}
 use Rattle.argus_contents.specs.Answer as answer
 use Rattle.argus_contents.specs.Change.{PlainChange}
 use Rattle.argus_contents.specs.Change as change
+use Rattle.argus_contents.specs.Fitting.{change_suits}
+use Rattle.argus_contents.specs.Shape.{IsMakeable, PlainShape}
+use Rattle.argus_contents.specs.declared.limits.TheConstants.{MAX_VALUE_DEPTH}
 use Rattle.argus_contents.specs.declared.query.Query.{Query}
 use Rattle.argus_contents.specs.declared.query.Query.TheVariants as query
 use Rattle.argus_texts.specs.ContentSpelling.{PartsWithin}
@@ -84,3 +87,11 @@ abbrev pub EntryLinesAreUnambiguous : Type 0
 EntryLinesAreUnambiguous =
     (k m n : ℕ) (d e : PlainEntry) → m < 2 ^ 64 → n < 2 ^ 64 → EntryWithin k d → EntryWithin k e
     → entry_spelling m d ≡ entry_spelling n e → (m ≡ n) × (d ≡ e)
+
+-- a change such as a program can hold that suits a shape that can be made has values of depth at
+-- most 16, whatever depth was known of them
+abbrev pub SuitingChangesKeepTheDepth : Type 0
+SuitingChangesKeepTheDepth =
+    (s : PlainShape) (declared k : ℕ) (c : PlainChange) → IsMakeable s
+    → change_suits s declared c ≡ true → ChangeWithin k c
+    → ChangeWithin MAX_VALUE_DEPTH c

@@ -1,4 +1,4 @@
-//! `write_entry`: the line of an entry.
+//! `write_entry` and `write_reply`: the line of an entry, and its reply's part.
 
 ghost use Rattle.std.specs.Prelude.{◌≡◌, ◌++◌, OnErr, OnOk, string_bytes};
 ghost use Rattle.argus_contents.specs.Answer.{plain_answer};
@@ -35,6 +35,25 @@ pub fn write_entry(at: u64, entry: &Entry, out: &mut String<Room>) -> Result<(),
 {
     let start = out.len();
     let result = append_entry(at, entry, out);
+    if result.is_err() {
+        out.truncate(start);
+    }
+    result
+}
+
+/// Appends the reply as it stands behind the arrow of an entry's line. At `OutOfMemory` the text is
+/// cut back to what it was.
+///
+/// ```text
+/// write_reply(&Reply::Refused(Refusal::Conflict), &mut out)?;      // refused Conflict
+/// ```
+pub fn write_reply(reply: &Reply, out: &mut String<Room>) -> Result<(), OutOfMemory>
+    ensures written { OnOk result (string_bytes out.new
+        ≡ string_bytes out.old ++ reply_spelling (plain_reply reply.now)) }
+    ensures unchanged { OnErr result (string_bytes out.new ≡ string_bytes out.old) }
+{
+    let start = out.len();
+    let result = append_reply(reply, out);
     if result.is_err() {
         out.truncate(start);
     }

@@ -1,9 +1,16 @@
-//! The law of lines. The function does nothing: its contract is the law.
+//! The laws of lines. Each function does nothing: its contract is the law.
 
-ghost use Rattle.argus_entries.specs.Laws.{EntryLinesAreUnambiguous};
+ghost use Rattle.argus_entries.specs.Laws.{EntryLinesAreUnambiguous, SuitingChangesKeepTheDepth};
 
 /// Two lines that [`write_entry`](crate::write_entry) wrote are the same only where the numbers are
 /// the same, and the entries.
 pub fn entry_lines_are_unambiguous()
     ensures { EntryLinesAreUnambiguous }
+{}
+
+/// A change that suits a shape is no deeper than the shape's types, and so no deeper than what is
+/// read back of a line. That a shape can be made, its type says
+/// ([`limits_are_kept`](argus_contents::Shape::limits_are_kept)).
+pub fn suiting_changes_keep_the_depth()
+    ensures { SuitingChangesKeepTheDepth }
 {}

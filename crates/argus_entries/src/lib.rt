@@ -12,6 +12,6 @@ mod reply;
 
 pub use call::Call;
 pub use entry::Entry;
-pub use entry_writing::write_entry;
+pub use entry_writing::{write_entry, write_reply};
 pub use refusal::Refusal;
 pub use reply::Reply;
