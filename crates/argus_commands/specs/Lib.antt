@@ -1,6 +1,8 @@
 pub use Rattle.argus_language.specs.Fault
+pub use Rattle.argus_language.specs.FaultyLines
 pub use Rattle.argus_language.specs.Laws as LanguageLaws
 pub use Rattle.argus_language.specs.Lines
+pub use Rattle.argus_language.specs.OpeningLines
 pub use Rattle.argus_language.specs.PlainStep
 pub use Rattle.argus_language.specs.Script
 pub use Rattle.argus_runs.specs.Laws as RunLaws
@@ -11,6 +13,7 @@ pub use Rattle.argus_runs.specs.RunPrefix
 pub use Rattle.argus_runs.specs.Running
 pub use Rattle.argus_run_check.specs.Laws as RunCheckLaws
 pub use Rattle.argus_run_check.specs.Order
+pub use Rattle.argus_run_check.specs.Outcomes
 pub use Rattle.argus_run_check.specs.RunCheck
 pub use Rattle.argus_streams.specs.FailStop
 pub use Rattle.argus_streams.specs.Input

@@ -10,8 +10,8 @@
 #![tactic(auto)]
 
 pub use argus_language::{
-    ActionKind, BlockKind, FaultKind, Lock, ParseError, Script, ScriptFault, Step, limits,
-    lines_spell_one_script, parse,
+    ActionKind, BlockKind, FaultKind, Lock, ParseError, Script, ScriptFault, Step,
+    levels_tell_unmatched_lines, limits, lines_spell_one_script, parse,
 };
 pub use argus_run_check::{
     ArmOutcome, Ended, RunReport, check_run, checked_runs_are_runs, has_risen, report_of,

@@ -2,9 +2,11 @@ pub mod Cutting
 pub mod Deeds
 pub mod Ends
 pub mod Faults
+pub mod FaultyLines
 pub mod Growing
 pub mod Naming
 pub mod Numbers
+pub mod OpeningLines
 pub mod Rooms
 pub mod Starts
 pub mod Unambiguous

@@ -54,17 +54,26 @@ abbrev pub opens_block : List ℕ → Bool
 opens_block verb =
     bytes_eq verb (codes "enter") || (bytes_eq verb (codes "coenter") || bytes_eq verb (codes "if"))
 
+-- by its first word a line goes past a limit, where so many blocks are open and so many objects
+-- declared
+abbrev pub is_past_counts : ℕ → ℕ → List ℕ → Bool
+is_past_counts blocks objects verb =
+    (nat_le MAX_OPEN_BLOCKS blocks && opens_block verb)
+    || (nat_le MAX_OBJECTS objects && bytes_eq verb (codes "declare"))
+
+-- a line goes past a limit, behind so many lines and bytes, open blocks and declared objects
+abbrev pub is_past_limits : ℕ → ℕ → ℕ → ℕ → List ℕ → Bool
+is_past_limits lines bytes blocks objects line =
+    (nat_lt MAX_LINE_BYTES (length (ended line)) || nat_lt MAX_SCRIPT_BYTES (bytes + length line))
+    || (nat_le MAX_LINES lines || is_past_counts blocks objects (word (line_text line)))
+
 -- by its first word a line goes past a limit: of blocks that are open, or of objects
 abbrev pub is_one_too_many : Position → ℕ → List ℕ → Bool
-is_one_too_many p objects verb =
-    (nat_le MAX_OPEN_BLOCKS (depth_of p.levels) && opens_block verb)
-    || (nat_le MAX_OBJECTS objects && bytes_eq verb (codes "declare"))
+is_one_too_many p objects verb = is_past_counts (depth_of p.levels) objects verb
 
 -- a limit is passed: of a line's bytes, of a script's bytes, of lines, of blocks or of objects
 abbrev pub is_too_long : Position → ℕ → List ℕ → Bool
-is_too_long p objects line =
-    (nat_lt MAX_LINE_BYTES (length (ended line)) || nat_lt MAX_SCRIPT_BYTES (p.bytes + length line))
-    || (nat_le MAX_LINES p.lines || is_one_too_many p objects (word (line_text line)))
+is_too_long p objects line = is_past_limits p.lines p.bytes (depth_of p.levels) objects line
 
 -- the words are no command
 abbrev pub is_bad : Command → Bool

@@ -1,5 +1,6 @@
 pub mod Command
 pub mod Fault
+pub mod FaultyLines
 pub mod Fields
 pub mod Int
 pub mod Laws
@@ -7,6 +8,7 @@ pub mod Levels
 pub mod Lines
 pub mod Numbered
 pub mod Objects
+pub mod OpeningLines
 pub mod Operation
 pub mod PlainStep
 pub mod Parsed

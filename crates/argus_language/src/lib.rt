@@ -39,7 +39,7 @@ mod words;
 pub use action_kind::ActionKind;
 pub use block_kind::BlockKind;
 pub use fault_kind::FaultKind;
-pub use laws::lines_spell_one_script;
+pub use laws::{levels_tell_unmatched_lines, lines_spell_one_script};
 pub use lock::Lock;
 pub use parse_error::ParseError;
 pub use parsing::parse;

@@ -1,2 +1,4 @@
-pub mod Ordered
 pub mod CheckedRuns
+pub mod Endings
+pub mod Keeping
+pub mod Ordered

@@ -1,5 +1,6 @@
 -- What a teller stands for.
 use Rattle.std.specs.Prelude.{map}
+use Rattle.std.specs.Option.{option_map}
 use Rattle.argus_receipts.specs.Receipt.{plain_receipt}
 use Rattle.argus_run_check.specs.RunCheck.{CheckState}
 use Rattle.argus_run_check.specs.declared.receipt_caller.ReceiptCaller.{ReceiptCaller}
@@ -10,7 +11,7 @@ check_state_of t = record {
   left = map plain_receipt t.left.now;
   calls = t.calls.items;
   arm = t.arm;
-  ended = t.ended;
+  last = option_map (λ r. (plain_receipt r.now).entry) t.last;
   coenters = t.coenters;
   outcomes = t.outcomes.items;
 }

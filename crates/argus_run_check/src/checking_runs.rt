@@ -7,7 +7,6 @@ ghost use Rattle.argus_run_check.specs.RunCheck.{IsCheckedRun, IsWhole};
 ghost use Rattle.argus_run_check.specs.State.{check_state_of};
 
 use crate::arm_outcome::ArmOutcome;
-use crate::ended::Ended;
 use crate::ordering::in_order;
 use crate::outermost_caller::OutermostCaller;
 use crate::receipt_caller::ReceiptCaller;
@@ -24,8 +23,9 @@ use argus_runs::run_script;
 /// arms of one outermost coenter made them; a begin of an arm isn't made by the arm.
 ///
 /// `None` comes where the receipts don't show a run: a call isn't the one that comes next after the
-/// replies before it, one is lacking or too many, or of two that aren't parallel the earlier hasn't
-/// the lower number. `OutOfMemory` may come in place of any answer. No receipt's call is copied, nor
+/// replies before it, one is lacking or too many, of two that aren't parallel the earlier hasn't
+/// the lower number, or an arm's last call hasn't ended it, as an abort that is refused though its
+/// action isn't over. `OutOfMemory` may come in place of any answer. No receipt's call is copied, nor
 /// its reply where the call is an access; the other replies are, and the script's shapes and
 /// changes, one at a time.
 ///
@@ -46,7 +46,7 @@ pub fn check_run(
             left: receipts,
             calls: Vec::with_capacity(heap.room(), receipts.len())?,
             arm: None,
-            ended: Ended::Refused,
+            last: None,
             coenters: 0,
             outcomes: Vec::new(heap.room()),
             unfit: false,

@@ -4,8 +4,8 @@
 ///
 /// | Ended | When |
 /// |---|---|
-/// | `Committed` | its last call was a commit, which was accepted |
-/// | `Aborted` | its last call was an abort, and it isn't `Over` |
+/// | `Committed` | its last call was the commit of its action, which was accepted |
+/// | `Aborted` | its last call was an abort of its action, which was accepted |
 /// | `Refused` | its begin was refused, so it made no call |
 /// | `Over` | its last call was refused since its action was over already, or was never begun |
 ///

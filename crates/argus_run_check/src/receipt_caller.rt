@@ -1,6 +1,7 @@
 //! `ReceiptCaller`: answers a run's calls from receipts.
 
 ghost use Rattle.std.specs.Prelude.{IfOk, None, OnOk, ◌≡◌};
+ghost use Rattle.std.specs.Option.{option_map};
 ghost use Rattle.argus_language.specs.PlainStep.{plain_step};
 ghost use Rattle.argus_entries.specs.Call.{plain_call};
 ghost use Rattle.argus_entries.specs.Reply.{plain_reply};
@@ -9,8 +10,8 @@ ghost use Rattle.argus_runs.specs.RunOutcome.{finished};
 ghost use Rattle.argus_runs.specs.Running.{run_arm};
 ghost use Rattle.argus_runs.specs.declared.flow.Flow.TheVariants.{On};
 ghost use Rattle.argus_receipts.specs.Receipt.{plain_receipt};
-ghost use Rattle.argus_run_check.specs.RunCheck.{CheckState, check_arm, ended_by, found_over};
-ghost use Rattle.argus_run_check.specs.RunCheck.{reply_from_receipts};
+ghost use Rattle.argus_run_check.specs.Outcomes.{ended_as, ended_by_call, ended_by_reply};
+ghost use Rattle.argus_run_check.specs.RunCheck.{CheckState, check_arm, reply_from_receipts};
 ghost use Rattle.argus_run_check.specs.State.{check_state_of};
 
 use crate::arm_number::ArmNumber;
@@ -35,13 +36,13 @@ pub(crate) struct ReceiptCaller<'a> {
     // The receipts still to be told.
     pub(crate) left: &'a [Receipt],
     pub(crate) calls: Vec<MadeCall, Room>,
-    // The arm that runs, and how it stands after the calls so far.
+    // The arm that runs, and the receipt of its last call so far.
     pub(crate) arm: Option<ArmNumber>,
-    pub(crate) ended: Ended,
+    pub(crate) last: Option<&'a Receipt>,
     // The outermost coenters that ran, and what became of their arms.
     pub(crate) coenters: u32,
     pub(crate) outcomes: Vec<ArmOutcome, Room>,
-    // The next receipt wasn't the call's own.
+    // The next receipt wasn't the call's own, or an arm's last one hasn't ended it.
     pub(crate) unfit: bool,
 }
 
@@ -114,7 +115,7 @@ impl<'a> ReceiptCaller<'a> {
                     at: receipt.at,
                 })?;
                 self.left = rest;
-                self.ended = ended_by(receipt);
+                self.last = Some(receipt);
                 Ok(receipt)
             }
             Some(_) | None => {
@@ -139,13 +140,17 @@ impl<'a> ReceiptCaller<'a> {
             coenter: self.coenters,
             arm: number,
         });
-        self.ended = Ended::Refused;
+        self.last = None;
         self.run_begun(numbers, arm, begun)?;
+        let Some(ended) = ended_as(begun, self.last) else {
+            self.unfit = true;
+            return Err(Stopped);
+        };
         self.outcomes.push(ArmOutcome {
             coenter: self.coenters,
             arm: number,
             action: begun,
-            ended: self.ended,
+            ended,
         })?;
         self.arm = None;
         Ok(())
@@ -174,43 +179,53 @@ fn is_of(receipt: &Receipt, call: &Call) -> bool
     receipt.call == *call
 }
 
-// How an arm has ended, if this was its last call.
-fn ended_by(receipt: &Receipt) -> Ended
-    ensures { result ≡ ended_by (plain_receipt receipt.now).entry }
+// How an arm ended, by its action, if it was begun, and by its last call.
+fn ended_as(action: Option<ActionId>, last: Option<&Receipt>) -> Option<Ended>
+    ensures { result ≡ ended_as action (option_map (λ r. (plain_receipt r.now).entry) last.entry) }
 {
-    if is_found_over(&receipt.reply) {
-        return Ended::Over;
-    }
-    match &receipt.call {
-        Call::Abort(_) => Ended::Aborted,
-        Call::Declare(_)
-        | Call::BeginTop
-        | Call::BeginSub(_)
-        | Call::BeginNested(_)
-        | Call::Commit(_)
-        | Call::AbortOthers(_)
-        | Call::Ask(_, _, _)
-        | Call::Alter(_, _, _)
-        | Call::TestRead(_, _)
-        | Call::TestWrite(_, _) => Ended::Committed,
+    match (action, last) {
+        (None, _) => Some(Ended::Refused),
+        (Some(_), None) => None,
+        (Some(action), Some(receipt)) => ended_by(action, receipt),
     }
 }
 
-// Whether a call was refused since its action is over, or was never begun.
-fn is_found_over(reply: &Reply) -> bool
-    ensures { result ≡ found_over (plain_reply reply.now) }
+fn ended_by(action: ActionId, receipt: &Receipt) -> Option<Ended>
+    ensures { result ≡ ended_by_reply action (plain_call receipt.now.call)
+        (plain_reply receipt.now.reply) }
 {
-    match reply {
-        Reply::Refused(Refusal::NoAction) | Reply::Refused(Refusal::Over) => true,
+    match &receipt.reply {
+        Reply::Refused(Refusal::NoAction) | Reply::Refused(Refusal::Over) => Some(Ended::Over),
         Reply::Refused(Refusal::Suspended)
         | Reply::Refused(Refusal::NoObject)
         | Reply::Refused(Refusal::IllTyped)
         | Reply::Refused(Refusal::Conflict)
         | Reply::Refused(Refusal::TooDeep)
         | Reply::Refused(Refusal::TooMany)
-        | Reply::Refused(Refusal::NoSiblings)
-        | Reply::Object(_)
-        | Reply::Begun(_)
-        | Reply::Answered(_) => false,
+        | Reply::Refused(Refusal::NoSiblings) => None,
+        Reply::Object(_) | Reply::Begun(_) | Reply::Answered(_) => {
+            ended_by_call(action, &receipt.call)
+        }
+    }
+}
+
+// How it ended, if this was its last call and was accepted.
+fn ended_by_call(action: ActionId, call: &Call) -> Option<Ended>
+    ensures { result ≡ ended_by_call action (plain_call call.now) }
+{
+    match call {
+        Call::Commit(of) if of.0 == action.0 => Some(Ended::Committed),
+        Call::Abort(of) if of.0 == action.0 => Some(Ended::Aborted),
+        Call::Declare(_)
+        | Call::BeginTop
+        | Call::BeginSub(_)
+        | Call::BeginNested(_)
+        | Call::Commit(_)
+        | Call::Abort(_)
+        | Call::AbortOthers(_)
+        | Call::Ask(_, _, _)
+        | Call::Alter(_, _, _)
+        | Call::TestRead(_, _)
+        | Call::TestWrite(_, _) => None,
     }
 }

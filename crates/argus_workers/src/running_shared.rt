@@ -25,8 +25,8 @@ use std::thread::Threads;
 /// own. Accesses wait for their locks, for at most `patience` wake-ups.
 ///
 /// On Ok the receipts, in script order, tell the run, of two calls that aren't made by two arms of
-/// one outermost coenter the earlier has the lower number, and the outcomes are what they show
-/// (`shown`); the seats made as many calls as there are receipts (`made`). All this is tested once
+/// one outermost coenter the earlier has the lower number, and each arm ended as its last call shows
+/// (`checked`); the seats made as many calls as there are receipts (`made`). All this is tested once
 /// the workers are done.
 ///
 /// | Error | When |
