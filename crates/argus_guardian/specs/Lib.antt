@@ -14,9 +14,15 @@ pub use Rattle.argus_sharing.specs.Following
 pub use Rattle.argus_sharing.specs.Locked
 pub use Rattle.argus_sharing.specs.Waking
 pub use Rattle.argus_listings.specs.Listing
+pub use Rattle.argus_resume.specs.JournalText
+pub use Rattle.argus_resume.specs.Lines
+pub use Rattle.argus_resume.specs.Resumed
+pub use Rattle.argus_resume.specs.SoundFront
+pub use Rattle.argus_resume.specs.Taking
 pub use Rattle.argus_streams.specs.FailStop
 pub use Rattle.argus_core.specs.declared as core_declared
 pub use Rattle.argus_receipts.specs.declared as receipts_declared
 pub use Rattle.argus_board.specs.declared as board_declared
 pub use Rattle.argus_sharing.specs.declared as sharing_declared
 pub use Rattle.argus_listings.specs.declared as listings_declared
+pub use Rattle.argus_resume.specs.declared as resume_declared

@@ -1,8 +1,9 @@
 //! The guardian: the crate that users name.
 //!
 //! It passes on `argus_core` (the guardian of one thread), `argus_sharing` (the guardian that threads
-//! share), `argus_receipts` (receipts of its calls), `argus_board` (the readers' board) and
-//! `argus_listings` (what is listed of a guardian), with the writer that a listing goes to.
+//! share), `argus_receipts` (receipts of its calls), `argus_board` (the readers' board),
+//! `argus_listings` (what is listed of a guardian) and `argus_resume` (a guardian made again from
+//! its journal's listing), with the reader or the writer that a listing comes from or goes to.
 //!
 //! ```text
 //! use argus_guardian::{Guardian, Keeper, Looker, Seat, Shared};
@@ -13,8 +14,11 @@ pub use argus_board::{
     Board, BoardWriter, Effect, Keeper, LookFault, Looker, TellsEffects, duplicate_effect,
 };
 pub use argus_core::{CheckpointError, Guardian, ReadyCommit};
-pub use argus_listings::{ListError, Listing, write_listing};
+pub use argus_listings::{ListError, Listing, numbered_names, write_listing};
 pub use argus_receipts::{Receipt, SettleFault, check};
+pub use argus_resume::{
+    LineError, LineFault, Opened, ReadEnd, Resumed, Resuming, Taken, TakenEnd, TakenFrom, resume,
+};
 pub use argus_sharing::{
     CallsEnd, CallsMade, Demand, DemandedCall, NotShared, Parts, Seat, Shared, Sharing, Unsettled,
     laws,

@@ -1,6 +1,6 @@
 -- What each listing of a guardian is, to the byte.
 use Rattle.std.specs.Fmt.{decimal}
-use Rattle.std.specs.List.{enumerate_from, flat_map}
+use Rattle.std.specs.List.{enumerate_from, flat_map, range_with_len}
 use Rattle.std.specs.Prelude.{List, None, Option, Some, [], codes, if◌then◌else◌, map, reverse}
 use Rattle.std.specs.Prelude.{take, ℕ, ◌++◌, ◌==◌, ◌∷◌}
 use Rattle.argus_contents.specs.Content.{PlainContent}
@@ -93,6 +93,14 @@ object_text Audit journal o name = audit_text journal o name
 -- what the function says of each, with its number, where the first has this number
 abbrev pub each_from : {A : Type 0} → (ℕ → A → List ℕ) → ℕ → List A → List ℕ
 each_from text n xs = flat_map (λ p. text p.0 p.1) (enumerate_from n xs)
+
+-- the name of an object that nobody has named: its number
+abbrev pub numbered_name : ℕ → List ℕ
+numbered_name o = codes "o" ++ decimal o
+
+-- such names of so many objects, from object 0 on
+abbrev pub numbered_names : ℕ → List (List ℕ)
+numbered_names count = map numbered_name (range_with_len 0 count)
 
 -- the names of declared objects
 abbrev pub names_within : JournalView → List (List ℕ) → List (List ℕ)

@@ -1,0 +1,16 @@
+pub mod Parts
+pub mod Texts
+pub mod Openings
+pub mod Sound
+pub mod Feeds
+pub mod Ends
+pub mod Copied
+pub mod Rebuilt
+pub mod Stages
+pub mod OpeningParts
+pub mod ObjectAdded
+pub mod Readings
+pub mod Clean
+pub mod Fronts
+pub mod Longer
+pub mod NextLines

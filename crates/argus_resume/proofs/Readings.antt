@@ -1,0 +1,142 @@
+-- How much of what a reader had was taken, read by read.
+use Rattle.std.proofs.Common.{◌≡◌, ℕ, ◌+◌, ◌≤◌, Bool, false, List, [], ◌∷◌, ◌++◌, length, None, Option, Some, take}
+use Rattle.std.proofs.Common.{drop}
+use Rattle.std.proofs.Common.{refl, sym, ap, ◌∙◌, subst, arith, append_assoc, append-nil, length-append, length-drop}
+use Rattle.std.proofs.Common.{take-add}
+use Rattle.std.proofs.lemmas.List.{drop-append-le, drop-drop, take-append-le}
+use Rattle.std.proofs.lemmas.Option.{none-some}
+use Rattle.std.specs.Option.{unwrap_or}
+use Rattle.std.specs.Io.KnownBytes.{Consumes, IsAtEnd, Keeps}
+use Rattle.argus_journal.specs.JournalView.{JournalView}
+use Rattle.argus_resume.specs.JournalText.{journal_text}
+use Rattle.argus_resume.specs.Taking.{EndsChunk, EndsReading, HasNoFeed, TakesFrom, early_end, end_behind, line_count}
+use Rattle.argus_resume.specs.declared.read_end.ReadEnd.{ReadEnd}
+use Rattle.argus_resume.specs.declared.read_end.ReadEnd.TheVariants as end_of
+use Rattle.argus_resume.specs.declared.taken_end.TakenEnd.{TakenEnd}
+use Rattle.argus_resume.specs.declared.taken_end.TakenEnd.TheVariants as taken
+use Rattle.argus_resume.proofs.Feeds.{count-append}
+
+consumes_none : (c : Option (List ℕ)) → Consumes c c []
+consumes_none None = tt
+consumes_none (Some x) = refl
+
+consumes_on : (a b c : Option (List ℕ)) (x y : List ℕ) → Consumes a b x → Consumes b c y → Consumes a c (x ++ y)
+consumes_on None b c x y p q = tt
+consumes_on (Some k) None c x y p q = absurd p
+consumes_on (Some k) (Some l) None x y p q = absurd q
+consumes_on (Some k) (Some l) (Some m) x y p q = p ∙ ap (λ t. x ++ t) q ∙ sym (append_assoc x y m)
+
+keeps_consumes : (a b : Option (List ℕ)) → Keeps a b → Consumes a b []
+keeps_consumes None b k = tt
+keeps_consumes (Some x) None k = absurd k
+keeps_consumes (Some x) (Some y) k = sym k
+
+-- so much of what was read was taken, and this is left of it
+pub record ReadTo (old new : JournalView) (had has : Option (List ℕ)) (bytes lines most : ℕ)
+    (left : List ℕ) : Type 0 where
+  pub read : List ℕ
+  pub consumed : Consumes had has read
+  pub size : length read ≤ most
+  pub within : bytes ≤ length read
+  pub text : journal_text new ≡ journal_text old ++ take bytes read
+  pub lines_are : lines ≡ line_count (take bytes read)
+  pub left_is : drop bytes read ≡ left
+
+pub read_starts : (j : JournalView) (c : Option (List ℕ)) → ReadTo j j c c 0 0 0 []
+read_starts j c = record {
+  read = [];
+  consumed = consumes_none c;
+  size = omega arith;
+  within = omega arith;
+  text = sym (append-nil (journal_text j));
+  lines_are = refl;
+  left_is = refl;
+}
+
+module _ (old new : JournalView) (had has : Option (List ℕ)) (bytes lines most : ℕ) (left : List ℕ)
+    (r : ReadTo old new had has bytes lines most left) where
+  -- no more was read
+  pub read_kept : (after : Option (List ℕ)) (m : ℕ) → most ≤ m → Consumes has after []
+      → ReadTo old new had after bytes lines m left
+  read_kept after m h c = record {
+    read = r.read;
+    consumed = subst (Consumes had after) (append-nil r.read) (consumes_on had has after r.read [] r.consumed c);
+    size = omega (arith, r.size, h);
+    within = r.within;
+    text = r.text;
+    lines_are = r.lines_are;
+    left_is = r.left_is;
+  }
+
+  -- a chunk was read, and its first bytes behind what was left were taken
+  pub read_more : (after : Option (List ℕ)) (chunk : List ℕ) (next : JournalView) (count more m : ℕ)
+      → Consumes has after chunk → most + length chunk ≤ m → count ≤ length (left ++ chunk)
+      → journal_text next ≡ journal_text new ++ take count (left ++ chunk)
+      → more ≡ line_count (take count (left ++ chunk))
+      → ReadTo old next had after (bytes + count) (lines + more) m (drop count (left ++ chunk))
+  read_more after chunk next count more m c h w e f =
+      let behind : drop bytes (r.read ++ chunk) ≡ left ++ chunk =
+      drop-append-le bytes r.read chunk r.within ∙ ap (λ t. t ++ chunk) r.left_is in
+      let before : take bytes (r.read ++ chunk) ≡ take bytes r.read = take-append-le bytes r.read chunk r.within in
+      let both : take (bytes + count) (r.read ++ chunk) ≡ take bytes r.read ++ take count (left ++ chunk) =
+      take-add bytes count (r.read ++ chunk) ∙ ap (λ t. t ++ take count (drop bytes (r.read ++ chunk))) before
+      ∙ ap (λ t. take bytes r.read ++ take count t) behind in
+      record {
+        read = r.read ++ chunk;
+        consumed = consumes_on had has after r.read chunk r.consumed c;
+        size = omega (arith, r.size, h, length-append r.read chunk);
+        within = omega (
+          arith,
+          w,
+          r.within,
+          length-append r.read chunk,
+          length-append left chunk,
+          ap length r.left_is,
+          length-drop bytes r.read,
+        );
+        text = e ∙ ap (λ t. t ++ take count (left ++ chunk)) r.text
+            ∙ append_assoc (journal_text old) (take bytes r.read) (take count (left ++ chunk))
+            ∙ ap (λ t. journal_text old ++ t) (sym both);
+        lines_are = ap (λ k. k + more) r.lines_are ∙ ap (λ k. line_count (take bytes r.read) + k) f
+            ∙ sym (count-append (take bytes r.read) (take count (left ++ chunk))) ∙ ap line_count (sym both);
+        left_is = sym (drop-drop count bytes (r.read ++ chunk)) ∙ ap (drop count) behind;
+      }
+
+  -- the end
+  pub read_ends : (end : ReadEnd) (failed : Bool) → EndsReading end new left has failed
+      → TakesFrom old new had has failed (record { bytes = bytes; lines = lines; end = end })
+  read_ends end failed e = record {
+    read = r.read;
+    consumed = r.consumed;
+    within = r.within;
+    text = r.text;
+    lines = r.lines_are;
+    end = subst (λ t. EndsReading end new t has failed) (sym r.left_is) e;
+  }
+
+-- the reader has no more
+pub end_reached : (j : JournalView) (pending : List ℕ) (has : Option (List ℕ)) → HasNoFeed pending → IsAtEnd has
+    → EndsReading (end_behind pending) j pending has false
+end_reached j [] has n e = (refl, e, refl)
+end_reached j (b ∷ pending) has n e = ((λ same. (cc), n), e, refl)
+
+same_end : (a b : ReadEnd) → Some a ≡ Some b → a ≡ b
+same_end a b e = ap (λ (o : Option ReadEnd). unwrap_or o a) e
+
+-- an end that comes before the reader's
+pub early_ends : (t : TakenEnd) (end : ReadEnd) (j : JournalView) (pending left : List ℕ) (has : Option (List ℕ))
+    (failed : Bool) → Some end ≡ early_end t → EndsChunk t j pending left → EndsReading end j left has failed
+early_ends taken.Whole end j pending left has failed e h = absurd (none-some end (sym e))
+early_ends taken.Torn end j pending left has failed e h = absurd (none-some end (sym e))
+early_ends (taken.Fault fault) end j pending left has failed e h =
+    subst (λ x. EndsReading x j left has failed) (sym (same_end end (end_of.Fault fault) e)) h
+early_ends taken.OutOfMemory end j pending left has failed e h =
+    subst (λ x. EndsReading x j left has failed) (sym (same_end end end_of.OutOfMemory e)) tt
+
+-- no end: what is left is pending
+pub no_end : (t : TakenEnd) (j : JournalView) (pending left : List ℕ) → None ≡ early_end t
+    → EndsChunk t j pending left → (left ≡ pending) × HasNoFeed pending
+no_end taken.Whole j pending left e h = (sym h.0, subst HasNoFeed (sym h.0) h.1)
+no_end taken.Torn j pending left e h = (sym h.0, subst HasNoFeed (sym h.0) h.1)
+no_end (taken.Fault fault) j pending left e h = absurd (none-some (end_of.Fault fault) e)
+no_end taken.OutOfMemory j pending left e h = absurd (none-some end_of.OutOfMemory e)

@@ -1,0 +1,85 @@
+-- A journal that is made again entry by entry, the oldest first.
+use Rattle.std.proofs.Common.{◌≡◌, ℕ, suc, zero, ◌+◌, ◌-◌, ◌<◌, ◌≤◌, List, [], ◌∷◌, length, drop, get_or, sym, ap, ◌∙◌}
+use Rattle.std.proofs.Common.{None, Option, Some, subst, arith, cond, false, nat_lt, reverse, drop-cons, inl, inr, refl}
+use Rattle.std.proofs.Common.{◌≢◌}
+use Rattle.std.proofs.lemmas.List.{get_or-reverse, length-reverse}
+use Rattle.std.proofs.lemmas.Option.{get_or_from_slice_get, none-some, slice_get_cases, slice_get_within}
+use Rattle.std.specs.Prelude.{slice_get}
+use Rattle.argus_entries.specs.Entry.{PlainEntry}
+use Rattle.argus_journal.specs.Answers.{answer}
+use Rattle.argus_journal.specs.Journal.{entry_at}
+use Rattle.argus_journal.specs.JournalView.{JournalView, after, entry_with, reply_to}
+use Rattle.argus_journal.specs.Legal.{Legal}
+use Rattle.argus_journal.specs.Opening.{Opening}
+use Rattle.argus_resume.specs.Without.{without_newest}
+
+-- the older entries of a legal journal are legal
+pub legal_from : (s : Opening) (j : List PlainEntry) (m : ℕ) → Legal s j → Legal s (drop m j)
+legal_from s j zero h = h
+legal_from s [] (suc m) h = tt
+legal_from s (e ∷ older) (suc m) h = legal_from s older m h.1
+
+-- the entry after so many of the oldest ones
+oldest_next : (j : List PlainEntry) (k : ℕ) (e : PlainEntry) → slice_get (reverse j) k ≡ Some e
+    → drop (length j - (k + 1)) j ≡ e ∷ drop (length j - k) j
+oldest_next j k e is =
+    let low : k < length j = omega (arith, slice_get_within (reverse j) k e is, length-reverse j) in
+    let place : length j - 1 - k < length j = omega (arith, low) in
+    let here : get_or j (length j - 1 - k) e ≡ e =
+    sym (get_or-reverse j k e low) ∙ get_or_from_slice_get (reverse j) k e e is in
+    let one : length j - (k + 1) ≡ length j - 1 - k = omega arith in
+    let next : suc (length j - 1 - k) ≡ length j - k = omega (arith, low) in
+    ap (λ m. drop m j) one ∙ drop-cons j (length j - 1 - k) e place
+    ∙ ap (λ x. x ∷ drop (suc (length j - 1 - k)) j) here ∙ ap (λ m. e ∷ drop m j) next
+
+-- an entry that was found by its number
+pub entry_there : (s : Opening) (j : List PlainEntry) (at : ℕ) (e : Option PlainEntry) → s.first_entry ≤ at
+    → e ≡ entry_at s j at → slice_get (reverse j) (at - s.first_entry) ≡ e
+entry_there s j at e from is =
+    let past : nat_lt at s.first_entry ≡ false = grind (arith, from) in
+    sym (is ∙ ap (λ b. cond b None (slice_get (reverse j) (at - s.first_entry))) past)
+
+-- an entry's call is made again: it has the reply of the journal
+pub rebuilt_next : (s : Opening) (j : List PlainEntry) (k : ℕ) (e : PlainEntry) (again new : JournalView) → Legal s j
+    → slice_get (reverse j) k ≡ Some e → again.opening ≡ s → again.entries ≡ drop (length j - k) j
+    → new ≡ after again e.call
+    → (new.opening ≡ s) × (new.entries ≡ drop (length j - (k + 1)) j)
+rebuilt_next s j k e again new legal is o es made =
+    let next = oldest_next j k e is in
+    let l : Legal s (e ∷ drop (length j - k) j) =
+    subst (Legal s) next (legal_from s j (length j - (k + 1)) legal) in
+    let r : reply_to again e.call ≡ e.reply =
+    ap (λ (t : Opening). answer t again.entries e.call) o ∙ ap (λ (t : List PlainEntry). answer s t e.call) es
+    ∙ sym l.0 in (
+      ap (λ (v : JournalView). v.opening) made ∙ o,
+      ap (λ (v : JournalView). v.entries) made ∙ ap (λ x. entry_with e.call x ∷ again.entries) r
+          ∙ ap (λ (t : List PlainEntry). e ∷ t) es ∙ sym next,
+    )
+
+-- there is an entry at each place
+pub entry_missing : (s : Opening) (j : List PlainEntry) (at : ℕ) → s.first_entry ≤ at
+    → at - s.first_entry < length j → None ≡ entry_at s j at → ⊥
+entry_missing s j at from low is =
+    let gone = entry_there s j at None from is in
+    elim ((slice_get_cases (reverse j) (at - s.first_entry)).1) [
+      | inl here ↦ none-some here.0 (sym gone ∙ here.2)
+      | inr past ↦ omega (arith, past.0, low, length-reverse j)
+    ]
+
+pub some_entries : (j : List PlainEntry) → j ≢ [] → 0 < length j
+some_entries [] n = absurd (n refl)
+some_entries (e ∷ j) n = omega arith
+
+-- all but the newest entry were made again
+pub rebuilt_all : (guardian again : JournalView) (s : Opening) (j : List PlainEntry) (k : ℕ) → s ≡ guardian.opening
+    → j ≡ guardian.entries → again.opening ≡ s → again.entries ≡ drop (length j - k) j → k + 1 ≡ length j
+    → again ≡ without_newest guardian
+rebuilt_all guardian again s j k so je o es n =
+    let one : length j - k ≡ 1 = omega (arith, n) in
+    let entries : again.entries ≡ drop 1 guardian.entries =
+    es ∙ ap (λ m. drop m j) one ∙ ap (λ (l : List PlainEntry). drop 1 l) je in
+    ap (λ (t : Opening). let v : JournalView = record { opening = t; entries = again.entries } in v) (o ∙ so)
+    ∙ ap
+    (λ (l : List PlainEntry).
+    let v : JournalView = record { opening = guardian.opening; entries = l } in v)
+    entries

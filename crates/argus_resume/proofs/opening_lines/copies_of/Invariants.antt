@@ -1,0 +1,8 @@
+-- The copies so far are those of the objects so far.
+use Rattle.std.proofs.Common.{map, take, ◌≡◌}
+use Rattle.argus_journal.specs.Opening.{plain_object}
+use Rattle.argus_resume.specs.Stage.{objects_read}
+use Rattle.argus_resume.proofs.opening_lines.copies_of.Given as goal
+
+abbrev pub invariant-loop-object : goal.invariant-loop-object
+invariant-loop-object l = map plain_object l.copies.items ≡ objects_read (take l.object-index l.objects)

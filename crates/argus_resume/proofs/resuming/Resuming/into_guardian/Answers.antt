@@ -1,0 +1,33 @@
+-- What was let go of an opening, and that a legal journal's opening is sound.
+use Rattle.std.proofs.Common.{ap, length, subst, sym, true, ◌∙◌, ◌≡◌}
+use Rattle.argus_journal.specs.JournalView.{JournalView}
+use Rattle.argus_journal.specs.Opening.{is_sound}
+use Rattle.argus_resume.specs.SoundFront.{sound_count}
+use Rattle.argus_resume.specs.Stage.{IsCounted, StageInvariant, journal_taken, opened_alone, opening_read}
+use Rattle.argus_resume.proofs.Ends.{front_taken}
+use Rattle.argus_resume.proofs.Stages.{front_same, level_taken}
+use Rattle.argus_resume.proofs.resuming.Resuming.into_guardian.Goals as goal
+
+pub returns-in-Ok-clause-front : goal.returns-in-Ok-clause-front
+returns-in-Ok-clause-front c =
+    let s = opening_read c.in-Opening.lines in
+    let counted : IsCounted c.in-Opening.lines = subst StageInvariant c.in-Opening.is c.self.invariant in
+    let same : opened_alone s ≡ c.args.self = ap journal_taken (sym c.in-Opening.is) ∙ c.self.view_is in
+    (front_taken s (sound_count s (length s.objects)) c.args.self c.in-Ok.opened.guardian c.in-Ok.opened.dropped
+    counted.readable.some same c.in-Ok.ensures.guardian c.in-Ok.ensures.dropped).0
+
+pub returns-in-Ok-clause-dropped : goal.returns-in-Ok-clause-dropped
+returns-in-Ok-clause-dropped c =
+    let s = opening_read c.in-Opening.lines in
+    let counted : IsCounted c.in-Opening.lines = subst StageInvariant c.in-Opening.is c.self.invariant in
+    let same : opened_alone s ≡ c.args.self = ap journal_taken (sym c.in-Opening.is) ∙ c.self.view_is in
+    (front_taken s (sound_count s (length s.objects)) c.args.self c.in-Ok.opened.guardian c.in-Ok.opened.dropped
+    counted.readable.some same c.in-Ok.ensures.guardian c.in-Ok.ensures.dropped).1
+
+pub returns-in-Ok-come_back-clause-guardian : goal.returns-in-Ok-come_back-clause-guardian
+returns-in-Ok-come_back-clause-guardian c =
+    let same : c.come_back.new.self.guardian ≡ c.args.self =
+    sym (level_taken c.come_back.new.self c.in-Ok-come_back.ensures.level) ∙ c.come_back.ensures.journal
+    ∙ ap journal_taken (sym c.in-Entries.is) ∙ c.self.view_is in
+    same ∙ sym (front_same c.args.self
+    (subst (λ (j : JournalView). is_sound j.opening ≡ true) same c.journal_is_legal.ensures.sound))

@@ -1,0 +1,52 @@
+-- The laws of what is taken.
+use Rattle.std.specs.Prelude.{Bool, List, Option, Some, [], true, ℕ, ◌++◌, ◌∷◌, ◌^◌, ◌≡◌, ◌≢◌, ◌≤◌}
+use Rattle.argus_journal.specs.JournalView.{JournalView, next_entry}
+use Rattle.argus_journal.specs.Legal.{Legal}
+use Rattle.argus_journal.specs.Opening.{is_sound}
+use Rattle.argus_resume.specs.JournalText.{IsReadableJournal, journal_text}
+use Rattle.argus_resume.specs.Resumed.{IsResumed}
+use Rattle.argus_resume.specs.Taking.{EndsTaking, IsFaulty}
+use Rattle.argus_resume.specs.declared.line_fault.LineFault.{LineFault}
+use Rattle.argus_resume.specs.declared.read_end.ReadEnd.TheVariants as read
+use Rattle.argus_resume.specs.declared.resumed.Resumed.{Resumed}
+use Rattle.argus_resume.specs.declared.taken_end.TakenEnd.{TakenEnd}
+use Rattle.argus_resume.specs.declared.taken_end.TakenEnd.TheVariants.{OutOfMemory, Whole}
+
+-- a journal that a guardian can have and lines stand for: it is legal, its opening is sound, its
+-- entries are numbered within 64 bits, and each of its lines can be read
+pub record IsListable (journal : JournalView) : Type 0 where
+  pub readable : IsReadableJournal journal
+  pub legal : Legal journal.opening journal.entries
+  pub sound : is_sound journal.opening ≡ true
+  pub numbers : next_entry journal ≤ 2 ^ 64
+
+-- the text ends in a line feed
+abbrev pub EndsInFeed : List ℕ → Type 0
+EndsInFeed text = (lines : List ℕ) × (text ≡ lines ++ 10 ∷ [])
+
+-- Where the next line is at fault, no listing is longer than what was taken: no legal journal's
+-- listing is what was taken and then a front of what is left that ends in a line feed.
+abbrev pub NoLongerFrontIsAListing : Type 0
+NoLongerFrontIsAListing =
+    (taken : JournalView) (left : List ℕ) (fault : LineFault) → IsReadableJournal taken
+    → IsFaulty taken left fault → (front rest : List ℕ) → left ≡ front ++ rest → EndsInFeed front
+    → (other : JournalView) → IsListable other
+    → journal_text other ≡ journal_text taken ++ front → ⊥
+
+-- A listing is taken whole, and gives its journal: where what was taken and what is left is the
+-- listing of a legal journal, nothing is left, and that journal was taken; unless memory is
+-- wanting.
+abbrev pub ListingsAreTakenBack : Type 0
+ListingsAreTakenBack =
+    (taken : JournalView) (left : List ℕ) (end : TakenEnd) → IsReadableJournal taken
+    → EndsTaking end taken left → end ≢ OutOfMemory → (other : JournalView) → IsListable other
+    → journal_text other ≡ journal_text taken ++ left → (end ≡ Whole) × (taken ≡ other)
+
+-- A listing that a reader has is resumed whole, and the guardian has its journal: unless memory is
+-- wanting or a read fails.
+abbrev pub ListingsAreResumed : Type 0
+ListingsAreResumed =
+    (has : Option (List ℕ)) (failed : Bool) (resumed : Resumed) (listed : JournalView)
+    → IsListable listed → IsResumed (Some (journal_text listed)) has failed resumed
+    → resumed.end ≢ read.OutOfMemory → resumed.end ≢ read.Read
+    → (resumed.end ≡ read.Whole) × (resumed.guardian ≡ listed)

@@ -1,0 +1,9 @@
+pub mod Without
+pub mod JournalText
+pub mod OpeningLanguages
+pub mod Lines
+pub mod SoundFront
+pub mod Taking
+pub mod Stage
+pub mod Resumed
+pub mod Laws

@@ -1,0 +1,23 @@
+-- What a guardian is that was made from what a reader had.
+use Rattle.std.specs.Prelude.{Bool, List, Option, length, ℕ, ◌+◌, ◌≡◌}
+use Rattle.argus_journal.specs.JournalView.{JournalView}
+use Rattle.argus_resume.specs.JournalText.{IsReadableJournal, journal_text, no_journal}
+use Rattle.argus_resume.specs.SoundFront.{sound_front}
+use Rattle.argus_resume.specs.Taking.{TakesFrom}
+use Rattle.argus_resume.specs.declared.resumed.Resumed.{Resumed}
+use Rattle.argus_resume.specs.declared.taken_from.TakenFrom.{TakenFrom}
+
+-- how much was taken
+abbrev pub taken_in : Resumed → TakenFrom
+taken_in resumed =
+    record { bytes = resumed.bytes; lines = resumed.lines; end = resumed.end }
+
+-- The bytes that were taken are the listing of a journal, and the guardian's is that journal: all
+-- of it where it has an entry, and else with as many objects as make a sound opening.
+pub record IsResumed (had has : Option (List ℕ)) (failed : Bool) (resumed : Resumed) : Type 0 where
+  pub journal : JournalView
+  pub readable : IsReadableJournal journal
+  pub taken : TakesFrom no_journal journal had has failed (taken_in resumed)
+  pub guardian : resumed.guardian ≡ sound_front journal
+  pub dropped : resumed.dropped + length (journal_text resumed.guardian)
+      ≡ length (journal_text journal)

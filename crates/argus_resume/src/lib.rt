@@ -1,0 +1,34 @@
+//! A guardian, made again from the lines of its journal.
+#![tactic(auto)]
+
+mod entry_lines;
+mod entry_reading;
+pub mod laws;
+mod line_error;
+mod line_fault;
+mod opened;
+mod opened_object;
+mod opening_lines;
+mod opening_reading;
+mod opening_taking;
+mod read_end;
+mod reading;
+mod rebuilding;
+mod resumed;
+mod resuming;
+mod stage;
+mod staging;
+mod taken;
+mod taken_end;
+mod taken_from;
+
+pub use line_error::LineError;
+pub use line_fault::LineFault;
+pub use opened::Opened;
+pub use read_end::ReadEnd;
+pub use reading::resume;
+pub use resumed::Resumed;
+pub use resuming::Resuming;
+pub use taken::Taken;
+pub use taken_end::TakenEnd;
+pub use taken_from::TakenFrom;

@@ -1,0 +1,28 @@
+//! `ReadEnd`: why no more lines of a reader were taken.
+
+use crate::line_fault::LineFault;
+
+/// Why no more lines of a reader were taken.
+///
+/// ```text
+/// match resuming.take_from(&mut reader).end {
+///     ReadEnd::Whole => ..,                   // all that the reader had
+///     ReadEnd::Torn => ..,                    // what it had behind has no line feed
+///     ReadEnd::Fault(fault) => ..,            // the next line isn't one of the listing
+///     ReadEnd::OutOfMemory => ..,
+///     ReadEnd::Read => ..,                    // the reader has failed
+/// }
+/// ```
+#[derive(Debug, Drop)]
+pub enum ReadEnd {
+    /// All that the reader had was taken.
+    Whole,
+    /// All whole lines that the reader had were taken, and bytes behind them have no line feed.
+    Torn,
+    /// The next line is at fault.
+    Fault(LineFault),
+    /// Memory is wanting, for the bytes of a line or for what it says; or 2^63 bytes were read.
+    OutOfMemory,
+    /// A read failed.
+    Read,
+}

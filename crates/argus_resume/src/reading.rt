@@ -1,0 +1,157 @@
+//! How a guardian is made from what a reader has.
+
+ghost use Rattle.std.specs.Prelude.{IfErr, IfOk, drop, false, length, take, ◌+◌, ◌++◌, ◌≡◌, ◌≤◌};
+ghost use Rattle.argus_resume.specs.JournalText.{journal_text};
+ghost use Rattle.argus_resume.specs.Resumed.{IsResumed};
+ghost use Rattle.argus_resume.specs.Taking.{EndsChunk, HasNoFeed, TakesFrom, early_end};
+ghost use Rattle.argus_resume.specs.Taking.{end_behind, line_count};
+ghost use Rattle.argus_streams.specs.FailStop.{has_failed, inner_of};
+
+use crate::opened::Opened;
+use crate::read_end::ReadEnd;
+use crate::resumed::Resumed;
+use crate::resuming::{Resuming, line_length};
+use crate::taken::Taken;
+use crate::taken_end::TakenEnd;
+use crate::taken_from::TakenFrom;
+use argus_memory::{Heap, OutOfMemory, Room};
+use argus_streams::FailStop;
+use std::io::Read;
+
+// How much is read at once.
+const CHUNK: usize = 16_384;
+
+// How often is read at most: so the bytes are counted in 64 bits.
+const MOST_READS: u64 = 562_949_953_421_312;
+
+/// The guardian of the longest front of whole lines that the reader has of which it is the journal:
+/// each entry's call was made, and its reply is the line's. It says how many bytes and lines that
+/// was, and why no more.
+///
+/// What is read is at most a line and 16 KiB beside the guardian. `OutOfMemory`: there was no
+/// memory for the guardian; who wants to try again uses `Resuming`.
+///
+/// ```text
+/// let mut reader = FailStop::new(file);
+/// let resumed = resume(heap, &mut reader)?;
+/// ```
+pub fn resume<R: Read + Drop>(heap: Heap, reader: &mut FailStop<R>) -> Result<Resumed, OutOfMemory>
+    requires { has_failed reader.old ≡ false }
+    ensures { IfOk result (λ resumed. IsResumed (R.remaining (inner_of reader.old))
+        (R.remaining (inner_of reader.new)) (has_failed reader.new) resumed) }
+{
+    let mut resuming = Resuming::new(heap);
+    let TakenFrom { bytes, lines, end } = resuming.take_from(reader);
+    match resuming.into_guardian() {
+        Ok(Opened { guardian, dropped }) => Ok(Resumed {
+            guardian,
+            bytes,
+            lines,
+            dropped,
+            end,
+        }),
+        Err(_) => Err(OutOfMemory),
+    }
+}
+
+impl Resuming {
+    /// Takes whole lines of what the reader has, up to the first that isn't the next one of the
+    /// listing: the listing of the journal is longer by these bytes then. It says how many bytes
+    /// and lines these are, and why no more. What was read and not taken is let go.
+    ///
+    /// It holds what is read of a line, and 16 KiB.
+    ///
+    /// ```text
+    /// let taken = resuming.take_from(&mut reader);
+    /// ```
+    pub fn take_from<R: Read + Drop>(&mut self, reader: &mut FailStop<R>) -> TakenFrom
+        requires { has_failed reader.old ≡ false }
+        ensures { TakesFrom self.old self.new (R.remaining (inner_of reader.old))
+            (R.remaining (inner_of reader.new)) (has_failed reader.new) result }
+    {
+        let mut pending = Vec::new(self.heap().room());
+        let mut chunk = [0u8; CHUNK];
+        let mut bytes = 0;
+        let mut lines = 0;
+        for turn in 0..MOST_READS {
+            let Some(n) = reader.read_once(&mut chunk) else {
+                let end = ReadEnd::Read;
+                return TakenFrom { bytes, lines, end };
+            };
+            if n == 0 {
+                let end = end_behind(pending.as_slice());
+                return TakenFrom { bytes, lines, end };
+            }
+            let taken = self.take_chunk(&mut pending, &chunk[..n]);
+            bytes += taken.bytes as u64;
+            lines += taken.lines as u64;
+            if let Some(end) = early_end(taken.end) {
+                return TakenFrom { bytes, lines, end };
+            }
+        }
+        let end = ReadEnd::OutOfMemory;
+        TakenFrom { bytes, lines, end }
+    }
+
+    /// Takes what is pending and the chunk as far as whole lines go; the rest is pending then.
+    fn take_chunk(&mut self, pending: &mut Vec<u8, Room>, chunk: &[u8]) -> Taken
+        requires { HasNoFeed pending.old.items }
+        ensures within { result.bytes ≤ length (pending.old.items ++ chunk.now) }
+        ensures text { journal_text self.new
+            ≡ journal_text self.old ++ take result.bytes (pending.old.items ++ chunk.now) }
+        ensures lines { result.lines
+            ≡ line_count (take result.bytes (pending.old.items ++ chunk.now)) }
+        ensures end { EndsChunk result.end self.new pending.new.items
+            (drop result.bytes (pending.old.items ++ chunk.now)) }
+    {
+        if pending.extend_from_slice(chunk).is_err() {
+            return Taken {
+                bytes: 0,
+                lines: 0,
+                end: TakenEnd::OutOfMemory,
+            };
+        }
+        if line_length(chunk).is_none() {
+            return Taken {
+                bytes: 0,
+                lines: 0,
+                end: TakenEnd::Torn,
+            };
+        }
+        let taken = self.take(pending.as_slice());
+        remove_front(pending, taken.bytes);
+        taken
+    }
+}
+
+/// The end, where it comes before the reader's.
+fn early_end(end: TakenEnd) -> Option<ReadEnd>
+    ensures { result ≡ early_end end }
+{
+    match end {
+        TakenEnd::Whole | TakenEnd::Torn => None,
+        TakenEnd::Fault(fault) => Some(ReadEnd::Fault(fault)),
+        TakenEnd::OutOfMemory => Some(ReadEnd::OutOfMemory),
+    }
+}
+
+/// Why no more was taken where the reader has no more.
+fn end_behind(pending: &[u8]) -> ReadEnd
+    ensures { result ≡ end_behind pending.now }
+{
+    if pending.is_empty() {
+        ReadEnd::Whole
+    } else {
+        ReadEnd::Torn
+    }
+}
+
+/// Lets the first bytes go.
+fn remove_front(bytes: &mut Vec<u8, Room>, count: usize)
+    requires { count ≤ length bytes.old.items }
+    ensures { bytes.new.items ≡ drop count bytes.old.items }
+{
+    let left = bytes.len() - count;
+    bytes.copy_within(count.., 0);
+    bytes.truncate(left);
+}

@@ -1,0 +1,27 @@
+//! `Resumed`: a guardian that was made from what a reader had.
+
+use crate::read_end::ReadEnd;
+use argus_core::Guardian;
+
+/// A guardian that was made from what a reader had.
+///
+/// ```text
+/// let resumed = resume(heap, &mut reader)?;
+/// match resumed.end {
+///     ReadEnd::Whole => ..,                       // resumed.guardian goes on from there
+///     ReadEnd::Fault(fault) => ..,                // the line resumed.lines + 1
+///     ..
+/// }
+/// ```
+#[derive(Drop)]
+pub struct Resumed {
+    pub guardian: Guardian,
+    /// How many bytes were taken, from the first one on.
+    pub bytes: u64,
+    /// How many lines these are. So a line at fault is the one after so many.
+    pub lines: u64,
+    /// How many of the bytes are not of the guardian's listing: the last lines of an opening whose
+    /// contents refer to objects that didn't come.
+    pub dropped: u64,
+    pub end: ReadEnd,
+}

@@ -1,0 +1,228 @@
+//! `Resuming`: a guardian that is being made from the lines of its journal.
+
+ghost use Rattle.std.specs.Prelude.{IfErr, IfOk, OnErr, OnOk, [], drop, length, position, take};
+ghost use Rattle.std.specs.Prelude.{◌+◌};
+ghost use Rattle.std.specs.Prelude.{◌++◌, ◌-◌, ◌==◌, ◌∷◌, ◌≡◌, ◌≢◌, ◌≤◌};
+ghost use Rattle.argus_resume.specs.JournalText.{IsReadableJournal, journal_text, no_journal};
+ghost use Rattle.argus_resume.specs.Lines.{IsLineError};
+ghost use Rattle.argus_resume.specs.SoundFront.{sound_front};
+ghost use Rattle.argus_resume.specs.Stage.{IsCounted, lines_of, opened_alone, opening_read};
+ghost use Rattle.argus_resume.specs.Taking.{EndsTaking, IsFirstLine, line_count};
+
+use crate::entry_lines::EntryLines;
+use crate::line_error::LineError;
+use crate::line_fault::LineFault;
+use crate::opened::Opened;
+use crate::opening_lines::OpeningLines;
+use crate::stage::Stage;
+use crate::staging::take_text;
+use crate::taken::Taken;
+use crate::taken_end::TakenEnd;
+use argus_core::Guardian;
+use argus_memory::{Heap, OutOfMemory};
+use std::marker::Model;
+use std::str;
+
+/// A guardian that is being made from the lines of its journal's listing, a piece of text at a
+/// time: opening lines where entries went before it, then the line of each entry. Each entry's call
+/// is made, and its reply compared with the line's. So the journal is legal, and its listing is
+/// what was taken.
+///
+/// Contracts see the journal that was taken: its opening, and its entries, the newest first. The
+/// objects of an opening come one by one, and may refer to later ones; the opening is sound once
+/// all that it refers to are there.
+///
+/// ```text
+/// let mut resuming = Resuming::new(heap);
+/// resuming.take(b"0 begin_top -> a0\n1 commit a0 -> done\n");
+/// let Ok(Opened { guardian, .. }) = resuming.into_guardian() else { .. };
+/// ```
+#[derive(Drop)]
+pub struct Resuming {
+    heap: Heap,
+    stage: Stage,
+}
+
+impl Model for Resuming {
+    ghost use Rattle.argus_journal.specs.JournalView.{JournalView, journal_view_coded};
+    ghost use Rattle.argus_resume.specs.Stage.{StageInvariant, journal_taken};
+
+    ghost Value = { JournalView };
+
+    ghost coded = { journal_view_coded };
+
+    ghost view = { λ r. journal_taken r.stage };
+
+    ghost invariant = { λ r. StageInvariant r.stage };
+}
+
+impl Resuming {
+    /// Of no line so far. It takes no memory.
+    pub fn new(heap: Heap) -> Resuming
+        ensures { result ≡ no_journal }
+    {
+        Resuming {
+            heap,
+            stage: Stage::Entries(EntryLines {
+                guardian: Guardian::new(heap),
+                is_ahead: false,
+            }),
+        }
+    }
+
+    /// A law for proofs; it does nothing. The journal that was taken is one that lines stand for.
+    pub fn journal_is_readable(&self)
+        ensures { IsReadableJournal self.now }
+    {
+        let _ = &self.stage;
+    }
+
+    pub(crate) fn heap(&self) -> Heap {
+        self.heap
+    }
+
+    /// Takes one line, without its line feed: the listing of the journal is longer by it then.
+    ///
+    /// `Fault`: it isn't the next line of the listing, for the reason that `LineFault` tells.
+    /// `OutOfMemory` may come in place of any answer, after 2^64 bytes of an opening, too. After
+    /// both all is as before.
+    ///
+    /// ```text
+    /// resuming.take_line(b"0 begin_top -> a0")?;
+    /// ```
+    pub fn take_line(&mut self, line: &[u8]) -> Result<(), LineError>
+        ensures text { OnOk result (journal_text self.new
+            ≡ journal_text self.old ++ (line.now ++ 10 ∷ [])) }
+        ensures fault { IfErr result (λ e. IsLineError e self.old line.now) }
+        ensures err { OnErr result (self.new ≡ self.old) }
+    {
+        match str::from_utf8(line) {
+            Ok(text) => take_text(self.heap, &mut self.stage, text),
+            Err(error) => Err(LineError::Fault(LineFault::NoText {
+                at: error.valid_up_to(),
+            })),
+        }
+    }
+
+    /// Takes whole lines from the front of the text, up to the first that isn't the next one of the
+    /// listing: the listing of the journal is longer by these bytes then. What is left may be
+    /// handed in again, with more behind it.
+    ///
+    /// ```text
+    /// resuming.take(b"0 begin_top -> a0\n1 com");     // 18 bytes, 1 line, Torn
+    /// resuming.take(b"1 commit a0 -> done\n");        // 20 bytes, 1 line, Whole
+    /// ```
+    pub fn take(&mut self, text: &[u8]) -> Taken
+        ensures within { result.bytes ≤ length text.now }
+        ensures text { journal_text self.new
+            ≡ journal_text self.old ++ take result.bytes text.now }
+        ensures lines { result.lines ≡ line_count (take result.bytes text.now) }
+        ensures end { EndsTaking result.end self.new (drop result.bytes text.now) }
+    {
+        let mut bytes = 0;
+        let mut lines = 0;
+        while bytes < text.len() {
+            match self.take_next(&text[bytes..]) {
+                Ok(count) => {
+                    bytes += count;
+                    lines += 1;
+                }
+                Err(end) => return Taken { bytes, lines, end },
+            }
+        }
+        Taken {
+            bytes,
+            lines,
+            end: TakenEnd::Whole,
+        }
+    }
+
+    /// Takes the first line of the text; how many bytes it has, with its line feed.
+    fn take_next(&mut self, text: &[u8]) -> Result<usize, TakenEnd>
+        requires { text.now ≢ [] }
+        ensures some { IfOk result (λ count. IsFirstLine count text.now) }
+        ensures text { IfOk result (λ count. journal_text self.new
+            ≡ journal_text self.old ++ take count text.now) }
+        ensures end { IfErr result (λ end. EndsTaking end self.new text.now) }
+        ensures err { OnErr result (self.new ≡ self.old) }
+    {
+        let Some(length) = line_length(text) else {
+            return Err(TakenEnd::Torn);
+        };
+        match self.take_line(&text[..length]) {
+            Ok(()) => Ok(length + 1),
+            Err(LineError::Fault(fault)) => Err(TakenEnd::Fault(fault)),
+            Err(LineError::OutOfMemory) => Err(TakenEnd::OutOfMemory),
+        }
+    }
+
+    /// The guardian of what was taken: of an opening without entries with as many of its objects as
+    /// make a sound one, and how many bytes were let go with the others.
+    ///
+    /// `OutOfMemory` is told by what was handed in, as it was.
+    ///
+    /// ```text
+    /// let Ok(Opened { guardian, dropped: 0 }) = resuming.into_guardian() else { .. };
+    /// ```
+    pub fn into_guardian(self) -> Result<Opened, Resuming>
+        ensures guardian { IfOk result (λ opened. opened.guardian ≡ sound_front self) }
+        ensures front { IfOk result (λ opened. journal_text opened.guardian
+            ≡ take (length (journal_text self) - opened.dropped) (journal_text self)) }
+        ensures dropped { IfOk result (λ opened. opened.dropped
+            + length (journal_text opened.guardian) ≡ length (journal_text self)) }
+        ensures err { IfErr result (λ resuming. resuming ≡ self) }
+        ensures readable { IsReadableJournal self }
+    {
+        let Resuming { heap, stage } = self;
+        match stage {
+            Stage::Opening(lines) => match guardian_of(heap, &lines) {
+                Ok(opened) => Ok(opened),
+                Err(OutOfMemory) => Err(Resuming {
+                    heap,
+                    stage: Stage::Opening(lines),
+                }),
+            },
+            Stage::Entries(mut entries) => match entries.come_back(heap) {
+                Ok(()) => {
+                    entries.guardian.journal_is_legal();
+                    let EntryLines {
+                        guardian,
+                        is_ahead: _,
+                    } = entries;
+                    Ok(Opened {
+                        guardian,
+                        dropped: 0,
+                    })
+                }
+                Err(OutOfMemory) => Err(Resuming {
+                    heap,
+                    stage: Stage::Entries(entries),
+                }),
+            },
+        }
+    }
+}
+
+/// The guardian of an opening.
+fn guardian_of(heap: Heap, lines: &OpeningLines) -> Result<Opened, OutOfMemory>
+    requires { IsCounted lines.now }
+    ensures guardian { IfOk result (λ opened. opened.guardian
+        ≡ sound_front (opened_alone (opening_read lines.now))) }
+    ensures dropped { IfOk result (λ opened. opened.dropped
+        ≡ length (lines_of (opening_read lines.now))
+        - length (lines_of (sound_front (opened_alone (opening_read lines.now))).opening)) }
+{
+    let count = lines.sound_count();
+    let guardian = lines.guardian(heap, count)?;
+    Ok(Opened {
+        guardian,
+        dropped: lines.end() - lines.end_of(count),
+    })
+}
+
+/// How many bytes stand before the first line feed.
+pub(crate) fn line_length(text: &[u8]) -> Option<usize>
+    ensures { result ≡ position (λ b. b == 10) text.now }
+{
+    text.iter().position(|byte| *byte == b'\n')
+}
