@@ -4,15 +4,16 @@
 # These are the words that no row of crates/scripts_tests can have, and what the programs themselves do
 # with theirs. The last line is 'N passed, M failed', and the status tells whether any failed.
 #
-#   [ARGUS=PROGRAM] [PICTURE=PROGRAM] tools/command_lines.sh
+#   [ARGUS=PROGRAM] [PICTURE=PROGRAM] [REPLAY=PROGRAM] tools/command_lines.sh
 #
-# The programs have to be built: .ci/run leaves them, and so do ./argus --prove and ./picture --prove.
+# The programs have to be built: .ci/run leaves them, and so do ./argus --prove and its like.
 set -uo pipefail
 export LC_ALL=C
 
 top=$(cd "$(dirname "$0")/.." && pwd)
 argus=${ARGUS:-$top/crates/argus/out/argus}
 picture=${PICTURE:-$top/crates/picture/out/picture}
+replay=${REPLAY:-$top/crates/replay/out/replay}
 version=$(sed -n 's/^## \([0-9.]*\).*/\1/p' "$top/CHANGELOG.md" | head -n 1)
 broken='error: invalid UTF-8 was detected in one or more arguments'
 passed=0
@@ -105,7 +106,30 @@ of_picture() {
     refuses "error: unexpected argument '--list' found" "$picture" --list journal
 }
 
-for program in "$argus" "$picture"; do
+# A replay has its kinds of faults from the rows of scripts_tests; here is what goes where.
+of_replay() {
+    local journal=$top/crates/replay/stdin
+    in_common "$replay" replay
+    shows "Checks a journal's listing from standard input" "$replay" --help
+    shows "Checks a journal's listing from standard input" "$replay" -h
+    mentions "$replay" 'Lists what a torn or faulty text gives' '[default: bases]'
+    tried "$journal" 0 "$(cat "$top/crates/replay/stdout")" '' "$replay" --list audit
+    tried "$journal" 0 "$(cat "$journal")" '' "$replay" --list=journal --prefix
+    tried "$journal" 0 'o0 absent' '' "$replay"
+    tried "$journal" 0 'o0 base absent' '' "$replay" --list stacks
+    tried /dev/null 0 '' '' "$replay"
+    tried / 5 '' 'read fault' "$replay"
+    printf '0 begin_top -> a0\n1 commit a0 -> refused Over\n' > "$room/faulty"
+    tried "$room/faulty" 3 '' 'line 2: NotTheReply: done' "$replay" --list journal
+    tried "$room/faulty" 0 '0 begin_top -> a0' 'line 2: NotTheReply: done' "$replay" --list journal --prefix
+    refuses "error: invalid value 'locks' for '--list <LISTING>'" "$replay" --list locks
+    refuses "error: unexpected argument '--workers' found" "$replay" --workers 2
+    refuses "error: unexpected argument 'run.journal' found" "$replay" run.journal
+    "$argus" --list journal < "$top/crates/argus/stdin" > "$room/journal"
+    tried "$room/journal" 0 "$(cat "$room/journal")" '' "$replay" --list journal
+}
+
+for program in "$argus" "$picture" "$replay"; do
     if [ ! -x "$program" ]; then
         echo "command lines: no program $program: .ci/run leaves it, and ./${program##*/} --prove"
         echo "0 passed, 1 failed"
@@ -114,6 +138,7 @@ for program in "$argus" "$picture"; do
 done
 of_argus
 of_picture
+of_replay
 echo "command lines: $((passed + failed)) tried"
 echo "$passed passed, $failed failed"
 [ "$failed" = 0 ]

@@ -1,9 +1,10 @@
--- The program's command line is one of which clap tells the matches and the faults.
+-- The programs' command lines are such of which clap tells the matches and the faults.
 use Rattle.std.proofs.Common.{List, refl, true, ◌≡◌}
 use Rattle.std.specs.Borrow.{Bor}
 use Rattle.clap.specs.Words.{Text, is_simple, is_simple_and_free}
 use Rattle.clap.proofs.OnLiterals.{clap_on_literals}
 use Rattle.argus_cli.specs.CommandLine.{program}
+use Rattle.argus_cli.specs.ReplayCommandLine.{replay_program}
 
 pub program_is_simple : (listings : Bor (List (Bor Text))) → is_simple (program listings) ≡ true
 unfolding clap_on_literals
@@ -12,3 +13,11 @@ program_is_simple listings = refl
 pub program_is_free : (listings : Bor (List (Bor Text))) → is_simple_and_free (program listings) ≡ true
 unfolding clap_on_literals
 program_is_free listings = refl
+
+pub replay_is_simple : (listings : Bor (List (Bor Text))) → is_simple (replay_program listings) ≡ true
+unfolding clap_on_literals
+replay_is_simple listings = refl
+
+pub replay_is_free : (listings : Bor (List (Bor Text))) → is_simple_and_free (replay_program listings) ≡ true
+unfolding clap_on_literals
+replay_is_free listings = refl

@@ -1,6 +1,7 @@
 -- What follows of a run before its listing.
 use Rattle.std.proofs.Common.{List, [], ap, inl, refl, ℕ, ◌∙◌, ◌≡◌}
-use Rattle.argus_cli.specs.Ran.{IsRunFault, RunFailed, RunStreams, new_journal}
+use Rattle.argus_cli.specs.Ran.{IsRunFault, RunFailed, new_journal}
+use Rattle.argus_cli.specs.Streams.{RunStreams}
 use Rattle.argus_cli.specs.declared.cli_fault.CliFault.{CliFault}
 use Rattle.argus_cli.specs.declared.cli_fault.CliFault.TheVariants as fault
 use Rattle.argus_cli.specs.declared.run_options.Options.{Options}

@@ -17,9 +17,8 @@ use Rattle.argus_journal.specs.declared.limits.TheConstants.{MAX_FIRST_ENTRY}
 use Rattle.argus_guardian.specs.Listing.{listing_of}
 use Rattle.argus_commands.specs.Played.{IsPlay}
 use Rattle.argus_journal.specs.JournalView.{JournalView}
-use Rattle.argus_commands.specs.FailStop.{has_failed, inner_of}
 use Rattle.argus_commands.specs.Input.{ReadUpTo}
-use Rattle.argus_commands.specs.streams_declared.fail_stop.FailStop.{FailStop}
+use Rattle.argus_cli.specs.Streams.{RunStreams}
 
 -- the journal of a new guardian
 abbrev pub new_journal : JournalView
@@ -52,24 +51,6 @@ pub record ListsRun (bytes : List ℕ) (options : Options) (text : List ℕ) : T
   pub journal : JournalView
   pub runs : RunsTo bytes options script journal
   pub listed : text ≡ listing_of options.listing script.objects.names journal
-
--- What a run's reader has left to give and what its writer has taken, as far as they tell, and
--- whether they have failed.
-pub record RunStreams : Type 0 where
-  pub input : Option (List ℕ)
-  pub output : Option (List ℕ)
-  pub input_failed : Bool
-  pub output_failed : Bool
-
--- the streams of a run, where these tell what a reader has left and what a writer has taken
-abbrev pub streams : {R W : Type 0} → (R → Option (List ℕ)) → (W → Option (List ℕ)) → FailStop R
-    → FailStop W → RunStreams
-streams remaining contents reader writer = record {
-  input = remaining (inner_of reader);
-  output = contents (inner_of writer);
-  input_failed = has_failed reader;
-  output_failed = has_failed writer;
-}
 
 -- A run that succeeded: what was read up to the limit spells a script, and the listing was written.
 pub record Ran (options : Options) (limit : ℕ) (before after : RunStreams) : Type 0 where

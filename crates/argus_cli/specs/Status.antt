@@ -2,6 +2,10 @@
 use Rattle.std.specs.Prelude.{Bool, true, ℕ, ◌≡◌}
 use Rattle.argus_cli.specs.declared.cli_fault.CliFault.{CliFault}
 use Rattle.argus_cli.specs.declared.cli_fault.CliFault.TheVariants as fault
+use Rattle.argus_cli.specs.declared.replay_error.ReplayError.{ReplayError}
+use Rattle.argus_cli.specs.declared.replay_error.ReplayError.TheVariants as error
+use Rattle.argus_guardian.specs.listings_declared.list_error.ListError.{ListError}
+use Rattle.argus_guardian.specs.listings_declared.list_error.ListError.TheVariants as list
 
 -- the status of a fault
 abbrev pub status_of : CliFault → ℕ
@@ -16,3 +20,15 @@ IsListingFault (fault.Script f) failed = ⊥
 IsListingFault fault.Memory failed = Unit {0}
 IsListingFault fault.Read failed = ⊥
 IsListingFault fault.Write failed = failed ≡ true
+
+-- the status of an error of a replay
+abbrev pub replay_status_of : ReplayError → ℕ
+replay_status_of (error.Line faulty) = 3
+replay_status_of error.OutOfMemory = 4
+replay_status_of error.Read = 5
+replay_status_of error.Write = 5
+
+-- the same of a listing's error
+abbrev pub error_of_list : ListError → ReplayError
+error_of_list list.OutOfMemory = error.OutOfMemory
+error_of_list list.Write = error.Write

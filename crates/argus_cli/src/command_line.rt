@@ -82,7 +82,7 @@ fn asked(alloc: Global, words: &[String]) -> Result<Options, Error>
 }
 
 // The listing of a name that the command takes.
-fn listing_named(name: &str) -> Listing
+pub(crate) fn listing_named(name: &str) -> Listing
     ensures { result ≡ listing_named name.now }
 {
     match name {
@@ -132,7 +132,7 @@ fn patience_option<'a>(alloc: Global) -> Arg<'a>
         .help("With several workers: how many wake-ups an access waits for its lock, 1000 at most")
 }
 
-fn list_option<'a>(alloc: Global) -> Arg<'a>
+pub(crate) fn list_option<'a>(alloc: Global) -> Arg<'a>
     ensures rule { (listings : Bor (List (Bor Text))) × NamesListings listings
         × (rule_of result ≡ option_of (codes "list") (codes "bases") (vp.Names listings)) }
     ensures plain { IsPlainArg result × (result.global ≡ false) }

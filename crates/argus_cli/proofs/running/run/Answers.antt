@@ -1,7 +1,7 @@
 -- Where a script was read but not run, nothing was written; the fault is the script's, or memory was wanting.
 use Rattle.std.proofs.Common.{refl, rules, ◌+◌}
 use Rattle.argus_commands.specs.language_declared.limits.TheConstants.{MAX_SCRIPT_BYTES}
-use Rattle.argus_cli.specs.Ran.{streams}
+use Rattle.argus_cli.specs.Streams.{streams}
 use Rattle.argus_cli.proofs.Runs.{failed_before}
 use Rattle.argus_cli.proofs.running.run.Goals as goal
 

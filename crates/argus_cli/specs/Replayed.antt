@@ -1,0 +1,74 @@
+-- What a replay reads and writes.
+use Rattle.std.specs.Io.KnownBytes.{Appends}
+use Rattle.std.specs.Prelude.{List, None, Option, Some, false, take, true, ℕ, ◌+◌, ◌≡◌, ◌⊎◌}
+use Rattle.argus_cli.specs.Streams.{RunStreams}
+use Rattle.argus_cli.specs.declared.faulty_line.FaultyLine.{FaultyLine}
+use Rattle.argus_cli.specs.declared.replay_error.ReplayError.{ReplayError}
+use Rattle.argus_cli.specs.declared.replay_error.ReplayError.TheVariants as error
+use Rattle.argus_cli.specs.declared.replay_options.ReplayOptions.{ReplayOptions}
+use Rattle.argus_cli.specs.declared.text_fault.TextFault.{TextFault}
+use Rattle.argus_cli.specs.declared.text_fault.TextFault.TheVariants as text
+use Rattle.argus_guardian.specs.Listing.{listing_of, numbered_names}
+use Rattle.argus_guardian.specs.Resumed.{IsResumed}
+use Rattle.argus_guardian.specs.listings_declared.listing.Listing.{Listing}
+use Rattle.argus_guardian.specs.resume_declared.read_end.ReadEnd.{ReadEnd}
+use Rattle.argus_guardian.specs.resume_declared.read_end.ReadEnd.TheVariants as end
+use Rattle.argus_guardian.specs.resume_declared.resumed.Resumed.{Resumed}
+use Rattle.argus_journal.specs.JournalView.{JournalView}
+use Rattle.argus_journal.specs.Objects.{declared}
+
+-- the listing of a journal with its objects under their numbers
+abbrev pub numbered_listing : Listing → JournalView → List ℕ
+numbered_listing listing journal =
+    listing_of listing (numbered_names (declared journal.opening journal.entries)) journal
+
+-- the line behind so many, with this fault
+abbrev pub line_behind : ℕ → TextFault → FaultyLine
+line_behind lines fault = record { line = lines + 1; fault = fault }
+
+-- which line is at fault behind so many that were taken, by why no more were; an end by want of
+-- memory or by a failed read says of no line
+abbrev pub IsFaultBehind : ℕ → ReadEnd → Option FaultyLine → Type 0
+IsFaultBehind lines end.Whole faulty = faulty ≡ None
+IsFaultBehind lines end.Torn faulty = faulty ≡ Some (line_behind lines text.Torn)
+IsFaultBehind lines (end.Fault fault) faulty = faulty ≡ Some (line_behind lines (text.Line fault))
+IsFaultBehind lines end.OutOfMemory faulty = ⊥
+IsFaultBehind lines end.Read faulty = ⊥
+
+-- A replay that succeeded: this guardian was made of what was read, this line was at fault, if any,
+-- which a prefix alone may have, and the listing was written.
+pub record Replayed (options : ReplayOptions) (before after : RunStreams)
+    (faulty : Option FaultyLine) : Type 0 where
+  pub resumed : Resumed
+  pub made : IsResumed before.input after.input after.input_failed resumed
+  pub fault : IsFaultBehind resumed.lines resumed.end faulty
+  pub whole : options.prefix ≡ false → faulty ≡ None
+  pub written : Appends before.output after.output
+      (numbered_listing options.listing resumed.guardian)
+
+-- a replay whose text was refused: this line of what was read is at fault, and nothing was written
+pub record RefusedText (options : ReplayOptions) (before after : RunStreams)
+    (faulty : FaultyLine) : Type 0 where
+  pub resumed : Resumed
+  pub made : IsResumed before.input after.input after.input_failed resumed
+  pub fault : IsFaultBehind resumed.lines resumed.end (Some faulty)
+  pub asked : options.prefix ≡ false
+  pub kept : after.output ≡ before.output
+
+-- a replay whose listing was cut short: the front of it was written
+pub record ReplayCutShort (options : ReplayOptions) (before after : RunStreams) : Type 0 where
+  pub resumed : Resumed
+  pub made : IsResumed before.input after.input after.input_failed resumed
+  pub count : ℕ
+  pub written : Appends before.output after.output
+      (take count (numbered_listing options.listing resumed.guardian))
+
+-- what a replay has read and written that failed so
+abbrev pub ReplayFailed : ReplayOptions → RunStreams → RunStreams → ReplayError → Type 0
+ReplayFailed options before after (error.Line faulty) = RefusedText options before after faulty
+ReplayFailed options before after error.OutOfMemory =
+    (after.output ≡ before.output) ⊎ ReplayCutShort options before after
+ReplayFailed options before after error.Read =
+    (after.input_failed ≡ true) × (after.output ≡ before.output)
+ReplayFailed options before after error.Write =
+    (after.output_failed ≡ true) × ReplayCutShort options before after

@@ -1,0 +1,22 @@
+-- What a program reads from and writes to.
+use Rattle.std.specs.Prelude.{Bool, List, Option, ℕ}
+use Rattle.argus_commands.specs.FailStop.{has_failed, inner_of}
+use Rattle.argus_commands.specs.streams_declared.fail_stop.FailStop.{FailStop}
+
+-- What a reader has left to give and what a writer has taken, as far as they tell, and
+-- whether they have failed.
+pub record RunStreams : Type 0 where
+  pub input : Option (List ℕ)
+  pub output : Option (List ℕ)
+  pub input_failed : Bool
+  pub output_failed : Bool
+
+-- these streams, where these tell what a reader has left and what a writer has taken
+abbrev pub streams : {R W : Type 0} → (R → Option (List ℕ)) → (W → Option (List ℕ)) → FailStop R
+    → FailStop W → RunStreams
+streams remaining contents reader writer = record {
+  input = remaining (inner_of reader);
+  output = contents (inner_of writer);
+  input_failed = has_failed reader;
+  output_failed = has_failed writer;
+}

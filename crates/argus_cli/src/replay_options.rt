@@ -1,0 +1,16 @@
+//! `ReplayOptions`: what is asked of a replay.
+
+use argus_guardian::Listing;
+
+/// What is asked of a replay: which listing is written, and whether that of a front will do.
+///
+/// ```text
+/// ReplayOptions { listing: Listing::Audit, prefix: false }
+/// ```
+#[derive(Clone, Copy, Debug, PartialEq, Eq)]
+pub struct ReplayOptions {
+    /// What is listed of the guardian.
+    pub listing: Listing,
+    /// Whether a text that is torn or has a faulty line is listed as far as it goes.
+    pub prefix: bool,
+}

@@ -1,0 +1,115 @@
+//! `replay`: from the bytes of a journal's listing to a listing of its guardian.
+
+ghost use Rattle.std.specs.Prelude.{IfErr, IfOk, OnErr, OnOk, false, take, true, ℕ, ◌≡◌, ◌⊎◌};
+ghost use Rattle.argus_cli.specs.Streams.{streams};
+ghost use Rattle.argus_cli.specs.Replayed.{IsFaultBehind, ReplayFailed, Replayed};
+ghost use Rattle.argus_cli.specs.Replayed.{numbered_listing};
+ghost use Rattle.argus_cli.specs.declared.replay_error.ReplayError.TheVariants as error;
+ghost use Rattle.argus_guardian.specs.resume_declared.read_end.ReadEnd.TheVariants as ends;
+ghost use Rattle.argus_commands.specs.FailStop.{has_failed, inner_of};
+ghost use Rattle.argus_guardian.specs.listings_declared.list_error.ListError.TheVariants as list_error;
+ghost use Rattle.std.specs.Io.KnownBytes.{Appends};
+
+use crate::faulty_line::FaultyLine;
+use crate::replay_error::ReplayError;
+use crate::replay_options::ReplayOptions;
+use crate::text_fault::TextFault;
+use argus_commands::FailStop;
+use argus_guardian::{
+    Guardian, ListError, Listing, ReadEnd, Resumed, numbered_names, resume, write_listing,
+};
+use argus_values::Heap;
+use std::io::{Read, Write};
+
+/// Reads a journal's listing, and writes the listing that is asked for of the guardian whose journal
+/// it is, its objects under their numbers (`o0`, `o1`). Each entry's call is made once more, and its
+/// reply compared with the line's: so what is listed is checked, wherever the text came from.
+///
+/// None: the text is the listing of a journal, to its end. A faulty line comes only where the
+/// options take a prefix: the listing is that of the longest front of whole lines that is a
+/// journal's listing, and this is the line behind those that were taken.
+///
+/// | Error | When | What was written |
+/// |---|---|---|
+/// | `Line` | the text is no journal's listing, by this line, and no prefix will do | nothing |
+/// | `OutOfMemory` | memory is wanting | nothing, or the listing's front |
+/// | `Read` | a read failed; it isn't tried again | nothing |
+/// | `Write` | a write failed, or took nothing; it isn't tried again | the front of the listing |
+///
+/// It holds the guardian, and of the text no more than a line and 16 KiB. Neither reader nor writer
+/// may have failed before.
+///
+/// ```text
+/// let mut reader = FailStop::new(rt.stdin());
+/// let mut writer = FailStop::new(rt.stdout());
+/// let asked = ReplayOptions { listing: Listing::Audit, prefix: false };
+/// replay(heap, &mut reader, &mut writer, asked)?;
+/// ```
+pub fn replay<R: Read + Drop, W: Write + Drop>(
+    heap: Heap,
+    reader: &mut FailStop<R>,
+    writer: &mut FailStop<W>,
+    options: ReplayOptions,
+) -> Result<Option<FaultyLine>, ReplayError>
+    requires reader { has_failed reader.old ≡ false }
+    requires writer { has_failed writer.old ≡ false }
+    ensures replayed { IfOk result (Replayed options
+        (streams R.remaining W.contents reader.old writer.old)
+        (streams R.remaining W.contents reader.new writer.new)) }
+    ensures failed { IfErr result (ReplayFailed options
+        (streams R.remaining W.contents reader.old writer.old)
+        (streams R.remaining W.contents reader.new writer.new)) }
+{
+    let Resumed {
+        guardian,
+        bytes: _,
+        lines,
+        dropped: _,
+        end,
+    } = resume(heap, reader)?;
+    let faulty = match fault_behind(lines, end) {
+        Ok(None) => None,
+        Ok(Some(faulty)) if options.prefix => Some(faulty),
+        Ok(Some(faulty)) => return Err(ReplayError::Line(faulty)),
+        Err(error) => return Err(error),
+    };
+    list_numbered(heap, &guardian, options.listing, writer)?;
+    Ok(faulty)
+}
+
+// The line behind so many that were taken, if it is at fault. There is memory for fewer than 2^64.
+fn fault_behind(lines: u64, end: ReadEnd) -> Result<Option<FaultyLine>, ReplayError>
+    ensures fault { IfOk result (IsFaultBehind lines end) }
+    ensures failed { IfErr result (λ e. (e ≡ error.OutOfMemory)
+        ⊎ ((e ≡ error.Read) × (end ≡ ends.Read))) }
+{
+    let fault = match end {
+        ReadEnd::Whole => return Ok(None),
+        ReadEnd::Torn => TextFault::Torn,
+        ReadEnd::Fault(fault) => TextFault::Line(fault),
+        ReadEnd::OutOfMemory => return Err(ReplayError::OutOfMemory),
+        ReadEnd::Read => return Err(ReplayError::Read),
+    };
+    match lines.checked_add(1) {
+        Some(line) => Ok(Some(FaultyLine { line, fault })),
+        None => Err(ReplayError::OutOfMemory),
+    }
+}
+
+// The listing with the objects under their numbers.
+fn list_numbered<W: Write + Drop>(
+    heap: Heap,
+    guardian: &Guardian,
+    listing: Listing,
+    writer: &mut FailStop<W>,
+) -> Result<(), ListError>
+    requires { has_failed writer.old ≡ false }
+    ensures written { OnOk result (Appends (W.contents (inner_of writer.old))
+        (W.contents (inner_of writer.new)) (numbered_listing listing guardian.now)) }
+    ensures cut { OnErr result ((n : ℕ) × Appends (W.contents (inner_of writer.old))
+        (W.contents (inner_of writer.new)) (take n (numbered_listing listing guardian.now))) }
+    ensures failed { IfErr result (λ e. e ≡ list_error.Write → has_failed writer.new ≡ true) }
+{
+    let names = numbered_names(heap, guardian)?;
+    write_listing(heap, guardian, names.as_slice(), listing, writer)
+}
