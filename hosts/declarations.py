@@ -25,27 +25,28 @@ PYTHON = TOP / "hosts/python/argus_guardian/library.py"
 IN_RATTLE = {
     "Global": (), "&mut Slot": ("handle",), "&[u8]": ("bytes", "size"), "&mut [u8]": ("bytes", "size"),
     "u32": ("u32",), "u64": ("u64",), "i64": ("i64",), "&mut i64": ("number",), "&mut usize": ("length",),
+    "&mut u64": ("count",),
     "&mut [ListedCall<'_>]": ("calls", "size"), "&'a [u8]": ("bytes", "size"),
 }  # fmt: skip
 IN_C = {
     "argus_guardian *": "handle", "const uint8_t *": "bytes", "uint8_t *": "bytes", "size_t": "size", "uint32_t": "u32",
-    "uint64_t": "u64", "int64_t": "i64", "int64_t *": "number", "size_t *": "length",
+    "uint64_t": "u64", "int64_t": "i64", "int64_t *": "number", "size_t *": "length", "uint64_t *": "count",
     "argus_listed_call *": "calls", "const void *": "bytes",
 }  # fmt: skip
 IN_RUST = {
     "*mut Handle": "handle", "*const u8": "bytes", "*mut u8": "bytes", "usize": "size", "u32": "u32", "u64": "u64",
-    "i64": "i64", "*mut i64": "number", "*mut usize": "length", "*mut ListedCall": "calls",
+    "i64": "i64", "*mut i64": "number", "*mut usize": "length", "*mut u64": "count", "*mut ListedCall": "calls",
 }  # fmt: skip
 IN_PYTHON = {
     "handle": "handle", "ctypes.c_char_p": "bytes", "size": "size", "u32": "u32", "u64": "u64", "i64": "i64",
-    "number": "number", "ctypes.POINTER(size)": "length", "listed": "calls", "made": "length",
+    "number": "number", "ctypes.POINTER(size)": "length", "ctypes.POINTER(u64)": "count", "listed": "calls", "made": "length",
     "ctypes.c_uint32": "u32", "ctypes.c_int64": "i64", "ctypes.c_size_t": "size",
 }  # fmt: skip
 
 
 def parted(text):
     """The parameters, without the comma at the end."""
-    return [it.strip() for it in text.split(",") if it.strip()]
+    return [it.strip() for it in text.split(",") if it.strip() not in ("", "void")]
 
 
 def exported(text):
@@ -111,7 +112,7 @@ def numbers_in_python():
     spec = importlib.util.spec_from_file_location("library", PYTHON)
     library = importlib.util.module_from_spec(spec)
     spec.loader.exec_module(library)
-    kinds = library.Status, library.Kind, library.Question, library.Demand
+    kinds = library.Status, library.Kind, library.Question, library.Demand, library.ActionStatus
     return [(name, value) for kind in kinds for name, value in vars(kind).items() if name.isupper()]
 
 
@@ -128,7 +129,7 @@ def main():
     for file, it in fields.items():
         if it != fields[LISTED]:
             failed.append(f"{file}: a call of a list is {it}, not {fields[LISTED]}")
-    named = {name: int(value) for name, value in re.findall(r"ARGUS_(\w+) = (\d+)", header)}
+    named = {name: int(value) for name, value in re.findall(r"ARGUS_(\w+)(?: =)? (\d+)\b", header)}
     told = {EXPORTS: numbers_in_rust(exports), RUST: numbers_in_rust(rust), PYTHON: numbers_in_python()}
     for file, numbers in told.items():
         failed += [f"{file}: {name} is {it}, not {named.get(name)}" for name, it in numbers if named.get(name) != it]

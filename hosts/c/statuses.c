@@ -99,12 +99,77 @@ static void ask_and_copy(argus_guardian *bank) {
     want_answer(argus_base(bank, 0), ARGUS_TEXT, 0, "a base");
     want_answer(argus_reply(bank, room, sizeof room), ARGUS_TOO_SMALL, 6, "a room that is too small");
     want(memcmp(room, "???", sizeof room) == 0, "such a room stays as it is");
-    want_answer(argus_tell(bank, ARGUS_LIST_AUDIT + 1, 0, 0, 0), ARGUS_BAD_KIND, 0, "no such question");
+    want_answer(argus_tell(bank, ARGUS_FIRST_ENTRY + 1, 0, 0, 0), ARGUS_BAD_KIND, 0, "no such question");
     want_answer(argus_entry(bank, 1000000), ARGUS_NOT_THERE, 0, "no such entry");
     want_answer(argus_checkpoint(bank), ARGUS_BUSY, 0, "a checkpoint while an action is live");
     want(argus_begin_top(bank).status == ARGUS_ACTION, "a call whose reply has no text");
     want(argus_c_reply(bank, (uint8_t *)room, sizeof room, &size) == ARGUS_NOT_THERE && size == 0, "no text");
     want(memcmp(room, "???", sizeof room) == 0, "a room without a text stays as it is");
+}
+
+/* Whether the reply is this text. */
+static void want_reply(argus_guardian *bank, const char *text) {
+    char room[64];
+    want_answer(argus_reply(bank, room, sizeof room), ARGUS_DONE, (int64_t)strlen(text), text);
+    want(memcmp(room, text, strlen(text)) == 0, text);
+}
+
+/* What is told of shapes and actions: a0 is live with its subaction a1, and a2 was aborted. */
+static void ask_of_actions(argus_guardian *bank) {
+    want_answer(argus_shape(bank, 2), ARGUS_TEXT, 0, "a shape");
+    want_reply(bank, "atomic_variant[no:null,yes:int]");
+    want_answer(argus_shape(bank, 9), ARGUS_NOT_THERE, 0, "the shape of no object");
+    want_answer(argus_status_of(bank, 1), ARGUS_NUMBER, ARGUS_LIVE, "a live action");
+    want_answer(argus_status_of(bank, 2), ARGUS_NUMBER, ARGUS_ABORTED, "one that was aborted");
+    want_answer(argus_status_of(bank, 9), ARGUS_NOT_THERE, 0, "one that isn't begun");
+    want_answer(argus_first_live(bank, 0), ARGUS_ACTION, 0, "the first live action");
+    want_answer(argus_first_live(bank, 1), ARGUS_ACTION, 1, "the next one");
+    want_answer(argus_first_live(bank, 2), ARGUS_NOT_THERE, 0, "none from there on");
+    want_answer(argus_first_entry(bank), ARGUS_NUMBER, 0, "the first entry");
+}
+
+/* The journal's first three lines. */
+static const char FIRST_LINES[] = "0 declare atomic_record[n:int,is:bool,t:text] -> o0\n"
+                                  "1 declare atomic_array[int] -> o1\n"
+                                  "2 declare atomic_variant[no:null,yes:int] -> o2\n";
+
+/* As many whole lines as fit, and the reply stays. */
+static void copy_lines(argus_guardian *bank) {
+    char room[sizeof FIRST_LINES];
+    uint64_t count = 99, entries = (uint64_t)argus_entries(bank).number;
+    size_t first = (size_t)(strchr(FIRST_LINES, '\n') - FIRST_LINES) + 1;
+    memset(room, '?', sizeof room);
+    want_answer(argus_base(bank, 0), ARGUS_TEXT, 0, "a text that is kept");
+    want_answer(argus_lines(bank, 0, room, first - 1, &count), ARGUS_TOO_SMALL, (int64_t)first, "too small a room");
+    want(count == 0 && room[0] == '?', "such a room stays as it is");
+    want_answer(argus_lines(bank, 0, room, first, &count), ARGUS_DONE, (int64_t)first, "a room for one line");
+    want(count == 1 && memcmp(room, FIRST_LINES, first) == 0 && room[first] == '?', "the line is there");
+    want_answer(argus_lines(bank, 0, room, sizeof FIRST_LINES - 1, &count), ARGUS_DONE,
+                (int64_t)sizeof FIRST_LINES - 1, "a room for three lines");
+    want(count == 3 && memcmp(room, FIRST_LINES, sizeof FIRST_LINES - 1) == 0, "they are there");
+    want_answer(argus_lines(bank, entries, NULL, 0, &count), ARGUS_DONE, 0, "the journal's end");
+    want(count == 0, "no line is there");
+    want_answer(argus_lines(bank, entries + 1, room, sizeof room, &count), ARGUS_NOT_THERE, 0, "past its end");
+    want_reply(bank, "absent");
+}
+
+/* Objects and entries go on, actions begin anew. */
+static void begin_anew(argus_guardian *bank) {
+    uint64_t count = 99, entries;
+    want(argus_begin_top(bank).status == ARGUS_ACTION, "an action");
+    want_answer(argus_renew(bank), ARGUS_BUSY, 0, "a renewal while an action is live");
+    want_answer(argus_abort_live(bank), ARGUS_DONE, 0, "its abort");
+    entries = (uint64_t)argus_entries(bank).number;
+    want_answer(argus_renew(bank), ARGUS_DONE, 0, "a renewal");
+    want_answer(argus_actions(bank), ARGUS_NUMBER, 0, "no action is begun");
+    want_answer(argus_objects(bank), ARGUS_NUMBER, 65535, "all objects are there");
+    want_answer(argus_first_entry(bank), ARGUS_NUMBER, (int64_t)entries, "the entries go on");
+    want_answer(argus_lines(bank, entries - 1, NULL, 0, &count), ARGUS_NOT_THERE, 0, "a line that is folded away");
+    want_answer(argus_begin_top(bank), ARGUS_ACTION, 0, "the first action");
+    want_answer(argus_commit(bank, 0), ARGUS_DONE, 0, "its commit");
+    want_answer(argus_status_of(bank, 0), ARGUS_NUMBER, ARGUS_COMMITTED, "it has committed");
+    want_answer(argus_checkpoint(bank), ARGUS_DONE, 0, "a checkpoint");
+    want_answer(argus_status_of(bank, 0), ARGUS_NUMBER, ARGUS_FOLDED, "it is folded");
 }
 
 /* After it nothing is live, so a checkpoint can be made. */
@@ -117,6 +182,7 @@ static void abort_all(argus_guardian *bank) {
 
 static void be_closed(argus_guardian *bank) {
     size_t size = 99;
+    uint64_t count = 99;
     uint8_t room[1] = {'?'};
     want_answer(argus_close(bank), ARGUS_DONE, 0, "closing");
     want_answer(argus_close(bank), ARGUS_NOT_OPEN, 0, "closing twice");
@@ -124,11 +190,15 @@ static void be_closed(argus_guardian *bank) {
     want_answer(argus_objects(bank), ARGUS_NOT_OPEN, 0, "a question of a closed one");
     want_answer(argus_checkpoint(bank), ARGUS_NOT_OPEN, 0, "a checkpoint of a closed one");
     want_answer(argus_abort_live(bank), ARGUS_NOT_OPEN, 0, "an abort of a closed one");
+    want_answer(argus_renew(bank), ARGUS_NOT_OPEN, 0, "a renewal of a closed one");
+    want_answer(argus_lines(bank, 0, room, 1, &count), ARGUS_NOT_OPEN, 0, "lines of a closed one");
+    want(count == 0 && room[0] == '?', "no lines of a closed one");
     want(argus_c_reply(bank, room, 1, &size) == ARGUS_NOT_OPEN && size == 0 && room[0] == '?', "its reply");
     want(argus_open_beside(bank, bank).status == ARGUS_NOT_OPEN, "one beside itself");
 }
 
 static void be_null(argus_guardian *bank) {
+    uint64_t count;
     want(argus_open(NULL).status == ARGUS_NULL, "argus_open");
     want(argus_open_beside(NULL, bank).status == ARGUS_NULL, "argus_open_beside");
     want(argus_open_beside(bank, NULL).status == ARGUS_NULL, "argus_open_beside a null one");
@@ -139,6 +209,10 @@ static void be_null(argus_guardian *bank) {
     want(argus_tell(NULL, ARGUS_OBJECTS, 0, 0, 0).status == ARGUS_NULL, "argus_tell");
     want(argus_checkpoint(NULL).status == ARGUS_NULL, "argus_checkpoint");
     want(argus_abort_live(NULL).status == ARGUS_NULL, "argus_abort_live");
+    want(argus_renew(NULL).status == ARGUS_NULL, "argus_renew");
+    want(argus_lines(NULL, 0, NULL, 0, &count).status == ARGUS_NULL, "argus_lines");
+    want(argus_lines(bank, 0, NULL, 1, &count).status == ARGUS_NULL, "argus_lines into a null room");
+    want(argus_lines(bank, 0, NULL, 0, NULL).status == ARGUS_NULL, "argus_lines with a null count");
     want(argus_reply(NULL, NULL, 0).status == ARGUS_NULL, "argus_reply");
     want(argus_reply(bank, NULL, 1).status == ARGUS_NULL, "argus_reply into a null room");
     want(argus_alter(bank, 0, 0, ARGUS_WHOLE, 0, 0, NULL).status == ARGUS_BAD_KIND, "argus_alter by a query");
@@ -174,9 +248,12 @@ int statuses(void) {
     want(argus_open(&bank).status == ARGUS_DONE, "opening");
     be_null(&bank);
     make_steps(&bank);
+    ask_of_actions(&bank);
+    copy_lines(&bank);
     ask_and_copy(&bank);
     reach_limits(&bank);
     abort_all(&bank);
+    begin_anew(&bank);
     be_closed(&bank);
     printf("each status is returned\n");
     return 0;

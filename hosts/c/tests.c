@@ -126,6 +126,8 @@ static void test_version(void) {
     char version[32];
     snprintf(version, sizeof version, "%d.%d.%d", ARGUS_VERSION_MAJOR, ARGUS_VERSION_MINOR, ARGUS_VERSION_PATCH);
     CHECK(strcmp(version, ARGUS_VERSION) == 0);
+    CHECK(ARGUS_VERSION_NUMBER == 10000 * ARGUS_VERSION_MAJOR + 100 * ARGUS_VERSION_MINOR + ARGUS_VERSION_PATCH);
+    CHECK(argus_version() == ARGUS_VERSION_NUMBER);
 }
 
 static uint32_t declared(argus_guardian *guardian, const char *shape) {

@@ -51,7 +51,7 @@
  *
  * Limits: a value and a type have a depth of at most 16 (a scalar has 1); a list of names 1 to 64, all distinct, of 1
  * to 32 bytes a-z, 0-9 and _ each; an array at most 65,535 items, at indexes from -2^31 to 2^31 - 1; an action at most
- * 64 ancestors, itself counted. A guardian declares 65,535 objects, and begins 1,000,000 actions in its life.
+ * 64 ancestors, itself counted. A guardian declares 65,535 objects, and begins 1,000,000 actions until it is renewed.
  */
 #ifndef ARGUS_H
 #define ARGUS_H
@@ -69,6 +69,8 @@ extern "C" {
 #define ARGUS_VERSION_MINOR 1
 #define ARGUS_VERSION_PATCH 0
 #define ARGUS_VERSION "0.1.0"
+/* The same in one number, which argus_version() of the library that belongs to this header gives. */
+#define ARGUS_VERSION_NUMBER 100
 
 /* A guardian, or none. It lies in the program's memory and begins as ARGUS_CLOSED (all bytes zero will do).
  * Both fields are the library's: a program writes neither. One that is open is moved, never copied: of two copies
@@ -108,12 +110,12 @@ typedef enum argus_status {
     ARGUS_BAD_SHAPE = 14,  /* the text is no written form of a shape that can be made */
     ARGUS_BAD_NUMBER = 15, /* a field's or tag's number isn't within 0 to 255 */
     ARGUS_BAD_KIND = 16,   /* no call, query, change or question has this number */
-    ARGUS_TOO_SMALL = 17,  /* the room is too small for the reply and unchanged. The number is the reply's size in
-                              bytes: ask again with more room. The reply stays */
+    ARGUS_TOO_SMALL = 17,  /* the room is too small for the reply, or for the journal's first line, and unchanged. The
+                              number is the size of that in bytes: ask again with more room. The reply stays */
     ARGUS_NOT_THERE = 18,  /* the object isn't declared; no entry has this number (or only one before the last
-                              checkpoint had); there is no reply with a text */
-    ARGUS_BUSY = 19,       /* a checkpoint while an action is live */
-    ARGUS_FULL = 20,       /* a checkpoint whose next entry's number would be above 2^63 - 1 */
+                              checkpoint had); the action isn't begun; none is live; there is no reply with a text */
+    ARGUS_BUSY = 19,       /* a checkpoint, or a renewal, while an action is live */
+    ARGUS_FULL = 20,       /* a checkpoint, or a renewal, whose next entry's number would be above 2^63 - 1 */
     ARGUS_NULL = 21,       /* a pointer was null. Only the inline functions answer it */
     ARGUS_UNMET = 22,      /* of a list alone: the outcome of the last call that was made isn't as demanded */
     ARGUS_NOT_BEGUN = 23,  /* of a call of a list: begun_by names no earlier call, or one that began no action */
@@ -140,7 +142,8 @@ typedef enum argus_refusal {
     ARGUS_ILL_TYPED = 5,  /* the operation, or its value, doesn't suit the object's shape */
     ARGUS_CONFLICT = 6,   /* another action holds the object: wait for its end, or abort */
     ARGUS_TOO_DEEP = 7,   /* the parent has 64 ancestors, itself counted */
-    ARGUS_TOO_MANY = 8,   /* 1,000,000 actions were begun, or 65,535 objects declared; a checkpoint frees none */
+    ARGUS_TOO_MANY = 8,   /* 1,000,000 actions were begun, or 65,535 objects declared; a checkpoint frees none, and a
+                             renewal (argus_renew) the numbers of actions */
     ARGUS_NO_SIBLINGS = 9 /* ARGUS_ABORT_OTHERS of an action with neither parent nor creator */
 } argus_refusal;
 
@@ -227,8 +230,21 @@ typedef enum argus_question {
     ARGUS_LIST_BASES = 9,   /* the listing of bases; objects are named o0, o1 and so on. ARGUS_TEXT */
     ARGUS_LIST_STACKS = 10, /* the listing of bases, readers and versions. ARGUS_TEXT */
     ARGUS_LIST_JOURNAL = 11, /* the listing of the journal. ARGUS_TEXT */
-    ARGUS_LIST_AUDIT = 12   /* the listing of the audit, made from the journal. ARGUS_TEXT */
+    ARGUS_LIST_AUDIT = 12,  /* the listing of the audit, made from the journal. ARGUS_TEXT */
+    ARGUS_SHAPE = 13,       /* object: the shape with which it was declared. ARGUS_TEXT */
+    ARGUS_ACTION_STATUS = 14, /* action: what has become of it, as argus_action_status has it. ARGUS_NUMBER */
+    ARGUS_FIRST_LIVE = 15,  /* action: the first live action, of those from this number on. ARGUS_ACTION */
+    ARGUS_FIRST_ENTRY = 16  /* the number of the journal's first entry: that which was next at the last checkpoint.
+                               ARGUS_NUMBER */
 } argus_question;
+
+/* What has become of an action that was begun. */
+typedef enum argus_action_status {
+    ARGUS_LIVE = 1,      /* neither it nor an ancestor of it has ended */
+    ARGUS_COMMITTED = 2, /* it has committed, and none of its ancestors was aborted */
+    ARGUS_ABORTED = 3,   /* it was aborted, or an ancestor of it, whether it had committed or not */
+    ARGUS_FOLDED = 4     /* it was over at the last checkpoint, which has forgotten it */
+} argus_action_status;
 
 /* ---- What the numbers are called, for messages: a name that stands above, or "?" of a number that has none. ---- */
 
@@ -343,6 +359,26 @@ uint32_t argus_c_abort_live(argus_guardian *guardian);
  * ARGUS_DONE, ARGUS_NO_MEMORY, ARGUS_NOT_OPEN, ARGUS_BUSY, ARGUS_FULL. */
 uint32_t argus_c_checkpoint(argus_guardian *guardian);
 
+/* Begins anew: objects keep their numbers, their shapes and what they hold for good, and entries their numbers; actions
+ * are numbered from 0 again. The entries are folded away, as by a checkpoint. So the number of an action that was begun
+ * before is, from then on, that of another one or of none. ARGUS_DONE, ARGUS_NO_MEMORY, ARGUS_NOT_OPEN, ARGUS_BUSY,
+ * ARGUS_FULL. */
+uint32_t argus_c_renew(argus_guardian *guardian);
+
+/* Puts as many whole lines of the journal's listing at the front of the room as fit, from the entry with this number
+ * on, each with its line feed. `size` is how many bytes they have, and `count` of how many entries they are: the next
+ * number to ask for is from + count. At the end of the journal both are 0. What is kept for argus_c_reply stays.
+ * Handle, room, `size` and `count` are four memories.
+ * ARGUS_DONE; ARGUS_TOO_SMALL, with the size that the first line needs; ARGUS_NOT_THERE, where `from` is below the
+ * number of the first entry (ARGUS_FIRST_ENTRY), or above that of the next one (ARGUS_ENTRIES); ARGUS_NO_MEMORY,
+ * ARGUS_NOT_OPEN. Where it isn't ARGUS_DONE the room stays as it was, the count is 0, and so is the size but at
+ * ARGUS_TOO_SMALL. */
+uint32_t argus_c_lines(argus_guardian *guardian, uint64_t from, uint8_t *room, size_t room_size, size_t *size,
+                       uint64_t *count);
+
+/* The version of the library in one number, ARGUS_VERSION_NUMBER of its header. */
+uint32_t argus_c_version(void);
+
 /* Puts the text of the reply that is kept at the front of the room, without an end of its own, and writes its size.
  * It can be had again as long as it is kept. `size` is another memory than the handle and the room.
  * ARGUS_DONE; ARGUS_TOO_SMALL, with the size that it needs; ARGUS_NO_MEMORY, ARGUS_NOT_OPEN, ARGUS_NOT_THERE (which
@@ -453,6 +489,29 @@ static inline argus_answer argus_checkpoint(argus_guardian *guardian) {
     return argus_answer_of(argus_c_checkpoint(guardian), 0);
 }
 
+/* Begins anew, with action numbers from 0 and the same objects. */
+static inline argus_answer argus_renew(argus_guardian *guardian) {
+    if (guardian == NULL) return argus_answer_of(ARGUS_NULL, 0);
+    return argus_answer_of(argus_c_renew(guardian), 0);
+}
+
+/* Puts as many whole lines of the journal into the room as fit, from this entry on; the number is their size in bytes,
+ * and `count` of how many entries they are. No zero is put after them. */
+static inline argus_answer argus_lines(argus_guardian *guardian, uint64_t from, void *room, size_t room_size,
+                                       uint64_t *count) {
+    size_t size = 0;
+    uint32_t status;
+    uint8_t none[1];
+    if (guardian == NULL || count == NULL || (room == NULL && room_size != 0)) return argus_answer_of(ARGUS_NULL, 0);
+    status = argus_c_lines(guardian, from, room == NULL ? none : (uint8_t *)room, room_size, &size, count);
+    return argus_answer_of(status, (int64_t)size);
+}
+
+/* The version of the library: a program that was built with this header compares it with ARGUS_VERSION_NUMBER. */
+static inline uint32_t argus_version(void) {
+    return argus_c_version();
+}
+
 /* Puts the reply's text into the room; the number is its size in bytes. No zero is put after it. */
 static inline argus_answer argus_reply(argus_guardian *guardian, void *room, size_t room_size) {
     size_t size = 0;
@@ -558,6 +617,23 @@ static inline argus_answer argus_versions(argus_guardian *guardian, uint32_t obj
 
 static inline argus_answer argus_entry(argus_guardian *guardian, uint64_t entry) {
     return argus_tell(guardian, ARGUS_ENTRY, 0, 0, entry);
+}
+
+static inline argus_answer argus_shape(argus_guardian *guardian, uint32_t object) {
+    return argus_tell(guardian, ARGUS_SHAPE, 0, object, 0);
+}
+
+static inline argus_answer argus_status_of(argus_guardian *guardian, uint32_t action) {
+    return argus_tell(guardian, ARGUS_ACTION_STATUS, action, 0, 0);
+}
+
+/* With the number after the one that is found it leads to all live actions. */
+static inline argus_answer argus_first_live(argus_guardian *guardian, uint32_t from) {
+    return argus_tell(guardian, ARGUS_FIRST_LIVE, from, 0, 0);
+}
+
+static inline argus_answer argus_first_entry(argus_guardian *guardian) {
+    return argus_tell(guardian, ARGUS_FIRST_ENTRY, 0, 0, 0);
 }
 
 /* A listing: ARGUS_LIST_BASES to ARGUS_LIST_AUDIT. */

@@ -1,12 +1,15 @@
 -- What an export says of the guardian in a slot, before and after.
-use Rattle.std.specs.Prelude.{List, None, Option, Some, length, take, ℕ, ℤ, ◌<◌, ◌↔◌, ◌≡◌, ◌⊎◌}
+use Rattle.std.specs.Prelude.{List, None, Option, Some, length, take, ℕ, ℤ, ◌*◌, ◌+◌, ◌<◌, ◌↔◌, ◌≡◌}
+use Rattle.std.specs.Prelude.{◌≤◌, ◌⊎◌}
 use Rattle.argus_embed.specs.CallEach.{AreCalled}
 use Rattle.argus_embed.specs.Codes.{error_codes, outcome_codes}
-use Rattle.argus_embed.specs.Questions.{Asks, IsAnswerTo, text_to}
+use Rattle.argus_embed.specs.JournalLines.{AreLines, HasNoPlace, line_at}
+use Rattle.argus_embed.specs.Questions.{Asks, HasNothing, IsAnswerTo}
 use Rattle.argus_embed.specs.Requests.{IsCalled, IsUnread}
 use Rattle.argus_embed.specs.Embedded.{EmbeddedState, IsBusy, IsFull}
 use Rattle.argus_embed.specs.declared.calls_made.CallsMade.{CallsMade}
 use Rattle.argus_embed.specs.declared.embed_error.EmbedError.{EmbedError}
+use Rattle.argus_embed.specs.declared.lines.Lines.{Lines}
 use Rattle.argus_embed.specs.declared.list_end.ListEnd.{ListEnd}
 use Rattle.argus_embed.specs.declared.list_end.ListEnd.TheVariants.{Failed, Unmet, Whole}
 use Rattle.argus_embed.specs.declared.listed_call.ListedCall.{ListedCall}
@@ -58,7 +61,7 @@ IsUncalled r text codes = (e : EmbedError) × IsUnread r text e × (codes ≡ er
 abbrev pub IsNotThere : Option EmbeddedState → ℕ → ℕ → ℕ → ℕ → Type 0
 IsNotThere None kind a o n = ⊥
 IsNotThere (Some state) kind a o n =
-    (question : Question) × Asks kind a o n question × (text_to state.journal question ≡ None)
+    (question : Question) × Asks kind a o n question × HasNothing state.journal question
 
 -- a text so long is at the front of the room
 abbrev pub IsFront : Option (List ℕ) → ℕ → List ℕ → Type 0
@@ -80,7 +83,28 @@ abbrev pub IsTooLong : Option EmbeddedState → ℕ → List ℕ → Type 0
 IsTooLong None size room = ⊥
 IsTooLong (Some state) size room = IsPast state.text size room
 
--- the status of a checkpoint: 19 exactly where an action is live; else 20 exactly where the next
+-- whole lines from the entry on are in the room, as many as fit
+abbrev pub AreLinesGiven : Option EmbeddedState → ℕ → List ℕ → List ℕ → Lines → Type 0
+AreLinesGiven None from old new lines = ⊥
+AreLinesGiven (Some state) from old new lines =
+    AreLines state.journal from old new lines × (lines.size ≤ length old)
+
+-- the line of the entry has so many bytes, and is longer than the room
+abbrev pub IsLineTooLong : Option EmbeddedState → ℕ → List ℕ → ℕ → Type 0
+IsLineTooLong None from room size = ⊥
+IsLineTooLong (Some state) from room size =
+    (size ≡ length (line_at state.journal from)) × (length room < size)
+
+-- the status for a host that asks for lines: 18 exactly where the journal has no place for the
+-- number; else it has them, there is no memory for them, or the room is too small for the first; or
+-- the slot is closed
+abbrev pub IsStatusOfLines : Option EmbeddedState → ℕ → ℕ → Type 0
+IsStatusOfLines None from status = status ≡ 11
+IsStatusOfLines (Some state) from status =
+    ((status ≡ 18) ↔ HasNoPlace state.journal from)
+    × ((status ≡ 0) ⊎ (status ≡ 10) ⊎ (status ≡ 17) ⊎ (status ≡ 18))
+
+-- the status of a checkpoint, and of a renewal: 19 exactly where an action is live; else 20 exactly where the next
 -- entry's number is past the greatest that a first entry may have; else it is made, or there is no
 -- memory for it; or the slot is closed
 abbrev pub IsStatusOfFold : Option EmbeddedState → ℕ → Type 0
@@ -95,3 +119,7 @@ abbrev pub IsStatusOfReply : Option EmbeddedState → ℕ → Type 0
 IsStatusOfReply None status = status ≡ 11
 IsStatusOfReply (Some state) status =
     (status ≡ 0) ⊎ (status ≡ 10) ⊎ (status ≡ 17) ⊎ ((status ≡ 18) × (state.text ≡ None))
+
+-- the version in one number: two decimal digits for each of its last two
+abbrev pub version_number : ℕ
+version_number = 10000 * 0 + 100 * 1 + 0

@@ -9,11 +9,12 @@ ghost use Rattle.std.specs.Prelude.{IfErr, IsSome, None, OnOk, Some, length, pos
 ghost use Rattle.std.specs.Prelude.{◌≤◌, ◌↔◌, ◌⊎◌};
 ghost use Rattle.std.specs.Str.{IsUtf8};
 ghost use Rattle.argus_c.specs.Slots.{Becomes, IsAnswered, IsGiven, IsMade, IsStatusOfFold};
-ghost use Rattle.argus_c.specs.Slots.{IsListAnswered, IsNotThere, IsStatusOfReply, IsTooLong};
-ghost use Rattle.argus_c.specs.Slots.{IsUncalled, end_status};
+ghost use Rattle.argus_c.specs.Slots.{AreLinesGiven, IsLineTooLong, IsListAnswered, IsNotThere};
+ghost use Rattle.argus_c.specs.Slots.{IsStatusOfLines, IsStatusOfReply, IsTooLong, IsUncalled};
+ghost use Rattle.argus_c.specs.Slots.{end_status, version_number};
 ghost use Rattle.argus_embed.specs.Codes.{error_codes};
 ghost use Rattle.argus_embed.specs.Embedded.{IsAbortedInPart, after_abort_live};
-ghost use Rattle.argus_embed.specs.Embedded.{after_fold, empty_state};
+ghost use Rattle.argus_embed.specs.Embedded.{after_fold, after_renewal, empty_state};
 
 mod held;
 mod opening;
@@ -42,6 +43,9 @@ const TOO_SMALL: u32 = 17;
 const NOT_THERE: u32 = 18;
 
 const UNMET: u32 = 22;
+
+// 10,000 times the first number of the version, and 100 times the second one, and the third.
+const VERSION_NUMBER: u32 = 100;
 
 /// Opens a guardian in the slot, in the heap of the one beside it where that is open. What was open
 /// in the slot is closed.
@@ -175,8 +179,8 @@ pub extern "C" fn argus_c_tell(
     ensures made { result < 10 → Becomes slot.old.held.store slot.new.held.store
         (IsAnswered kind action object entry (result, number.new)) }
     ensures unmade { 10 ≤ result → slot.new.held.store ≡ slot.old.held.store }
-    ensures bad_kind { (result ≡ 16) ↔ (13 ≤ kind) }
-    ensures not_open { (result ≡ 11) ↔ ((kind < 13) × (slot.old.held.store ≡ None)) }
+    ensures bad_kind { (result ≡ 16) ↔ (17 ≤ kind) }
+    ensures not_open { (result ≡ 11) ↔ ((kind < 17) × (slot.old.held.store ≡ None)) }
     ensures not_there { result ≡ 18 → IsNotThere slot.old.held.store kind action object entry }
     ensures status { 10 ≤ result
         → (result ≡ 10) ⊎ (result ≡ 11) ⊎ (result ≡ 16) ⊎ (result ≡ 18) }
@@ -242,6 +246,72 @@ pub extern "C" fn argus_c_checkpoint(alloc: Global, slot: &mut Slot) -> u32
     let status = status_of(guardian.checkpoint());
     *slot = Slot::opened(guardian);
     status
+}
+
+/// Begins anew with the same objects, and action numbers from 0.
+#[unsafe(no_mangle)]
+pub extern "C" fn argus_c_renew(alloc: Global, slot: &mut Slot) -> u32
+    ensures done { result ≡ 0 → Becomes slot.old.held.store slot.new.held.store
+        (λ old new. new ≡ after_renewal old) }
+    ensures unmade { result ≢ 0 → slot.new.held.store ≡ slot.old.held.store }
+    ensures status { IsStatusOfFold slot.old.held.store result }
+{
+    let Some(mut guardian) = slot.take(alloc) else {
+        return NOT_OPEN;
+    };
+    let status = status_of(guardian.renew());
+    *slot = Slot::opened(guardian);
+    status
+}
+
+/// Puts as many whole lines of the journal as fit at the front of the room, from an entry on, and
+/// tells of how many entries and of what size they are.
+#[unsafe(no_mangle)]
+pub extern "C" fn argus_c_lines(
+    alloc: Global,
+    slot: &mut Slot,
+    from: u64,
+    room: &mut [u8],
+    size: &mut usize,
+    count: &mut u64,
+) -> u32
+    ensures done { result ≡ 0 → AreLinesGiven slot.new.held.store from room.old room.new
+        (record { count = count.new; size = size.new }) }
+    ensures small { result ≡ 17 → IsLineTooLong slot.new.held.store from room.old size.new
+        × (room.new ≡ room.old) × (count.new ≡ 0) }
+    ensures status { IsStatusOfLines slot.old.held.store from result }
+    ensures same { slot.new.held.store ≡ slot.old.held.store }
+    ensures room { length room.new ≡ length room.old }
+    ensures none { result ≢ 0 → result ≢ 17
+        → (size.new ≡ 0) × (count.new ≡ 0) × (room.new ≡ room.old) }
+{
+    *size = 0;
+    *count = 0;
+    let Some(guardian) = slot.take(alloc) else {
+        return NOT_OPEN;
+    };
+    let told = guardian.lines(from, room);
+    *slot = Slot::opened(guardian);
+    match told {
+        Ok(lines) => {
+            *size = lines.size;
+            *count = lines.count;
+            if lines.size <= room.len() {
+                DONE
+            } else {
+                TOO_SMALL
+            }
+        }
+        Err(error) => error.codes().0,
+    }
+}
+
+/// The version, as `ARGUS_VERSION_NUMBER` of the header that belongs to the library.
+#[unsafe(no_mangle)]
+pub extern "C" fn argus_c_version() -> u32
+    ensures { result ≡ version_number }
+{
+    VERSION_NUMBER
 }
 
 /// Puts the text that is kept at the front of the room, and tells its size.

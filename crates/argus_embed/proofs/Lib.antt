@@ -5,4 +5,7 @@ pub mod CallEach
 pub mod Outcomes
 pub mod Next
 pub mod Listed
-pub mod Lines
+pub mod ReplyLines
+pub mod JournalLines
+pub mod KeptObjects
+pub mod Quiet

@@ -2,6 +2,8 @@
 -- They
 -- are those of the C header.
 use Rattle.std.specs.Prelude.{Bool, false, if◌then◌else◌, nat_lt, pos, true, ℕ, ℤ, ◌-◌, ◌^◌}
+use Rattle.argus_actions.specs.declared.status.Status.{Status}
+use Rattle.argus_actions.specs.declared.status.Status.TheVariants.{Aborted, Committed, Folded, Live}
 use Rattle.argus_values.specs.contents_declared.signal.Signal.{Signal}
 use Rattle.argus_values.specs.contents_declared.signal.Signal.TheVariants.{Absent, Bounds, Exists}
 use Rattle.argus_values.specs.contents_declared.signal.Signal.TheVariants.{Limits, NegativeSize}
@@ -37,6 +39,13 @@ refusal_code Conflict = pos 6
 refusal_code TooDeep = pos 7
 refusal_code TooMany = pos 8
 refusal_code NoSiblings = pos 9
+
+-- a number for what has become of an action
+abbrev pub status_code : Status → ℤ
+status_code Live = pos 1
+status_code Committed = pos 2
+status_code Aborted = pos 3
+status_code Folded = pos 4
 
 -- 1 for true, 0 for false
 abbrev pub flag_code : Bool → ℤ

@@ -9,9 +9,9 @@ use Rattle.argus_journal.specs.Call.{PlainCall}
 use Rattle.argus_journal.specs.Reply.{PlainReply, answered, begun, object, refused}
 use Rattle.argus_guardian.specs.AbortingLive.{IsPartlyAborted, after_aborts, live_topactions}
 use Rattle.argus_guardian.specs.Checkpoint.{after_checkpoint, is_quiet}
-use Rattle.argus_journal.specs.Folding.{next_entry_number}
+use Rattle.argus_journal.specs.Folding.{fold, next_entry_number}
 use Rattle.argus_journal.specs.declared.limits.TheConstants.{MAX_FIRST_ENTRY}
-use Rattle.argus_journal.specs.Opening.{empty}
+use Rattle.argus_journal.specs.Opening.{empty, opening_at}
 use Rattle.argus_journal.specs.JournalView.{JournalView, after, journal_view_coded, reply_to}
 use Rattle.argus_values.specs.ContentSpelling.{content_spelling}
 use Rattle.argus_values.specs.Spelling.{spelling}
@@ -114,6 +114,19 @@ after_fold state = record {
   newest = state.newest;
   text = state.text;
 }
+
+-- the journal that begins anew: the objects with what is in them for good, the number of the next
+-- entry, and actions from 0 on
+abbrev pub renewed : JournalView → JournalView
+renewed journal = record {
+  opening = opening_at (fold journal.opening journal.entries).objects 0
+      (next_entry_number journal.opening journal.entries);
+  entries = [];
+}
+
+-- the same with the journal begun anew; no action has been begun
+abbrev pub after_renewal : EmbeddedState → EmbeddedState
+after_renewal state = record { journal = renewed state.journal; newest = None; text = state.text }
 
 -- the same with all that was live aborted
 abbrev pub after_abort_live : EmbeddedState → EmbeddedState

@@ -4,3 +4,4 @@ pub mod Questions
 pub mod Requests
 pub mod Embedded
 pub mod CallEach
+pub mod JournalLines

@@ -2,19 +2,23 @@
 use Rattle.std.specs.Fmt.{decimal}
 use Rattle.std.specs.List.{flat_map, range_with_len}
 use Rattle.std.specs.Option.{option_map}
-use Rattle.std.specs.Prelude.{List, None, Option, Some, [], codes, map, pos, ℕ, ◌++◌, ◌∷◌, ◌≡◌}
+use Rattle.std.specs.Prelude.{List, None, Option, Some, [], codes, map, pos, true, ℕ, ◌++◌, ◌∷◌, ◌≡◌}
+use Rattle.std.specs.Prelude.{◌≤◌}
+use Rattle.argus_actions.specs.declared.status.Status.{Status}
 use Rattle.argus_values.specs.Content.{PlainContent}
+use Rattle.argus_values.specs.ShapeSpelling.{shape_spelling}
 use Rattle.argus_journal.specs.Call.{test_read, test_write}
 use Rattle.argus_journal.specs.EntrySpelling.{entry_spelling}
 use Rattle.argus_guardian.specs.Objects.{where_declared}
+use Rattle.argus_guardian.specs.Statuses.{NoneLiveBetween, NoneLiveFrom, status_in}
 use Rattle.argus_journal.specs.Events.{says_yes}
 use Rattle.argus_journal.specs.Folding.{next_entry_number}
 use Rattle.argus_journal.specs.Journal.{entry_at}
-use Rattle.argus_journal.specs.Objects.{declared}
-use Rattle.argus_journal.specs.JournalFacts.{base_of, readers_of, versions_of}
+use Rattle.argus_journal.specs.Objects.{declared, shape_of}
+use Rattle.argus_journal.specs.JournalFacts.{base_of, is_live_in, readers_of, versions_of}
 use Rattle.argus_guardian.specs.Listing.{content_text, listing_of}
 use Rattle.argus_journal.specs.JournalView.{JournalView, reply_to}
-use Rattle.argus_embed.specs.Codes.{as_number}
+use Rattle.argus_embed.specs.Codes.{as_number, status_code}
 use Rattle.argus_embed.specs.Embedded.{EmbeddedState, actions_begun}
 use Rattle.argus_embed.specs.declared.embed_error.EmbedError.{EmbedError}
 use Rattle.argus_embed.specs.declared.embed_error.EmbedError.TheVariants as error
@@ -40,6 +44,10 @@ Asks kind a o n (question.List Bases) = kind ≡ 9
 Asks kind a o n (question.List Stacks) = kind ≡ 10
 Asks kind a o n (question.List Journal) = kind ≡ 11
 Asks kind a o n (question.List Audit) = kind ≡ 12
+Asks kind a o n (question.Shape i) = (kind ≡ 13) × (i.0 ≡ o)
+Asks kind a o n (question.Status x) = (kind ≡ 14) × (x.0 ≡ a)
+Asks kind a o n (question.Live from) = (kind ≡ 15) × (from ≡ a)
+Asks kind a o n question.FirstEntry = kind ≡ 16
 
 -- the line of an action
 abbrev pub action_line : ℕ → List ℕ
@@ -85,6 +93,11 @@ text_to journal (question.CanWrite a o) = None
 text_to journal question.Objects = None
 text_to journal question.Actions = None
 text_to journal question.Entries = None
+text_to journal (question.Shape o) =
+    option_map shape_spelling (shape_of journal.opening journal.entries o.0)
+text_to journal (question.Status a) = None
+text_to journal (question.Live from) = None
+text_to journal question.FirstEntry = None
 
 -- the same with this text kept
 abbrev pub with_text : EmbeddedState → List ℕ → EmbeddedState
@@ -102,6 +115,17 @@ IsText None old new told = ⊥
 -- it is told as this, and nothing has changed
 abbrev pub IsPlain : Outcome → EmbeddedState → EmbeddedState → Outcome → Type 0
 IsPlain expected old new told = (told ≡ expected) × (new ≡ old)
+
+-- it is told as a number what has become of the action, which is begun
+abbrev pub IsStatus : Option Status → Outcome → Type 0
+IsStatus (Some status) told = told ≡ outcome.Number (status_code status)
+IsStatus None told = ⊥
+
+-- it is told as the first live action, of those from this number on
+abbrev pub IsFirstLive : JournalView → ℕ → Outcome → Type 0
+IsFirstLive journal from told =
+    (a : ℕ) × (told ≡ outcome.Action a) × (from ≤ a)
+    × (is_live_in journal.opening journal.entries a ≡ true) × NoneLiveBetween journal from a
 
 -- what the question is told as, by the journal, and what is kept of it
 abbrev pub IsAnswerTo : Question → EmbeddedState → EmbeddedState → Outcome → Type 0
@@ -126,17 +150,42 @@ IsAnswerTo (question.Entry at) old new told =
     IsText (text_to old.journal (question.Entry at)) old new told
 IsAnswerTo (question.List listing) old new told =
     IsText (text_to old.journal (question.List listing)) old new told
+IsAnswerTo (question.Shape o) old new told =
+    IsText (text_to old.journal (question.Shape o)) old new told
+IsAnswerTo (question.Status a) old new told =
+    IsStatus (status_in old.journal a.0) told × (new ≡ old)
+IsAnswerTo (question.Live from) old new told = IsFirstLive old.journal from told × (new ≡ old)
+IsAnswerTo question.FirstEntry old new told =
+    IsPlain (outcome.Number (as_number old.journal.opening.first_entry)) old new told
+
+-- there is nothing of which it is asked: the object isn't declared, the journal hasn't the entry,
+-- the action isn't begun, or none from the number on is live
+abbrev pub HasNothing : JournalView → Question → Type 0
+HasNothing journal (question.CanRead a o) = ⊥
+HasNothing journal (question.CanWrite a o) = ⊥
+HasNothing journal question.Objects = ⊥
+HasNothing journal question.Actions = ⊥
+HasNothing journal question.Entries = ⊥
+HasNothing journal (question.Base o) = text_to journal (question.Base o) ≡ None
+HasNothing journal (question.Readers o) = text_to journal (question.Readers o) ≡ None
+HasNothing journal (question.Versions o) = text_to journal (question.Versions o) ≡ None
+HasNothing journal (question.Entry at) = text_to journal (question.Entry at) ≡ None
+HasNothing journal (question.List listing) = ⊥
+HasNothing journal (question.Shape o) = text_to journal (question.Shape o) ≡ None
+HasNothing journal (question.Status a) = status_in journal a.0 ≡ None
+HasNothing journal (question.Live from) = NoneLiveFrom journal from
+HasNothing journal question.FirstEntry = ⊥
 
 -- why there is no answer: there is nothing of which it is asked; want of memory says nothing of it
-abbrev pub IsUnanswered : Option (List ℕ) → EmbedError → Type 0
-IsUnanswered text error.NotThere = text ≡ None
-IsUnanswered text error.OutOfMemory = Unit {0}
-IsUnanswered text (error.BadText at) = ⊥
-IsUnanswered text error.BadShape = ⊥
-IsUnanswered text error.BadNumber = ⊥
-IsUnanswered text error.BadKind = ⊥
-IsUnanswered text error.Busy = ⊥
-IsUnanswered text error.Full = ⊥
-IsUnanswered text error.NotUtf8 = ⊥
-IsUnanswered text error.NotBegun = ⊥
-IsUnanswered text error.BadDemand = ⊥
+abbrev pub IsUnanswered : JournalView → Question → EmbedError → Type 0
+IsUnanswered journal question error.NotThere = HasNothing journal question
+IsUnanswered journal question error.OutOfMemory = Unit {0}
+IsUnanswered journal question (error.BadText at) = ⊥
+IsUnanswered journal question error.BadShape = ⊥
+IsUnanswered journal question error.BadNumber = ⊥
+IsUnanswered journal question error.BadKind = ⊥
+IsUnanswered journal question error.Busy = ⊥
+IsUnanswered journal question error.Full = ⊥
+IsUnanswered journal question error.NotUtf8 = ⊥
+IsUnanswered journal question error.NotBegun = ⊥
+IsUnanswered journal question error.BadDemand = ⊥

@@ -2,20 +2,22 @@
 
 ghost use Rattle.std.specs.Option.{option_map};
 ghost use Rattle.std.specs.Prelude.{IfErr, IfOk, None, OnErr, ◌≡◌};
-ghost use Rattle.argus_embed.specs.Questions.{IsAnswerTo, IsText, IsUnanswered, text_to};
+ghost use Rattle.argus_embed.specs.Questions.{IsAnswerTo, IsText, IsUnanswered};
+ghost use Rattle.argus_embed.specs.Questions.{IsFirstLive, IsStatus};
 ghost use Rattle.argus_embed.specs.Embedded.{actions_begun};
 ghost use Rattle.argus_embed.specs.declared.embed_error.EmbedError.TheVariants.{NotThere};
+ghost use Rattle.argus_guardian.specs.Statuses.{NoneLiveFrom, status_in};
 ghost use Rattle.argus_journal.specs.Call.{test_read, test_write};
 ghost use Rattle.argus_journal.specs.Events.{says_yes};
 ghost use Rattle.argus_journal.specs.Journal.{action_number_of};
 ghost use Rattle.argus_journal.specs.JournalView.{reply_to};
 
-use crate::codes::as_number;
+use crate::codes::{as_number, status_code};
 use crate::embed_error::EmbedError;
 use crate::embedded::Embedded;
 use crate::journal_writing::{entry_text, listing_text};
 use crate::kept::Kept;
-use crate::object_writing::{base_text, readers_text, versions_text};
+use crate::object_writing::{base_text, readers_text, shape_text, versions_text};
 use crate::outcome::Outcome;
 use crate::question::Question;
 use argus_actions::ActionId;
@@ -25,11 +27,12 @@ use std::mem::replace;
 impl Embedded {
     /// Answers a question, by what the journal says. A text is kept; nothing else changes.
     ///
-    /// `NotThere` where the object isn't declared, or the journal hasn't the entry. `OutOfMemory`
-    /// may come in place of a text. After an error all is as before, and what was kept stays.
+    /// `NotThere` where the object isn't declared, the journal hasn't the entry, the action isn't
+    /// begun, or no action from that number on is live. `OutOfMemory` may come in place of a text.
+    /// After an error all is as before, and what was kept stays.
     pub fn answer_question(&mut self, question: Question) -> Result<Outcome, EmbedError>
         ensures told { IfOk result (λ outcome. IsAnswerTo question self.old self.new outcome) }
-        ensures untold { IfErr result (λ e. IsUnanswered (text_to self.old.journal question) e) }
+        ensures untold { IfErr result (λ e. IsUnanswered self.old.journal question e) }
         ensures err { OnErr result (self.new ≡ self.old) }
     {
         match question {
@@ -61,6 +64,38 @@ impl Embedded {
                 let text = listing_text(self.heap, &self.guardian, listing)?;
                 self.keep(Some(text))
             }
+            Question::Shape(o) => {
+                let text = shape_text(self.heap, &self.guardian, o)?;
+                self.keep(text)
+            }
+            Question::Status(a) => self.tell_status(a),
+            Question::Live(from) => self.tell_live(from),
+            Question::FirstEntry => {
+                let first = self.guardian.journal().journal().first_entry();
+                Ok(Outcome::Number(as_number(first)))
+            }
+        }
+    }
+
+    fn tell_status(&self, a: ActionId) -> Result<Outcome, EmbedError>
+        ensures told { IfOk result (λ outcome.
+            IsStatus (status_in self.now.journal a.0) outcome) }
+        ensures none { IfErr result (λ e.
+            (e ≡ NotThere) × (status_in self.now.journal a.0 ≡ None)) }
+    {
+        match self.guardian.status(a) {
+            Some(status) => Ok(Outcome::Number(status_code(status))),
+            None => Err(EmbedError::NotThere),
+        }
+    }
+
+    fn tell_live(&self, from: u32) -> Result<Outcome, EmbedError>
+        ensures told { IfOk result (λ outcome. IsFirstLive self.now.journal from outcome) }
+        ensures none { IfErr result (λ e. (e ≡ NotThere) × NoneLiveFrom self.now.journal from) }
+    {
+        match self.guardian.live(from) {
+            Some(a) => Ok(Outcome::Action(a.0)),
+            None => Err(EmbedError::NotThere),
         }
     }
 

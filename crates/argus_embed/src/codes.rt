@@ -1,8 +1,10 @@
-//! The numbers of signals, refusals and sizes, as a host is told them.
+//! The numbers of signals, refusals, statuses and sizes, as a host is told them.
 
 ghost use Rattle.std.specs.Prelude.{◌≡◌};
 ghost use Rattle.argus_embed.specs.Codes.{as_number, flag_code, refusal_code, signal_code};
+ghost use Rattle.argus_embed.specs.Codes.{status_code};
 
+use argus_actions::Status;
 use argus_journal::Refusal;
 use argus_values::Signal;
 
@@ -38,6 +40,17 @@ pub(crate) fn refusal_code(refusal: Refusal) -> i64
         Refusal::TooDeep => 7,
         Refusal::TooMany => 8,
         Refusal::NoSiblings => 9,
+    }
+}
+
+pub(crate) fn status_code(status: Status) -> i64
+    ensures { result ≡ status_code status }
+{
+    match status {
+        Status::Live => 1,
+        Status::Committed => 2,
+        Status::Aborted => 3,
+        Status::Folded => 4,
     }
 }
 

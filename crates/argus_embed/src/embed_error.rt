@@ -37,13 +37,14 @@ pub enum EmbedError {
     /// There is no call of this kind.
     #[error("no call of this kind")]
     BadKind,
-    /// The object isn't declared, or the journal hasn't the entry.
-    #[error("there is no such object or entry")]
+    /// The object isn't declared, the journal hasn't the entry, the action isn't begun, or none is
+    /// live.
+    #[error("there is no such object, entry or action")]
     NotThere,
-    /// A checkpoint while an action is live.
+    /// A checkpoint, or a renewal, while an action is live.
     #[error("an action is live")]
     Busy,
-    /// A checkpoint past the greatest number that a journal's first entry may have.
+    /// A checkpoint, or a renewal, past the greatest number that a journal's first entry may have.
     #[error("the journal is full")]
     Full,
     /// The call of the list that is to have begun the action isn't an earlier one, or began none.

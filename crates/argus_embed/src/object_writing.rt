@@ -1,18 +1,20 @@
-//! What an object holds for good, and who holds it, as texts.
+//! What an object holds for good, its shape, and who holds it, as texts.
 
 ghost use Rattle.std.specs.Fmt.{decimal};
 ghost use Rattle.std.specs.Option.{option_map};
 ghost use Rattle.std.specs.Prelude.{IfOk, OnOk, map, string_bytes, ◌++◌, ◌≡◌};
 ghost use Rattle.argus_values.specs.Content.{plain_option};
+ghost use Rattle.argus_values.specs.ShapeSpelling.{shape_spelling};
 ghost use Rattle.argus_embed.specs.Questions.{action_line, action_lines, seen_line, seen_lines};
 ghost use Rattle.argus_guardian.specs.Objects.{version_pair, where_declared};
 ghost use Rattle.argus_journal.specs.JournalFacts.{base_of, readers_of, versions_of};
+ghost use Rattle.argus_journal.specs.Objects.{shape_of};
 ghost use Rattle.argus_guardian.specs.Listing.{content_text};
 
 use argus_actions::ActionId;
 use argus_guardian::Guardian;
 use argus_objects::Version;
-use argus_values::{Content, Heap, ObjId, OutOfMemory, Room, write_content};
+use argus_values::{Content, Heap, ObjId, OutOfMemory, Room, write_content, write_shape};
 
 /// What is in the object for good; None where it isn't declared.
 pub(crate) fn base_text(
@@ -29,6 +31,24 @@ pub(crate) fn base_text(
     };
     let mut text = String::new(heap.room());
     append_content(content, &mut text)?;
+    Ok(Some(text.into_bytes()))
+}
+
+/// The shape with which the object was declared; None where it isn't.
+pub(crate) fn shape_text(
+    heap: Heap,
+    guardian: &Guardian,
+    o: ObjId,
+) -> Result<Option<Vec<u8, Room>>, OutOfMemory>
+    ensures { IfOk result (λ told. option_map (λ t. t.items) told
+        ≡ option_map shape_spelling
+        (shape_of guardian.now.opening guardian.now.entries o.0)) }
+{
+    let Some(shape) = guardian.shape(o) else {
+        return Ok(None);
+    };
+    let mut text = String::new(heap.room());
+    write_shape(shape, &mut text)?;
     Ok(Some(text.into_bytes()))
 }
 

@@ -19,6 +19,10 @@ use argus_values::ObjId;
 /// | 7 | `Versions` | who holds it for writing: a line `a1 {7}` each, ancestors first |
 /// | 8 | `Entry` | the entry's line |
 /// | 9 to 12 | `List`, in the order of `Listing` | the listing; object 3 is named `o3` |
+/// | 13 | `Shape` | the text of the shape with which the object was declared |
+/// | 14 | `Status` | what has become of the action: 1 live, 2 committed, 3 aborted, 4 folded |
+/// | 15 | `Live` | the first live action, of those from this number on |
+/// | 16 | `FirstEntry` | the number of the first entry since the last checkpoint |
 ///
 /// ```text
 /// let question = Question::of(5, 0, 3, 0);                // Some(Question::Base(ObjId(3)))
@@ -35,13 +39,17 @@ pub enum Question {
     Versions(ObjId),
     Entry(u64),
     List(Listing),
+    Shape(ObjId),
+    Status(ActionId),
+    Live(u32),
+    FirstEntry,
 }
 
 impl Question {
     /// The question that the numbers stand for; None where there is no such kind.
     pub fn of(kind: u32, action: u32, object: u32, entry: u64) -> Option<Question>
         ensures asks { IfSome result (λ question. Asks kind action object entry question) }
-        ensures none { IfNone result (13 ≤ kind) }
+        ensures none { IfNone result (17 ≤ kind) }
     {
         let o = ObjId(object);
         match kind {
@@ -58,6 +66,10 @@ impl Question {
             10 => Some(Question::List(Listing::Stacks)),
             11 => Some(Question::List(Listing::Journal)),
             12 => Some(Question::List(Listing::Audit)),
+            13 => Some(Question::Shape(o)),
+            14 => Some(Question::Status(ActionId(action))),
+            15 => Some(Question::Live(action)),
+            16 => Some(Question::FirstEntry),
             _ => None,
         }
     }

@@ -117,7 +117,7 @@ fn append_value(value: &Value, text: &mut String<Room>) -> Result<bool, OutOfMem
 }
 
 /// Copies the bytes to the front of the room, where they fit; their number either way.
-fn put(room: &mut [u8], bytes: &[u8]) -> usize
+pub(crate) fn put(room: &mut [u8], bytes: &[u8]) -> usize
     ensures size { result ≡ length bytes.now }
     ensures put { IsPut bytes.now room.old room.new }
     ensures room { length room.new ≡ length room.old }

@@ -1,0 +1,48 @@
+-- Whether an action is live, as a host sees it: by the first live one.
+use Rattle.std.proofs.Common.{None, Option, Some, ap, arith, false, inl, inr, true, ℕ, ◌+◌, ◌-◌, ◌∙◌, ◌≡◌, ◌≤◌}
+use Rattle.std.specs.List.{list_any}
+use Rattle.std.specs.Option.{IfNone, IfSome, is_some}
+use Rattle.std.specs.Prelude.{not}
+use Rattle.std.proofs.lemmas.Bool.{both_ways, cases_Bool}
+use Rattle.argus_actions.specs.declared.action_id.ActionId.{ActionId}
+use Rattle.argus_guardian.specs.Checkpoint.{is_quiet}
+use Rattle.argus_guardian.specs.Statuses.{NoneLiveFrom}
+use Rattle.argus_journal.specs.Events.{history}
+use Rattle.argus_journal.specs.JournalFacts.{is_live_in}
+use Rattle.argus_journal.specs.JournalView.{JournalView}
+use Rattle.argus_model.specs.History.{begun_actions}
+use Rattle.argus_model.specs.Status.{is_live}
+use Rattle.argus_model.proofs.Live.{begun_listed, is_begun_parts}
+use Rattle.argus_model.proofs.Numbers.{any_found, any_from}
+use Rattle.argus_model.proofs.Siblings.{live_begun}
+
+-- where one is live, the journal isn't quiet
+pub busy_where : (journal : JournalView) (a : ℕ) → is_live_in journal.opening journal.entries a ≡ true
+    → is_quiet journal ≡ false
+busy_where journal a live =
+    let h = history journal.opening journal.entries in
+    ap not (any_from (is_live h) (begun_actions h) (a + 1) (begun_listed h (a + 1) ∙ live_begun h (a + 1) live) live)
+
+-- where none is, from the first on, it is
+pub quiet_where : (journal : JournalView) → NoneLiveFrom journal 0 → is_quiet journal ≡ true
+quiet_where journal none =
+    let h = history journal.opening journal.entries in
+    elim (cases_Bool (list_any (is_live h) (begun_actions h))) [
+      | inl e ↦
+          let q = any_found (is_live h) (begun_actions h) e in
+          let begun = is_begun_parts h q.0 (live_begun h q.0 q.2) in
+          let up : q.0 ≡ (q.0 - 1) + 1 = omega (arith, begun.0) in
+          absurd (both_ways (is_live h q.0) (ap (is_live h) up ∙ none (q.0 - 1) (omega arith)) q.2)
+      | inr e ↦ ap not e
+    ]
+
+-- the same by the first live action that is found, or isn't
+pub busy_if : (journal : JournalView) (found : Option ActionId) → is_some found ≡ true
+    → IfSome found (λ (a : ActionId). is_live_in journal.opening journal.entries a.0 ≡ true) → is_quiet journal ≡ false
+busy_if journal None some live = cc
+busy_if journal (Some a) some live = busy_where journal a.0 live
+
+pub quiet_if : (journal : JournalView) (found : Option ActionId) → is_some found ≡ false
+    → IfNone found (NoneLiveFrom journal 0) → is_quiet journal ≡ true
+quiet_if journal None none all = quiet_where journal all
+quiet_if journal (Some a) none all = cc
