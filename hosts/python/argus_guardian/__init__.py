@@ -50,6 +50,7 @@ from .errors import (
 from .guardian import Guardian
 from .library import Demand, Kind
 from .lists import CallsMade, Listed
+from .shapes import Shape
 from .values import Array, Choice, Ref, read_content, read_value, write_content, write_value
 
 __version__ = "0.1.0"
@@ -88,6 +89,7 @@ __all__ = [
     "Over",
     "Ref",
     "Refused",
+    "Shape",
     "Signal",
     "Suspended",
     "TooDeep",

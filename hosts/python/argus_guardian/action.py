@@ -41,6 +41,8 @@ class Action:
         # The parent, or the creator of a nested topaction: neither ends before this one does.
         self.parent, self._is_nested = parent, is_nested
         self._is_ended = False
+        # How often the guardian had been renewed when it was begun; None where its number alone counts.
+        self._renewals: int | None = None
 
     def _lineage(self) -> set[int]:
         """The numbers of itself and its ancestors, whose locks are none against it."""
@@ -80,7 +82,7 @@ class Action:
         Where an interrupt (Ctrl-C) comes while it commits, it may have committed or not.
         """
         try:
-            self.guardian._end(Kind.COMMIT, self.number)
+            self.guardian._make_of(self, Kind.COMMIT)
         except BaseException:
             self._abort_quietly()
             raise
@@ -88,12 +90,12 @@ class Action:
 
     def abort(self) -> None:
         """Aborts it and all subactions below it."""
-        self.guardian._end(Kind.ABORT, self.number)
+        self.guardian._make_of(self, Kind.ABORT)
         self._is_ended = True
 
     def abort_others(self) -> None:
         """Aborts all live siblings: who is done first ends the others."""
-        self.guardian.call(Kind.ABORT_OTHERS, self.number)
+        self.guardian._make_of(self, Kind.ABORT_OTHERS)
 
     def subaction(self) -> Action:
         """Begins a subaction: what it leaves counts only as its ancestors do."""
@@ -108,14 +110,15 @@ class Action:
 
     def test_read(self, obj: Object) -> bool:
         """Takes a read lock; False where it isn't to be had. It doesn't wait."""
-        return self.guardian.call(Kind.TEST_READ, self.number, obj)
+        return self.guardian._make_of(self, Kind.TEST_READ, obj)
 
     def test_write(self, obj: Object) -> bool:
         """Takes a write lock; False where it isn't to be had. It doesn't wait."""
-        return self.guardian.call(Kind.TEST_WRITE, self.number, obj)
+        return self.guardian._make_of(self, Kind.TEST_WRITE, obj)
 
     def _access(self, kind: int, obj: Object, first: int = 0, second: int = 0, text: str = "") -> Any:
-        return self.guardian.access(kind, self.number, obj, first, second, text, self._lineage)
+        number, since = self.number, self._renewals
+        return self.guardian.access(kind, number, obj, first, second, text, self._lineage, since)
 
     def whole(self, obj: Object) -> Any:
         """The whole content."""
@@ -124,6 +127,26 @@ class Action:
     def field(self, obj: Object, field: int) -> Any:
         """A field of a record."""
         return self._access(Kind.FIELD, obj, field)
+
+    def get(self, obj: Object, name: str | None = None) -> Any:
+        """A record with its fields by name, as `top.get(seat).taken`; or one field of it, by its name.
+
+        AttributeError where the record's shape hasn't the name.
+        """
+        shape = self.guardian.shape_of(obj)
+        if name is None:
+            return shape.named(self.whole(obj))
+        return self.field(obj, shape.number(name))
+
+    def set(self, obj: Object, **fields: Value) -> None:
+        """Fields of a record become these values, by their names: `top.set(seat, taken=True)`.
+
+        AttributeError where the record's shape hasn't a name; then nothing was set.
+        """
+        shape = self.guardian.shape_of(obj)
+        numbered = [(shape.number(name), value) for name, value in fields.items()]
+        for number, value in numbered:
+            self.set_field(obj, number, value)
 
     def low(self, obj: Object) -> int:
         """An array's low bound."""

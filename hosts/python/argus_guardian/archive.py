@@ -7,7 +7,7 @@ from collections.abc import Iterator
 from typing import Any
 
 from .errors import Refused, Signal
-from .library import Handle, Status, bare, load
+from .library import Handle, Question, Status, bare, load
 from .telling import Call, error_of, error_of_call, error_of_question
 from .values import read_content, read_value
 
@@ -26,7 +26,8 @@ class Archive:
         self._call, self._tell = bare(library, "argus_c_call"), bare(library, "argus_c_tell")
         self._reply = bare(library, "argus_c_reply")
         self._checkpoint, self._close = library.argus_c_checkpoint, library.argus_c_close
-        self._abort_live = library.argus_c_abort_live
+        self._abort_live, self._renew = library.argus_c_abort_live, library.argus_c_renew
+        self._lines, self._count = library.argus_c_lines, ctypes.c_uint64()
         self._call_each = library.argus_c_call_each
         # What the calls take, of the types that library.py declares.
         self._handle, self._number, self._size = Handle(), ctypes.c_int64(), ctypes.c_size_t()
@@ -75,6 +76,22 @@ class Archive:
         """The status of a checkpoint."""
         return self._checkpoint(self._handle_at)
 
+    def renew(self) -> int:
+        """The status of a renewal."""
+        return self._renew(self._handle_at)
+
+    def lines(self, entry: int, size: int) -> list[str]:
+        """The journal's lines from an entry on, as many as fit into so many bytes; one at least, if there is one."""
+        while True:
+            room = ctypes.create_string_buffer(size)
+            status = self._lines(self._handle_at, entry, room, size, self._size_at, ctypes.byref(self._count))
+            if status != Status.TOO_SMALL:
+                break
+            size = self._size.value
+        if status != Status.DONE:
+            raise error_of_question(status, 0, Question.ENTRY, entry)
+        return room.raw[: self._size.value].decode().split("\n")[:-1]
+
     def answer(self, status: int, number: int, call: Call) -> Any:
         """What a call answers, by its status and its number. Raises what they say."""
         if status == NUMBER:
@@ -112,13 +129,13 @@ class Archive:
             return error.with_traceback(None)
 
     def told(self, question: int, action: int = 0, obj: int = 0, entry: int = 0) -> Any:
-        """What a question tells: a text, a number or a flag. Raises what its status says."""
+        """What a question tells: a text, a number, an action or a flag. Raises what its status says."""
         status, number = self.ask(question, action, obj, entry)
         if status == Status.TEXT:
             return self._text().decode()
         if status == Status.FLAG:
             return number != 0
-        if status == Status.NUMBER:
+        if status in (Status.NUMBER, Status.ACTION):
             return number
         raise error_of_question(status, number, question, entry, obj)
 

@@ -12,21 +12,16 @@ from typing import Any, NoReturn, TypeVar
 from . import errors, forking
 from .action import Action
 from .archive import Archive
+from .asked import Asked, actions_of
 from .library import Kind, Question, Status
 from .lists import CallsMade, Listed, array_of, calls_of
 from .owners import Owners
 from .ranges import LEAST, MOST, U32, U64, i64, u32, within
 from .telling import Call, deed, error_of, error_of_call
-from .values import Object, object_number, read_content
+from .values import Object, object_number
 
 _Done = TypeVar("_Done")
 
-_LISTINGS = {
-    "bases": Question.LIST_BASES,
-    "stacks": Question.LIST_STACKS,
-    "journal": Question.LIST_JOURNAL,
-    "audit": Question.LIST_AUDIT,
-}
 _DONE = Status.DONE, 0
 _TRUE = Status.FLAG, 1
 _OVER = Status.REFUSED, errors.REFUSALS.index(errors.Over) + 1
@@ -36,7 +31,7 @@ _ENDS = (Kind.COMMIT, Kind.ABORT, Kind.ABORT_OTHERS)
 _LOOK_AFTER = 0.05
 
 
-class Guardian:
+class Guardian(Asked):
     """Atomic objects, and the actions that use them. Threads may share it: each call has its lock.
 
     An access waits for its object at most `patience` seconds, and then raises Conflict: abort the
@@ -49,17 +44,21 @@ class Guardian:
 
     That a wait ends isn't promised.
 
-    The journal keeps each call with its reply, and so grows until a checkpoint. A guardian begins a
-    million actions in its life, and declares 65,535 objects.
+    The journal keeps each call with its reply, and so grows until a checkpoint. A guardian begins
+    MAX_ACTIONS actions until it is renewed, as `checkpoint` does once half of these numbers are gone, and
+    declares 65,535 objects.
     """
 
     def __init__(self, patience: float = 1.0) -> None:
+        super().__init__()
         self.patience = patience
         self._archive = Archive()
         self._make_lock()
         # How often actions were aborted, by which others may be over than the one that waits.
         self._aborts = 0
         self._owners = Owners()
+        # How often the numbers of actions began anew.
+        self._renewals = 0
         self._is_open = True
         forking.add(self)
 
@@ -123,10 +122,11 @@ class Guardian:
         before = self._archive.told(Question.ACTIONS)
         try:
             call = kind, parent.number if parent else 0
-            status, number = self._make(*call)
+            status, number = self._make_since(parent._renewals if parent else None, *call)
             if status != Status.ACTION:
                 raise error_of_call(status, number, call)
             action = Action(self, number, parent, kind == Kind.BEGIN_NESTED)
+            action._renewals = self._renewals
             self._owners.add(action)
             return action
         except BaseException:
@@ -182,16 +182,29 @@ class Guardian:
         """Folds the journal's entries away once no action is live.
 
         Until then it holds back each `topaction`, at most `patience` seconds; then Busy. So a thread
-        that has a live action doesn't wait here.
+        that has a live action doesn't wait here. Once half of the numbers for actions are gone, it
+        renews the guardian, too.
         """
+        self._fold_waiting(patience, self._fold)
+
+    def renew(self, patience: float = 0.0) -> None:
+        """Begins anew with the numbers of actions, once no action is live; waits as `checkpoint` does.
+
+        Objects keep their numbers, their shapes and what they hold for good, and entries their numbers;
+        the journal's entries are folded away. From then on the number of an action that was begun
+        before is that of another one or of none; an `Action` of before is over.
+        """
+        self._fold_waiting(patience, self._begin_anew)
+
+    def _fold_waiting(self, patience: float, fold: Callable[[], int]) -> None:
         limit = time.monotonic() + patience
         with self._lock:
             self._folding += 1
             try:
-                status = self._fold()
+                status = fold()
                 while status == Status.BUSY and time.monotonic() < limit:
                     self._wait_until(limit)
-                    status = self._fold()
+                    status = fold()
             finally:
                 self._folding -= 1
                 self._wake()
@@ -200,44 +213,17 @@ class Guardian:
 
     def _fold(self) -> int:
         self._abort_dropped()
+        if self._archive.told(Question.ACTIONS) >= self.MAX_ACTIONS // 2:
+            return self._begin_anew()
         return self._archive.fold()
 
-    @property
-    def objects(self) -> int:
-        """How many objects are declared."""
-        return self._tell(Question.OBJECTS)
-
-    @property
-    def actions(self) -> int:
-        """How many actions are begun: the next one's number."""
-        return self._tell(Question.ACTIONS)
-
-    @property
-    def entries(self) -> int:
-        """How many entries the journal has had: the next one's number."""
-        return self._tell(Question.ENTRIES)
-
-    def base(self, obj: Object) -> Any:
-        """What is in the object for good; None where it has no content yet."""
-        return read_content(self._tell(Question.BASE, obj=object_number(obj)))
-
-    def readers(self, obj: Object) -> list[int]:
-        """Who holds the object for reading, in increasing number."""
-        return _actions(self._tell(Question.READERS, obj=object_number(obj)))
-
-    def versions(self, obj: Object) -> list[tuple[int, Any]]:
-        """Who holds the object for writing, from ancestor to descendant, each with what it sees."""
-        lines = _lines(self._tell(Question.VERSIONS, obj=object_number(obj)))
-        pairs = (line.split(" ", 1) for line in lines)
-        return [(int(holder[1:]), read_content(content)) for holder, content in pairs]
-
-    def entry(self, number: int) -> str:
-        """The line of a journal's entry. NotThere where a checkpoint has folded it."""
-        return self._tell(Question.ENTRY, entry=within(number, 0, U64, "entry"))
-
-    def list(self, listing: str) -> str:
-        """A listing: of `bases`, `stacks`, `journal` or `audit`."""
-        return self._tell(_LISTINGS[listing])
+    def _begin_anew(self) -> int:
+        self._abort_dropped()
+        status = self._archive.renew()
+        if status == Status.DONE:
+            self._renewals += 1
+            self._owners.forget()
+        return status
 
     def call(
         self, kind: int, action: int = 0, obj: Object = 0, first: int = 0, second: int = 0, text: str = ""
@@ -284,13 +270,14 @@ class Guardian:
         answers = self._archive.answers(outcomes, calls)
         return CallsMade(answers, _end_of(status, answers, array))
 
-    def _end(self, kind: int, action: int) -> None:
-        """Commits an action, or aborts it."""
+    def _make_of(self, action: Action, kind: int, obj: Object = 0) -> Any:
+        """Makes a call of an `Action`: its end, that of its siblings, or a test. What it answers."""
+        call = kind, action.number, object_number(obj)
         with self._lock:
-            answer = self._make(kind, action)
-            self._note_end(kind, action, answer)
-            if answer != _DONE:
-                self._archive.answer(*answer, (kind, action))
+            answer = self._make_since(action._renewals, *call)
+            if kind in _ENDS and action._renewals in (None, self._renewals):
+                self._note_end(kind, action.number, answer)
+            return self._archive.answer(*answer, call)
 
     def _note_end(self, kind: int, action: int, answer: tuple[int, int]) -> None:
         if kind != Kind.ABORT_OTHERS and answer in (_DONE, _OVER):
@@ -317,12 +304,14 @@ class Guardian:
         second: int = 0,
         text: str = "",
         lineage: Callable[[], set[int]] | None = None,
+        renewals: int | None = None,
     ) -> Any:
         """Makes an access, which waits for its object as long as patience lasts.
 
         Each time that it is made is an entry of the journal: at first, where the lock may be had,
         where other actions were aborted (and maybe its own), and when the patience is over. `lineage`
-        gives the numbers of the action and its ancestors.
+        gives the numbers of the action and its ancestors; `renewals` is how often the guardian had been
+        renewed when it was begun: where it was renewed since, the action is over.
         """
         if type(obj) is not int or not 0 <= obj <= U32:
             obj = object_number(obj)
@@ -335,34 +324,36 @@ class Guardian:
         with self._lock:
             if self._owners.dropped:
                 self._abort_dropped()
-            status, number = archive.make(*call)
+            if renewals is None:
+                renewals = self._renewals
+            status, number = archive.make(*call) if renewals == self._renewals else _OVER
             if status == Status.REFUSED and number == _CONFLICT[1]:
-                return self._access_refused(call, lineage() if lineage else {action})
+                return self._access_refused(call, lineage() if lineage else {action}, renewals)
             return archive.answer(status, number, call)
 
-    def _access_refused(self, call: Call, lineage: set[int]) -> Any:
+    def _access_refused(self, call: Call, lineage: set[int], renewals: int) -> Any:
         """Waits for the object of a refused access, and makes it again."""
         answer, is_reading = _CONFLICT, call[0] < Kind.CREATE
         is_in_vain = not is_reading and self._is_in_vain(call[2], lineage)
         if is_reading:
-            answer = self._make_once_had(call, Question.CAN_READ)
+            answer = self._make_once_had(call, Question.CAN_READ, renewals)
         elif not is_in_vain:
-            answer = self._make_waiting_to_write(call, lineage)
+            answer = self._make_waiting_to_write(call, lineage, renewals)
         if answer == _CONFLICT:
             raise errors.Conflict(self._conflict(call, lineage, is_in_vain))
         return self._archive.answer(*answer, call)
 
-    def _make_waiting_to_write(self, call: Call, lineage: set[int]) -> tuple[int, int]:
+    def _make_waiting_to_write(self, call: Call, lineage: set[int], renewals: int) -> tuple[int, int]:
         waiting = self._writing.setdefault(call[2], [])
         waiting.append(lineage)
         try:
-            return self._make_once_had(call, Question.CAN_WRITE)
+            return self._make_once_had(call, Question.CAN_WRITE, renewals)
         finally:
             waiting.remove(lineage)
             if not waiting:
                 del self._writing[call[2]]
 
-    def _make_once_had(self, call: Call, question: int) -> tuple[int, int]:
+    def _make_once_had(self, call: Call, question: int, renewals: int) -> tuple[int, int]:
         """Makes a refused access again each time that it may be had, until the patience is over."""
         limit, answer = time.monotonic() + self.patience, _CONFLICT
         while answer == _CONFLICT and time.monotonic() < limit:
@@ -371,7 +362,7 @@ class Guardian:
                 if self._ask(question, *call[1:3]) == _TRUE:
                     break
                 self._wait_until(limit)
-            answer = self._make(*call)
+            answer = self._make_since(renewals, *call)
         return answer
 
     def _is_in_vain(self, obj: int, lineage: set[int]) -> bool:
@@ -389,7 +380,7 @@ class Guardian:
             texts = [self._archive.told(question, obj=obj) for question in questions]
         except errors.OutOfMemory:
             return set()
-        return {number for text in texts for number in _actions(text)}
+        return {number for text in texts for number in actions_of(text)}
 
     def _conflict(self, call: Call, lineage: set[int], is_in_vain: bool) -> str:
         """Who holds the object against an access, as `a7 wants to write o3, held by a5`."""
@@ -416,17 +407,33 @@ class Guardian:
             self._abort_dropped()
         return self._archive.make(*call)
 
+    def _make_since(self, renewals: int | None, *call: Any) -> tuple[int, int]:
+        """The same of an action that was begun before so many renewals. If there were more, it is over."""
+        return self._make(*call) if renewals in (None, self._renewals) else _OVER
+
     def _ask(self, question: int, action: int, obj: int) -> tuple[int, int]:
         """The status and the number of a question. The lock is held."""
         if self._owners.dropped:
             self._abort_dropped()
         return self._archive.ask(question, action, obj)
 
-    def _tell(self, question: int, obj: int = 0, entry: int = 0) -> Any:
+    def lines(self, entry: int, size: int = 65536) -> list[str]:
+        """The lines of the journal's entries from this number on, as many as fit into so many bytes.
+
+        One comes at least, however long it is, if there is one; so `entry + len(lines)` is the next
+        number to ask for. NotThere below `first_entry`, and above `entries`.
+        """
+        entry = within(entry, 0, U64, "entry")
         with self._lock:
             if self._owners.dropped:
                 self._abort_dropped()
-            return self._archive.told(question, 0, obj, entry)
+            return self._archive.lines(entry, within(size, 0, MOST, "size"))
+
+    def _tell(self, question: int, obj: int = 0, entry: int = 0, action: int = 0) -> Any:
+        with self._lock:
+            if self._owners.dropped:
+                self._abort_dropped()
+            return self._archive.told(question, action, obj, entry)
 
 
 def _end_of(status: int, answers: list[Any], array: Any) -> errors.ArgusError | None:
@@ -434,13 +441,3 @@ def _end_of(status: int, answers: list[Any], array: Any) -> errors.ArgusError | 
     if status == Status.DONE:
         return None
     return answers[-1] if status == Status.UNMET else error_of(status, array[len(answers)].number)
-
-
-def _actions(text: str) -> list[int]:
-    """The numbers of actions, of which each begins a line, as a7."""
-    return [int(line.split(" ", 1)[0][1:]) for line in _lines(text)]
-
-
-def _lines(text: str) -> list[str]:
-    """The lines of a text. A line feed alone ends one: texts in values may hold other ends of lines."""
-    return [line for line in text.split("\n") if line]

@@ -9,6 +9,8 @@ from pathlib import Path
 from typing import Any
 
 NAME = "libargus.so.0"
+# The version of the library that belongs to this package, in one number.
+VERSION_NUMBER = 100
 
 
 class Handle(ctypes.Structure):
@@ -64,6 +66,13 @@ class Question:
 
     CAN_READ, CAN_WRITE, OBJECTS, ACTIONS, ENTRIES, BASE, READERS, VERSIONS, ENTRY = range(9)
     LIST_BASES, LIST_STACKS, LIST_JOURNAL, LIST_AUDIT = range(9, 13)
+    SHAPE, ACTION_STATUS, FIRST_LIVE, FIRST_ENTRY = range(13, 17)
+
+
+class ActionStatus:
+    """What has become of an action."""
+
+    LIVE, COMMITTED, ABORTED, FOLDED = range(1, 5)
 
 
 def where() -> str:
@@ -76,7 +85,7 @@ def where() -> str:
 
 
 def load() -> ctypes.CDLL:
-    """The library, with what its calls take. OSError where it isn't to be had."""
+    """The library, with what its calls take. OSError where it isn't to be had, or is of another version."""
     try:
         library = ctypes.CDLL(where())
     except OSError as error:
@@ -94,10 +103,16 @@ def load() -> ctypes.CDLL:
         "argus_c_abort_live": (handle,),
         "argus_c_checkpoint": (handle,),
         "argus_c_reply": (handle, ctypes.c_char_p, size, ctypes.POINTER(size)),
+        "argus_c_renew": (handle,),
+        "argus_c_lines": (handle, u64, ctypes.c_char_p, size, ctypes.POINTER(size), ctypes.POINTER(u64)),
+        "argus_c_version": (),
     }
     for name, given in calls.items():
         call = getattr(library, name)
         call.argtypes, call.restype = given, u32
+    if library.argus_c_version() != VERSION_NUMBER:
+        number = library.argus_c_version()
+        raise OSError(f"{where()} is of version {number}, and this package needs {VERSION_NUMBER}")
     return library
 
 

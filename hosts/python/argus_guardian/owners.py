@@ -39,6 +39,10 @@ class Owners:
     def remove(self, number: int) -> None:
         self._live.pop(number, None)
 
+    def forget(self) -> None:
+        """Nobody has any: those that were begun are over, and their numbers are given anew."""
+        self._live.clear()
+
     def take_dropped(self) -> Iterator[int]:
         """The numbers that were dropped. Each is told until it is removed."""
         while self.dropped:

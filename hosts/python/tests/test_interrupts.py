@@ -76,16 +76,16 @@ class Interrupts(unittest.TestCase):
             self.assertIn("abort", self.guardian.entry(entries - 1))
 
     def test_where_the_commit_is_interrupted(self):
-        end = self.guardian._end
+        end = self.guardian._make_of
 
         def interrupted_before(*_):
-            self.guardian._end = end
+            self.guardian._make_of = end
             raise KeyboardInterrupt
 
         with self.assertRaises(KeyboardInterrupt):
             with self.guardian.topaction() as top:
                 top.set_field(self.record, 0, 7)
-                self.guardian._end = interrupted_before
+                self.guardian._make_of = interrupted_before
         self.guardian.checkpoint()
         self.assertEqual(self.guardian.base(self.record), (0,))
 

@@ -5,6 +5,7 @@ use crate::call::Call;
 use crate::change::Change;
 use crate::error::Error;
 use crate::guardian::Guardian;
+use crate::object::Object;
 use crate::query::Query;
 use crate::value::Value;
 use crate::{ActionId, ObjId};
@@ -137,6 +138,52 @@ impl<'g> Action<'g> {
     pub fn set(&mut self, object: ObjId, field: u8, value: impl Into<Value>) -> Result<(), Error> {
         self.alter(object, Change::SetField(field, value.into()))?
             .done()
+    }
+
+    /// A field of a record, by its name.
+    ///
+    /// # Errors
+    ///
+    /// [`Error::NoName`] where the record's shape hasn't the name; else as of [`get`](Self::get).
+    ///
+    /// ```
+    /// use argus_guardian::{Change, Guardian, Value};
+    /// let mut guardian = Guardian::new()?;
+    /// let record = guardian.declare("atomic_record[n:int]")?;
+    /// let record = guardian.object(record)?;
+    /// let mut top = guardian.topaction()?;
+    /// top.alter(record.id(), Change::Create("{1}".parse()?))?.done()?;
+    /// assert_eq!(top.get_named(&record, "n")?, Value::Int(1));
+    /// # Ok::<(), argus_guardian::Error>(())
+    /// ```
+    pub fn get_named(&mut self, object: &Object, name: &str) -> Result<Value, Error> {
+        self.get(object.id(), object.number(name)?)
+    }
+
+    /// A field of a record becomes the value, by its name.
+    ///
+    /// # Errors
+    ///
+    /// [`Error::NoName`] where the record's shape hasn't the name; else as of [`set`](Self::set).
+    ///
+    /// ```
+    /// use argus_guardian::{Change, Guardian, Value};
+    /// let mut guardian = Guardian::new()?;
+    /// let record = guardian.declare("atomic_record[n:int]")?;
+    /// let record = guardian.object(record)?;
+    /// let mut top = guardian.topaction()?;
+    /// top.alter(record.id(), Change::Create("{1}".parse()?))?.done()?;
+    /// top.set_named(&record, "n", 2)?;
+    /// assert_eq!(top.get(record.id(), 0)?, Value::Int(2));
+    /// # Ok::<(), argus_guardian::Error>(())
+    /// ```
+    pub fn set_named(
+        &mut self,
+        object: &Object,
+        name: &str,
+        value: impl Into<Value>,
+    ) -> Result<(), Error> {
+        self.set(object.id(), object.number(name)?, value)
     }
 
     /// Takes the write lock, and changes nothing. It comes before reading what will be written.

@@ -28,8 +28,11 @@ pub enum Error {
     /// A text is no written form of a shape that can be made. Nothing has changed, and nothing was
     /// journalled.
     BadShape,
-    /// The object isn't declared, or no entry has this number.
+    /// The object isn't declared, or no entry has this number, or none but one that a checkpoint has
+    /// folded.
     NotThere,
+    /// The object's shape has no field or tag of this name. Nothing was journalled.
+    NoName(String),
     /// The call of the list that is to have begun the action isn't an earlier one, or began none.
     /// Nothing has changed, and nothing was journalled.
     NotBegun,
@@ -46,6 +49,8 @@ pub enum Error {
     OtherAnswer,
     /// The library answered a number that this crate doesn't know: they are of two versions.
     Unknown(u32),
+    /// The library is of another version, with this number, than the crate.
+    OtherVersion(u32),
 }
 
 impl Error {
@@ -69,6 +74,7 @@ impl fmt::Display for Error {
             Error::BadText { at } => write!(f, "no written form: bad at byte {at}"),
             Error::BadShape => f.write_str("no written form of a shape"),
             Error::NotThere => f.write_str("no such object or entry"),
+            Error::NoName(name) => write!(f, "no field or tag is named {name}"),
             Error::NotBegun => f.write_str("no earlier call of the list began this action"),
             Error::NoRoom => f.write_str("called, but no memory for the answer"),
             Error::Refused(refusal) => write!(f, "refused: {refusal}"),
@@ -76,6 +82,7 @@ impl fmt::Display for Error {
             Error::Checkpoint(error) => write!(f, "no checkpoint: {error}"),
             Error::OtherAnswer => f.write_str("an answer of another kind"),
             Error::Unknown(status) => write!(f, "the library answered {status}"),
+            Error::OtherVersion(number) => write!(f, "the library is of version {number}"),
         }
     }
 }

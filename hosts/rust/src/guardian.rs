@@ -1,25 +1,23 @@
 //! `Guardian`: atomic objects, for one caller at a time.
 
+use crate::ObjId;
 use crate::action::Action;
 use crate::answer::Answer;
 use crate::call::Call;
 use crate::checkpoint_error::CheckpointError;
-use crate::content::Content;
 use crate::decoding::{self, error_of, read_as};
 use crate::error::Error;
-use crate::listing::Listing;
-use crate::reader::Reader;
 use crate::reply::Reply;
-use crate::sys::{self, Handle, question, status};
+use crate::sys::{self, Handle, status};
 use crate::words::Words;
-use crate::{ActionId, ObjId};
 use std::fmt;
 
 /// Atomic objects and the actions that use them, for one caller at a time; threads share one by a
 /// [`Shared`](crate::Shared), or by a mutex of their own.
 ///
 /// Its journal keeps each call with its reply, and so grows until a [`checkpoint`](Self::checkpoint).
-/// A guardian begins a million actions in its life, and declares 65,535 objects.
+/// A guardian begins [`MAX_ACTIONS`](Self::MAX_ACTIONS) actions, until it is [renewed](Self::renew),
+/// and declares 65,535 objects.
 ///
 /// ```
 /// use argus_guardian::{Call, Guardian, Reply, ObjId};
@@ -34,6 +32,8 @@ pub struct Guardian {
     room: Vec<u8>,
     // What came of the last call: of which kind the text is that the library keeps.
     pub(crate) kept: u32,
+    // How often the numbers of actions began anew.
+    pub(crate) renewals: u64,
 }
 
 // SAFETY: the archive's handle is proved to be such as may go to another thread, and all calls that
@@ -41,12 +41,16 @@ pub struct Guardian {
 unsafe impl Send for Guardian {}
 
 impl Guardian {
+    /// How many actions a guardian begins until it is [renewed](Self::renew).
+    pub const MAX_ACTIONS: u32 = 1_000_000;
+
     /// A guardian without objects. It leaves a word of 8 bytes for good where it is dropped; one that
     /// is made [beside](Self::beside) another one leaves none.
     ///
     /// # Errors
     ///
-    /// [`Error::OutOfMemory`].
+    /// [`Error::OutOfMemory`]; [`Error::OtherVersion`] where the library that was linked isn't the one
+    /// that belongs to this crate.
     ///
     /// ```
     /// assert_eq!(argus_guardian::Guardian::new()?.objects(), 0);
@@ -77,12 +81,18 @@ impl Guardian {
 
     fn opened(beside: &mut Handle) -> Result<Guardian, Error> {
         let mut handle = Handle::CLOSED;
+        // SAFETY: it takes nothing.
+        let version = unsafe { sys::argus_c_version() };
+        if version != sys::VERSION_NUMBER {
+            return Err(Error::OtherVersion(version));
+        }
         // SAFETY: both handles are borrowed for the call, and are two.
         match unsafe { sys::argus_c_open(&raw mut handle, beside) } {
             status::DONE => Ok(Guardian {
                 handle,
                 room: Vec::new(),
                 kept: status::DONE,
+                renewals: 0,
             }),
             status::NO_MEMORY => Err(Error::OutOfMemory),
             other => Err(Error::Unknown(other)),
@@ -280,208 +290,39 @@ impl Guardian {
         }
     }
 
-    /// Whether the action could have a read lock on the object now. It isn't journalled.
+    /// Begins anew: objects keep their numbers, their shapes and what they hold for good, and entries
+    /// their numbers; actions are numbered from 0 again. The entries are folded away, as by a
+    /// checkpoint.
+    ///
+    /// From then on an [`ActionId`] of before names another action, or none. A [`Shared`](crate::Shared)
+    /// renews by itself.
+    ///
+    /// # Errors
+    ///
+    /// As of [`checkpoint`](Self::checkpoint).
     ///
     /// ```
-    /// use argus_guardian::{Guardian, ObjId};
-    /// let mut guardian = Guardian::new()?;
-    /// let mut top = guardian.topaction()?;
-    /// let id = top.id();
-    /// assert!(!top.guardian().can_read(id, ObjId(0)));
-    /// # Ok::<(), argus_guardian::Error>(())
-    /// ```
-    pub fn can_read(&mut self, action: ActionId, object: ObjId) -> bool {
-        self.tell(question::CAN_READ, action, object, 0) == (status::FLAG, 1)
-    }
-
-    /// Whether the action could have a write lock on the object now. It isn't journalled.
-    ///
-    /// ```
-    /// use argus_guardian::Guardian;
+    /// use argus_guardian::{ActionId, Guardian};
     /// let mut guardian = Guardian::new()?;
     /// let object = guardian.declare("atomic_array[int]")?;
-    /// let mut top = guardian.topaction()?;
-    /// let id = top.id();
-    /// assert!(top.guardian().can_write(id, object));
-    /// # Ok::<(), argus_guardian::Error>(())
-    /// ```
-    pub fn can_write(&mut self, action: ActionId, object: ObjId) -> bool {
-        self.tell(question::CAN_WRITE, action, object, 0) == (status::FLAG, 1)
-    }
-
-    /// How many objects are declared.
-    ///
-    /// ```
-    /// let mut guardian = argus_guardian::Guardian::new()?;
-    /// guardian.declare("atomic_array[int]")?;
-    /// assert_eq!(guardian.objects(), 1);
-    /// # Ok::<(), argus_guardian::Error>(())
-    /// ```
-    pub fn objects(&mut self) -> u32 {
-        self.count(question::OBJECTS).try_into().unwrap_or(u32::MAX)
-    }
-
-    /// How many actions are begun: the next one's number.
-    ///
-    /// ```
-    /// let mut guardian = argus_guardian::Guardian::new()?;
     /// guardian.topaction()?.commit()?;
-    /// assert_eq!(guardian.actions(), 1);
+    /// guardian.renew()?;
+    /// assert_eq!(guardian.actions_left(), Guardian::MAX_ACTIONS);
+    /// assert_eq!(guardian.topaction()?.id(), ActionId(0));
+    /// assert_eq!(guardian.shape(object)?, "atomic_array[int]");
+    /// assert_eq!(guardian.first_entry(), 3);
     /// # Ok::<(), argus_guardian::Error>(())
     /// ```
-    pub fn actions(&mut self) -> u32 {
-        self.count(question::ACTIONS).try_into().unwrap_or(u32::MAX)
-    }
-
-    /// How many entries the journal has had, those that a checkpoint has folded too: the next one's
-    /// number.
-    ///
-    /// ```
-    /// let mut guardian = argus_guardian::Guardian::new()?;
-    /// guardian.topaction()?.commit()?;
-    /// assert_eq!(guardian.entries(), 2);
-    /// # Ok::<(), argus_guardian::Error>(())
-    /// ```
-    pub fn entries(&mut self) -> u64 {
-        self.count(question::ENTRIES)
-    }
-
-    fn count(&mut self, question: u32) -> u64 {
-        let (_, number) = self.tell(question, ActionId(0), ObjId(0), 0);
-        u64::try_from(number).unwrap_or(0)
-    }
-
-    /// What is in the object for good; `None` where it has no content yet.
-    ///
-    /// # Errors
-    ///
-    /// [`Error::NotThere`] where no object of that number is declared; [`Error::OutOfMemory`].
-    ///
-    /// ```
-    /// use argus_guardian::{Error, Guardian, ObjId};
-    /// let mut guardian = Guardian::new()?;
-    /// let object = guardian.declare("atomic_array[int]")?;
-    /// assert_eq!(guardian.base(object)?, None);
-    /// assert_eq!(guardian.base(ObjId(9)), Err(Error::NotThere));
-    /// # Ok::<(), Error>(())
-    /// ```
-    pub fn base(&mut self, object: ObjId) -> Result<Option<Content>, Error> {
-        let text = self.told(question::BASE, object, 0)?;
-        Reader::whole(text, Reader::content_or_absent)
-    }
-
-    /// Who holds the object for reading, in increasing number.
-    ///
-    /// # Errors
-    ///
-    /// As of [`base`](Self::base).
-    ///
-    /// ```
-    /// let mut guardian = argus_guardian::Guardian::new()?;
-    /// let object = guardian.declare("atomic_array[int]")?;
-    /// assert_eq!(guardian.readers(object)?, []);
-    /// # Ok::<(), argus_guardian::Error>(())
-    /// ```
-    pub fn readers(&mut self, object: ObjId) -> Result<Vec<ActionId>, Error> {
-        let text = self.told(question::READERS, object, 0)?;
-        text.lines()
-            .map(|line| Reader::whole(line, Reader::action))
-            .collect()
-    }
-
-    /// Who holds the object for writing, from ancestor to descendant, each with what it sees there.
-    ///
-    /// # Errors
-    ///
-    /// As of [`base`](Self::base).
-    ///
-    /// ```
-    /// use argus_guardian::{ActionId, Change, Content, Guardian};
-    /// let mut guardian = Guardian::new()?;
-    /// let object = guardian.declare("atomic_array[int]")?;
-    /// let mut top = guardian.topaction()?;
-    /// let empty: Content = "1[]".parse()?;
-    /// top.alter(object, Change::Create(empty.clone()))?.done()?;
-    /// assert_eq!(top.guardian().versions(object)?, [(ActionId(0), Some(empty))]);
-    /// # Ok::<(), argus_guardian::Error>(())
-    /// ```
-    pub fn versions(&mut self, object: ObjId) -> Result<Vec<(ActionId, Option<Content>)>, Error> {
-        let text = self.told(question::VERSIONS, object, 0)?;
-        text.lines()
-            .map(|line| Reader::whole(line, Reader::version))
-            .collect()
-    }
-
-    /// The line of a journal's entry: its number, the call and the reply.
-    ///
-    /// # Errors
-    ///
-    /// [`Error::NotThere`] where no entry has this number, or a checkpoint has folded it;
-    /// [`Error::OutOfMemory`].
-    ///
-    /// ```
-    /// let mut guardian = argus_guardian::Guardian::new()?;
-    /// guardian.topaction()?.commit()?;
-    /// assert_eq!(guardian.entry(1)?, "1 commit a0 -> done");
-    /// # Ok::<(), argus_guardian::Error>(())
-    /// ```
-    pub fn entry(&mut self, number: u64) -> Result<String, Error> {
-        let text = self.told(question::ENTRY, ObjId(0), number)?;
-        Ok(text.to_owned())
-    }
-
-    /// A listing. Objects have the names `o0`, `o1` and so on.
-    ///
-    /// # Errors
-    ///
-    /// [`Error::OutOfMemory`].
-    ///
-    /// ```
-    /// use argus_guardian::{Guardian, Listing};
-    /// let mut guardian = Guardian::new()?;
-    /// guardian.declare("atomic_array[int]")?;
-    /// assert_eq!(guardian.list(Listing::Bases)?, "o0 absent\n");
-    /// # Ok::<(), argus_guardian::Error>(())
-    /// ```
-    pub fn list(&mut self, listing: Listing) -> Result<String, Error> {
-        let question = match listing {
-            Listing::Bases => question::LIST_BASES,
-            Listing::Stacks => question::LIST_STACKS,
-            Listing::Journal => question::LIST_JOURNAL,
-            Listing::Audit => question::LIST_AUDIT,
-        };
-        let text = self.told(question, ObjId(0), 0)?;
-        Ok(text.to_owned())
-    }
-
-    // A question's status and number.
-    fn tell(&mut self, question: u32, action: ActionId, object: ObjId, entry: u64) -> (u32, i64) {
-        let mut number = 0;
-        // SAFETY: the handle is this guardian's alone, and the number is another memory.
-        let status = unsafe {
-            sys::argus_c_tell(
-                &raw mut self.handle,
-                question,
-                action.0,
-                object.0,
-                entry,
-                &raw mut number,
-            )
-        };
-        if status == status::TEXT {
-            self.kept = status;
-        }
-        (status, number)
-    }
-
-    // What a question tells as a text.
-    fn told(&mut self, question: u32, object: ObjId, entry: u64) -> Result<&str, Error> {
-        match self.tell(question, ActionId(0), object, entry) {
-            (status::TEXT, _) => self.text().map_err(|error| match error {
-                Error::NoRoom => Error::OutOfMemory,
-                other => other,
-            }),
-            (status, number) => Err(error_of(status, number)),
+    pub fn renew(&mut self) -> Result<(), CheckpointError> {
+        // SAFETY: the handle is this guardian's alone.
+        match unsafe { sys::argus_c_renew(&raw mut self.handle) } {
+            status::DONE => {
+                self.renewals += 1;
+                Ok(())
+            }
+            status::BUSY => Err(CheckpointError::Busy),
+            status::FULL => Err(CheckpointError::Full),
+            _ => Err(CheckpointError::OutOfMemory),
         }
     }
 }

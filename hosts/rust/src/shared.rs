@@ -3,7 +3,6 @@
 use crate::ActionId;
 use crate::answer::Answer;
 use crate::call::Call;
-use crate::checkpoint_error::CheckpointError;
 use crate::error::Error;
 use crate::guardian::Guardian;
 use crate::may_conflict::MayConflict;
@@ -67,14 +66,14 @@ pub struct Shared {
 }
 
 #[derive(Debug)]
-struct Kept {
-    guardian: Guardian,
+pub(crate) struct Kept {
+    pub(crate) guardian: Guardian,
     // How many threads wait on the condition.
     waiting: u32,
     // How often actions were aborted, by which others than the one that waits may be over.
     aborts: u64,
     // How many threads wait until no action is live, to fold the journal: no topaction begins then.
-    folding: u32,
+    pub(crate) folding: u32,
     // Who waits to write.
     writing: Vec<WaitingWriter>,
 }
@@ -134,12 +133,12 @@ impl Shared {
     }
 
     // A thread that panics leaves a guardian between two calls, so its lock is as good as any.
-    fn lock(&self) -> MutexGuard<'_, Kept> {
+    pub(crate) fn lock(&self) -> MutexGuard<'_, Kept> {
         self.kept.lock().unwrap_or_else(PoisonError::into_inner)
     }
 
     // Waits while it is so, for so long at the most.
-    fn wait_while<'s>(
+    pub(crate) fn wait_while<'s>(
         &'s self,
         mut kept: MutexGuard<'s, Kept>,
         patience: Duration,
@@ -153,7 +152,7 @@ impl Shared {
     }
 
     // Wakes who waits. Where nobody does, the condition isn't told: that is a call of the system.
-    fn wake(&self, kept: &Kept) {
+    pub(crate) fn wake(&self, kept: &Kept) {
         if kept.waiting > 0 {
             self.ended.notify_all();
         }
@@ -175,6 +174,19 @@ impl Shared {
     /// ```
     pub fn call(&self, call: &Call) -> Result<Reply, Error> {
         self.call_in(&mut self.lock(), call)
+    }
+
+    // The same of an action that was begun before so many renewals: where there were more, its number
+    // is another's, and it is over.
+    pub(crate) fn call_since(&self, renewals: u64, call: &Call) -> Result<Reply, Error> {
+        self.call_in_since(&mut self.lock(), renewals, call)
+    }
+
+    fn call_in_since(&self, kept: &mut Kept, renewals: u64, call: &Call) -> Result<Reply, Error> {
+        if kept.guardian.renewals != renewals {
+            return Ok(Reply::Refused(Refusal::Over));
+        }
+        self.call_in(kept, call)
     }
 
     fn call_in(&self, kept: &mut Kept, call: &Call) -> Result<Reply, Error> {
@@ -214,24 +226,27 @@ impl Shared {
     /// # Ok::<(), argus_guardian::Error>(())
     /// ```
     pub fn call_waiting(&self, call: &Call, patience: Duration) -> Result<Reply, Error> {
-        self.access(call, patience, |action| vec![action])
+        let renewals = self.lock().guardian.renewals;
+        self.access(call, renewals, patience, |action| vec![action])
     }
 
-    // The same; the last one gives an action with its ancestors.
+    // The same of an action that was begun before so many renewals; the last one gives an action with
+    // its ancestors.
     pub(crate) fn access(
         &self,
         call: &Call,
+        renewals: u64,
         patience: Duration,
         lineage_of: impl FnOnce(ActionId) -> Vec<ActionId>,
     ) -> Result<Reply, Error> {
         let start = Instant::now();
         let mut kept = self.lock();
-        let reply = self.call_in(&mut kept, call)?;
+        let reply = self.call_in_since(&mut kept, renewals, call)?;
         if reply != CONFLICT || patience.is_zero() {
             return Ok(reply);
         }
         let Call::Alter(action, object, _) = *call else {
-            return self.call_once_had(kept, call, start, patience).1;
+            return self.call_once_had(kept, call, renewals, start, patience).1;
         };
         let lineage = lineage_of(action);
         let writer = WaitingWriter { object, lineage };
@@ -239,7 +254,7 @@ impl Shared {
             return Ok(reply);
         }
         kept.writing.push(writer);
-        let (mut kept, reply) = self.call_once_had(kept, call, start, patience);
+        let (mut kept, reply) = self.call_once_had(kept, call, renewals, start, patience);
         let is_this = |it: &WaitingWriter| it.object == object && it.lineage[0] == action;
         if let Some(place) = kept.writing.iter().position(is_this) {
             kept.writing.swap_remove(place);
@@ -252,6 +267,7 @@ impl Shared {
         &'s self,
         mut kept: MutexGuard<'s, Kept>,
         call: &Call,
+        renewals: u64,
         start: Instant,
         patience: Duration,
     ) -> (MutexGuard<'s, Kept>, Result<Reply, Error>) {
@@ -260,7 +276,7 @@ impl Shared {
             let still = |kept: &mut Kept| kept.aborts == aborts && !may_be_had(kept, call);
             let left = patience.saturating_sub(start.elapsed());
             kept = self.wait_while(kept, left, still);
-            let reply = self.call_in(&mut kept, call);
+            let reply = self.call_in_since(&mut kept, renewals, call);
             if reply != Ok(CONFLICT) || start.elapsed() >= patience {
                 return (kept, reply);
             }
@@ -287,7 +303,7 @@ impl Shared {
             kept = self.wait_while(kept, Duration::MAX, |kept| kept.folding > 0);
         }
         let id = self.call_in(&mut kept, &Call::BeginTop)?.action()?;
-        Ok(SharedAction::of(self, id))
+        Ok(SharedAction::of(self, id, kept.guardian.renewals))
     }
 
     /// How often [`run`](Self::run) tries at the most.
@@ -343,54 +359,10 @@ impl Shared {
         Ok(result)
     }
 
-    /// Folds the journal's entries away: [`Guardian::checkpoint`].
-    ///
-    /// # Errors
-    ///
-    /// As of [`Guardian::checkpoint`]: `Busy` while any thread has a live action.
-    ///
-    /// ```
-    /// use argus_guardian::{Guardian, Shared};
-    /// use std::time::Duration;
-    /// let shared = Shared::new(Guardian::new()?, Duration::ZERO);
-    /// assert_eq!(shared.checkpoint(), Ok(()));
-    /// # Ok::<(), argus_guardian::Error>(())
-    /// ```
-    pub fn checkpoint(&self) -> Result<(), CheckpointError> {
-        self.lock().guardian.checkpoint()
-    }
-
-    /// Folds the journal's entries away once no action is live. Until then it holds back each
-    /// [`topaction`](Self::topaction), but waits so long at the most. So a thread that has a live
-    /// action doesn't call it.
-    ///
-    /// # Errors
-    ///
-    /// As of [`Guardian::checkpoint`]: `Busy` where an action was still live at the end of patience.
-    ///
-    /// ```
-    /// use argus_guardian::{CheckpointError, Guardian, Shared};
-    /// use std::time::Duration;
-    /// let shared = Shared::new(Guardian::new()?, Duration::ZERO);
-    /// let top = shared.topaction()?;
-    /// let folded = shared.checkpoint_waiting(Duration::from_millis(1));
-    /// assert_eq!(folded, Err(CheckpointError::Busy));
-    /// top.commit()?;
-    /// assert_eq!(shared.checkpoint_waiting(Duration::ZERO), Ok(()));
-    /// # Ok::<(), argus_guardian::Error>(())
-    /// ```
-    pub fn checkpoint_waiting(&self, patience: Duration) -> Result<(), CheckpointError> {
-        const BUSY: Result<(), CheckpointError> = Err(CheckpointError::Busy);
-        let mut result = BUSY;
-        let mut kept = self.lock();
-        kept.folding += 1;
-        kept = self.wait_while(kept, patience, |kept| {
-            result = kept.guardian.checkpoint();
-            result == BUSY
-        });
-        kept.folding -= 1;
-        self.wake(&kept);
-        result
+    // Lends the guardian for questions alone: nobody is woken.
+    #[cfg(all(feature = "logged", unix))]
+    pub(crate) fn lend<T>(&self, what: impl FnOnce(&mut Guardian) -> T) -> T {
+        what(&mut self.lock().guardian)
     }
 
     /// Does something with the guardian while no other thread has it, and then wakes all who wait,

@@ -4,7 +4,9 @@ use crate::answer::Answer;
 use crate::call::Call;
 use crate::change::Change;
 use crate::error::Error;
+use crate::object::Object;
 use crate::query::Query;
+use crate::reply::Reply;
 use crate::shared::Shared;
 use crate::value::Value;
 use crate::{ActionId, ObjId};
@@ -53,21 +55,38 @@ pub struct SharedAction<'s> {
     id: ActionId,
     // Whose subaction it is.
     parent: Option<&'s SharedAction<'s>>,
+    // How often the guardian had been renewed when it was begun.
+    renewals: u64,
 }
 
 impl<'s> SharedAction<'s> {
+    // A child of this action. Both are live, so there was no renewal since.
     fn begun(
-        shared: &'s Shared,
+        &self,
         call: &Call,
         parent: Option<&'s SharedAction<'s>>,
     ) -> Result<SharedAction<'s>, Error> {
-        let id = shared.call(call)?.action()?;
-        Ok(SharedAction { shared, id, parent })
+        let id = self.call(call)?.action()?;
+        Ok(SharedAction {
+            shared: self.shared,
+            id,
+            parent,
+            renewals: self.renewals,
+        })
     }
 
-    pub(crate) fn of(shared: &'s Shared, id: ActionId) -> SharedAction<'s> {
+    pub(crate) fn of(shared: &'s Shared, id: ActionId, renewals: u64) -> SharedAction<'s> {
         let parent = None;
-        SharedAction { shared, id, parent }
+        SharedAction {
+            shared,
+            id,
+            parent,
+            renewals,
+        }
+    }
+
+    fn call(&self, call: &Call) -> Result<Reply, Error> {
+        self.shared.call_since(self.renewals, call)
     }
 
     // The action itself and its ancestors.
@@ -79,7 +98,10 @@ impl<'s> SharedAction<'s> {
 
     fn access(&self, call: &Call) -> Result<Answer, Error> {
         let patience = self.shared.patience();
-        let reply = self.shared.access(call, patience, |_| self.lineage());
+        let lineage_of = |_| self.lineage();
+        let reply = self
+            .shared
+            .access(call, self.renewals, patience, lineage_of);
         reply?.answer()
     }
 
@@ -179,6 +201,54 @@ impl<'s> SharedAction<'s> {
             .done()
     }
 
+    /// A field of a record, by its name.
+    ///
+    /// # Errors
+    ///
+    /// [`Error::NoName`] where the record's shape hasn't the name; else as of [`get`](Self::get).
+    ///
+    /// ```
+    /// use argus_guardian::{Change, Guardian, Shared, Value};
+    /// let mut guardian = Guardian::new()?;
+    /// let record = guardian.declare("atomic_record[n:int]")?;
+    /// let record = guardian.object(record)?;
+    /// let shared = Shared::from(guardian);
+    /// let top = shared.topaction()?;
+    /// top.alter(record.id(), Change::Create("{1}".parse()?))?.done()?;
+    /// assert_eq!(top.get_named(&record, "n")?, Value::Int(1));
+    /// # Ok::<(), argus_guardian::Error>(())
+    /// ```
+    pub fn get_named(&self, object: &Object, name: &str) -> Result<Value, Error> {
+        self.get(object.id(), object.number(name)?)
+    }
+
+    /// A field of a record becomes the value, by its name.
+    ///
+    /// # Errors
+    ///
+    /// [`Error::NoName`] where the record's shape hasn't the name; else as of [`set`](Self::set).
+    ///
+    /// ```
+    /// use argus_guardian::{Change, Guardian, Shared, Value};
+    /// let mut guardian = Guardian::new()?;
+    /// let record = guardian.declare("atomic_record[n:int]")?;
+    /// let record = guardian.object(record)?;
+    /// let shared = Shared::from(guardian);
+    /// let top = shared.topaction()?;
+    /// top.alter(record.id(), Change::Create("{1}".parse()?))?.done()?;
+    /// top.set_named(&record, "n", 2)?;
+    /// assert_eq!(top.get(record.id(), 0)?, Value::Int(2));
+    /// # Ok::<(), argus_guardian::Error>(())
+    /// ```
+    pub fn set_named(
+        &self,
+        object: &Object,
+        name: &str,
+        value: impl Into<Value>,
+    ) -> Result<(), Error> {
+        self.set(object.id(), object.number(name)?, value)
+    }
+
     /// Takes the write lock, and changes nothing. It comes before reading what will be written.
     ///
     /// # Errors
@@ -223,7 +293,7 @@ impl<'s> SharedAction<'s> {
     /// ```
     pub fn test_read(&self, object: ObjId) -> Result<bool, Error> {
         let call = Call::TestRead(self.id, object);
-        self.shared.call(&call)?.answer()?.flag()
+        self.call(&call)?.answer()?.flag()
     }
 
     /// Takes a write lock; false where it isn't to be had. It doesn't wait.
@@ -245,7 +315,7 @@ impl<'s> SharedAction<'s> {
     /// ```
     pub fn test_write(&self, object: ObjId) -> Result<bool, Error> {
         let call = Call::TestWrite(self.id, object);
-        self.shared.call(&call)?.answer()?.flag()
+        self.call(&call)?.answer()?.flag()
     }
 
     /// Begins a subaction: what it leaves counts only as its ancestors do.
@@ -264,7 +334,7 @@ impl<'s> SharedAction<'s> {
     /// # Ok::<(), Error>(())
     /// ```
     pub fn subaction(&self) -> Result<SharedAction<'_>, Error> {
-        SharedAction::begun(self.shared, &Call::BeginSub(self.id), Some(self))
+        self.begun(&Call::BeginSub(self.id), Some(self))
     }
 
     /// Begins a nested topaction: what it leaves counts, whatever becomes of this action.
@@ -283,7 +353,7 @@ impl<'s> SharedAction<'s> {
     /// # Ok::<(), Error>(())
     /// ```
     pub fn nested(&self) -> Result<SharedAction<'_>, Error> {
-        SharedAction::begun(self.shared, &Call::BeginNested(self.id), None)
+        self.begun(&Call::BeginNested(self.id), None)
     }
 
     /// Aborts all live siblings: who is done first ends the others.
@@ -303,10 +373,7 @@ impl<'s> SharedAction<'s> {
     /// # Ok::<(), Error>(())
     /// ```
     pub fn abort_others(&self) -> Result<(), Error> {
-        self.shared
-            .call(&Call::AbortOthers(self.id))?
-            .answer()?
-            .done()
+        self.call(&Call::AbortOthers(self.id))?.answer()?.done()
     }
 
     /// Commits. After an error it aborts.
@@ -345,7 +412,7 @@ impl<'s> SharedAction<'s> {
     }
 
     fn end(self, how: impl FnOnce(ActionId) -> Call) -> Result<(), Error> {
-        self.shared.call(&how(self.id))?.answer()?.done()?;
+        self.call(&how(self.id))?.answer()?.done()?;
         // It is over: there is nothing to abort, and nothing in it to drop.
         mem::forget(self);
         Ok(())
@@ -355,6 +422,6 @@ impl<'s> SharedAction<'s> {
 impl Drop for SharedAction<'_> {
     fn drop(&mut self) {
         // What comes of it can't be told here.
-        let _ = self.shared.call(&Call::Abort(self.id));
+        let _ = self.call(&Call::Abort(self.id));
     }
 }

@@ -70,6 +70,16 @@ unsafe extern "C" {
         room_size: usize,
         size: *mut usize,
     ) -> u32;
+    pub(crate) fn argus_c_renew(handle: *mut Handle) -> u32;
+    pub(crate) fn argus_c_lines(
+        handle: *mut Handle,
+        from: u64,
+        room: *mut u8,
+        room_size: usize,
+        size: *mut usize,
+        count: *mut u64,
+    ) -> u32;
+    pub(crate) fn argus_c_version() -> u32;
 }
 
 /// What came of a call: `argus_status`.
@@ -151,4 +161,11 @@ pub(crate) mod question {
     pub(crate) const LIST_STACKS: u32 = 10;
     pub(crate) const LIST_JOURNAL: u32 = 11;
     pub(crate) const LIST_AUDIT: u32 = 12;
+    pub(crate) const SHAPE: u32 = 13;
+    pub(crate) const ACTION_STATUS: u32 = 14;
+    pub(crate) const FIRST_LIVE: u32 = 15;
+    pub(crate) const FIRST_ENTRY: u32 = 16;
 }
+
+/// The version of the library that belongs to this crate, in one number.
+pub(crate) const VERSION_NUMBER: u32 = 100;

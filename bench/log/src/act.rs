@@ -1,0 +1,97 @@
+//! `Act`: what an order needs of an action, with a log or without.
+
+use argus_guardian::log::{LoggedAction, LoggedError};
+use argus_guardian::{Change, Error, ObjId, SharedAction, Value};
+
+/// What an order needs of an action, with a log or without.
+pub trait Act: Sized {
+    type Sub<'a>: Act
+    where
+        Self: 'a;
+
+    fn sub(&self) -> Result<Self::Sub<'_>, LoggedError>;
+    fn lock(&self, account: u32) -> Result<(), LoggedError>;
+    fn balance(&self, account: u32) -> Result<i64, LoggedError>;
+    fn set_balance(&self, account: u32, balance: i64) -> Result<(), LoggedError>;
+    fn create(&self, account: u32, balance: i64) -> Result<(), LoggedError>;
+    fn commit(self) -> Result<(), LoggedError>;
+    fn abort(self) -> Result<(), LoggedError>;
+}
+
+fn int(value: Value) -> Result<i64, LoggedError> {
+    i64::try_from(value).map_err(LoggedError::from)
+}
+
+fn created(balance: i64) -> Result<Change, Error> {
+    Ok(Change::Create(format!("{{{balance}}}").parse()?))
+}
+
+impl Act for SharedAction<'_> {
+    type Sub<'a>
+        = SharedAction<'a>
+    where
+        Self: 'a;
+
+    fn sub(&self) -> Result<SharedAction<'_>, LoggedError> {
+        Ok(self.subaction()?)
+    }
+
+    fn lock(&self, account: u32) -> Result<(), LoggedError> {
+        Ok(SharedAction::lock(self, ObjId(account))?)
+    }
+
+    fn balance(&self, account: u32) -> Result<i64, LoggedError> {
+        int(self.get(ObjId(account), 0)?)
+    }
+
+    fn set_balance(&self, account: u32, balance: i64) -> Result<(), LoggedError> {
+        Ok(self.set(ObjId(account), 0, balance)?)
+    }
+
+    fn create(&self, account: u32, balance: i64) -> Result<(), LoggedError> {
+        Ok(self.alter(ObjId(account), created(balance)?)?.done()?)
+    }
+
+    fn commit(self) -> Result<(), LoggedError> {
+        Ok(SharedAction::commit(self)?)
+    }
+
+    fn abort(self) -> Result<(), LoggedError> {
+        Ok(SharedAction::abort(self)?)
+    }
+}
+
+impl Act for LoggedAction<'_> {
+    type Sub<'a>
+        = LoggedAction<'a>
+    where
+        Self: 'a;
+
+    fn sub(&self) -> Result<LoggedAction<'_>, LoggedError> {
+        self.subaction()
+    }
+
+    fn lock(&self, account: u32) -> Result<(), LoggedError> {
+        LoggedAction::lock(self, ObjId(account))
+    }
+
+    fn balance(&self, account: u32) -> Result<i64, LoggedError> {
+        int(self.get(ObjId(account), 0)?)
+    }
+
+    fn set_balance(&self, account: u32, balance: i64) -> Result<(), LoggedError> {
+        self.set(ObjId(account), 0, balance)
+    }
+
+    fn create(&self, account: u32, balance: i64) -> Result<(), LoggedError> {
+        Ok(self.alter(ObjId(account), created(balance)?)?.done()?)
+    }
+
+    fn commit(self) -> Result<(), LoggedError> {
+        LoggedAction::commit(self)
+    }
+
+    fn abort(self) -> Result<(), LoggedError> {
+        LoggedAction::abort(self)
+    }
+}

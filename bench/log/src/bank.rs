@@ -1,0 +1,222 @@
+//! The bank's orders, carried out by many clients.
+
+use crate::act::Act;
+use crate::figures::Figures;
+use crate::orders::{BALANCE, Order};
+use argus_guardian::log::{FileLog, Folder, Logged, LoggedError};
+use argus_guardian::{CheckpointError, Content, Guardian, ObjId, Shared};
+use std::error;
+use std::path::Path;
+use std::str::FromStr;
+use std::sync::Mutex;
+use std::sync::atomic::{AtomicU64, Ordering};
+use std::thread;
+use std::time::{Duration, Instant};
+
+const ACCOUNTS: u32 = 1000;
+const PATIENCE: Duration = Duration::from_secs(100);
+// A hundred thousand entries.
+const FOLD_AFTER: u64 = 2500;
+
+/// How a commit waits for the log.
+#[derive(Debug, Clone, Copy, PartialEq, Eq)]
+pub enum Way {
+    /// There is no log.
+    Memory,
+    /// Each is synced by itself.
+    Each,
+    /// Those that come at the same time are synced together.
+    Group,
+}
+
+impl Way {
+    pub fn words(self) -> &'static str {
+        match self {
+            Way::Memory => "memory",
+            Way::Each => "each",
+            Way::Group => "group",
+        }
+    }
+}
+
+impl FromStr for Way {
+    type Err = String;
+
+    fn from_str(word: &str) -> Result<Way, String> {
+        let ways = [Way::Memory, Way::Each, Way::Group];
+        let way = ways.into_iter().find(|it| it.words() == word);
+        way.ok_or_else(|| format!("{word} is no way"))
+    }
+}
+
+/// Carries out an order, and waits for it in that way. False: it was cancelled.
+pub fn carry_out<A: Act>(
+    top: A,
+    order: &Order,
+    commit: impl FnOnce(A) -> Result<(), LoggedError>,
+) -> Result<bool, LoggedError> {
+    for account in order.accounts() {
+        top.lock(account)?;
+    }
+    for transfer in &order.transfers {
+        let sub = top.sub()?;
+        sub.set_balance(transfer.to, sub.balance(transfer.to)? + transfer.amount)?;
+        let here = sub.balance(transfer.from)?;
+        if here < transfer.amount {
+            sub.abort()?;
+        } else {
+            sub.set_balance(transfer.from, here - transfer.amount)?;
+            sub.commit()?;
+        }
+    }
+    if order.is_cancelled {
+        top.abort()?;
+    } else {
+        commit(top)?;
+    }
+    Ok(!order.is_cancelled)
+}
+
+/// A guardian with the accounts, which aren't in any log.
+fn with_accounts() -> Result<Guardian, Box<dyn error::Error>> {
+    let mut guardian = Guardian::new()?;
+    for _ in 0..ACCOUNTS {
+        guardian.declare("atomic_record[balance:int]")?;
+    }
+    Ok(guardian)
+}
+
+/// A log over a guardian with nothing in it, in a folder that isn't there yet.
+pub fn logged_in(folder: &Path) -> Result<Logged, Box<dyn error::Error>> {
+    let log = FileLog::read(Folder::open(folder)?, |_| Ok(()))?.begin()?;
+    let logged = Logged::over(Guardian::new()?, Box::new(log), PATIENCE);
+    logged.declare_each((0..ACCOUNTS).map(|_| "atomic_record[balance:int]"))?;
+    create(logged.topaction()?)?;
+    Ok(logged)
+}
+
+/// Creates the accounts.
+fn create<A: Act>(top: A) -> Result<(), LoggedError> {
+    (0..ACCOUNTS).try_for_each(|account| top.create(account, BALANCE))?;
+    top.commit()
+}
+
+/// Carries out orders for so long, and checks what they leave.
+pub fn run(
+    folder: &Path,
+    way: Way,
+    clients: u32,
+    time: Duration,
+) -> Result<Figures, Box<dyn error::Error>> {
+    if way == Way::Memory {
+        let shared = Shared::new(with_accounts()?, PATIENCE);
+        create(shared.topaction()?)?;
+        let order = |order: &Order| carry_out(shared.topaction()?, order, Act::commit);
+        let fold = || {
+            ignore_busy(
+                shared
+                    .checkpoint_waiting(PATIENCE)
+                    .map_err(LoggedError::from),
+            )
+        };
+        let work = timed(clients, time, order, fold)?;
+        check(&work, |account| {
+            Ok(shared.with(|guardian| guardian.base(account))?)
+        })?;
+        return Ok(work.figures());
+    }
+    let logged = logged_in(folder)?;
+    let turn = Mutex::new(());
+    let order = |order: &Order| {
+        carry_out(logged.topaction()?, order, |top| {
+            let _turn = (way == Way::Each).then(|| turn.lock());
+            top.commit()
+        })
+    };
+    let fold = || ignore_busy(logged.checkpoint_waiting(PATIENCE));
+    let work = timed(clients, time, order, fold)?;
+    check(&work, |account| logged.base(account))?;
+    Ok(work.figures())
+}
+
+fn ignore_busy(folded: Result<(), LoggedError>) -> Result<(), LoggedError> {
+    let busy = argus_guardian::Error::from(CheckpointError::Busy);
+    match folded {
+        Err(LoggedError::Guardian(error)) if error == busy => Ok(()),
+        other => other,
+    }
+}
+
+// Compares the accounts with what whole orders leave.
+fn check(
+    work: &Work,
+    base: impl Fn(ObjId) -> Result<Option<Content>, LoggedError>,
+) -> Result<(), Box<dyn error::Error>> {
+    let mut balances = vec![BALANCE; ACCOUNTS as usize];
+    for (client, done) in (0..).zip(&work.done) {
+        (0..*done).for_each(|it| Order::drawn(client, it, ACCOUNTS).leave(&mut balances));
+    }
+    for (account, balance) in (0..).zip(balances) {
+        let wanted = Content::Record(vec![balance.into()]);
+        if base(ObjId(account))? != Some(wanted) {
+            return Err(format!("account {account} isn't what the orders leave").into());
+        }
+    }
+    Ok(())
+}
+
+/// What was done: how many orders of each client, and how long each took that was carried out.
+struct Work {
+    taken: Duration,
+    done: Vec<u64>,
+    each: Vec<Duration>,
+}
+
+impl Work {
+    fn figures(self) -> Figures {
+        Figures {
+            clients: u32::try_from(self.done.len()).unwrap_or(u32::MAX),
+            taken: self.taken,
+            each: self.each,
+        }
+    }
+}
+
+// Each client's orders, until the time is over.
+fn timed(
+    clients: u32,
+    time: Duration,
+    order: impl Fn(&Order) -> Result<bool, LoggedError> + Sync,
+    fold: impl Fn() -> Result<(), LoggedError> + Sync,
+) -> Result<Work, LoggedError> {
+    let count = AtomicU64::new(0);
+    let begin = Instant::now();
+    let work = |client: u32| {
+        let (mut each, mut number) = (Vec::new(), 0);
+        while begin.elapsed() < time {
+            let from = Instant::now();
+            if order(&Order::drawn(client, number, ACCOUNTS))? {
+                each.push(from.elapsed());
+            }
+            number += 1;
+            if count.fetch_add(1, Ordering::Relaxed) % FOLD_AFTER == FOLD_AFTER - 1 {
+                fold()?;
+            }
+        }
+        Ok((number, each))
+    };
+    let joined: Result<Vec<(u64, Vec<Duration>)>, LoggedError> = thread::scope(|scope| {
+        let work = &work;
+        let threads: Vec<_> = (0..clients)
+            .map(|it| scope.spawn(move || work(it)))
+            .collect();
+        let joined = threads.into_iter().map(|it| it.join().expect("no panic"));
+        joined.collect()
+    });
+    let (done, each): (Vec<u64>, Vec<Vec<Duration>>) = joined?.into_iter().unzip();
+    Ok(Work {
+        taken: begin.elapsed(),
+        done,
+        each: each.concat(),
+    })
+}

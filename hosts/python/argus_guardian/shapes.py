@@ -1,0 +1,42 @@
+"""What the written form of an object's shape says: its kind, and the names of its fields or tags."""
+
+from __future__ import annotations
+
+from collections import namedtuple
+from typing import Any, NamedTuple
+
+
+class Shape(NamedTuple):
+    """A `record`, an `array` or a `variant`; of a record the names of its fields, of a variant those of its tags."""
+
+    kind: str
+    names: tuple[str, ...]
+
+    def number(self, name: str) -> int:
+        """The number of a field or tag. AttributeError where there is none of this name."""
+        if name in self.names:
+            return self.names.index(name)
+        raise AttributeError(f"no {name!r} among {', '.join(self.names) or 'no names'}")
+
+    def named(self, content: tuple[Any, ...]) -> Any:
+        """The content of a record, with its fields by name too: a named tuple."""
+        kind = namedtuple("Record", self.names, rename=True)  # type: ignore[misc]
+        return kind(*content)
+
+
+def read_shape(text: str) -> Shape:
+    """The shape of a written form that the library has given, as `atomic_record[balance:int]`."""
+    word, _, inside = text.removeprefix("atomic_").partition("[")
+    names = [] if word == "array" else [part.partition(":")[0] for part in _parted(inside[:-1])]
+    return Shape(word, tuple(names))
+
+
+def _parted(text: str) -> list[str]:
+    """The parts between commas that stand in no bracket."""
+    parts, depth, start = [], 0, 0
+    for at, character in enumerate(text):
+        depth += (character == "[") - (character == "]")
+        if character == "," and depth == 0:
+            parts.append(text[start:at])
+            start = at + 1
+    return [*parts, text[start:]]

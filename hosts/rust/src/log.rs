@@ -1,0 +1,137 @@
+//! A log: a guardian's journal in files (the feature `log`; Unix, Rust 1.89).
+//!
+//! [`FileLog`] keeps the lines of a journal, batch by batch. What it has appended is on disk. When it is read
+//! again, what is torn is cut off, and what is damaged is named.
+//!
+//! ```
+//! use argus_guardian::log::{EntryLines, FileLog, Folder, OpenError};
+//!
+//! # let path = std::env::temp_dir().join(format!("argus-log-{}", std::process::id()));
+//! let mut log = FileLog::read(Folder::open(&path)?, |_| Ok(()))?.begin()?;
+//! let lines = "0 declare atomic_record[n:int] -> o0\n1 begin_top -> a0\n";
+//! log.append(&EntryLines::new(0, lines.into()).expect("whole lines"))?; // Ok: it is on disk
+//! drop(log);
+//!
+//! let mut text = String::new();
+//! let found = FileLog::read(Folder::open(&path)?, |batch| {
+//!     text.push_str(batch.lines);
+//!     Ok(())
+//! })?;
+//! assert_eq!((text.as_str(), found.found().entries), (lines, 2));
+//! # std::fs::remove_dir_all(&path).expect("removed");
+//! # Ok::<(), OpenError>(())
+//! ```
+//!
+//! With the feature `logged`, `Logged` is a [`Shared`](crate::Shared) each of whose entries goes to a log, and
+//! whose commits return once the log has them.
+//!
+//! **This crate can't make a guardian of a log yet**: the library's call for that isn't proved, so it isn't in
+//! the library. `Logged::open` takes what does, a type with `Resume`.
+//!
+//! # Files
+//!
+//! A log is a folder with one writer, by a lock. In it are segments, files that begin with a line of their
+//! own; then come batches, each with a head, whole lines of the journal as they are, and a seal. Behind the
+//! last one there are zeros, at least one: they were laid out before the batch was begun.
+//!
+//! ```text
+//! #segment format=1 version=0.1.0 epoch=1 segment=1 batch=0 first=0 begins=entries check=841b3263
+//! #batch format=1 version=0.1.0 epoch=1 batch=0 first=0 entries=1 bytes=43 body=cea98ee1 check=09c5a22b
+//! 0 declare atomic_record[balance:int] -> o0
+//! #seal batch=0 body=cea98ee1 check=63a1eaaa
+//! ```
+//!
+//! `body` is the CRC-32 of a batch's lines, `check` that of the words before it on its own line. An epoch is
+//! one opening of the log by a writer. A seal is written once its batch is on disk, and before the next one
+//! is begun. So the first thing that isn't as it was written is a torn write, if no seal, later batch or
+//! later segment is behind it, and the file has its zeros; else it is [`Damage`]. A full segment ends with
+//! `#continued segment=2`. After a checkpoint a segment begins with a batch `#opening`, whose lines are the
+//! opening of the journal's listing, and the segments before it go.
+//!
+//! [`Storage`] is what a log asks of the system, and [`BatchLog`] what a guardian asks of a log.
+//!
+//! **Nothing here is proved.** What is tested, and what is promised by whom, says the repository's page
+//! docs/OUTLIVING.md.
+
+mod batch;
+mod batch_log;
+mod checksum;
+mod damage;
+mod defect;
+mod entry_lines;
+mod failure;
+mod file_log;
+mod file_log_options;
+mod folder;
+mod found;
+mod found_log;
+mod frame;
+#[cfg(feature = "logged")]
+mod goal;
+#[cfg(feature = "logged")]
+mod group;
+mod head;
+mod line_error;
+#[cfg(feature = "logged")]
+mod line_source;
+#[cfg(feature = "logged")]
+mod logged;
+#[cfg(feature = "logged")]
+mod logged_action;
+#[cfg(feature = "logged")]
+mod logged_error;
+#[cfg(feature = "logged")]
+mod logged_options;
+mod memory_storage;
+mod open_error;
+#[cfg(feature = "logged")]
+mod opened;
+mod opening;
+#[cfg(feature = "logged")]
+mod outgoing;
+#[cfg(feature = "logged")]
+mod piece;
+mod position;
+#[cfg(feature = "logged")]
+mod progress;
+#[cfg(feature = "logged")]
+mod resume;
+mod seal;
+mod segment_head;
+mod segment_list;
+mod segment_reader;
+mod step;
+mod storage;
+mod tail;
+mod torn;
+
+pub use batch::Batch;
+pub use batch_log::BatchLog;
+pub use damage::Damage;
+pub use defect::Defect;
+pub use entry_lines::EntryLines;
+pub use failure::Failure;
+pub use file_log::FileLog;
+pub use file_log_options::FileLogOptions;
+pub use folder::Folder;
+pub use found::Found;
+pub use found_log::FoundLog;
+pub use line_error::LineError;
+#[cfg(feature = "logged")]
+pub use logged::Logged;
+#[cfg(feature = "logged")]
+pub use logged_action::LoggedAction;
+#[cfg(feature = "logged")]
+pub use logged_error::LoggedError;
+#[cfg(feature = "logged")]
+pub use logged_options::LoggedOptions;
+pub use memory_storage::MemoryStorage;
+pub use open_error::OpenError;
+#[cfg(feature = "logged")]
+pub use opened::Opened;
+pub use opening::Opening;
+#[cfg(feature = "logged")]
+pub use resume::Resume;
+pub use step::Step;
+pub use storage::Storage;
+pub use torn::Torn;

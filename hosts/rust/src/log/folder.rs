@@ -1,0 +1,156 @@
+//! `Folder`: a folder of the file system, in which a log lies.
+
+use crate::log::open_error::OpenError;
+use crate::log::storage::Storage;
+use std::fs::{self, File, OpenOptions, TryLockError};
+use std::io::{self, Read};
+use std::os::unix::fs::FileExt;
+use std::path::{Path, PathBuf};
+
+const LOCK: &str = "lock";
+
+/// A folder of the file system, in which a log lies. It is locked as long as this lives: the system frees
+/// the lock when the process ends, however it ends.
+///
+/// The lock is advisory, of the file `lock` in the folder. Over NFS and the like it holds only where the
+/// server keeps locks.
+///
+/// ```
+/// use argus_guardian::log::{Folder, OpenError};
+/// # let path = std::env::temp_dir().join(format!("argus-folder-{}", std::process::id()));
+/// let folder = Folder::open(&path)?;
+/// assert!(matches!(Folder::open(&path), Err(OpenError::Locked)));
+/// drop(folder);
+/// Folder::open(&path)?;
+/// # std::fs::remove_dir_all(&path).expect("removed");
+/// # Ok::<(), OpenError>(())
+/// ```
+#[derive(Debug)]
+pub struct Folder {
+    path: PathBuf,
+    // Its lock is the folder's.
+    lock: File,
+    // The file that was used last, and its name.
+    open: Option<(String, File)>,
+}
+
+impl Folder {
+    /// Locks the folder, and makes it where it isn't there. Only one process, and there only one `Folder`,
+    /// has it at a time.
+    ///
+    /// # Errors
+    ///
+    /// [`OpenError::Locked`] where another one has it; [`OpenError::Storage`] with the system's error.
+    ///
+    /// ```
+    /// use argus_guardian::log::{Folder, OpenError};
+    /// assert!(matches!(Folder::open("/dev/null"), Err(OpenError::Storage(_))));
+    /// ```
+    pub fn open(path: impl AsRef<Path>) -> Result<Folder, OpenError> {
+        let path = path.as_ref();
+        make(path)?;
+        let lock = File::create(path.join(LOCK))?;
+        // Rust 1.85 hasn't got this call: the feature needs 1.89.
+        #[allow(clippy::incompatible_msrv)]
+        match lock.try_lock() {
+            Ok(()) => Ok(Folder {
+                path: path.to_owned(),
+                lock,
+                open: None,
+            }),
+            Err(TryLockError::WouldBlock) => Err(OpenError::Locked),
+            Err(TryLockError::Error(error)) => Err(error.into()),
+        }
+    }
+
+    /// Where it lies.
+    ///
+    /// ```
+    /// # use argus_guardian::log::{Folder, OpenError};
+    /// # let path = std::env::temp_dir().join(format!("argus-path-{}", std::process::id()));
+    /// assert_eq!(Folder::open(&path)?.path(), path);
+    /// # std::fs::remove_dir_all(&path).expect("removed");
+    /// # Ok::<(), OpenError>(())
+    /// ```
+    #[must_use]
+    pub fn path(&self) -> &Path {
+        &self.path
+    }
+
+    fn file(&mut self, name: &str) -> io::Result<&File> {
+        let file = match self.open.take() {
+            Some((open, file)) if open == name => file,
+            _ => OpenOptions::new().write(true).open(self.path.join(name))?,
+        };
+        Ok(&self.open.insert((name.to_owned(), file)).1)
+    }
+}
+
+impl Drop for Folder {
+    fn drop(&mut self) {
+        // A process that is just being started may have the file, too: so it isn't enough to close it here.
+        #[allow(clippy::incompatible_msrv)]
+        let _ = self.lock.unlock();
+    }
+}
+
+// Makes a folder, and those above it, whose names outlive a power cut.
+fn make(path: &Path) -> io::Result<()> {
+    if path.as_os_str().is_empty() || path.is_dir() {
+        return Ok(());
+    }
+    let above = path.parent().unwrap_or(Path::new(""));
+    make(above)?;
+    fs::create_dir(path)?;
+    let above = if above.as_os_str().is_empty() {
+        Path::new(".")
+    } else {
+        above
+    };
+    File::open(above)?.sync_all()
+}
+
+impl Storage for Folder {
+    fn names(&mut self) -> io::Result<Vec<String>> {
+        let names = fs::read_dir(&self.path)?.map(|entry| {
+            let name = entry?.file_name();
+            Ok(name.to_string_lossy().into_owned())
+        });
+        names.collect()
+    }
+
+    fn read(&mut self, name: &str, limit: u64) -> io::Result<Vec<u8>> {
+        let mut bytes = Vec::new();
+        let file = File::open(self.path.join(name))?;
+        file.take(limit).read_to_end(&mut bytes)?;
+        Ok(bytes)
+    }
+
+    fn create(&mut self, name: &str) -> io::Result<()> {
+        let file = File::create(self.path.join(name))?;
+        self.open = Some((name.to_owned(), file));
+        Ok(())
+    }
+
+    fn write_at(&mut self, name: &str, at: u64, bytes: &[u8]) -> io::Result<()> {
+        self.file(name)?.write_all_at(bytes, at)
+    }
+
+    fn sync(&mut self, name: &str) -> io::Result<()> {
+        self.file(name)?.sync_data()
+    }
+
+    fn rename(&mut self, from: &str, to: &str) -> io::Result<()> {
+        self.open = None;
+        fs::rename(self.path.join(from), self.path.join(to))
+    }
+
+    fn remove(&mut self, name: &str) -> io::Result<()> {
+        self.open = None;
+        fs::remove_file(self.path.join(name))
+    }
+
+    fn sync_names(&mut self) -> io::Result<()> {
+        File::open(&self.path)?.sync_all()
+    }
+}

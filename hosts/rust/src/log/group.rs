@@ -1,0 +1,124 @@
+//! `Group`: commits that wait for the log together.
+
+use crate::log::batch_log::BatchLog;
+use crate::log::failure::Failure;
+use crate::log::goal::Goal;
+use crate::log::outgoing::Outgoing;
+use crate::log::piece::Piece;
+use crate::log::progress::{Progress, Turn};
+use crate::log::step::Step;
+use crate::shared::Shared;
+use std::fmt;
+use std::io;
+use std::sync::atomic::{AtomicBool, Ordering};
+use std::sync::{Mutex, MutexGuard, PoisonError};
+use std::thread;
+
+/// Commits that wait for the log together. Whoever waits and finds nobody writing takes all lines that the
+/// log hasn't got, and writes them for all; calls go on meanwhile.
+pub(crate) struct Group {
+    log: Mutex<Box<dyn BatchLog>>,
+    outgoing: Mutex<Outgoing>,
+    progress: Mutex<Progress>,
+    is_broken: AtomicBool,
+}
+
+// A thread that panics is one that was writing, and `Writing` says that the log has failed.
+fn locked<T: ?Sized>(mutex: &Mutex<T>) -> MutexGuard<'_, T> {
+    mutex.lock().unwrap_or_else(PoisonError::into_inner)
+}
+
+impl Group {
+    /// Over a log that has all entries before this one.
+    pub(crate) fn new(log: Box<dyn BatchLog>, next: u64) -> Group {
+        Group {
+            log: Mutex::new(log),
+            outgoing: Mutex::new(Outgoing::from(next)),
+            progress: Mutex::new(Progress::at(next)),
+            is_broken: AtomicBool::new(false),
+        }
+    }
+
+    /// What waits to be taken. The guardian's mutex has to be held.
+    pub(crate) fn outgoing(&self) -> MutexGuard<'_, Outgoing> {
+        locked(&self.outgoing)
+    }
+
+    /// Why the log is broken, if it is.
+    pub(crate) fn broken(&self) -> Option<Failure> {
+        if self.is_broken.load(Ordering::Acquire) {
+            locked(&self.progress).broken().cloned()
+        } else {
+            None
+        }
+    }
+
+    /// Returns once the log has that.
+    pub(crate) fn wait(&self, shared: &Shared, goal: Goal) -> Result<(), Failure> {
+        loop {
+            let turn = locked(&self.progress).turn(goal);
+            match turn {
+                Turn::Done => return Ok(()),
+                Turn::Failed(failure) => return Err(failure),
+                Turn::Park => thread::park(),
+                Turn::Write => self.write(shared),
+            }
+        }
+    }
+
+    // Writes the next piece, in the turn of this thread.
+    fn write(&self, shared: &Shared) {
+        let mut writing = Writing {
+            group: self,
+            outcome: Err(panicked()),
+        };
+        writing.outcome = self.write_piece(shared);
+    }
+
+    fn write_piece(&self, shared: &Shared) -> Result<Option<(u64, bool)>, Failure> {
+        let piece = shared.lend(|guardian| self.outgoing().next_piece(guardian));
+        let piece =
+            piece.map_err(|error| Failure::new(Step::TakeLines, io::Error::other(error)))?;
+        let mut log = locked(&self.log);
+        match &piece {
+            Some(Piece::Lines(lines)) => log.append(lines)?,
+            Some(Piece::Opening(opening)) => log.restart(opening)?,
+            None => return Ok(None),
+        }
+        let is_opening = matches!(piece, Some(Piece::Opening(_)));
+        Ok(piece.map(|it| (it.next(), is_opening)))
+    }
+}
+
+fn panicked() -> Failure {
+    Failure::new(
+        Step::Other,
+        io::Error::other("the thread that wrote panicked"),
+    )
+}
+
+// The turn of a thread that writes; its end wakes the others, after a panic too.
+struct Writing<'g> {
+    group: &'g Group,
+    outcome: Result<Option<(u64, bool)>, Failure>,
+}
+
+impl Drop for Writing<'_> {
+    fn drop(&mut self) {
+        let mut progress = locked(&self.group.progress);
+        match &self.outcome {
+            Ok(Some((safe, is_opening))) => progress.advance(*safe, *is_opening),
+            Ok(None) => progress.stay(),
+            Err(failure) => {
+                self.group.is_broken.store(true, Ordering::Release);
+                progress.fail(failure.clone());
+            }
+        }
+    }
+}
+
+impl fmt::Debug for Group {
+    fn fmt(&self, f: &mut fmt::Formatter<'_>) -> fmt::Result {
+        f.debug_struct("Group").finish_non_exhaustive()
+    }
+}

@@ -1,0 +1,87 @@
+//! `LoggedError`: why a call of a logged guardian didn't give what it was asked for.
+
+use crate::Error;
+use crate::checkpoint_error::CheckpointError;
+use crate::log::failure::Failure;
+use crate::may_conflict::MayConflict;
+use crate::refusal::Refusal;
+use crate::signal::Signal;
+use std::error;
+use std::fmt;
+
+/// Why a call of a logged guardian didn't give what it was asked for.
+///
+/// ```
+/// use argus_guardian::log::{Failure, LoggedError, Step};
+/// let failure = Failure::new(Step::SyncBatch, std::io::Error::other("no disk"));
+/// assert_eq!(
+///     LoggedError::InDoubt(failure).to_string(),
+///     "in doubt: the log couldn't sync a batch: no disk"
+/// );
+/// ```
+#[derive(Debug, Clone)]
+#[non_exhaustive]
+pub enum LoggedError {
+    /// What a guardian without a log would say, too.
+    Guardian(Error),
+    /// The call was made, and the log has failed before it was known to be there. After a restart it may
+    /// be in the guardian, or not.
+    InDoubt(Failure),
+    /// The log had failed before: the call wasn't made.
+    Broken(Failure),
+}
+
+impl LoggedError {
+    /// Whether it is a refusal with `Conflict`: the topaction may be aborted, and begun anew.
+    ///
+    /// ```
+    /// use argus_guardian::{Refusal, log::LoggedError};
+    /// assert!(LoggedError::from(Refusal::Conflict).is_conflict());
+    /// ```
+    #[must_use]
+    pub fn is_conflict(&self) -> bool {
+        matches!(self, LoggedError::Guardian(error) if error.is_conflict())
+    }
+}
+
+impl fmt::Display for LoggedError {
+    fn fmt(&self, f: &mut fmt::Formatter<'_>) -> fmt::Result {
+        match self {
+            LoggedError::Guardian(error) => write!(f, "{error}"),
+            LoggedError::InDoubt(failure) => write!(f, "in doubt: {failure}"),
+            LoggedError::Broken(failure) => write!(f, "not called: {failure}"),
+        }
+    }
+}
+
+impl error::Error for LoggedError {}
+
+impl MayConflict for LoggedError {
+    fn is_conflict(&self) -> bool {
+        LoggedError::is_conflict(self)
+    }
+}
+
+impl From<Error> for LoggedError {
+    fn from(error: Error) -> LoggedError {
+        LoggedError::Guardian(error)
+    }
+}
+
+impl From<CheckpointError> for LoggedError {
+    fn from(error: CheckpointError) -> LoggedError {
+        LoggedError::Guardian(error.into())
+    }
+}
+
+impl From<Refusal> for LoggedError {
+    fn from(refusal: Refusal) -> LoggedError {
+        LoggedError::Guardian(refusal.into())
+    }
+}
+
+impl From<Signal> for LoggedError {
+    fn from(signal: Signal) -> LoggedError {
+        LoggedError::Guardian(signal.into())
+    }
+}

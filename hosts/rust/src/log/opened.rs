@@ -1,0 +1,31 @@
+//! `Opened`: what was found and done when a guardian with a log was opened.
+
+use crate::log::found::Found;
+
+/// What was found and done when a guardian with a log was opened.
+///
+/// ```
+/// use argus_guardian::log::Opened;
+/// assert!(Opened::default().is_new());
+/// ```
+#[derive(Debug, Clone, PartialEq, Eq, Default)]
+pub struct Opened {
+    /// What the log had. Where something was torn, it has been cut off.
+    pub found: Found,
+    /// How many entries it took to abort the actions that were live when the log ended.
+    pub aborted: u64,
+}
+
+impl Opened {
+    /// Whether the folder had no log before. Where one should be there, a disk may not be mounted.
+    ///
+    /// ```
+    /// use argus_guardian::log::{Found, Opened};
+    /// let found = Found { segments: 1, ..Found::default() };
+    /// assert!(!Opened { found, aborted: 0 }.is_new());
+    /// ```
+    #[must_use]
+    pub fn is_new(&self) -> bool {
+        self.found.segments == 0
+    }
+}

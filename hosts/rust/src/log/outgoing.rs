@@ -1,0 +1,99 @@
+//! `Outgoing`: what has been taken out of a guardian's journal, and what of that the log hasn't got yet.
+
+use crate::Listing;
+use crate::checkpoint_error::CheckpointError;
+use crate::error::Error;
+use crate::guardian::Guardian;
+use crate::log::goal::Goal;
+use crate::log::opening::Opening;
+use crate::log::piece::Piece;
+use crate::shared::Shared;
+use std::collections::VecDeque;
+
+/// A piece has so many bytes at the most, but for a line that is longer.
+const PIECE: usize = 256 * 1024;
+
+// With what each line of an opening begins, and no entry's.
+const OPENING: &str = "opening ";
+
+/// What has been taken out of a guardian's journal, and what of that the log hasn't got yet. It is used
+/// only while the guardian's mutex is held: so the pieces follow one another as the entries do.
+#[derive(Debug)]
+pub(crate) struct Outgoing {
+    // The number of the first entry that hasn't been taken.
+    next: u64,
+    pieces: VecDeque<Piece>,
+    // How often the journal was folded.
+    folds: u64,
+    // Whether the opening of the last fold hasn't been taken yet.
+    owes_opening: bool,
+    room: Vec<u8>,
+}
+
+impl Outgoing {
+    /// Of a log that has all entries before this one.
+    pub(crate) fn from(next: u64) -> Outgoing {
+        Outgoing {
+            next,
+            pieces: VecDeque::new(),
+            folds: 0,
+            owes_opening: false,
+            room: vec![0; PIECE],
+        }
+    }
+
+    /// The next piece. `None`: the log has all.
+    pub(crate) fn next_piece(&mut self, guardian: &mut Guardian) -> Result<Option<Piece>, Error> {
+        if self.pieces.is_empty() {
+            self.take_opening(guardian)?;
+            self.take(guardian)?;
+        }
+        Ok(self.pieces.pop_front())
+    }
+
+    // Takes as many lines as a piece has.
+    fn take(&mut self, guardian: &mut Guardian) -> Result<(), Error> {
+        let lines = guardian.lines_in(&mut self.room, self.next)?;
+        self.next = lines.next();
+        if !lines.is_empty() {
+            self.pieces.push_back(Piece::Lines(lines));
+        }
+        Ok(())
+    }
+
+    // Takes the opening that is owed: the front of the journal's listing.
+    fn take_opening(&mut self, guardian: &mut Guardian) -> Result<(), Error> {
+        if !self.owes_opening {
+            return Ok(());
+        }
+        let mut text = guardian.list(Listing::Journal)?;
+        let lines = text.split_inclusive('\n');
+        let opening = lines.take_while(|line| line.starts_with(OPENING));
+        text.truncate(opening.map(str::len).sum());
+        let opening = Opening::new(self.next, text).ok_or(Error::OtherAnswer)?;
+        self.pieces.push_back(Piece::Opening(opening));
+        self.owes_opening = false;
+        Ok(())
+    }
+
+    /// Folds the journal once all of it has been taken, and takes the opening. When the log has that. Where
+    /// memory is wanting for the opening, it is taken before the next lines.
+    pub(crate) fn fold(&mut self, guardian: &mut Guardian) -> Result<Goal, CheckpointError> {
+        let wanting = |_: Error| CheckpointError::OutOfMemory;
+        self.take_opening(guardian).map_err(wanting)?;
+        while self.next < guardian.entries() {
+            self.take(guardian).map_err(wanting)?;
+        }
+        Shared::fold(guardian)?;
+        // The opening of a journal without entries is none.
+        if self.next > 0 {
+            self.folds += 1;
+            self.owes_opening = true;
+            self.take_opening(guardian).map_err(wanting)?;
+        }
+        Ok(Goal {
+            entry: self.next,
+            openings: self.folds,
+        })
+    }
+}

@@ -1,0 +1,111 @@
+//! `Progress`: how far a log has come, and who waits for it.
+
+use crate::log::failure::Failure;
+use crate::log::goal::Goal;
+use std::thread::{self, Thread, ThreadId};
+
+/// How far a log has come, and who waits for it.
+#[derive(Debug)]
+pub(crate) struct Progress {
+    // All entries before this one are in the log.
+    safe: u64,
+    // So many openings are.
+    openings: u64,
+    broken: Option<Failure>,
+    is_writing: bool,
+    waiting: Vec<Waiter>,
+}
+
+#[derive(Debug)]
+struct Waiter {
+    goal: Goal,
+    thread: Thread,
+}
+
+/// What who waits has to do.
+pub(crate) enum Turn {
+    /// It is as was wanted.
+    Done,
+    /// The log has failed.
+    Failed(Failure),
+    /// Nobody writes: write the next piece.
+    Write,
+    /// Another one writes, and wakes this thread.
+    Park,
+}
+
+impl Progress {
+    /// Of a log that has all entries before this one.
+    pub(crate) fn at(safe: u64) -> Progress {
+        Progress {
+            safe,
+            openings: 0,
+            broken: None,
+            is_writing: false,
+            waiting: Vec::new(),
+        }
+    }
+
+    /// Why the log is broken, if it is.
+    pub(crate) fn broken(&self) -> Option<&Failure> {
+        self.broken.as_ref()
+    }
+
+    fn has(&self, goal: Goal) -> bool {
+        goal.entry <= self.safe && goal.openings <= self.openings
+    }
+
+    /// What this thread has to do, which waits for that.
+    pub(crate) fn turn(&mut self, goal: Goal) -> Turn {
+        let this = thread::current();
+        self.forget(this.id());
+        if self.has(goal) {
+            return Turn::Done;
+        }
+        if let Some(failure) = &self.broken {
+            return Turn::Failed(failure.clone());
+        }
+        if self.is_writing {
+            self.waiting.push(Waiter { goal, thread: this });
+            return Turn::Park;
+        }
+        self.is_writing = true;
+        Turn::Write
+    }
+
+    fn forget(&mut self, thread: ThreadId) {
+        self.waiting.retain(|it| it.thread.id() != thread);
+    }
+
+    /// A piece was written, and the log has all entries before this one.
+    pub(crate) fn advance(&mut self, safe: u64, is_opening: bool) {
+        self.safe = safe;
+        self.openings += u64::from(is_opening);
+        self.end_writing();
+    }
+
+    /// There was nothing to write.
+    pub(crate) fn stay(&mut self) {
+        self.end_writing();
+    }
+
+    /// The log has failed.
+    pub(crate) fn fail(&mut self, failure: Failure) {
+        self.broken = Some(failure);
+        self.end_writing();
+    }
+
+    // Wakes those whose goal is reached, and one of the others, which writes.
+    fn end_writing(&mut self) {
+        self.is_writing = false;
+        let waiting = std::mem::take(&mut self.waiting);
+        let is_broken = self.broken.is_some();
+        let (woken, rest): (Vec<Waiter>, Vec<Waiter>) = waiting
+            .into_iter()
+            .partition(|it| is_broken || self.has(it.goal));
+        for it in woken.iter().chain(rest.first()) {
+            it.thread.unpark();
+        }
+        self.waiting = rest;
+    }
+}

@@ -1,0 +1,357 @@
+//! What a guardian is asked without an entry in the journal.
+
+use crate::content::Content;
+use crate::decoding::{error_of, one_of};
+use crate::error::Error;
+use crate::guardian::Guardian;
+use crate::lines::Lines;
+use crate::listing::Listing;
+use crate::object::Object;
+use crate::reader::Reader;
+use crate::status::Status;
+use crate::sys::{self, question, status};
+use crate::{ActionId, ObjId};
+
+impl Guardian {
+    /// Whether the action could have a read lock on the object now. It isn't journalled.
+    ///
+    /// ```
+    /// use argus_guardian::{Guardian, ObjId};
+    /// let mut guardian = Guardian::new()?;
+    /// let mut top = guardian.topaction()?;
+    /// let id = top.id();
+    /// assert!(!top.guardian().can_read(id, ObjId(0)));
+    /// # Ok::<(), argus_guardian::Error>(())
+    /// ```
+    pub fn can_read(&mut self, action: ActionId, object: ObjId) -> bool {
+        self.tell(question::CAN_READ, action, object, 0) == (status::FLAG, 1)
+    }
+
+    /// Whether the action could have a write lock on the object now. It isn't journalled.
+    ///
+    /// ```
+    /// use argus_guardian::Guardian;
+    /// let mut guardian = Guardian::new()?;
+    /// let object = guardian.declare("atomic_array[int]")?;
+    /// let mut top = guardian.topaction()?;
+    /// let id = top.id();
+    /// assert!(top.guardian().can_write(id, object));
+    /// # Ok::<(), argus_guardian::Error>(())
+    /// ```
+    pub fn can_write(&mut self, action: ActionId, object: ObjId) -> bool {
+        self.tell(question::CAN_WRITE, action, object, 0) == (status::FLAG, 1)
+    }
+
+    /// How many objects are declared.
+    ///
+    /// ```
+    /// let mut guardian = argus_guardian::Guardian::new()?;
+    /// guardian.declare("atomic_array[int]")?;
+    /// assert_eq!(guardian.objects(), 1);
+    /// # Ok::<(), argus_guardian::Error>(())
+    /// ```
+    pub fn objects(&mut self) -> u32 {
+        self.count(question::OBJECTS).try_into().unwrap_or(u32::MAX)
+    }
+
+    /// How many actions are begun: the next one's number.
+    ///
+    /// ```
+    /// let mut guardian = argus_guardian::Guardian::new()?;
+    /// guardian.topaction()?.commit()?;
+    /// assert_eq!(guardian.actions(), 1);
+    /// # Ok::<(), argus_guardian::Error>(())
+    /// ```
+    pub fn actions(&mut self) -> u32 {
+        self.count(question::ACTIONS).try_into().unwrap_or(u32::MAX)
+    }
+
+    /// How many actions can still be begun, before a [renewal](Self::renew).
+    ///
+    /// ```
+    /// use argus_guardian::Guardian;
+    /// let mut guardian = Guardian::new()?;
+    /// guardian.topaction()?.commit()?;
+    /// assert_eq!(guardian.actions_left(), Guardian::MAX_ACTIONS - 1);
+    /// # Ok::<(), argus_guardian::Error>(())
+    /// ```
+    pub fn actions_left(&mut self) -> u32 {
+        Guardian::MAX_ACTIONS.saturating_sub(self.actions())
+    }
+
+    /// What has become of an action; `None` where it isn't begun.
+    ///
+    /// ```
+    /// use argus_guardian::{ActionId, Guardian, Status};
+    /// let mut guardian = Guardian::new()?;
+    /// guardian.topaction()?.commit()?;
+    /// assert_eq!(guardian.status(ActionId(0)), Some(Status::Committed));
+    /// assert_eq!(guardian.status(ActionId(1)), None);
+    /// # Ok::<(), argus_guardian::Error>(())
+    /// ```
+    pub fn status(&mut self, action: ActionId) -> Option<Status> {
+        match self.tell(question::ACTION_STATUS, action, ObjId(0), 0) {
+            (status::NUMBER, number) => one_of(&Status::ALL, status::NUMBER, number).ok(),
+            _ => None,
+        }
+    }
+
+    /// The first live action, of those from this number on. With the number after the one that it
+    /// finds it leads to all live actions.
+    ///
+    /// ```
+    /// use argus_guardian::{ActionId, Call, Guardian};
+    /// let mut guardian = Guardian::new()?;
+    /// guardian.topaction()?.commit()?;
+    /// guardian.call(&Call::BeginTop)?;
+    /// assert_eq!(guardian.live(ActionId(0)), Some(ActionId(1)));
+    /// assert_eq!(guardian.live(ActionId(2)), None);
+    /// # Ok::<(), argus_guardian::Error>(())
+    /// ```
+    pub fn live(&mut self, from: ActionId) -> Option<ActionId> {
+        match self.tell(question::FIRST_LIVE, from, ObjId(0), 0) {
+            (status::ACTION, number) => u32::try_from(number).ok().map(ActionId),
+            _ => None,
+        }
+    }
+
+    /// The number of the journal's first entry: that which was the next one at the last checkpoint.
+    ///
+    /// ```
+    /// let mut guardian = argus_guardian::Guardian::new()?;
+    /// guardian.topaction()?.commit()?;
+    /// guardian.checkpoint()?;
+    /// assert_eq!(guardian.first_entry(), 2);
+    /// # Ok::<(), argus_guardian::Error>(())
+    /// ```
+    pub fn first_entry(&mut self) -> u64 {
+        self.count(question::FIRST_ENTRY)
+    }
+
+    /// The shape with which the object was declared.
+    ///
+    /// # Errors
+    ///
+    /// As of [`base`](Self::base).
+    ///
+    /// ```
+    /// let mut guardian = argus_guardian::Guardian::new()?;
+    /// let object = guardian.declare("atomic_record[balance:int]")?;
+    /// assert_eq!(guardian.shape(object)?, "atomic_record[balance:int]");
+    /// # Ok::<(), argus_guardian::Error>(())
+    /// ```
+    pub fn shape(&mut self, object: ObjId) -> Result<String, Error> {
+        let text = self.told(question::SHAPE, object, 0)?;
+        Ok(text.to_owned())
+    }
+
+    /// The object with the names that its shape has.
+    ///
+    /// # Errors
+    ///
+    /// As of [`base`](Self::base).
+    ///
+    /// ```
+    /// let mut guardian = argus_guardian::Guardian::new()?;
+    /// let account = guardian.declare("atomic_record[balance:int]")?;
+    /// assert_eq!(guardian.object(account)?.names(), ["balance"]);
+    /// # Ok::<(), argus_guardian::Error>(())
+    /// ```
+    pub fn object(&mut self, object: ObjId) -> Result<Object, Error> {
+        let shape = self.told(question::SHAPE, object, 0)?;
+        Ok(Object::of(object, shape))
+    }
+
+    /// How many entries the journal has had, those that a checkpoint has folded too: the next one's
+    /// number.
+    ///
+    /// ```
+    /// let mut guardian = argus_guardian::Guardian::new()?;
+    /// guardian.topaction()?.commit()?;
+    /// assert_eq!(guardian.entries(), 2);
+    /// # Ok::<(), argus_guardian::Error>(())
+    /// ```
+    pub fn entries(&mut self) -> u64 {
+        self.count(question::ENTRIES)
+    }
+
+    fn count(&mut self, question: u32) -> u64 {
+        let (_, number) = self.tell(question, ActionId(0), ObjId(0), 0);
+        u64::try_from(number).unwrap_or(0)
+    }
+
+    /// What is in the object for good; `None` where it has no content yet.
+    ///
+    /// # Errors
+    ///
+    /// [`Error::NotThere`] where no object of that number is declared; [`Error::OutOfMemory`].
+    ///
+    /// ```
+    /// use argus_guardian::{Error, Guardian, ObjId};
+    /// let mut guardian = Guardian::new()?;
+    /// let object = guardian.declare("atomic_array[int]")?;
+    /// assert_eq!(guardian.base(object)?, None);
+    /// assert_eq!(guardian.base(ObjId(9)), Err(Error::NotThere));
+    /// # Ok::<(), Error>(())
+    /// ```
+    pub fn base(&mut self, object: ObjId) -> Result<Option<Content>, Error> {
+        let text = self.told(question::BASE, object, 0)?;
+        Reader::whole(text, Reader::content_or_absent)
+    }
+
+    /// Who holds the object for reading, in increasing number.
+    ///
+    /// # Errors
+    ///
+    /// As of [`base`](Self::base).
+    ///
+    /// ```
+    /// let mut guardian = argus_guardian::Guardian::new()?;
+    /// let object = guardian.declare("atomic_array[int]")?;
+    /// assert_eq!(guardian.readers(object)?, []);
+    /// # Ok::<(), argus_guardian::Error>(())
+    /// ```
+    pub fn readers(&mut self, object: ObjId) -> Result<Vec<ActionId>, Error> {
+        let text = self.told(question::READERS, object, 0)?;
+        text.lines()
+            .map(|line| Reader::whole(line, Reader::action))
+            .collect()
+    }
+
+    /// Who holds the object for writing, from ancestor to descendant, each with what it sees there.
+    ///
+    /// # Errors
+    ///
+    /// As of [`base`](Self::base).
+    ///
+    /// ```
+    /// use argus_guardian::{ActionId, Change, Content, Guardian};
+    /// let mut guardian = Guardian::new()?;
+    /// let object = guardian.declare("atomic_array[int]")?;
+    /// let mut top = guardian.topaction()?;
+    /// let empty: Content = "1[]".parse()?;
+    /// top.alter(object, Change::Create(empty.clone()))?.done()?;
+    /// assert_eq!(top.guardian().versions(object)?, [(ActionId(0), Some(empty))]);
+    /// # Ok::<(), argus_guardian::Error>(())
+    /// ```
+    pub fn versions(&mut self, object: ObjId) -> Result<Vec<(ActionId, Option<Content>)>, Error> {
+        let text = self.told(question::VERSIONS, object, 0)?;
+        text.lines()
+            .map(|line| Reader::whole(line, Reader::version))
+            .collect()
+    }
+
+    /// The line of a journal's entry: its number, the call and the reply.
+    ///
+    /// # Errors
+    ///
+    /// [`Error::NotThere`] where no entry has this number, or a checkpoint has folded it;
+    /// [`Error::OutOfMemory`].
+    ///
+    /// ```
+    /// let mut guardian = argus_guardian::Guardian::new()?;
+    /// guardian.topaction()?.commit()?;
+    /// assert_eq!(guardian.entry(1)?, "1 commit a0 -> done");
+    /// # Ok::<(), argus_guardian::Error>(())
+    /// ```
+    pub fn entry(&mut self, number: u64) -> Result<String, Error> {
+        let text = self.told(question::ENTRY, ObjId(0), number)?;
+        Ok(text.to_owned())
+    }
+
+    /// Puts as many whole lines of the journal's listing as fit at the front of the room, each with its
+    /// line feed, from the entry `from` on. The next number to ask for is `from + count`. Where the
+    /// room is too small for the first line, it stays as it is, and `size` is what that line wants. What
+    /// [`answer_again`](Self::answer_again) gives stays.
+    ///
+    /// # Errors
+    ///
+    /// [`Error::NotThere`] where `from` is below [`first_entry`](Self::first_entry), or above
+    /// [`entries`](Self::entries); [`Error::OutOfMemory`]. The room is as it was.
+    ///
+    /// ```
+    /// use argus_guardian::{Guardian, Lines};
+    /// let mut guardian = Guardian::new()?;
+    /// guardian.topaction()?.commit()?;
+    /// let mut room = [0; 64];
+    /// let lines = guardian.lines(0, &mut room)?;
+    /// assert_eq!(lines, Lines { count: 2, size: 38 });
+    /// assert_eq!(&room[..lines.size], b"0 begin_top -> a0\n1 commit a0 -> done\n");
+    /// assert_eq!(guardian.lines(lines.count, &mut room)?, Lines { count: 0, size: 0 });
+    /// # Ok::<(), argus_guardian::Error>(())
+    /// ```
+    pub fn lines(&mut self, from: u64, room: &mut [u8]) -> Result<Lines, Error> {
+        let (mut size, mut count) = (0, 0);
+        // SAFETY: the handle is this guardian's alone; it, the room, size and count are four memories,
+        // and no pointer is null (that of an empty room dangles, and nothing is put there).
+        let status = unsafe {
+            sys::argus_c_lines(
+                &raw mut self.handle,
+                from,
+                room.as_mut_ptr(),
+                room.len(),
+                &raw mut size,
+                &raw mut count,
+            )
+        };
+        match status {
+            status::DONE | status::TOO_SMALL => Ok(Lines { count, size }),
+            other => Err(error_of(other, 0)),
+        }
+    }
+
+    /// A listing. Objects have the names `o0`, `o1` and so on.
+    ///
+    /// # Errors
+    ///
+    /// [`Error::OutOfMemory`].
+    ///
+    /// ```
+    /// use argus_guardian::{Guardian, Listing};
+    /// let mut guardian = Guardian::new()?;
+    /// guardian.declare("atomic_array[int]")?;
+    /// assert_eq!(guardian.list(Listing::Bases)?, "o0 absent\n");
+    /// # Ok::<(), argus_guardian::Error>(())
+    /// ```
+    pub fn list(&mut self, listing: Listing) -> Result<String, Error> {
+        let question = match listing {
+            Listing::Bases => question::LIST_BASES,
+            Listing::Stacks => question::LIST_STACKS,
+            Listing::Journal => question::LIST_JOURNAL,
+            Listing::Audit => question::LIST_AUDIT,
+        };
+        let text = self.told(question, ObjId(0), 0)?;
+        Ok(text.to_owned())
+    }
+
+    // A question's status and number.
+    fn tell(&mut self, question: u32, action: ActionId, object: ObjId, entry: u64) -> (u32, i64) {
+        let mut number = 0;
+        // SAFETY: the handle is this guardian's alone, and the number is another memory.
+        let status = unsafe {
+            sys::argus_c_tell(
+                &raw mut self.handle,
+                question,
+                action.0,
+                object.0,
+                entry,
+                &raw mut number,
+            )
+        };
+        if status == status::TEXT {
+            self.kept = status;
+        }
+        (status, number)
+    }
+
+    // What a question tells as a text.
+    fn told(&mut self, question: u32, object: ObjId, entry: u64) -> Result<&str, Error> {
+        match self.tell(question, ActionId(0), object, entry) {
+            (status::TEXT, _) => self.text().map_err(|error| match error {
+                Error::NoRoom => Error::OutOfMemory,
+                other => other,
+            }),
+            (status, number) => Err(error_of(status, number)),
+        }
+    }
+}

@@ -1,0 +1,32 @@
+//! `Status`: what has become of an action.
+
+/// What has become of an action that was begun.
+///
+/// ```
+/// use argus_guardian::{ActionId, Guardian, Status};
+/// let mut guardian = Guardian::new()?;
+/// guardian.topaction()?.abort()?;
+/// assert_eq!(guardian.status(ActionId(0)), Some(Status::Aborted));
+/// # Ok::<(), argus_guardian::Error>(())
+/// ```
+#[derive(Debug, Clone, Copy, PartialEq, Eq, Hash)]
+pub enum Status {
+    /// It was begun, and neither it nor an ancestor of it has ended.
+    Live,
+    /// It has committed, and none of its ancestors was aborted.
+    Committed,
+    /// It was aborted, or an ancestor of it, whether it had committed or not.
+    Aborted,
+    /// It was over at the last checkpoint, which has forgotten it.
+    Folded,
+}
+
+impl Status {
+    // By the library's numbers, from 1.
+    pub(crate) const ALL: [Status; 4] = [
+        Status::Live,
+        Status::Committed,
+        Status::Aborted,
+        Status::Folded,
+    ];
+}

@@ -1,0 +1,98 @@
+//! `GatedLog`: a log in memory, whose writes a test lets through one by one.
+
+use argus_guardian::log::{BatchLog, EntryLines, Failure, Opening, Step};
+use std::io;
+use std::sync::mpsc::{Receiver, Sender, channel};
+use std::sync::{Arc, Mutex};
+use std::time::Duration;
+
+// A test that would wait longer has failed.
+const LONG: Duration = Duration::from_secs(30);
+
+/// What a test says of a write that has begun.
+#[derive(Debug, Clone, Copy, PartialEq, Eq)]
+pub enum Say {
+    Go,
+    Fail,
+    Panic,
+}
+
+/// A log in memory, whose writes a test lets through one by one.
+pub struct GatedLog {
+    begun: Sender<Kept>,
+    said: Receiver<Say>,
+    kept: Arc<Mutex<Vec<Kept>>>,
+}
+
+/// What the log was handed.
+#[derive(Debug, Clone, PartialEq, Eq)]
+pub enum Kept {
+    Lines(String),
+    Opening(String),
+}
+
+/// The test's end.
+pub struct Gate {
+    begun: Receiver<Kept>,
+    say: Sender<Say>,
+    kept: Arc<Mutex<Vec<Kept>>>,
+}
+
+impl GatedLog {
+    pub fn new() -> (GatedLog, Gate) {
+        let (begun, has_begun) = channel();
+        let (say, said) = channel();
+        let kept = Arc::new(Mutex::new(Vec::new()));
+        let log = GatedLog {
+            begun,
+            said,
+            kept: Arc::clone(&kept),
+        };
+        let begun = has_begun;
+        (log, Gate { begun, say, kept })
+    }
+
+    fn keep(&mut self, piece: Kept) -> Result<(), Failure> {
+        self.begun.send(piece.clone()).expect("the test waits");
+        match self.said.recv_timeout(LONG).expect("the test says") {
+            Say::Go => {
+                self.kept.lock().expect("no panic").push(piece);
+                Ok(())
+            }
+            Say::Fail => Err(Failure::new(Step::Other, io::Error::other("on purpose"))),
+            Say::Panic => panic!("on purpose"),
+        }
+    }
+}
+
+impl BatchLog for GatedLog {
+    fn append(&mut self, lines: &EntryLines) -> Result<(), Failure> {
+        self.keep(Kept::Lines(lines.text().to_owned()))
+    }
+
+    fn restart(&mut self, opening: &Opening) -> Result<(), Failure> {
+        self.keep(Kept::Opening(opening.text().to_owned()))
+    }
+}
+
+impl Gate {
+    /// The next write, once it has begun.
+    pub fn begun(&self) -> Kept {
+        self.begun.recv_timeout(LONG).expect("a write")
+    }
+
+    pub fn say(&self, what: Say) {
+        self.say.send(what).expect("the log waits");
+    }
+
+    /// Lets the next write through.
+    pub fn pass(&self) -> Kept {
+        let piece = self.begun();
+        self.say(Say::Go);
+        piece
+    }
+
+    pub fn kept(&self) -> Vec<Kept> {
+        self.kept.lock().expect("no panic").clone()
+    }
+}
