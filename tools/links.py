@@ -171,7 +171,7 @@ class Checker:
                 self.check_link(page, number, target)
             for path in SPAN.findall(line) + PLAIN.findall(LINK.sub("", SPAN.sub("", line))):
                 self.check_path(page, number, path, letters)
-            if page.name == "MISTAKES.md" and line.startswith("| ") and line.count("|") == 4:
+            if page.name == "MISTAKES.md" and line.startswith("| ") and line.count("|") == 5:
                 self.check_edits(page, number, line.split("|")[3])
             if page.name == "DEFINITIONS.md" and line.startswith("| ["):
                 self.check_definitions(page, number, LINK.search(line).group(1), line.split("|")[2])
