@@ -1,7 +1,7 @@
 //! `Host`: who calls an embedded guardian, as the rows say.
 
 use crate::request_reading::{has_outcome, listed_of, question_of, request_of};
-use argus_embed::{EmbedError, Embedded, ListEnd, ListedCall, Outcome};
+use argus_embed::{EmbedError, Embedded, ListEnd, ListedCall, Outcome, Question};
 use argus_values::{Heap, OutOfMemory, Room};
 use std::fmt::Write;
 use std::str::from_utf8;
@@ -10,7 +10,8 @@ use test_rows::{RowFault, Setting, Subject, first_word, tell_word};
 // No text in the rows is so long.
 const ROOM: usize = 1_024;
 
-/// Who calls an embedded guardian, as the rows say. After an error the same text has to be kept.
+/// Who calls an embedded guardian, as the rows say. After an error the same text has to be kept, and
+/// as much has to be declared, begun and journalled as before.
 ///
 /// ```text
 /// let mut host = Host::new(setting);
@@ -31,6 +32,7 @@ impl Subject for Host {
     fn answer(&mut self, setting: Setting, asked: &str) -> Result<String<Room>, RowFault> {
         let (word, rest) = first_word(asked);
         let before = self.kept(setting.texts)?;
+        let counts = self.counts();
         let told = match word {
             "call" => {
                 let (request, text) = request_of(rest)?;
@@ -48,6 +50,10 @@ impl Subject for Host {
                 setting.limit();
                 self.bank.checkpoint().map(|()| Outcome::Done)
             }
+            "renew" => {
+                setting.limit();
+                self.bank.renew().map(|()| Outcome::Done)
+            }
             "abort_live" => {
                 setting.limit();
                 self.bank.abort_live().map(|()| Outcome::Done)
@@ -57,10 +63,14 @@ impl Subject for Host {
                 Ok(Outcome::Done)
             }
             "room" => return self.copied(setting, rest),
+            "lines" => return self.lines(setting, rest),
             "each" => return self.called_each(setting, rest),
             _ => return Err(RowFault::NotSpelled),
         };
         setting.lift();
+        if told.is_err() && word != "abort_live" && self.counts() != counts {
+            return Err(RowFault::Changed);
+        }
         self.told(setting.texts, told, before.as_str())
     }
 }
@@ -86,6 +96,50 @@ impl Host {
             Err(EmbedError::OutOfMemory) => Err(RowFault::OutOfMemory),
             Err(error) => Ok(codes_text(texts, error.codes())?),
         }
+    }
+
+    // How many objects, actions and entries there are, and where the journal begins: nothing of it
+    // takes memory.
+    fn counts(&mut self) -> [i64; 4] {
+        [
+            self.count(Question::Objects),
+            self.count(Question::Actions),
+            self.count(Question::Entries),
+            self.count(Question::FirstEntry),
+        ]
+    }
+
+    fn count(&mut self, question: Question) -> i64 {
+        match self.bank.answer_question(question) {
+            Ok(Outcome::Number(number)) => number,
+            _ => -1,
+        }
+    }
+
+    // Of how many entries a room so large has lines, from an entry on, of what size, and the room, with
+    // a `?` for each byte that isn't written. What is kept stays.
+    fn lines(&self, setting: Setting, row: &str) -> Result<String<Room>, RowFault> {
+        let (from, size) = first_word(row);
+        let (from, size) = (from.parse::<u64>()?, size.parse::<usize>()?);
+        let mut room = Vec::from_elem(setting.texts.room(), b'?', size)?;
+        let before = self.kept(setting.texts)?;
+        setting.limit();
+        let told = self.bank.lines(from, room.as_mut_slice());
+        setting.lift();
+        let is_same = self.kept(setting.texts)?.as_str() == before.as_str();
+        let mut out = String::new(setting.texts.room());
+        match told {
+            _ if !is_same => return Err(RowFault::Changed),
+            Ok(lines) => write!(out, "{} {}", lines.count, lines.size)?,
+            Err(_) if room.iter().any(|byte| *byte != b'?') => return Err(RowFault::Changed),
+            Err(EmbedError::OutOfMemory) => return Err(RowFault::OutOfMemory),
+            Err(error) => return Ok(codes_text(setting.texts, error.codes())?),
+        }
+        if size > 0 {
+            out.push_str(" ")?;
+            push_lines(room.as_slice(), &mut out)?;
+        }
+        Ok(out)
     }
 
     // How many calls of a list were made, and why no more; then the two numbers of each, `-` for one

@@ -21,6 +21,7 @@ mod playing;
 mod question;
 mod repeating;
 mod request_reading;
+mod resuming;
 mod row;
 mod row_reading;
 mod session;
@@ -66,7 +67,13 @@ const ALONE: [(&str, bool); 10] = [
 const SHARED: [&str; 3] = ["lookers.rows", "settling.rows", "waiting.rows"];
 
 // Those for a guardian that a host holds.
-const HELD: [&str; 3] = ["host_calls.rows", "host_lists.rows", "host_questions.rows"];
+const HELD: [&str; 5] = [
+    "host_calls.rows",
+    "host_lists.rows",
+    "host_questions.rows",
+    "host_lines.rows",
+    "host_renewals.rows",
+];
 
 fn main(rt: HostRuntime) -> Result<()> {
     let setting = Setting::new(rt.alloc())?;
@@ -96,6 +103,8 @@ fn test_alone<R: Threads + Wait + Files + Print + AllocGlobal + Copy + Drop + Se
             repeated = repeated.saturating_add(here);
         }
     }
+    resuming::resume_listings(setting)?;
+    rt.println("listings_are_resumed_each_front_each_byte_changed_and_without_memory")?;
     tester.tell_counts(&rt)?;
     println!(rt; "{repeated} tests once more, by the seat of a shared guardian")?;
     Ok(tester.is_content())

@@ -21,8 +21,9 @@ mod text_calls;
 use crate::row_files::run_files;
 use anyhow::Result;
 use argus_texts::{
-    content_texts_are_unambiguous, contents_are_read_back, shape_texts_are_unambiguous,
-    shapes_are_read_back, value_texts_are_unambiguous, values_are_read_back,
+    content_texts_are_unambiguous, contents_are_read_back, fitting_contents_are_read_back,
+    shape_texts_are_unambiguous, shapes_are_read_back, value_texts_are_unambiguous,
+    values_are_read_back,
 };
 use content_calls::ContentCalls;
 use text_calls::TextCalls;
@@ -57,6 +58,7 @@ pub(crate) fn run_rows(rt: HostRuntime) -> Result<bool> {
 fn call_laws() {
     values_are_read_back();
     contents_are_read_back();
+    fitting_contents_are_read_back();
     shapes_are_read_back();
     value_texts_are_unambiguous();
     content_texts_are_unambiguous();

@@ -1,13 +1,13 @@
 //! The program's parts, from the command line to the picture: scripts with what is listed, command
-//! lines, and listings with what comes of their pictures; and the example scripts, as their
-//! comments
-//! say.
+//! lines, listings with what comes of their pictures, and listings that are replayed; and the example
+//! scripts, as their comments say.
 
 mod command_lines;
 mod drawing;
 mod examples;
 mod heaps;
 mod pictures;
+mod replays;
 mod row;
 mod scripts;
 mod trial;
@@ -19,6 +19,7 @@ use command_lines::check_command_lines;
 use examples::tell_examples;
 use heaps::Heaps;
 use pictures::check_pictures;
+use replays::check_replays;
 use scripts::check_scripts;
 use std::alloc::Global;
 use std::fs;
@@ -27,7 +28,7 @@ use std::rt::Files;
 use std::sync::Wait;
 use std::thread::Threads;
 
-/// Whether each script, command line, example and picture is as its row or its comment says.
+/// Whether each script, command line, example, picture and replay is as its row or its comment says.
 pub(crate) fn check_rows<T: Threads + Wait + Files + Print + Alloc + Copy + Drop + Send + Sync>(
     rt: &T,
     alloc: Global,
@@ -38,7 +39,8 @@ pub(crate) fn check_rows<T: Threads + Wait + Files + Print + Alloc + Copy + Drop
     let is_asked = tell_end(rt, check_asked(rt, alloc))?;
     let is_example = tell_end(rt, tell_examples(rt, alloc, heaps.texts))?;
     let is_drawn = tell_end(rt, check_drawn(rt, heaps))?;
-    Ok(is_status && is_listed && is_asked && is_example && is_drawn)
+    let is_replayed = tell_end(rt, check_replayed(rt, alloc, heaps))?;
+    Ok(is_status && is_listed && is_asked && is_example && is_drawn && is_replayed)
 }
 
 // The statuses of the faults that tell nothing of a script.
@@ -60,5 +62,12 @@ fn check_drawn<T: Files + Print + Alloc>(rt: &T, heaps: Heaps) -> Result<()> {
     let text = fs::read_to_string(rt, "pictures.rows")?;
     let rows = check_pictures(heaps, text.as_str())?;
     rt.println(format_args!("{rows} listings for pictures"))?;
+    Ok(())
+}
+
+fn check_replayed<T: Files + Print + Alloc>(rt: &T, alloc: Global, heaps: Heaps) -> Result<()> {
+    let text = fs::read_to_string(rt, "replays.rows")?;
+    let rows = check_replays(alloc, heaps, text.as_str())?;
+    rt.println(format_args!("{rows} listings replayed"))?;
     Ok(())
 }

@@ -21,7 +21,7 @@ mod trial;
 
 use crate::ending::tell_end;
 use anyhow::Result;
-use argus_commands::checked_runs_are_runs;
+use argus_commands::{checked_runs_are_runs, levels_tell_unmatched_lines, lines_spell_one_script};
 use std::alloc::Global;
 use std::fs;
 use std::io::Print;
@@ -46,6 +46,8 @@ pub(crate) fn check_rows<T: Files + Print + Alloc>(
     alloc: Global,
     setting: Setting,
 ) -> Result<bool> {
+    lines_spell_one_script();
+    levels_tell_unmatched_lines();
     checked_runs_are_runs();
     let is_parsed = check_parsed(rt, alloc)?;
     let is_run = tell_end(rt, check_run(rt, setting))?;

@@ -1,6 +1,7 @@
 //! Rows of text as tests: how they are parted and read, told to what they test, and counted.
 #![tactic(auto)]
 
+mod account_making;
 mod block;
 mod call_reading;
 mod counting;
@@ -17,6 +18,7 @@ mod tester;
 mod tight_answer;
 mod word_reading;
 
+pub use account_making::account_with;
 pub use block::{Block, block_of};
 pub use call_reading::call_of;
 pub use counting::{Counted, counted_of};

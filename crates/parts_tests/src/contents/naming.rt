@@ -18,6 +18,7 @@ pub(crate) fn answer_name(setting: Setting, text: &str) -> Result<String<Room>, 
 
 fn said_of(setting: Setting, name: &Name, text: &str) -> Result<&'static str, RowFault> {
     let copy = name.duplicate(setting.heap)?;
+    copy.form_is_kept();
     if name.as_str() == text && copy.as_str() == text && Name::is_name(text) {
         Ok("good")
     } else {

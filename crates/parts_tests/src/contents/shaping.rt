@@ -36,6 +36,7 @@ fn list_of(heap: Heap, words: &str) -> Result<Vec<(Name, Ty), Room>, RowFault> {
 fn said_of(setting: Setting, shape: &Shape) -> Result<&'static str, RowFault> {
     setting.limit();
     let copy = shape.duplicate(setting.heap)?;
+    copy.limits_are_kept();
     let again = match copy.view() {
         ShapeView::Rec(fields) => Shape::rec(copied_list(setting.heap, fields)?),
         ShapeView::Arr(item) => Shape::arr(item.duplicate(setting.heap)?),

@@ -1,12 +1,13 @@
 //! Each law can be called: it does nothing.
 
+use argus_entries::laws::suiting_changes_keep_the_depth;
 use argus_journal::folding::{
     a_fold_goes_on, a_fold_is_an_opening, effects_go_on, what_makes_a_fold,
 };
 use argus_journal::laws::{
-    base_is_serial, committed_work_runs_again, contents_fit, exclusion, history_is_lawful,
-    live_work_runs_again, numbers_stay_within_limits, references_are_all, table_of_effects,
-    what_fits,
+    base_is_serial, committed_work_is_complete, committed_work_runs_again, contents_fit, exclusion,
+    history_is_lawful, live_work_runs_again, numbers_stay_within_limits, references_are_all,
+    table_of_effects, what_fits,
 };
 use argus_journal::next_entry::{a_begin, a_commit, an_abort, an_access, nothing_happens};
 use argus_journal::worked::{
@@ -17,7 +18,7 @@ use argus_journal::worked::{
 };
 use argus_journal::worked_openings::the_past_is_folded;
 use argus_journal::worked_orders::{
-    a_reader_leaves_an_empty_effect, a_signalled_question_reads,
+    a_reader_leaves_an_empty_effect, a_run_goes_up_to_a_live_action, a_signalled_question_reads,
     a_test_copies_what_an_ancestor_wrote, ill_typed_before_conflict, over_before_suspended,
     suspended_before_no_object, tests_are_refused_in_order, the_last_action_begins,
     the_last_object_is_declared,
@@ -26,7 +27,7 @@ use argus_journal::worked_siblings::{
     a_nested_topaction_ends_others, both_kinds_are_ended, no_other_is_left, others_are_ended,
 };
 
-/// Calls each law of `argus_journal`.
+/// Calls each law of `argus_journal`, and that of `argus_entries` on changes.
 pub(crate) fn call_laws() {
     of_legal_journals();
     of_folds();
@@ -41,6 +42,8 @@ fn of_legal_journals() {
     exclusion();
     base_is_serial();
     committed_work_runs_again();
+    committed_work_is_complete();
+    suiting_changes_keep_the_depth();
     live_work_runs_again();
     contents_fit();
     what_fits();
@@ -95,6 +98,7 @@ fn of_orders() {
     a_signalled_question_reads();
     a_test_copies_what_an_ancestor_wrote();
     a_reader_leaves_an_empty_effect();
+    a_run_goes_up_to_a_live_action();
     the_last_action_begins();
     the_last_object_is_declared();
 }

@@ -49,6 +49,8 @@ impl<'a> Row<'a> {
     fn add(&mut self, heap: Heap, line: &'a str) -> Result<(), RowFault> {
         if let Some(words) = line.strip_prefix("argus ") {
             self.words = words;
+        } else if let Some(words) = line.strip_prefix("replay ") {
+            self.words = words;
         } else if let Some(fault) = line.strip_prefix("! ") {
             self.fault = fault;
         } else if let Some(text) = line.strip_prefix("| ") {

@@ -1,0 +1,316 @@
+//! Listings of journals, made into guardians again: whole, each front of them, with each byte changed,
+//! with each allocation refused in turn, and by readers that fail.
+
+use crate::making::make;
+use crate::starting::later;
+use anyhow::{Result, bail, ensure};
+use argus_guardian::{
+    FailStop, Guardian, LineError, LineFault, Listing, Opened, ReadEnd, Resuming, TakenEnd, resume,
+    write_listing,
+};
+use argus_values::{Heap, Room};
+use test_rows::{Failing, Setting};
+
+// More allocations, and more reads, than the longest listing takes.
+const BUDGETS: u64 = 2_000;
+
+const CALLS: [&str; 17] = [
+    "declare atomic_record[n:int,t:text]",
+    "declare atomic_array[sequence[int]]",
+    "declare atomic_variant[no:null,yes:atomic]",
+    "begin_top",
+    "alter a0 o0 create {0,\"a \\n b\"}",
+    "alter a0 o1 create 3[[1,2],[]]",
+    "alter a0 o2 create <1:@1>",
+    "begin_sub a0",
+    "alter a1 o0 set_field 0 -7",
+    "ask a1 o0 field 1",
+    "ask a1 o1 fetch 9",
+    "begin_nested a1",
+    "alter a2 o0 set_field 0 2",
+    "abort a2",
+    "commit a1",
+    "commit a0",
+    "commit a0",
+];
+
+const CALLS_BEHIND: [&str; 5] = [
+    "begin_top",
+    "alter a1 o0 set_field 0 8",
+    "begin_top",
+    "ask a2 o0 field 0",
+    "declare atomic_record[n:int]",
+];
+
+/// All of these, of listings of entries alone, of an opening with entries behind it, and of an
+/// opening alone.
+pub(crate) fn resume_listings(setting: Setting) -> Result<()> {
+    let mut guardian = Guardian::new(setting.heap);
+    make_each(&mut guardian, setting.heap, &CALLS)?;
+    try_all(setting, &guardian)?;
+    let mut guardian = folded(setting.heap)?;
+    try_all(setting, &guardian)?;
+    make_each(&mut guardian, setting.heap, &CALLS_BEHIND)?;
+    try_all(setting, &guardian)?;
+    try_all(setting, &later(setting.heap)?)
+}
+
+fn make_each(guardian: &mut Guardian, heap: Heap, calls: &[&str]) -> Result<()> {
+    for call in calls {
+        make(guardian, heap, call)?;
+    }
+    Ok(())
+}
+
+// A guardian whose journal is an opening of three objects, the last of which refers to the first.
+fn folded(heap: Heap) -> Result<Guardian> {
+    let mut guardian = Guardian::new(heap);
+    make_each(&mut guardian, heap, &CALLS[..7])?;
+    make(&mut guardian, heap, "commit a0")?;
+    ensure!(guardian.checkpoint().is_ok(), "no checkpoint is made");
+    Ok(guardian)
+}
+
+fn try_all(setting: Setting, guardian: &Guardian) -> Result<()> {
+    let listing = listed(setting.texts, guardian)?;
+    let text = listing.as_slice();
+    comes_back(setting, text)?;
+    for size in 0..text.len() {
+        front_comes_back(setting.heap, text, size)?;
+        bytes_are_changed(setting.heap, text, size)?;
+    }
+    goes_on_at_last(setting, text)?;
+    opens_at_last(setting, text, guardian.journal().journal().len())?;
+    resumes_at_last(setting, text)?;
+    fails_at_last(setting, text)
+}
+
+fn listed(heap: Heap, guardian: &Guardian) -> Result<Vec<u8, Room>> {
+    let mut writer = FailStop::new(Vec::new(heap.room()));
+    if write_listing(heap, guardian, &[], Listing::Journal, &mut writer).is_err() {
+        bail!("a journal isn't listed");
+    }
+    match writer.into_inner() {
+        Some(listing) => Ok(listing),
+        None => bail!("a listing is lost"),
+    }
+}
+
+// Whether the guardian's listing is this front of the text.
+fn is_listed(
+    heap: Heap,
+    guardian: &Guardian,
+    text: &[u8],
+    bytes: u64,
+    dropped: u64,
+) -> Result<bool> {
+    let listing = listed(heap, guardian)?;
+    let is_front = text.starts_with(listing.as_slice());
+    Ok(is_front && (listing.len() as u64).checked_add(dropped) == Some(bytes))
+}
+
+fn comes_back(setting: Setting, text: &[u8]) -> Result<()> {
+    let Ok(resumed) = resume(setting.heap, &mut FailStop::new(text)) else {
+        bail!("no memory is found for a guardian");
+    };
+    ensure!(
+        matches!(resumed.end, ReadEnd::Whole) && resumed.bytes == text.len() as u64,
+        "a listing isn't taken whole"
+    );
+    ensure!(
+        is_listed(setting.texts, &resumed.guardian, text, resumed.bytes, 0)?
+            && resumed.dropped == 0,
+        "a listing comes back as another one"
+    );
+    Ok(())
+}
+
+// A front of a listing gives its whole lines, and goes on to the whole listing.
+fn front_comes_back(heap: Heap, text: &[u8], size: usize) -> Result<()> {
+    let front = text.get(..size).unwrap_or(text);
+    let mut resuming = Resuming::new(heap);
+    let taken = resuming.take(front);
+    let is_whole = size == 0 || text.get(size.saturating_sub(1)) == Some(&10);
+    ensure!(
+        match taken.end {
+            TakenEnd::Whole => is_whole,
+            TakenEnd::Torn => !is_whole,
+            TakenEnd::Fault(_) | TakenEnd::OutOfMemory => false,
+        },
+        "a front ends otherwise"
+    );
+    let Some(rest) = text.get(taken.bytes..) else {
+        bail!("more is taken than there is");
+    };
+    ensure!(
+        !rest
+            .get(..size.saturating_sub(taken.bytes))
+            .unwrap_or(b"\n")
+            .contains(&10),
+        "a whole line isn't taken"
+    );
+    is_opened(heap, resuming, text, taken.bytes as u64)?;
+    let mut resuming = Resuming::new(heap);
+    let first = resuming.take(front);
+    let second = resuming.take(text.get(first.bytes..).unwrap_or(&[]));
+    ensure!(
+        matches!(second.end, TakenEnd::Whole),
+        "a front doesn't go on"
+    );
+    is_opened(heap, resuming, text, text.len() as u64)
+}
+
+fn is_opened(heap: Heap, resuming: Resuming, text: &[u8], bytes: u64) -> Result<()> {
+    let Ok(Opened { guardian, dropped }) = resuming.into_guardian() else {
+        bail!("no memory is found for a guardian");
+    };
+    ensure!(
+        is_listed(heap, &guardian, text, bytes, dropped)?,
+        "another guardian is opened"
+    );
+    Ok(())
+}
+
+// Each bit of this byte is changed. Where no line is at fault, what was taken is another listing.
+fn bytes_are_changed(heap: Heap, text: &[u8], at: usize) -> Result<()> {
+    let mut changed = Vec::new(heap.room());
+    changed.extend_from_slice(text)?;
+    let was = text.get(at).copied().unwrap_or(0);
+    for mask in [1u8, 2, 4, 8, 16, 32, 64, 128] {
+        if let Some(byte) = changed.get_mut(at) {
+            *byte = was ^ mask;
+        }
+        let mut resuming = Resuming::new(heap);
+        let taken = resuming.take(changed.as_slice());
+        ensure!(
+            !matches!(taken.end, TakenEnd::OutOfMemory),
+            "no memory is found for a line"
+        );
+        is_opened(heap, resuming, changed.as_slice(), taken.bytes as u64)?;
+    }
+    Ok(())
+}
+
+// Each allocation is refused in turn; from there the rest is taken.
+fn goes_on_at_last(setting: Setting, text: &[u8]) -> Result<()> {
+    for allowed in 0..BUDGETS {
+        let allowing = setting.allowing(allowed);
+        let mut resuming = Resuming::new(setting.heap);
+        allowing.limit();
+        let taken = resuming.take(text);
+        allowing.lift();
+        if matches!(taken.end, TakenEnd::Whole) {
+            return is_opened(setting.heap, resuming, text, text.len() as u64);
+        }
+        ensure!(
+            matches!(taken.end, TakenEnd::OutOfMemory),
+            "a listing is at fault"
+        );
+        let rest = resuming.take(text.get(taken.bytes..).unwrap_or(&[]));
+        ensure!(
+            matches!(rest.end, TakenEnd::Whole),
+            "a listing doesn't go on"
+        );
+        is_opened(setting.heap, resuming, text, text.len() as u64)?;
+    }
+    bail!("a listing is never taken")
+}
+
+// The guardian is made with each allocation refused in turn: until it is, nothing is lost. Before it
+// comes a line with another reply, of which nothing stays.
+fn opens_at_last(setting: Setting, text: &[u8], next: u64) -> Result<()> {
+    let mut resuming = Resuming::new(setting.heap);
+    let taken = resuming.take(text);
+    ensure!(
+        matches!(taken.end, TakenEnd::Whole),
+        "a listing isn't taken whole"
+    );
+    let line = format!(in setting.texts.room(); "{next} begin_top -> a99")?;
+    ensure!(
+        matches!(
+            resuming.take_line(line.as_str().as_bytes()),
+            Err(LineError::Fault(LineFault::NotTheReply(_)))
+        ),
+        "another reply isn't told"
+    );
+    for allowed in 0..BUDGETS {
+        let allowing = setting.allowing(allowed);
+        allowing.limit();
+        let opened = resuming.into_guardian();
+        allowing.lift();
+        match opened {
+            Ok(Opened { guardian, dropped }) => {
+                let bytes = text.len() as u64;
+                ensure!(
+                    dropped == 0 && is_listed(setting.texts, &guardian, text, bytes, 0)?,
+                    "another guardian is opened at last"
+                );
+                return Ok(());
+            }
+            Err(again) => resuming = again,
+        }
+    }
+    bail!("a guardian is never opened")
+}
+
+// Of a reader, with each allocation refused in turn: what was taken is there.
+fn resumes_at_last(setting: Setting, text: &[u8]) -> Result<()> {
+    for allowed in 0..BUDGETS {
+        let allowing = setting.allowing(allowed);
+        let mut reader = FailStop::new(text);
+        allowing.limit();
+        let resumed = resume(setting.heap, &mut reader);
+        allowing.lift();
+        let Ok(resumed) = resumed else {
+            continue;
+        };
+        ensure!(
+            is_listed(
+                setting.texts,
+                &resumed.guardian,
+                text,
+                resumed.bytes,
+                resumed.dropped
+            )?,
+            "a refused listing gives another guardian"
+        );
+        match resumed.end {
+            ReadEnd::Whole => return Ok(()),
+            ReadEnd::OutOfMemory => {}
+            ReadEnd::Torn | ReadEnd::Read | ReadEnd::Fault(_) => bail!("another end is told"),
+        }
+    }
+    bail!("a listing is never resumed")
+}
+
+// A reader fails after each of its reads in turn.
+fn fails_at_last(setting: Setting, text: &[u8]) -> Result<()> {
+    for reads in 0..BUDGETS {
+        let mut reader = FailStop::new(Failing {
+            rest: text,
+            reads_left: reads,
+            reads_behind: 0,
+        });
+        let Ok(resumed) = resume(setting.heap, &mut reader) else {
+            bail!("no memory is found for a guardian");
+        };
+        ensure!(
+            is_listed(
+                setting.texts,
+                &resumed.guardian,
+                text,
+                resumed.bytes,
+                resumed.dropped
+            )?,
+            "a failing reader gives another guardian"
+        );
+        match resumed.end {
+            ReadEnd::Whole => return Ok(()),
+            ReadEnd::Read => {}
+            ReadEnd::Torn | ReadEnd::OutOfMemory | ReadEnd::Fault(_) => bail!(
+                "another end is told"
+            ),
+        }
+    }
+    bail!("a reader never comes to its end")
+}
