@@ -23,11 +23,12 @@ NOT_DRAWN = re.compile(r".*_(tests|bench|example|fuzz)|test_rows")
 LAYERS = [
     [
         ("program", "argus", "runs a script and lists", []),
+        ("program", "replay", "checks a journal", []),
         ("program", "picture", "draws a listing", []),
         ("program", "hosts", "programs in C, Rust and Python", []),
     ],
     [
-        ("surface", "argus_cli", "a script read, run and listed", [("argus_usage", "command lines")]),
+        ("surface", "argus_cli", "what argus and replay do", [("argus_usage", "command lines")]),
         ("surface", "argus_picture", "a listing, drawn", [("argus_frame", "where things stand")]),
         ("surface", "argus_embed", "calls by numbers and texts", []),
         ("surface", "argus_c", "a static library for C", []),
@@ -42,11 +43,12 @@ LAYERS = [
     ],
     [
         ("surface", "argus_guardian", "the guardian, of one thread and shared", [
-            ("argus_core", "one thread's guardian"),
+            ("argus_core", "of one thread"),
             ("argus_sharing", "one lock, seats"),
             ("argus_receipts", "receipts of calls"),
             ("argus_board", "readers, no lock"),
-            ("argus_listings", "what it holds, as text"),
+            ("argus_listings", "written as text"),
+            ("argus_resume", "from its journal"),
             ("argus_streams", "reads and writes"),
         ]),
     ],

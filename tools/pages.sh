@@ -27,9 +27,16 @@ for place in "${places[@]}"; do
     echo "$place: its version isn't $version, that of CHANGELOG.md"
     status=1
 done
-numbers=$(sed -n 's/^#define ARGUS_VERSION_[A-Z]* //p' crates/argus_c/include/argus.h | paste -sd .)
+numbers=$(sed -En 's/^#define ARGUS_VERSION_(MAJOR|MINOR|PATCH) //p' crates/argus_c/include/argus.h | paste -sd .)
 if [ "$numbers" != "$version" ]; then
     echo "crates/argus_c/include/argus.h: its numbers say $numbers, not $version"
     status=1
 fi
+IFS=. read -r major minor patch <<< "$version"
+number=$((10000 * major + 100 * minor + patch))
+for place in crates/argus_c/include/argus.h crates/argus_c/src/lib.rt hosts/rust/src/sys.rs hosts/python/argus_guardian/library.py; do
+    grep -Eq "VERSION_NUMBER\b.*[ =]$number\b" "$place" && continue
+    echo "$place: its VERSION_NUMBER isn't $number, that of CHANGELOG.md"
+    status=1
+done
 exit "$status"
