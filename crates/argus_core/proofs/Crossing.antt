@@ -1,10 +1,12 @@
--- A guardian may go to another thread.
+-- A guardian may go to another thread, and so may one whose commit is ready.
 use denote.Struct.Declared.{shape, row as declared_row}
 use denote.Param.Send.{IsSend, recorded_send, sendable, struct_send, view_send}
 use Rattle.argus_actions.proofs.Crossing as actions
 use Rattle.argus_contents.proofs.Crossing as contents
 use Rattle.argus_core.specs.contracts.guardian.Guardian.{the_row as guardian_row}
 use Rattle.argus_core.specs.contracts.guardian.Guardian.TheInside.{the_type as guardian_inside}
+use Rattle.argus_core.specs.contracts.ready_commit.ReadyCommit.{the_row as ready_row}
+use Rattle.argus_core.specs.contracts.ready_commit.ReadyCommit.TheInside.{the_type as ready_inside}
 use Rattle.argus_journal.proofs.Crossing as journal
 use Rattle.argus_journal.specs.contracts.legal_journal.LegalJournal.{the_field as legal_field}
 use Rattle.argus_memory.proofs.Crossing as memory
@@ -37,3 +39,13 @@ guardian_inside_sends = let t = guardian_inside in
 
 pub guardian_sends : IsSend guardian_row
 guardian_sends = view_send _ _ _ _ _ guardian_inside_sends
+
+ready_inside_sends : IsSend (declared_row ready_inside)
+ready_inside_sends = let t = ready_inside in
+    recorded_send _ t.D t.to t.to_one (struct_send (shape t) (
+      parts_field_sends,
+      (search sendable depth 40, (search (sendable, actions.crosses) depth 40, tt)),
+    ))
+
+pub ready_commit_sends : IsSend ready_row
+ready_commit_sends = view_send _ _ _ _ _ ready_inside_sends

@@ -3,10 +3,11 @@
 ghost use Rattle.std.specs.Option.{option_map, option_to_list};
 ghost use Rattle.std.specs.Prelude.{IfErr, IfOk, ◌≡◌};
 ghost use Rattle.argus_entries.specs.Call.{commit};
+ghost use Rattle.argus_entries.specs.Entry.{plain_entry};
 ghost use Rattle.argus_entries.specs.Reply.{plain_reply};
 ghost use Rattle.argus_core.specs.ReadyCommit.{added_by_call};
 ghost use Rattle.argus_contents.specs.Effect.{plain_effect};
-ghost use Rattle.argus_journal.specs.JournalView.{after, reply_to};
+ghost use Rattle.argus_journal.specs.JournalView.{after, entry_of, next_entry, reply_to};
 
 use crate::effect::effect_in;
 use crate::engine::commit_step::CommitStep;
@@ -14,8 +15,8 @@ use crate::engine::ending::{make_commit, ready_commit};
 use crate::engine::guardian_state::GuardianState;
 use crate::guardian::Guardian;
 use argus_actions::ActionId;
-use argus_contents::{Content, ObjId};
-use argus_entries::Reply;
+use argus_contents::{Answer, Content, ObjId};
+use argus_entries::{Call, Entry, Reply};
 use argus_memory::{OutOfMemory, Room};
 use std::marker::Model;
 
@@ -25,6 +26,7 @@ use std::marker::Model;
 ///
 /// ```text
 /// let ready = guardian.ready_commit(a)?;
+/// let (at, entry) = ready.entry();                 // what the journal is going to have
 /// let effect = ready.effect()?;                    // what a topaction leaves for good
 /// let (guardian, reply) = ready.make();
 /// ```
@@ -86,6 +88,26 @@ impl ReadyCommit {
             Some(_) => Ok(None),
             None => effect_in(&self.state, self.action),
         }
+    }
+
+    /// The journal's entry that the commit is going to be, with its number: so that it can be in a
+    /// log before anybody sees what the commit leaves. It takes no memory.
+    ///
+    /// ```text
+    /// let (at, entry) = ready.entry();
+    /// write_entry(at, &entry, &mut line)?;             // 4 commit a0 -> done
+    /// ```
+    pub fn entry(&self) -> (u64, Entry)
+        ensures number { result.0 ≡ next_entry self.now.journal }
+        ensures entry { plain_entry result.1
+            ≡ entry_of self.now.journal (commit self.now.action) }
+    {
+        let call = Call::Commit(self.action);
+        let reply = match self.step {
+            CommitStep::Refused(why) => Reply::Refused(why),
+            CommitStep::Inherit(_) | CommitStep::Settle => Reply::Answered(Answer::Done),
+        };
+        (self.state.journal.journal().len(), Entry { call, reply })
     }
 
     /// Commits. It takes no memory.
