@@ -1,9 +1,8 @@
 -- A journal whose listing begins with that of another: what it has more.
-use Rattle.std.proofs.Common.{◌≡◌, ◌≢◌, ℕ, zero, suc, ◌+◌, ◌<◌, ◌≤◌, ◌^◌, ◌⊎◌, ◌==◌, List, [], ◌∷◌, ◌++◌, length, refl}
+use Rattle.std.proofs.Common.{◌≡◌, ℕ, ◌+◌, ◌<◌, ◌≤◌, ◌^◌, ◌⊎◌, List, [], ◌∷◌, ◌++◌, length, refl}
 use Rattle.std.proofs.Common.{sym, ap}
-use Rattle.std.proofs.Common.{◌∙◌, subst, inl, inr, arith, append_assoc, append-nil, length-append, cond, false}
-use Rattle.std.proofs.Common.{reverse}
-use Rattle.std.proofs.lemmas.List.{append_cancel_left, length-reverse, reverse-append}
+use Rattle.std.proofs.Common.{◌∙◌, inl, inr, arith, append_assoc, length-append}
+use Rattle.std.proofs.lemmas.List.{append_cancel_left}
 use Rattle.std.specs.Fmt.{decimal}
 use Rattle.std.specs.Prelude.{Option, codes}
 use Rattle.argus_contents.specs.Content.{PlainContent}
@@ -12,19 +11,16 @@ use Rattle.argus_contents.specs.declared.limits.TheConstants.{MAX_OBJECTS}
 use Rattle.argus_entries.specs.Entry.{PlainEntry}
 use Rattle.argus_entries.specs.EntrySpelling.{call_spelling, entry_line, entry_spelling, reply_spelling}
 use Rattle.argus_entries.proofs.Lines.{one_line}
-use Rattle.argus_journal.specs.JournalView.{JournalView, next_entry}
-use Rattle.argus_journal.specs.Opening.{KeepsNumbers, Opening, empty}
-use Rattle.argus_listings.specs.Listing.{each_from, entries_text, folded_line, opened_line, opening_text}
-use Rattle.argus_reading.specs.Line.{IsReadable}
-use Rattle.argus_texts.proofs.Digits.{first_digit, one_decimal}
+use Rattle.argus_journal.specs.Opening.{Opening}
+use Rattle.argus_listings.specs.Listing.{each_from, opened_line}
+use Rattle.argus_texts.proofs.Digits.{first_digit}
 use Rattle.argus_texts.proofs.Lists.{head_of, tail_of}
-use Rattle.argus_resume.specs.JournalText.{AreReadable, AreReadableObjects, IsReadableJournal, IsReadableObject}
-use Rattle.argus_resume.specs.JournalText.{IsReadableOpening, journal_text}
+use Rattle.argus_resume.specs.JournalText.{AreReadable, AreReadableObjects, IsReadableObject}
+use Rattle.argus_resume.specs.JournalText.{IsReadableOpening}
 use Rattle.argus_resume.specs.OpeningLanguages.{FoldedLines, IsForm, ObjectLines}
-use Rattle.argus_resume.specs.Stage.{lines_of, opening_line}
 use Rattle.argus_resume.specs.Taking.{HasNoFeed}
-use Rattle.argus_resume.proofs.Clean.{entry_clean, folded_clean, object_clean}
-use Rattle.argus_resume.proofs.Openings.{folded_line_form, object_line_form, object_told}
+use Rattle.argus_resume.proofs.Clean.{entry_clean, object_clean}
+use Rattle.argus_resume.proofs.Openings.{object_line_form, object_told}
 
 -- LINES
 

@@ -11,6 +11,14 @@ pub mod OpeningParts
 pub mod ObjectAdded
 pub mod Readings
 pub mod Clean
+pub mod FrontLines
 pub mod Fronts
 pub mod Longer
+pub mod Depths
+pub mod Seen
+pub mod Replies
+pub mod Granted
+pub mod Readable
+pub mod Folds
 pub mod NextLines
+pub mod Crossing

@@ -1,50 +1,30 @@
 -- A journal whose listing begins with that of another: what the other has behind it.
-use Rattle.std.proofs.Common.{◌≡◌, ◌≢◌, ℕ, zero, suc, ◌+◌, ◌<◌, ◌≤◌, ◌^◌, ◌⊎◌, ◌==◌, List, [], ◌∷◌, ◌++◌, length, refl}
+use Rattle.std.proofs.Common.{◌≡◌, ℕ, ◌+◌, ◌<◌, ◌≤◌, ◌^◌, ◌==◌, List, [], ◌∷◌, ◌++◌, length, refl}
 use Rattle.std.proofs.Common.{sym, ap}
-use Rattle.std.proofs.Common.{◌∙◌, subst, inl, inr, arith, append_assoc, append-nil, length-append, cond, false, true}
+use Rattle.std.proofs.Common.{◌∙◌, subst, inl, inr, arith, append_assoc, append-nil, length-append, cond, false}
 use Rattle.std.proofs.Common.{reverse}
-use Rattle.std.proofs.lemmas.Bool.{false≢true}
-use Rattle.std.proofs.lemmas.List.{append_cancel_left, length-reverse, reverse-append, take-append-drop}
+use Rattle.std.proofs.lemmas.List.{append_cancel_left, length-reverse, reverse-append}
 use Rattle.std.specs.Fmt.{decimal}
-use Rattle.std.proofs.Common.{Bool, drop, take}
-use Rattle.std.specs.Io.KnownBytes.{Consumes, IsAtEnd}
-use Rattle.std.specs.Prelude.{None, Option, Some, codes}
-use Rattle.std.specs.Str.{IsUtf8}
+use Rattle.std.specs.Prelude.{Option, codes}
 use Rattle.argus_contents.specs.Content.{PlainContent}
 use Rattle.argus_contents.specs.Shape.{PlainShape}
 use Rattle.argus_contents.specs.declared.limits.TheConstants.{MAX_OBJECTS}
 use Rattle.argus_entries.specs.Entry.{PlainEntry}
 use Rattle.argus_entries.specs.EntrySpelling.{entry_line, entry_spelling}
-use Rattle.argus_entries.specs.Reply.{PlainReply}
-use Rattle.argus_entries.proofs.Lines.{one_line}
-use Rattle.argus_journal.specs.Answers.{answer}
-use Rattle.argus_journal.specs.JournalView.{JournalView, next_entry, reply_to}
+use Rattle.argus_journal.specs.JournalView.{JournalView, next_entry}
 use Rattle.argus_journal.specs.Legal.{Legal}
-use Rattle.argus_journal.specs.Opening.{KeepsNumbers, Opening, empty, is_sound, opening_at}
+use Rattle.argus_journal.specs.Opening.{Opening, empty, opening_at}
 use Rattle.argus_listings.specs.Listing.{each_from, entries_text, folded_line, opened_line, opening_text}
-use Rattle.argus_reading.specs.Line.{IsEntryLine, IsReadable}
 use Rattle.argus_resume.specs.JournalText.{AreReadable, AreReadableObjects, IsReadableJournal, IsReadableObject}
 use Rattle.argus_resume.specs.JournalText.{IsReadableOpening, journal_text}
-use Rattle.argus_resume.specs.Laws.{EndsInFeed, IsListable}
-use Rattle.argus_resume.specs.Lines.{AddsObject, BeginsOpening, IsLineFault, IsLineOf, IsNextOfOpening, IsOfOpening}
 use Rattle.argus_resume.specs.OpeningLanguages.{FoldedLines, ObjectLines}
 use Rattle.argus_resume.specs.Stage.{lines_of}
-use Rattle.argus_resume.specs.Resumed.{IsResumed}
-use Rattle.argus_resume.specs.Taking.{EndsReading, EndsTaking, HasNoFeed, IsFaulty, IsTorn}
-use Rattle.argus_resume.specs.declared.read_end.ReadEnd.{ReadEnd}
-use Rattle.argus_resume.specs.declared.read_end.ReadEnd.TheVariants as read
-use Rattle.argus_resume.specs.declared.resumed.Resumed.{Resumed}
-use Rattle.argus_resume.proofs.Stages.{front_same}
-use Rattle.argus_resume.specs.declared.line_fault.LineFault.{LineFault}
-use Rattle.argus_resume.specs.declared.line_fault.LineFault.TheVariants as fault
-use Rattle.argus_resume.specs.declared.taken_end.TakenEnd.{TakenEnd}
-use Rattle.argus_resume.specs.declared.taken_end.TakenEnd.TheVariants as end
-use Rattle.argus_resume.proofs.Clean.{IsClean, entry_clean, folded_clean, object_clean}
-use Rattle.argus_resume.proofs.Fronts.{entries_front, feed_told, folded_form, lines_told, no_line, no_opening_line}
-use Rattle.argus_resume.proofs.Fronts.{object_form, objects_front}
+use Rattle.argus_resume.proofs.Clean.{folded_clean}
+use Rattle.argus_resume.proofs.Fronts.{entries_front, folded_form, lines_told, no_opening_line}
+use Rattle.argus_resume.proofs.Fronts.{objects_front}
 use Rattle.argus_resume.proofs.OpeningParts.{after_clear, before_clear}
-use Rattle.argus_texts.proofs.Lists.{head_of, tail_of}
-use Rattle.argus_resume.proofs.Openings.{folded_line_form, object_line_form, of_opening}
+use Rattle.argus_texts.proofs.Lists.{tail_of}
+use Rattle.argus_resume.proofs.Openings.{folded_line_form, object_line_form}
 
 -- LISTS FROM THE NEWEST ON
 

@@ -1,52 +1,59 @@
 -- No listing is longer than what was taken where the next line is at fault, and a listing is taken whole.
-use Rattle.std.proofs.Common.{◌≡◌, ◌≢◌, ℕ, zero, suc, ◌+◌, ◌<◌, ◌≤◌, ◌^◌, ◌⊎◌, ◌==◌, List, [], ◌∷◌, ◌++◌, length, refl}
+use Rattle.std.proofs.Common.{◌≡◌, ◌≢◌, ℕ, ◌+◌, ◌<◌, ◌^◌, List, [], ◌∷◌, ◌++◌, length, refl}
 use Rattle.std.proofs.Common.{sym, ap}
-use Rattle.std.proofs.Common.{◌∙◌, subst, inl, inr, arith, append_assoc, append-nil, length-append, cond, false, true}
+use Rattle.std.proofs.Common.{◌∙◌, subst, inl, inr, arith, append_assoc, append-nil, length-append, true}
 use Rattle.std.proofs.Common.{reverse}
 use Rattle.std.proofs.lemmas.Bool.{false≢true}
-use Rattle.std.proofs.lemmas.List.{append_cancel_left, length-reverse, reverse-append, take-append-drop}
-use Rattle.std.specs.Fmt.{decimal}
+use Rattle.std.proofs.lemmas.List.{reverse-append, take-append-drop}
 use Rattle.std.proofs.Common.{Bool, drop, take}
 use Rattle.std.specs.Io.KnownBytes.{Consumes, IsAtEnd}
 use Rattle.std.specs.Prelude.{None, Option, Some, codes}
 use Rattle.std.specs.Str.{IsUtf8}
-use Rattle.argus_contents.specs.Content.{PlainContent}
-use Rattle.argus_contents.specs.Shape.{PlainShape}
-use Rattle.argus_contents.specs.declared.limits.TheConstants.{MAX_OBJECTS}
 use Rattle.argus_entries.specs.Entry.{PlainEntry}
 use Rattle.argus_entries.specs.EntrySpelling.{entry_line, entry_spelling}
-use Rattle.argus_entries.specs.Reply.{PlainReply}
 use Rattle.argus_entries.proofs.Lines.{one_line}
-use Rattle.argus_journal.specs.Answers.{answer}
 use Rattle.argus_journal.specs.JournalView.{JournalView, next_entry, reply_to}
 use Rattle.argus_journal.specs.Legal.{Legal}
-use Rattle.argus_journal.specs.Opening.{KeepsNumbers, Opening, empty, is_sound, opening_at}
-use Rattle.argus_listings.specs.Listing.{each_from, entries_text, folded_line, opened_line, opening_text}
+use Rattle.argus_journal.specs.Opening.{Opening, is_sound}
+use Rattle.argus_listings.specs.Listing.{each_from}
 use Rattle.argus_reading.specs.Line.{IsEntryLine, IsReadable}
-use Rattle.argus_resume.specs.JournalText.{AreReadable, AreReadableObjects, IsReadableJournal, IsReadableObject}
-use Rattle.argus_resume.specs.JournalText.{IsReadableOpening, journal_text}
+use Rattle.argus_resume.specs.JournalText.{AreReadable, IsReadableJournal}
+use Rattle.argus_resume.specs.JournalText.{journal_text}
 use Rattle.argus_resume.specs.Laws.{EndsInFeed, IsListable}
-use Rattle.argus_resume.specs.Lines.{AddsObject, BeginsOpening, IsLineFault, IsLineOf, IsNextOfOpening, IsOfOpening}
+use Rattle.argus_resume.specs.Lines.{IsLineFault, IsLineOf, IsNextOfOpening, IsOfOpening}
 use Rattle.argus_resume.specs.OpeningLanguages.{FoldedLines, ObjectLines}
-use Rattle.argus_resume.specs.Stage.{lines_of}
 use Rattle.argus_resume.specs.Resumed.{IsResumed}
 use Rattle.argus_resume.specs.Taking.{EndsReading, EndsTaking, HasNoFeed, IsFaulty, IsTorn}
 use Rattle.argus_resume.specs.declared.read_end.ReadEnd.{ReadEnd}
 use Rattle.argus_resume.specs.declared.read_end.ReadEnd.TheVariants as read
 use Rattle.argus_resume.specs.declared.resumed.Resumed.{Resumed}
+use Rattle.argus_resume.proofs.Readable.{readable_by_calls}
 use Rattle.argus_resume.proofs.Stages.{front_same}
 use Rattle.argus_resume.specs.declared.line_fault.LineFault.{LineFault}
 use Rattle.argus_resume.specs.declared.line_fault.LineFault.TheVariants as fault
 use Rattle.argus_resume.specs.declared.taken_end.TakenEnd.{TakenEnd}
 use Rattle.argus_resume.specs.declared.taken_end.TakenEnd.TheVariants as end
 use Rattle.argus_resume.proofs.Clean.{IsClean, entry_clean, folded_clean, object_clean}
-use Rattle.argus_resume.proofs.Fronts.{entries_front, feed_told, folded_form, lines_told, no_line, no_opening_line}
-use Rattle.argus_resume.proofs.Fronts.{object_form, objects_front}
-use Rattle.argus_resume.proofs.OpeningParts.{after_clear, before_clear}
+use Rattle.argus_resume.proofs.Fronts.{feed_told, folded_form, no_line, no_opening_line}
+use Rattle.argus_resume.proofs.Fronts.{object_form}
 use Rattle.argus_texts.proofs.Lists.{head_of, tail_of}
 use Rattle.argus_resume.proofs.Openings.{folded_line_form, object_line_form, of_opening}
 use Rattle.argus_resume.proofs.Longer.{Behind, compared, folded_begins, no_opening_left, object_begins, older_legal}
 use Rattle.argus_resume.proofs.Longer.{older_readable, with_entries, with_objects, with_opening}
+
+-- what can be listed can be read: of its replies nothing is asked
+listed_readable : (journal : JournalView) → IsListable journal → IsReadableJournal journal
+listed_readable journal listable = record {
+  opening = listable.opening;
+  entries = readable_by_calls journal.opening listable.opening listable.sound journal.entries listable.legal
+      listable.calls;
+}
+
+-- what is left of a listing is the text of what the journal has beyond what was taken
+left_behind : (taken other : JournalView) (left : List ℕ) → IsReadableJournal taken → IsListable other
+    → journal_text other ≡ journal_text taken ++ left → Behind taken other left
+left_behind taken other left r listable e =
+    compared taken other left r (listed_readable other listable) listable.numbers (sym e)
 
 -- THE NEXT LINE
 
@@ -119,7 +126,7 @@ module _ (taken other : JournalView) (listable : IsListable other) (line more : 
       let low : next_entry taken < 2 ^ 64 =
       omega (arith, first, listable.numbers, ap length all, length-append (reverse zs) (z ∷ taken.entries)) in
       let readable = older_readable (reverse zs) (z ∷ taken.entries)
-      (subst AreReadable all listable.readable.entries) in
+      (subst AreReadable all (listed_readable other listable).entries) in
       let legal = older_legal taken.opening (reverse zs) (z ∷ taken.entries)
       (subst (λ (s : Opening). Legal s (reverse zs ++ (z ∷ taken.entries))) (sym o)
       (subst (Legal other.opening) all listable.legal)) in
@@ -197,7 +204,7 @@ no_longer taken left f r faulty front rest parts ends other listable e =
     let first = front_line ends.0 faulty.line faulty.more rest faulty.whole
     (ap (λ x. x ++ rest) (sym ends.1) ∙ sym parts ∙ faulty.is) in
     let all : front ≡ faulty.line ++ 10 ∷ first.0 = ends.1 ∙ first.1 in
-    let behind = compared taken other front r listable.readable listable.numbers (sym e) in
+    let behind = left_behind taken other front r listable e in
     no_fault taken other listable faulty.line first.0 faulty.whole (subst (Behind taken other) all behind) f faulty.says
 
 behind_none : (taken other : JournalView) (t : List ℕ) → t ≡ [] → Behind taken other t → taken ≡ other
@@ -236,12 +243,12 @@ pub taken_back : (taken : JournalView) (left : List ℕ) (e : TakenEnd) → IsRe
     → EndsTaking e taken left → e ≢ end.OutOfMemory → (other : JournalView) → IsListable other
     → journal_text other ≡ journal_text taken ++ left → (e ≡ end.Whole) × (taken ≡ other)
 taken_back taken left end.Whole r h n other listable e =
-    (refl, behind_none taken other left h (compared taken other left r listable.readable listable.numbers (sym e)))
+    (refl, behind_none taken other left h (left_behind taken other left r listable e))
 taken_back taken left end.Torn r h n other listable e =
-    absurd (behind_torn taken other left h (compared taken other left r listable.readable listable.numbers (sym e)))
+    absurd (behind_torn taken other left h (left_behind taken other left r listable e))
 taken_back taken left (end.Fault f) r h n other listable e =
     absurd (no_fault taken other listable h.line h.more h.whole
-    (subst (Behind taken other) h.is (compared taken other left r listable.readable listable.numbers (sym e))) f h.says)
+    (subst (Behind taken other) h.is (left_behind taken other left r listable e)) f h.says)
 taken_back taken left end.OutOfMemory r h n other listable e = absurd (n refl)
 
 -- A READER
@@ -249,7 +256,7 @@ taken_back taken left end.OutOfMemory r h n other listable e = absurd (n refl)
 module _ (journal listed : JournalView) (r : IsReadableJournal journal) (listable : IsListable listed)
     (left behind : List ℕ) (e : journal_text listed ≡ journal_text journal ++ (left ++ behind)) where
   all_behind : Behind journal listed (left ++ behind)
-  all_behind = compared journal listed (left ++ behind) r listable.readable listable.numbers (sym e)
+  all_behind = left_behind journal listed (left ++ behind) r listable e
 
   -- what is left and what the reader then has is nothing
   ended : (end : ReadEnd) (has : Option (List ℕ)) (failed : Bool) → has ≡ Some behind

@@ -43,6 +43,10 @@ pub record IsReadableOpening (s : Opening) : Type 0 where
   pub limits : KeepsNumbers s
   pub objects : AreReadableObjects s.objects
 
+-- nothing went before, or the opening is one such as lines stand for
+abbrev pub IsEmptyOrReadable : Opening → Type 0
+IsEmptyOrReadable s = (s ≡ empty) ⊎ IsReadableOpening s
+
 -- each of the entries has a line that can be read
 abbrev pub AreReadable : List PlainEntry → Type 0
 AreReadable [] = Unit {0}
@@ -51,5 +55,5 @@ AreReadable (e ∷ older) = IsReadable e × AreReadable older
 -- a journal such as lines stand for: it begins from nothing or with a readable opening, and each
 -- entry is readable
 pub record IsReadableJournal (journal : JournalView) : Type 0 where
-  pub opening : (journal.opening ≡ empty) ⊎ IsReadableOpening journal.opening
+  pub opening : IsEmptyOrReadable journal.opening
   pub entries : AreReadable journal.entries

@@ -1,9 +1,15 @@
 -- The laws of what is taken.
-use Rattle.std.specs.Prelude.{Bool, List, Option, Some, [], true, ℕ, ◌++◌, ◌∷◌, ◌^◌, ◌≡◌, ◌≢◌, ◌≤◌}
-use Rattle.argus_journal.specs.JournalView.{JournalView, next_entry}
+use Rattle.std.specs.Prelude.{Bool, List, Option, Some, [], true, ℕ, ◌++◌, ◌<◌, ◌∷◌, ◌^◌, ◌≡◌, ◌≢◌}
+use Rattle.std.specs.Prelude.{◌≤◌, ◌↔◌}
+use Rattle.argus_core.specs.Checkpoint.{after_checkpoint}
+use Rattle.argus_entries.specs.Call.{PlainCall}
+use Rattle.argus_journal.specs.JournalView.{JournalView, after, entry_of, next_entry}
 use Rattle.argus_journal.specs.Legal.{Legal}
 use Rattle.argus_journal.specs.Opening.{is_sound}
-use Rattle.argus_resume.specs.JournalText.{IsReadableJournal, journal_text}
+use Rattle.argus_journal.specs.declared.limits.TheConstants.{MAX_FIRST_ENTRY}
+use Rattle.argus_resume.specs.JournalText.{AreReadable, IsEmptyOrReadable, IsReadableJournal}
+use Rattle.argus_resume.specs.JournalText.{journal_text}
+use Rattle.argus_resume.specs.ReadableCalls.{HasReadableCall, HaveReadableCalls}
 use Rattle.argus_resume.specs.Resumed.{IsResumed}
 use Rattle.argus_resume.specs.Taking.{EndsTaking, IsFaulty}
 use Rattle.argus_resume.specs.declared.line_fault.LineFault.{LineFault}
@@ -12,13 +18,35 @@ use Rattle.argus_resume.specs.declared.resumed.Resumed.{Resumed}
 use Rattle.argus_resume.specs.declared.taken_end.TakenEnd.{TakenEnd}
 use Rattle.argus_resume.specs.declared.taken_end.TakenEnd.TheVariants.{OutOfMemory, Whole}
 
--- a journal that a guardian can have and lines stand for: it is legal, its opening is sound, its
--- entries are numbered within 64 bits, and each of its lines can be read
+-- a journal that a guardian can have and lines stand for: it is legal, its opening is sound and can
+-- be read, its entries are numbered within 64 bits, and each of its calls can be read. Of its
+-- replies nothing is asked
 pub record IsListable (journal : JournalView) : Type 0 where
-  pub readable : IsReadableJournal journal
+  pub opening : IsEmptyOrReadable journal.opening
+  pub calls : HaveReadableCalls journal.entries
   pub legal : Legal journal.opening journal.entries
   pub sound : is_sound journal.opening ≡ true
   pub numbers : next_entry journal ≤ 2 ^ 64
+
+-- The entries of a legal journal can be read, each with its reply, exactly where its calls can be:
+-- its opening has to be sound and readable.
+abbrev pub JournalsAreReadable : Type 0
+JournalsAreReadable =
+    (journal : JournalView) → Legal journal.opening journal.entries
+    → is_sound journal.opening ≡ true → IsEmptyOrReadable journal.opening
+    → AreReadable journal.entries ↔ HaveReadableCalls journal.entries
+
+-- A listable journal is listable with one more call that can be read.
+abbrev pub CallsLeaveListable : Type 0
+CallsLeaveListable =
+    (journal : JournalView) (call : PlainCall) → IsListable journal → next_entry journal < 2 ^ 64
+    → HasReadableCall (entry_of journal call) → IsListable (after journal call)
+
+-- What a checkpoint leaves of a listable journal is listable.
+abbrev pub CheckpointsLeaveListable : Type 0
+CheckpointsLeaveListable =
+    (journal : JournalView) → IsListable journal → next_entry journal ≤ MAX_FIRST_ENTRY
+    → IsListable (after_checkpoint journal)
 
 -- the text ends in a line feed
 abbrev pub EndsInFeed : List ℕ → Type 0

@@ -2,8 +2,10 @@ pub mod Without
 pub mod JournalText
 pub mod OpeningLanguages
 pub mod Lines
+pub mod FrontLine
 pub mod SoundFront
 pub mod Taking
 pub mod Stage
 pub mod Resumed
+pub mod ReadableCalls
 pub mod Laws

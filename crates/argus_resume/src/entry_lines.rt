@@ -1,10 +1,12 @@
 //! `EntryLines`: the lines of entries that were taken.
 
 ghost use Rattle.std.specs.Prelude.{IfOk, MatchOption, OnErr, OnOk, false, true, ⊤, ◌≡◌, ◌≢◌};
+ghost use Rattle.argus_entries.specs.Call.{plain_call};
 ghost use Rattle.argus_entries.specs.Entry.{plain_entry};
 ghost use Rattle.argus_entries.specs.Reply.{plain_reply};
-ghost use Rattle.argus_journal.specs.JournalView.{after, reply_to, with_entry};
+ghost use Rattle.argus_journal.specs.JournalView.{after, next_entry, reply_to, with_entry};
 ghost use Rattle.argus_journal.specs.Opening.{is_sound};
+ghost use Rattle.argus_resume.specs.FrontLine.{entry_with};
 
 use crate::rebuilding::without_newest;
 use argus_core::Guardian;
@@ -34,9 +36,31 @@ impl EntryLines {
         if !self.is_ahead {
             return Ok(());
         }
+        self.let_newest_go(heap)
+    }
+
+    // Out of line, since it is rare and has wide locals, which are zeroed where it begins.
+    #[cold]
+    #[inline(never)]
+    fn let_newest_go(&mut self, heap: Heap) -> Result<(), OutOfMemory>
+        requires entries { AreEntries self.old }
+        requires ahead { self.old.is_ahead ≡ true }
+        ensures kept { AreEntries self.new }
+        ensures journal { taken_by self.new ≡ taken_by self.old }
+        ensures level { OnOk result (self.new.is_ahead ≡ false) }
+    {
         self.guardian = without_newest(heap, &self.guardian)?;
         self.is_ahead = false;
         Ok(())
+    }
+
+    /// The number of the entry that comes next.
+    pub(crate) fn next_number(&self) -> u64
+        requires { AreEntries self.now }
+        ensures { result ≡ next_entry (taken_by self.now) }
+    {
+        let next = self.guardian.journal().journal().len();
+        if self.is_ahead { next - 1 } else { next }
     }
 }
 
@@ -53,10 +77,31 @@ pub(crate) fn make(guardian: &mut Guardian, mut entry: Entry) -> Result<Option<R
     ensures err { OnErr result (guardian.new ≡ guardian.old) }
     ensures sound { is_sound guardian.old.opening ≡ true }
 {
-    guardian.journal_is_legal();
     let call = replace(&mut entry.call, Call::BeginTop);
+    make_call(guardian, call, &entry.reply)
+}
+
+/// Makes the call; the reply, where it is another than the expected one.
+pub(crate) fn make_call(
+    guardian: &mut Guardian,
+    call: Call,
+    expected: &Reply,
+) -> Result<Option<Reply>, OutOfMemory>
+    ensures made { IfOk result (λ other. MatchOption other
+        (guardian.new ≡ with_entry guardian.old
+        (entry_with (plain_call call) (plain_reply expected.now)))
+        (λ reply. guardian.new ≡ after guardian.old (plain_call call))) }
+    ensures reply { IfOk result (λ other. MatchOption other
+        (plain_reply expected.now ≡ reply_to guardian.old (plain_call call))
+        (λ reply. plain_reply reply ≡ reply_to guardian.old (plain_call call))) }
+    ensures other { IfOk result (λ other. MatchOption other ⊤
+        (λ reply. plain_reply expected.now ≢ plain_reply reply)) }
+    ensures err { OnErr result (guardian.new ≡ guardian.old) }
+    ensures sound { is_sound guardian.old.opening ≡ true }
+{
+    guardian.journal_is_legal();
     let reply = guardian.call(call)?;
-    if reply == entry.reply {
+    if reply == *expected {
         return Ok(None);
     }
     Ok(Some(reply))

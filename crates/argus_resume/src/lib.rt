@@ -3,6 +3,7 @@
 
 mod entry_lines;
 mod entry_reading;
+mod frequent_line;
 pub mod laws;
 mod line_error;
 mod line_fault;

@@ -3,6 +3,8 @@
 ghost use Rattle.std.specs.Prelude.{IfErr, IfOk, OnErr, OnOk, [], drop, length, position, take};
 ghost use Rattle.std.specs.Prelude.{◌+◌};
 ghost use Rattle.std.specs.Prelude.{◌++◌, ◌-◌, ◌==◌, ◌∷◌, ◌≡◌, ◌≢◌, ◌≤◌};
+ghost use Rattle.argus_journal.specs.JournalView.{next_entry};
+ghost use Rattle.argus_resume.specs.FrontLine.{end_of_error};
 ghost use Rattle.argus_resume.specs.JournalText.{IsReadableJournal, journal_text, no_journal};
 ghost use Rattle.argus_resume.specs.Lines.{IsLineError};
 ghost use Rattle.argus_resume.specs.SoundFront.{sound_front};
@@ -15,7 +17,7 @@ use crate::line_fault::LineFault;
 use crate::opened::Opened;
 use crate::opening_lines::OpeningLines;
 use crate::stage::Stage;
-use crate::staging::take_text;
+use crate::staging::{next_number, take_frequent, take_text};
 use crate::taken::Taken;
 use crate::taken_end::TakenEnd;
 use argus_core::Guardian;
@@ -75,6 +77,19 @@ impl Resuming {
         ensures { IsReadableJournal self.now }
     {
         let _ = &self.stage;
+    }
+
+    /// The number of the entry that comes next: where the line of another one comes, `NotNext` is
+    /// its fault.
+    ///
+    /// ```text
+    /// resuming.take_line(b"0 begin_top -> a0")?;
+    /// assert_eq!(rt; resuming.next_entry(), 1);
+    /// ```
+    pub fn next_entry(&self) -> u64
+        ensures { result ≡ next_entry self.now }
+    {
+        next_number(&self.stage)
     }
 
     pub(crate) fn heap(&self) -> Heap {
@@ -146,13 +161,30 @@ impl Resuming {
         ensures end { IfErr result (λ end. EndsTaking end self.new text.now) }
         ensures err { OnErr result (self.new ≡ self.old) }
     {
+        match take_frequent(&mut self.stage, text) {
+            Ok(Some(count)) => Ok(count),
+            Ok(None) => self.take_any(text),
+            Err(error) => Err(end_of_error(error)),
+        }
+    }
+
+    /// Takes the first line of the text, whichever it is. Out of line, so that the way of frequent
+    /// lines has no locals of this one.
+    #[inline(never)]
+    fn take_any(&mut self, text: &[u8]) -> Result<usize, TakenEnd>
+        requires { text.now ≢ [] }
+        ensures some { IfOk result (λ count. IsFirstLine count text.now) }
+        ensures text { IfOk result (λ count. journal_text self.new
+            ≡ journal_text self.old ++ take count text.now) }
+        ensures end { IfErr result (λ end. EndsTaking end self.new text.now) }
+        ensures err { OnErr result (self.new ≡ self.old) }
+    {
         let Some(length) = line_length(text) else {
             return Err(TakenEnd::Torn);
         };
         match self.take_line(&text[..length]) {
             Ok(()) => Ok(length + 1),
-            Err(LineError::Fault(fault)) => Err(TakenEnd::Fault(fault)),
-            Err(LineError::OutOfMemory) => Err(TakenEnd::OutOfMemory),
+            Err(error) => Err(end_of_error(error)),
         }
     }
 
@@ -218,6 +250,16 @@ fn guardian_of(heap: Heap, lines: &OpeningLines) -> Result<Opened, OutOfMemory>
         guardian,
         dropped: lines.end() - lines.end_of(count),
     })
+}
+
+/// The end of a text whose first line wasn't taken for this error.
+fn end_of_error(error: LineError) -> TakenEnd
+    ensures { result ≡ end_of_error error }
+{
+    match error {
+        LineError::Fault(fault) => TakenEnd::Fault(fault),
+        LineError::OutOfMemory => TakenEnd::OutOfMemory,
+    }
 }
 
 /// How many bytes stand before the first line feed.

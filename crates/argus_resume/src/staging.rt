@@ -1,25 +1,32 @@
 //! How a line brings a guardian that is being made further.
 
-ghost use Rattle.std.specs.Prelude.{IfErr, IfOk, OnErr, OnOk, [], codes, false, ◌++◌, ◌∷◌, ◌≡◌};
+ghost use Rattle.std.specs.Prelude.{IfErr, IfOk, MatchOption, OnErr, OnOk, [], codes, false, take};
+ghost use Rattle.std.specs.Prelude.{⊤, ◌++◌, ◌∷◌, ◌≡◌};
+ghost use Rattle.argus_entries.specs.Call.{plain_call};
 ghost use Rattle.argus_entries.specs.Entry.{PlainEntry, plain_entry};
+ghost use Rattle.argus_entries.specs.Reply.{plain_reply};
 ghost use Rattle.argus_journal.specs.JournalView.{next_entry, with_entry};
 ghost use Rattle.argus_reading.specs.Line.{IsReadable};
+ghost use Rattle.argus_resume.specs.FrontLine.{IsFrontError, entry_with};
 ghost use Rattle.argus_resume.specs.JournalText.{journal_text};
 ghost use Rattle.argus_resume.specs.Lines.{IsLineError, IsLineOf, IsOfOpening};
 ghost use Rattle.argus_resume.specs.Stage.{AreEntries, IsCounted, IsLevel, StageInvariant};
 ghost use Rattle.argus_resume.specs.Stage.{SaysOf, journal_taken, opened_alone, opening_line};
 ghost use Rattle.argus_resume.specs.Stage.{opening_read, taken_by};
+ghost use Rattle.argus_resume.specs.Taking.{IsFirstLine};
 
-use crate::entry_lines::{EntryLines, make};
+use crate::entry_lines::{EntryLines, make, make_call};
 use crate::entry_reading::entry_numbered;
+use crate::frequent_line::frequent_line;
 use crate::line_error::LineError;
 use crate::line_fault::LineFault;
 use crate::opening_lines::OpeningLines;
 use crate::opening_taking::{first_line, next_line};
 use crate::stage::Stage;
-use argus_entries::Entry;
+use argus_entries::{Call, Entry, Reply};
 use argus_memory::{Heap, OutOfMemory};
 use argus_texts::front::{Stop, word};
+use std::mem::replace;
 
 /// Takes a line.
 pub(crate) fn take_text(heap: Heap, stage: &mut Stage, line: &str) -> Result<(), LineError>
@@ -74,6 +81,32 @@ fn take_opening_line(heap: Heap, stage: &mut Stage, rest: &str) -> Result<(), Li
     }
 }
 
+/// Takes the line at the front, with its line feed, if it is that of a frequent entry: how many
+/// bytes it has. None: nothing was taken.
+pub(crate) fn take_frequent(stage: &mut Stage, text: &[u8]) -> Result<Option<usize>, LineError>
+    requires { StageInvariant stage.old }
+    ensures kept { StageInvariant stage.new }
+    ensures some { IfOk result (λ taken. MatchOption taken ⊤ (λ count. IsFirstLine count text.now)) }
+    ensures text { IfOk result (λ taken. MatchOption taken
+        (journal_taken stage.new ≡ journal_taken stage.old)
+        (λ count. journal_text (journal_taken stage.new)
+        ≡ journal_text (journal_taken stage.old) ++ take count text.now)) }
+    ensures fault { IfErr result (λ e. IsFrontError e (journal_taken stage.old) text.now) }
+    ensures err { OnErr result (journal_taken stage.new ≡ journal_taken stage.old) }
+{
+    let Stage::Entries(entries) = stage else {
+        return Ok(None);
+    };
+    if entries.is_ahead {
+        return Ok(None);
+    }
+    let Some((call, reply, rest)) = frequent_line(text, entries.next_number()) else {
+        return Ok(None);
+    };
+    take_call(entries, call, &reply)?;
+    Ok(Some(text.len() - rest.len()))
+}
+
 /// Takes the line of an entry.
 fn take_entry_line(heap: Heap, stage: &mut Stage, line: &str) -> Result<(), LineError>
     requires stage { StageInvariant stage.old }
@@ -97,13 +130,13 @@ fn take_entry_line(heap: Heap, stage: &mut Stage, line: &str) -> Result<(), Line
 }
 
 /// The number of the next entry.
-fn next_number(stage: &Stage) -> u64
-    requires { IsLevel stage.now }
+pub(crate) fn next_number(stage: &Stage) -> u64
+    requires { StageInvariant stage.now }
     ensures { result ≡ next_entry (journal_taken stage.now) }
 {
     match stage {
         Stage::Opening(lines) => lines.first_entry,
-        Stage::Entries(entries) => entries.guardian.journal().journal().len(),
+        Stage::Entries(entries) => entries.next_number(),
     }
 }
 
@@ -132,7 +165,7 @@ fn take_first(heap: Heap, lines: &OpeningLines, entry: Entry) -> Result<EntryLin
 }
 
 /// Takes one more entry.
-fn take_further(entries: &mut EntryLines, entry: Entry) -> Result<(), LineError>
+fn take_further(entries: &mut EntryLines, mut entry: Entry) -> Result<(), LineError>
     requires entries { AreEntries entries.old }
     requires level { entries.old.is_ahead ≡ false }
     requires readable { IsReadable (plain_entry entry) }
@@ -142,7 +175,23 @@ fn take_further(entries: &mut EntryLines, entry: Entry) -> Result<(), LineError>
     ensures fault { IfErr result (λ e. SaysOf e (taken_by entries.old) (plain_entry entry)) }
     ensures err { OnErr result (taken_by entries.new ≡ taken_by entries.old) }
 {
-    match make(&mut entries.guardian, entry)? {
+    let call = replace(&mut entry.call, Call::BeginTop);
+    take_call(entries, call, &entry.reply)
+}
+
+/// Takes one more entry: this call, with this reply.
+fn take_call(entries: &mut EntryLines, call: Call, expected: &Reply) -> Result<(), LineError>
+    requires entries { AreEntries entries.old }
+    requires level { entries.old.is_ahead ≡ false }
+    requires readable { IsReadable (entry_with (plain_call call) (plain_reply expected.now)) }
+    ensures kept { AreEntries entries.new }
+    ensures taken { OnOk result (taken_by entries.new ≡ with_entry (taken_by entries.old)
+        (entry_with (plain_call call) (plain_reply expected.now))) }
+    ensures fault { IfErr result (λ e. SaysOf e (taken_by entries.old)
+        (entry_with (plain_call call) (plain_reply expected.now))) }
+    ensures err { OnErr result (taken_by entries.new ≡ taken_by entries.old) }
+{
+    match make_call(&mut entries.guardian, call, expected)? {
         None => Ok(()),
         Some(reply) => {
             entries.is_ahead = true;
