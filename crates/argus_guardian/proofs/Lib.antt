@@ -1,2 +1,3 @@
 pub use Rattle.argus_core.proofs.Crossing as GuardianCrossing
 pub use Rattle.argus_sharing.proofs.Crossing
+pub use Rattle.argus_resume.proofs.Crossing as ResumingCrossing

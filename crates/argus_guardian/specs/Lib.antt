@@ -14,7 +14,10 @@ pub use Rattle.argus_sharing.specs.Following
 pub use Rattle.argus_sharing.specs.Locked
 pub use Rattle.argus_sharing.specs.Waking
 pub use Rattle.argus_listings.specs.Listing
+pub use Rattle.argus_reading.specs.Laws as ReadingLaws
+pub use Rattle.argus_reading.specs.Line as EntryLine
 pub use Rattle.argus_resume.specs.JournalText
+pub use Rattle.argus_resume.specs.Laws as ResumeLaws
 pub use Rattle.argus_resume.specs.Lines
 pub use Rattle.argus_resume.specs.Resumed
 pub use Rattle.argus_resume.specs.SoundFront
@@ -25,4 +28,5 @@ pub use Rattle.argus_receipts.specs.declared as receipts_declared
 pub use Rattle.argus_board.specs.declared as board_declared
 pub use Rattle.argus_sharing.specs.declared as sharing_declared
 pub use Rattle.argus_listings.specs.declared as listings_declared
+pub use Rattle.argus_reading.specs.declared as reading_declared
 pub use Rattle.argus_resume.specs.declared as resume_declared

@@ -2,8 +2,9 @@
 //!
 //! It passes on `argus_core` (the guardian of one thread), `argus_sharing` (the guardian that threads
 //! share), `argus_receipts` (receipts of its calls), `argus_board` (the readers' board),
-//! `argus_listings` (what is listed of a guardian) and `argus_resume` (a guardian made again from
-//! its journal's listing), with the reader or the writer that a listing comes from or goes to.
+//! `argus_listings` (what is listed of a guardian), `argus_reading` (a line of the journal's listing
+//! read back) and `argus_resume` (a guardian made again from such lines), with the reader or the
+//! writer that a listing comes from or goes to.
 //!
 //! ```text
 //! use argus_guardian::{Guardian, Keeper, Looker, Seat, Shared};
@@ -15,9 +16,11 @@ pub use argus_board::{
 };
 pub use argus_core::{CheckpointError, Guardian, ReadyCommit};
 pub use argus_listings::{ListError, Listing, numbered_names, write_listing};
+pub use argus_reading::{ReadEntryError, laws as reading_laws, read_entry};
 pub use argus_receipts::{Receipt, SettleFault, check};
 pub use argus_resume::{
-    LineError, LineFault, Opened, ReadEnd, Resumed, Resuming, Taken, TakenEnd, TakenFrom, resume,
+    LineError, LineFault, Opened, ReadEnd, Resumed, Resuming, Taken, TakenEnd, TakenFrom,
+    laws as resume_laws, resume,
 };
 pub use argus_sharing::{
     CallsEnd, CallsMade, Demand, DemandedCall, NotShared, Parts, Seat, Shared, Sharing, Unsettled,
