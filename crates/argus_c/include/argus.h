@@ -80,15 +80,24 @@ typedef struct argus_guardian {
     void *at;      /* what the library keeps, where it is open */
 } argus_guardian;
 
+/* A guardian whose commit is ready (argus_ready_commit), or none. It begins as ARGUS_NOTHING_READY (all bytes zero will
+ * do), both fields are the library's, and it is moved, never copied, as argus_guardian. */
+typedef struct argus_ready {
+    uint32_t mark; /* 1 where a commit is ready; any other number: none */
+    void *at;      /* what the library keeps, where one is */
+} argus_ready;
+
 #ifdef __cplusplus
 #define ARGUS_CLOSED argus_guardian{0, nullptr}
+#define ARGUS_NOTHING_READY argus_ready{0, nullptr}
 #else
 #define ARGUS_CLOSED {0, NULL}
+#define ARGUS_NOTHING_READY {0, NULL}
 #endif
 
 /* What came of a call. From ARGUS_DONE to ARGUS_REFUSED the call was made: a journalled call is one entry longer in the
  * journal. From ARGUS_NO_MEMORY on nothing was made, and the guardian is as before; of a list that is so of the call
- * that failed. */
+ * that failed, and of a listing (argus_resume) of the line that wasn't taken. */
 typedef enum argus_status {
     ARGUS_DONE = 0,        /* made; there is no more to say. The number is 0 */
     ARGUS_OBJECT = 1,      /* an object was declared; the number is its own, from 0 */
@@ -104,7 +113,8 @@ typedef enum argus_status {
                               refusal, as argus_refusal has them */
     ARGUS_NO_MEMORY = 10,  /* memory was wanting */
     ARGUS_NOT_OPEN = 11,   /* the handle has no guardian: never opened, or closed */
-    ARGUS_NOT_UTF8 = 12,   /* the text isn't UTF-8 */
+    ARGUS_NOT_UTF8 = 12,   /* the text isn't UTF-8; of a listing the line isn't, and the number is the length in bytes
+                              of its longest front that is */
     ARGUS_BAD_TEXT = 13,   /* the text is no written form of a value (or of a content, for ARGUS_CREATE). The number is
                               the length in bytes of its longest front that some written form begins with */
     ARGUS_BAD_SHAPE = 14,  /* the text is no written form of a shape that can be made */
@@ -119,7 +129,16 @@ typedef enum argus_status {
     ARGUS_NULL = 21,       /* a pointer was null. Only the inline functions answer it */
     ARGUS_UNMET = 22,      /* of a list alone: the outcome of the last call that was made isn't as demanded */
     ARGUS_NOT_BEGUN = 23,  /* of a call of a list: begun_by names no earlier call, or one that began no action */
-    ARGUS_BAD_DEMAND = 24  /* of a call of a list: no demand has this number */
+    ARGUS_BAD_DEMAND = 24, /* of a call of a list: no demand has this number */
+    /* why a line of a listing isn't the next one of the journal whose lines were taken: the first that applies */
+    ARGUS_NOT_AN_OPENING = 25, /* it begins as one of an opening, and can't be its next one */
+    ARGUS_NO_LINE = 26,        /* it is the line of no entry. The number is the length in bytes of its longest front
+                                  that begins one, or of what stands before a shape that can't be made */
+    ARGUS_NOT_NEXT = 27,       /* it is the line of an entry, and another one comes next: the number is that one's */
+    ARGUS_NOT_SOUND = 28,      /* it is the next entry's line, and the opening refers to objects that aren't there */
+    ARGUS_NOT_THE_REPLY = 29,  /* it is the next entry's line, and the journal gives its call another reply:
+                                  argus_reply gives that one, as it stands behind the arrow of an entry's line */
+    ARGUS_OCCUPIED = 30    /* the handle that a guardian is to go to has one already. Both handles are as before */
 } argus_status;
 
 /* The signals of operations. An operation of another kind than the content signals ARGUS_ABSENT; the guardian refuses
@@ -308,6 +327,12 @@ static inline const char *argus_status_name(uint32_t status) {
         ARGUS_NAMED(ARGUS_UNMET);
         ARGUS_NAMED(ARGUS_NOT_BEGUN);
         ARGUS_NAMED(ARGUS_BAD_DEMAND);
+        ARGUS_NAMED(ARGUS_NOT_AN_OPENING);
+        ARGUS_NAMED(ARGUS_NO_LINE);
+        ARGUS_NAMED(ARGUS_NOT_NEXT);
+        ARGUS_NAMED(ARGUS_NOT_SOUND);
+        ARGUS_NAMED(ARGUS_NOT_THE_REPLY);
+        ARGUS_NAMED(ARGUS_OCCUPIED);
     default:
         return "?";
     }
@@ -365,6 +390,28 @@ uint32_t argus_c_checkpoint(argus_guardian *guardian);
  * ARGUS_FULL. */
 uint32_t argus_c_renew(argus_guardian *guardian);
 
+/* Takes whole lines of a journal's listing from the front of the text, up to the first that isn't the next one. The
+ * listing is that of ARGUS_LIST_JOURNAL: after a checkpoint it begins with lines of what the objects hold, and then
+ * come those of the entries, which argus_c_lines gives. Lines add to those that were taken before, and argus_c_resumed
+ * makes a guardian of them; until then the guardian that is held stays as it is, and answers as ever. `bytes` and
+ * `lines` are how much was taken: what is left may be handed in again, with more behind it. They are written at each
+ * status, and so is `number`: by what the status says, else 0. Handle, text, `bytes`, `lines` and `number` are five
+ * memories.
+ * ARGUS_DONE: all whole lines of the text were taken; what is left, if anything is, has no line feed. ARGUS_NO_MEMORY:
+ * the same text goes on from there. ARGUS_NOT_OPEN. The other statuses say what is wrong with the line behind those
+ * that were taken: ARGUS_NOT_UTF8, ARGUS_NOT_AN_OPENING, ARGUS_NO_LINE, ARGUS_NOT_NEXT, ARGUS_NOT_SOUND,
+ * ARGUS_NOT_THE_REPLY. What is kept for argus_c_reply stays, but at the last of these. The first line that is taken
+ * after that one costs the time and the memory of all entries before it. */
+uint32_t argus_c_resume(argus_guardian *guardian, const uint8_t *text, size_t text_size, size_t *bytes, size_t *lines,
+                        int64_t *number);
+
+/* Puts the guardian whose journal's listing was taken in place of the one that is held; what comes next is taken for
+ * another one, from its first line on. No text is kept. Where the opening came without entries and refers to objects
+ * that didn't come, the guardian has as many of its objects as refer to none of these, and `dropped` is how many bytes
+ * the lines of the others have; else it is 0. `dropped` is another memory than the handle.
+ * ARGUS_DONE; ARGUS_NO_MEMORY: all is as before; ARGUS_NOT_OPEN. */
+uint32_t argus_c_resumed(argus_guardian *guardian, uint64_t *dropped);
+
 /* Puts as many whole lines of the journal's listing at the front of the room as fit, from the entry with this number
  * on, each with its line feed. `size` is how many bytes they have, and `count` of how many entries they are: the next
  * number to ask for is from + count. At the end of the journal both are 0. What is kept for argus_c_reply stays.
@@ -384,6 +431,30 @@ uint32_t argus_c_version(void);
  * ARGUS_DONE; ARGUS_TOO_SMALL, with the size that it needs; ARGUS_NO_MEMORY, ARGUS_NOT_OPEN, ARGUS_NOT_THERE (which
  * every status but ARGUS_VALUE, ARGUS_CONTENT and ARGUS_TEXT has), with the size 0. */
 uint32_t argus_c_reply(argus_guardian *guardian, uint8_t *room, size_t room_size, size_t *size);
+
+/* Makes all ready for the commit of an action, but for the commit itself: so that a program can log it before anybody
+ * can see what it leaves. The guardian goes from its handle to `ready`. Until it is back its handle is closed, and each
+ * call of it answers ARGUS_NOT_OPEN. A commit that is going to be refused is made ready, too.
+ * ARGUS_DONE; ARGUS_NO_MEMORY; ARGUS_NOT_OPEN; ARGUS_OCCUPIED where `ready` has a guardian already. Where it isn't
+ * ARGUS_DONE both handles are as before. */
+uint32_t argus_c_ready_commit(argus_guardian *guardian, argus_ready *ready, uint32_t action);
+
+/* Puts the line that the commit is going to be in the journal's listing, with its line feed, at the front of the room,
+ * and writes its size. A room that is too small stays as it is. `size` is another memory than the handle and the room.
+ * ARGUS_DONE; ARGUS_TOO_SMALL, with the size that it needs; ARGUS_NO_MEMORY, and ARGUS_NOT_OPEN where nothing is ready,
+ * with the size 0. */
+uint32_t argus_c_ready_line(argus_ready *ready, uint8_t *room, size_t room_size, size_t *size);
+
+/* Makes the commit that is ready, which takes no memory. The guardian goes back to the handle, and the commit is the
+ * newest entry of its journal. `number` is written at each status: by the refusal, else 0. Handles and `number` are
+ * three memories.
+ * ARGUS_DONE; ARGUS_REFUSED; ARGUS_NOT_OPEN where nothing is ready; ARGUS_OCCUPIED where the handle has a guardian. At
+ * the last two both handles are as before. */
+uint32_t argus_c_make_ready(argus_ready *ready, argus_guardian *guardian, int64_t *number);
+
+/* Gives the guardian back to the handle as it was, without the commit; it takes no memory. ARGUS_DONE; ARGUS_NOT_OPEN
+ * where nothing is ready, and ARGUS_OCCUPIED where the handle has a guardian: both handles are as before. */
+uint32_t argus_c_cancel_ready(argus_ready *ready, argus_guardian *guardian);
 
 /* ---- What a C program calls. ---- */
 
@@ -495,6 +566,44 @@ static inline argus_answer argus_renew(argus_guardian *guardian) {
     return argus_answer_of(argus_c_renew(guardian), 0);
 }
 
+/* Takes whole lines of a journal's listing from the front of the text: so many bytes and so many lines, all that are
+ * whole at ARGUS_DONE. A size of 0 may come with a null text.
+ *
+ *     // The guardian of a journal that a file keeps, in `bank`, which is open. What stands behind the last line feed
+ *     // was cut off as it was written.
+ *     int read_bank(argus_guardian *bank, FILE *file) {
+ *         char text[4096];
+ *         size_t held = 0, read, bytes, lines;
+ *         argus_answer taken;
+ *         while ((read = fread(text + held, 1, sizeof text - held, file)) > 0) {
+ *             held += read;
+ *             taken = argus_resume(bank, text, held, &bytes, &lines);
+ *             if (taken.status != ARGUS_DONE) return fprintf(stderr, "%s\n", argus_answer_name(taken)), 0;
+ *             memmove(text, text + bytes, held -= bytes);
+ *         }
+ *         return argus_resumed(bank).status == ARGUS_DONE;
+ *     }
+ */
+static inline argus_answer argus_resume(argus_guardian *guardian, const void *text, size_t text_size, size_t *bytes,
+                                        size_t *lines) {
+    int64_t number = 0;
+    uint32_t status;
+    static const uint8_t empty[1] = {0};
+    if (guardian == NULL || bytes == NULL || lines == NULL || (text == NULL && text_size != 0))
+        return argus_answer_of(ARGUS_NULL, 0);
+    status = argus_c_resume(guardian, text == NULL ? empty : (const uint8_t *)text, text_size, bytes, lines, &number);
+    return argus_answer_of(status, number);
+}
+
+/* Puts the guardian of what was taken in place of the one that is held; the number is how many bytes were let go. */
+static inline argus_answer argus_resumed(argus_guardian *guardian) {
+    uint64_t dropped = 0;
+    uint32_t status;
+    if (guardian == NULL) return argus_answer_of(ARGUS_NULL, 0);
+    status = argus_c_resumed(guardian, &dropped);
+    return argus_answer_of(status, (int64_t)dropped);
+}
+
 /* Puts as many whole lines of the journal into the room as fit, from this entry on; the number is their size in bytes,
  * and `count` of how many entries they are. No zero is put after them. */
 static inline argus_answer argus_lines(argus_guardian *guardian, uint64_t from, void *room, size_t room_size,
@@ -520,6 +629,57 @@ static inline argus_answer argus_reply(argus_guardian *guardian, void *room, siz
     if (guardian == NULL || (room == NULL && room_size != 0)) return argus_answer_of(ARGUS_NULL, 0);
     status = argus_c_reply(guardian, room == NULL ? none : (uint8_t *)room, room_size, &size);
     return argus_answer_of(status, (int64_t)size);
+}
+
+/* A commit in two steps, so that it is in a log before anybody can see it:
+ *
+ *     // Whether the action has committed. What became of it is in the log before.
+ *     int commit_logged(argus_guardian *bank, uint32_t action, FILE *log) {
+ *         char line[64];
+ *         argus_ready ready = ARGUS_NOTHING_READY;
+ *         argus_answer answer = argus_ready_commit(bank, &ready, action);
+ *         if (answer.status != ARGUS_DONE) return fprintf(stderr, "%s\n", argus_answer_name(answer)), 0;
+ *         answer = argus_ready_line(&ready, line, sizeof line);
+ *         if (answer.status == ARGUS_DONE && fwrite(line, (size_t)answer.number, 1, log) == 1 && fflush(log) == 0)
+ *             return argus_make_ready(&ready, bank).status == ARGUS_DONE;
+ *         argus_cancel_ready(&ready, bank);
+ *         return 0;
+ *     }
+ *
+ * Such a line, as "3 commit a0 -> done", has at most 61 bytes with its line feed. Threads that share the guardian hold
+ * their mutex from argus_ready_commit on, until it is back. A program that ends with a commit ready cancels it, and
+ * then closes the guardian, which gives its memory back. */
+
+/* Makes all ready for the commit of an action. The guardian is in `ready` from then on, and its handle is closed. */
+static inline argus_answer argus_ready_commit(argus_guardian *guardian, argus_ready *ready, uint32_t action) {
+    if (guardian == NULL || ready == NULL) return argus_answer_of(ARGUS_NULL, 0);
+    return argus_answer_of(argus_c_ready_commit(guardian, ready, action), 0);
+}
+
+/* Puts the line that the commit is going to be into the room; the number is its size in bytes. No zero is put after
+ * it. */
+static inline argus_answer argus_ready_line(argus_ready *ready, void *room, size_t room_size) {
+    size_t size = 0;
+    uint32_t status;
+    uint8_t none[1];
+    if (ready == NULL || (room == NULL && room_size != 0)) return argus_answer_of(ARGUS_NULL, 0);
+    status = argus_c_ready_line(ready, room == NULL ? none : (uint8_t *)room, room_size, &size);
+    return argus_answer_of(status, (int64_t)size);
+}
+
+/* Makes the commit that is ready, and gives the guardian back to the handle. */
+static inline argus_answer argus_make_ready(argus_ready *ready, argus_guardian *guardian) {
+    int64_t number = 0;
+    uint32_t status;
+    if (ready == NULL || guardian == NULL) return argus_answer_of(ARGUS_NULL, 0);
+    status = argus_c_make_ready(ready, guardian, &number);
+    return argus_answer_of(status, number);
+}
+
+/* Gives the guardian back to the handle as it was. */
+static inline argus_answer argus_cancel_ready(argus_ready *ready, argus_guardian *guardian) {
+    if (ready == NULL || guardian == NULL) return argus_answer_of(ARGUS_NULL, 0);
+    return argus_answer_of(argus_c_cancel_ready(ready, guardian), 0);
 }
 
 /* The calls by name. A text ends at its first zero byte. */

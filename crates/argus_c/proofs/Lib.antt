@@ -1,2 +1,4 @@
 pub mod AsBox
+pub mod AsReadyBox
+pub mod Crossing
 pub mod Slots

@@ -2,11 +2,12 @@
 use Rattle.std.specs.Prelude.{List, None, Option, Some, length, take, ℕ, ℤ, ◌*◌, ◌+◌, ◌<◌, ◌↔◌, ◌≡◌}
 use Rattle.std.specs.Prelude.{◌≤◌, ◌⊎◌}
 use Rattle.argus_embed.specs.CallEach.{AreCalled}
-use Rattle.argus_embed.specs.Codes.{error_codes, outcome_codes}
+use Rattle.argus_embed.specs.Codes.{error_codes, outcome_codes, text_end_codes}
 use Rattle.argus_embed.specs.JournalLines.{AreLines, HasNoPlace, line_at}
 use Rattle.argus_embed.specs.Questions.{Asks, HasNothing, IsAnswerTo}
 use Rattle.argus_embed.specs.Requests.{IsCalled, IsUnread}
 use Rattle.argus_embed.specs.Embedded.{EmbeddedState, IsBusy, IsFull}
+use Rattle.argus_embed.specs.Resuming.{IsDropped, IsTextTaken, after_resumption}
 use Rattle.argus_embed.specs.declared.calls_made.CallsMade.{CallsMade}
 use Rattle.argus_embed.specs.declared.embed_error.EmbedError.{EmbedError}
 use Rattle.argus_embed.specs.declared.lines.Lines.{Lines}
@@ -16,6 +17,7 @@ use Rattle.argus_embed.specs.declared.listed_call.ListedCall.{ListedCall}
 use Rattle.argus_embed.specs.declared.outcome.Outcome.{Outcome}
 use Rattle.argus_embed.specs.declared.question.Question.{Question}
 use Rattle.argus_embed.specs.declared.request.Request.{Request}
+use Rattle.argus_embed.specs.declared.text_taken.TextTaken.{TextTaken}
 
 -- there was one and there is one, and the relation holds of both
 abbrev pub Becomes : Option EmbeddedState → Option EmbeddedState → (EmbeddedState → EmbeddedState
@@ -119,6 +121,16 @@ abbrev pub IsStatusOfReply : Option EmbeddedState → ℕ → Type 0
 IsStatusOfReply None status = status ≡ 11
 IsStatusOfReply (Some state) status =
     (status ≡ 0) ⊎ (status ≡ 10) ⊎ (status ≡ 17) ⊎ ((status ≡ 18) × (state.text ≡ None))
+
+-- so many bytes and lines of the text were taken, and these are the codes of the end
+abbrev pub AreTaken : List ℕ → ℕ → ℕ → ℕ × ℤ → EmbeddedState → EmbeddedState → Type 0
+AreTaken text bytes lines codes old new =
+    (taken : TextTaken) × IsTextTaken old new text taken × (bytes ≡ taken.bytes)
+    × (lines ≡ taken.lines) × (codes ≡ text_end_codes taken.end)
+
+-- the guardian is that of the lines that were taken, but for so many bytes
+abbrev pub IsResumed : ℕ → EmbeddedState → EmbeddedState → Type 0
+IsResumed dropped old new = (new ≡ after_resumption old) × IsDropped dropped old new
 
 -- the version in one number: two decimal digits for each of its last two
 abbrev pub version_number : ℕ

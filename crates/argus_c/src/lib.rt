@@ -11,14 +11,19 @@ ghost use Rattle.std.specs.Str.{IsUtf8};
 ghost use Rattle.argus_c.specs.Slots.{Becomes, IsAnswered, IsGiven, IsMade, IsStatusOfFold};
 ghost use Rattle.argus_c.specs.Slots.{AreLinesGiven, IsLineTooLong, IsListAnswered, IsNotThere};
 ghost use Rattle.argus_c.specs.Slots.{IsStatusOfLines, IsStatusOfReply, IsTooLong, IsUncalled};
+ghost use Rattle.argus_c.specs.Slots.{AreTaken, IsResumed};
 ghost use Rattle.argus_c.specs.Slots.{end_status, version_number};
 ghost use Rattle.argus_embed.specs.Codes.{error_codes};
 ghost use Rattle.argus_embed.specs.Embedded.{IsAbortedInPart, after_abort_live};
 ghost use Rattle.argus_embed.specs.Embedded.{after_fold, after_renewal, empty_state};
 
 mod held;
+mod held_ready;
 mod opening;
 mod raw_box;
+mod ready_guardian;
+mod ready_slot;
+mod readying;
 mod slot;
 
 use argus_embed::{CallsMade, EmbedError, ListEnd, ListedCall, Question, Request};
@@ -262,6 +267,64 @@ pub extern "C" fn argus_c_renew(alloc: Global, slot: &mut Slot) -> u32
     let status = status_of(guardian.renew());
     *slot = Slot::opened(guardian);
     status
+}
+
+/// Takes whole lines of a journal's listing from the front of the text, and tells how many bytes and
+/// lines these are.
+#[unsafe(no_mangle)]
+pub extern "C" fn argus_c_resume(
+    alloc: Global,
+    slot: &mut Slot,
+    text: &[u8],
+    bytes: &mut usize,
+    lines: &mut usize,
+    number: &mut i64,
+) -> u32
+    ensures taken { result ≢ 11 → Becomes slot.old.held.store slot.new.held.store
+        (AreTaken text.now bytes.new lines.new (result, number.new)) }
+    ensures not_open { (result ≡ 11) ↔ (slot.old.held.store ≡ None) }
+    ensures closed { result ≡ 11 → slot.new.held.store ≡ None }
+    ensures zero { result ≡ 11 → (bytes.new ≡ 0) × (lines.new ≡ 0) × (number.new ≡ pos 0) }
+{
+    *bytes = 0;
+    *lines = 0;
+    *number = 0;
+    let Some(mut guardian) = slot.take(alloc) else {
+        return NOT_OPEN;
+    };
+    let taken = guardian.resume(text);
+    *slot = Slot::opened(guardian);
+    let (status, told) = taken.end.codes();
+    *bytes = taken.bytes;
+    *lines = taken.lines;
+    *number = told;
+    status
+}
+
+/// Makes the guardian of the lines that were taken, in place of the one that is held, and tells how
+/// many bytes were let go.
+#[unsafe(no_mangle)]
+pub extern "C" fn argus_c_resumed(alloc: Global, slot: &mut Slot, dropped: &mut u64) -> u32
+    ensures done { result ≡ 0 → Becomes slot.old.held.store slot.new.held.store
+        (IsResumed dropped.new) }
+    ensures unmade { result ≢ 0 → slot.new.held.store ≡ slot.old.held.store }
+    ensures status { (result ≡ 0) ⊎ (result ≡ 10) ⊎ (result ≡ 11) }
+    ensures not_open { (result ≡ 11) ↔ (slot.old.held.store ≡ None) }
+    ensures zero { result ≢ 0 → dropped.new ≡ 0 }
+{
+    *dropped = 0;
+    let Some(mut guardian) = slot.take(alloc) else {
+        return NOT_OPEN;
+    };
+    let resumed = guardian.resumed();
+    *slot = Slot::opened(guardian);
+    match resumed {
+        Ok(bytes) => {
+            *dropped = bytes;
+            DONE
+        }
+        Err(error) => error.codes().0,
+    }
 }
 
 /// Puts as many whole lines of the journal as fit at the front of the room, from an entry on, and

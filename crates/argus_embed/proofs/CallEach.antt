@@ -5,9 +5,9 @@ use Rattle.std.specs.Prelude.{Bool, Option, Some, ◌&&◌}
 use Rattle.argus_journal.specs.Call.{PlainCall}
 use Rattle.argus_journal.specs.JournalView.{JournalView, after, reply_to}
 use Rattle.argus_journal.specs.Reply.{PlainReply}
-use Rattle.argus_embed.specs.Embedded.{newest_by, reply_lines}
+use Rattle.argus_embed.specs.Embedded.{reply_lines}
 use Rattle.argus_embed.specs.declared.listed_call.ListedCall.{ListedCall}
-use Rattle.argus_embed.specs.CallEach.{SayEach, SaysAfter, after_calls, are_met, is_met, lines_or, newest_after, replies_to}
+use Rattle.argus_embed.specs.CallEach.{SayEach, SaysAfter, after_calls, are_met, is_met, lines_or, replies_to}
 
 pub calls_more : (journal : JournalView) (calls : List PlainCall) (call : PlainCall)
     → after_calls journal (calls ++ call ∷ []) ≡ after (after_calls journal calls) call
@@ -25,11 +25,6 @@ pub replies_count : (journal : JournalView) (calls : List PlainCall)
     → length (replies_to journal calls) ≡ length calls
 replies_count journal [] = refl
 replies_count journal (first ∷ calls) = ap (λ n. suc n) (replies_count (after journal first) calls)
-
-pub newest_more : (newest : Option ℕ) (replies : List PlainReply) (reply : PlainReply)
-    → newest_after newest (replies ++ reply ∷ []) ≡ newest_by reply (newest_after newest replies)
-newest_more newest [] reply = refl
-newest_more newest (first ∷ replies) reply = newest_more (newest_by first newest) replies reply
 
 -- where the call of the list that comes next stands for one, so many and one stand for theirs
 pub say_more : (journal : JournalView) (before : List PlainReply) (listed : List ListedCall) (calls : List PlainCall)

@@ -9,3 +9,4 @@ pub mod ReplyLines
 pub mod JournalLines
 pub mod KeptObjects
 pub mod Quiet
+pub mod Dropped

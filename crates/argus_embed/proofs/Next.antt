@@ -5,10 +5,10 @@ use Rattle.argus_journal.specs.Call.{PlainCall}
 use Rattle.argus_journal.specs.JournalView.{JournalView, reply_to}
 use Rattle.argus_journal.specs.Reply.{PlainReply}
 use Rattle.argus_embed.specs.CallEach.{IsNext, SayEach, SaysAfter, after_calls, after_next, after_nexts, are_met, is_met}
-use Rattle.argus_embed.specs.CallEach.{newest_after, replies_to}
-use Rattle.argus_embed.specs.Embedded.{EmbeddedState, newest_by}
+use Rattle.argus_embed.specs.CallEach.{replies_to}
+use Rattle.argus_embed.specs.Embedded.{EmbeddedState}
 use Rattle.argus_embed.specs.declared.listed_call.ListedCall.{ListedCall}
-use Rattle.argus_embed.proofs.CallEach.{calls_more, met_more, newest_more, replies_count, replies_more, say_more}
+use Rattle.argus_embed.proofs.CallEach.{calls_more, met_more, replies_count, replies_more, say_more}
 
 -- the calls with one more
 pub next_made : (listed : List ListedCall) (old now new : EmbeddedState) (before behind : List PlainReply)
@@ -30,17 +30,11 @@ next_made listed old now new before behind calls index d met say state replies a
     let told : behind ≡ so_far ++ last ∷ [] =
     next.3 ∙ ap (λ (l : List PlainReply). l ++ reply_to now.journal call ∷ []) replies
     ∙ ap (λ (r : PlainReply). so_far ++ r ∷ []) same in
-    let newest = newest_after old.newest so_far in
-    let journal = after_calls old.journal (calls ++ call ∷ []) in
     let there : drop (length so_far) listed ≡ each ∷ rest =
     ap (λ (n : ℕ). drop n listed) (replies_count old.journal calls) ∙ here in (
       say_more old.journal [] listed calls each rest call say here (subst (λ (b : List PlainReply). SaysAfter b each call) replies next.1),
       next.2 ∙ ap (λ (h : EmbeddedState). after_next h call) state
-          ∙ ap (λ (j : JournalView). record { journal = j; newest = newest_by last newest; text = old.text })
-          (sym (calls_more old.journal calls call))
-          ∙ ap (λ (n : Option ℕ). record { journal = journal; newest = n; text = old.text })
-          (sym (ap (λ (l : List PlainReply). newest_after old.newest l) (replies_more old.journal calls call)
-          ∙ newest_more old.newest so_far last)),
+          ∙ ap (λ (j : JournalView). record old { journal = j }) (sym (calls_more old.journal calls call)),
       told ∙ sym (replies_more old.journal calls call),
       ap (λ (l : List PlainReply). are_met listed l) told ∙ met_more listed so_far each rest last there
           ∙ ap (λ (b : Bool). b && is_met each last) are ∙ ap (λ (r : PlainReply). is_met each r) (sym same) ∙ sym next.4,

@@ -6,7 +6,7 @@ use Rattle.argus_journal.specs.Call.{PlainCall}
 use Rattle.argus_journal.specs.JournalView.{JournalView, after, reply_to}
 use Rattle.argus_journal.specs.Reply.{PlainReply, answered, begun, object, refused}
 use Rattle.argus_embed.specs.Codes.{error_codes, outcome_codes}
-use Rattle.argus_embed.specs.Embedded.{EmbeddedState, newest_by, outcome_of, reply_lines}
+use Rattle.argus_embed.specs.Embedded.{EmbeddedState, outcome_of, reply_lines}
 use Rattle.argus_embed.specs.Requests.{IsUnread, Says}
 use Rattle.argus_embed.specs.declared.calls_made.CallsMade.{CallsMade}
 use Rattle.argus_embed.specs.declared.demand.Demand.{Demand}
@@ -141,11 +141,6 @@ SayEach journal replies (each ∷ listed) (call ∷ calls) =
     SaysAfter replies each call
     × SayEach (after journal call) (replies ++ reply_to journal call ∷ []) listed calls
 
--- the newest action, after these replies
-abbrev pub newest_after : Option ℕ → List PlainReply → Option ℕ
-newest_after newest [] = newest
-newest_after newest (reply ∷ replies) = newest_after (newest_by reply newest) replies
-
 -- the text that is kept after these replies: their lines, or else what was kept
 abbrev pub lines_or : Option (List ℕ) → List PlainReply → Option (List ℕ)
 lines_or text [] = text
@@ -153,35 +148,22 @@ lines_or text (reply ∷ replies) = Some (reply_lines (reply ∷ replies))
 
 -- the same with these texts kept
 abbrev pub with_lines : EmbeddedState → List PlainReply → EmbeddedState
-with_lines state replies = record {
-  journal = state.journal;
-  newest = state.newest;
-  text = lines_or state.text replies;
-}
+with_lines state replies = record state { text = lines_or state.text replies }
 
 -- after the calls of a list: the journal has them with their replies, whose texts are kept
 abbrev pub after_each : EmbeddedState → List PlainCall → EmbeddedState
-after_each state calls = record {
+after_each state calls = record state {
   journal = after_calls state.journal calls;
-  newest = newest_after state.newest (replies_to state.journal calls);
   text = lines_or state.text (replies_to state.journal calls);
 }
 
 -- after one call of a list, before the texts are kept
 abbrev pub after_next : EmbeddedState → PlainCall → EmbeddedState
-after_next state call = record {
-  journal = after state.journal call;
-  newest = newest_by (reply_to state.journal call) state.newest;
-  text = state.text;
-}
+after_next state call = record state { journal = after state.journal call }
 
 -- after so many of them
 abbrev pub after_nexts : EmbeddedState → List PlainCall → EmbeddedState
-after_nexts state calls = record {
-  journal = after_calls state.journal calls;
-  newest = newest_after state.newest (replies_to state.journal calls);
-  text = state.text;
-}
+after_nexts state calls = record state { journal = after_calls state.journal calls }
 
 -- why the call that comes first wasn't made
 abbrev pub IsFailed : List PlainReply → List ListedCall → EmbedError → Type 0

@@ -1,6 +1,5 @@
 -- The two numbers by which a host is told what came of a call: a status, and what goes with it.
--- They
--- are those of the C header.
+-- They are those of the C header.
 use Rattle.std.specs.Prelude.{Bool, false, if◌then◌else◌, nat_lt, pos, true, ℕ, ℤ, ◌-◌, ◌^◌}
 use Rattle.argus_actions.specs.declared.status.Status.{Status}
 use Rattle.argus_actions.specs.declared.status.Status.TheVariants.{Aborted, Committed, Folded, Live}
@@ -18,6 +17,8 @@ use Rattle.argus_embed.specs.declared.embed_error.EmbedError.{EmbedError}
 use Rattle.argus_embed.specs.declared.embed_error.EmbedError.TheVariants as error
 use Rattle.argus_embed.specs.declared.outcome.Outcome.{Outcome}
 use Rattle.argus_embed.specs.declared.outcome.Outcome.TheVariants as outcome
+use Rattle.argus_embed.specs.declared.text_end.TextEnd.{TextEnd}
+use Rattle.argus_embed.specs.declared.text_end.TextEnd.TheVariants as text_end
 
 -- a signal's number
 abbrev pub signal_code : Signal → ℤ
@@ -82,3 +83,15 @@ error_codes error.Busy = (19, pos 0)
 error_codes error.Full = (20, pos 0)
 error_codes error.NotBegun = (23, pos 0)
 error_codes error.BadDemand = (24, pos 0)
+
+-- the status and the number where no more lines of a text were taken
+abbrev pub text_end_codes : TextEnd → ℕ × ℤ
+text_end_codes text_end.Whole = (0, pos 0)
+text_end_codes text_end.Torn = (0, pos 0)
+text_end_codes text_end.OutOfMemory = (10, pos 0)
+text_end_codes (text_end.NoText at) = (12, as_number at)
+text_end_codes text_end.NotAnOpening = (25, pos 0)
+text_end_codes (text_end.NoLine at) = (26, as_number at)
+text_end_codes (text_end.NotNext wanted) = (27, as_number wanted)
+text_end_codes text_end.NotSound = (28, pos 0)
+text_end_codes text_end.NotTheReply = (29, pos 0)

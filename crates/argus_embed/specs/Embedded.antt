@@ -11,35 +11,31 @@ use Rattle.argus_guardian.specs.AbortingLive.{IsPartlyAborted, after_aborts, liv
 use Rattle.argus_guardian.specs.Checkpoint.{after_checkpoint, is_quiet}
 use Rattle.argus_journal.specs.Folding.{fold, next_entry_number}
 use Rattle.argus_journal.specs.declared.limits.TheConstants.{MAX_FIRST_ENTRY}
-use Rattle.argus_journal.specs.Opening.{empty, opening_at}
+use Rattle.argus_guardian.specs.JournalText.{no_journal}
+use Rattle.argus_journal.specs.Opening.{opening_at}
 use Rattle.argus_journal.specs.JournalView.{JournalView, after, journal_view_coded, reply_to}
 use Rattle.argus_values.specs.ContentSpelling.{content_spelling}
 use Rattle.argus_values.specs.Spelling.{spelling}
 use Rattle.argus_embed.specs.declared.outcome.Outcome.{Outcome}
 use Rattle.argus_embed.specs.declared.outcome.Outcome.TheVariants as outcome
 
--- the journal, the newest action that was begun, and the text that is kept
+-- the journal, the text that is kept, and the journal of which a guardian is to be made
 pub record EmbeddedState : Type 0 where
   pub journal : JournalView
-  pub newest : Option ℕ
   pub text : Option (List ℕ)
+  pub taken : JournalView
 
 -- all three are stored
 abbrev pub embedded_state_coded : Coded EmbeddedState
 embedded_state_coded =
-    code_by (JournalView × (Option ℕ × Option (List ℕ)))
-    (coded× journal_view_coded (coded× (coded_option coded_ℕ) (coded_option (coded_list coded_ℕ))))
-    (λ s. (s.journal, (s.newest, s.text)))
-    (λ p. record { journal = p.0; newest = p.1.0; text = p.1.1 }) (λ _. refl)
+    code_by (JournalView × (Option (List ℕ) × JournalView))
+    (coded× journal_view_coded (coded× (coded_option (coded_list coded_ℕ)) journal_view_coded))
+    (λ s. (s.journal, (s.text, s.taken)))
+    (λ p. record { journal = p.0; text = p.1.0; taken = p.1.1 }) (λ _. refl)
 
--- no object, no action, no entry, no text
+-- no object, no action, no entry, no text, and no line taken
 abbrev pub empty_state : EmbeddedState
-empty_state = record {
-  journal = record { opening = empty; entries = [] };
-  newest = None;
-  text
-      = None;
-}
+empty_state = record { journal = no_journal; text = None; taken = no_journal }
 
 -- the written form of a value that no number says: of all but integers and truth values
 abbrev pub value_text : PlainValue → Option (List ℕ)
@@ -77,23 +73,14 @@ text_line None = []
 abbrev pub reply_lines : List PlainReply → List ℕ
 reply_lines replies = flat_map (λ reply. text_line (reply_text reply)) replies
 
--- the newest action, after this reply
-abbrev pub newest_by : PlainReply → Option ℕ → Option ℕ
-newest_by (begun a) newest = Some a
-newest_by (object o) newest = newest
-newest_by (answered a) newest = newest
-newest_by (refused why) newest = newest
-
--- how many actions were begun, where this is the newest
-abbrev pub actions_begun : Option ℕ → ℤ
-actions_begun None = pos 0
-actions_begun (Some a) = pos a +ℤ pos 1
+-- the same with the text of this reply kept
+abbrev pub with_reply : EmbeddedState → PlainReply → EmbeddedState
+with_reply state reply = record state { text = reply_text reply }
 
 -- after a call: the journal has it with its reply, whose text is kept
 abbrev pub after_call : EmbeddedState → PlainCall → EmbeddedState
-after_call state call = record {
+after_call state call = record state {
   journal = after state.journal call;
-  newest = newest_by (reply_to state.journal call) state.newest;
   text = reply_text (reply_to state.journal call);
 }
 
@@ -109,11 +96,7 @@ IsFull state =
 
 -- the same with the journal's entries folded into its opening
 abbrev pub after_fold : EmbeddedState → EmbeddedState
-after_fold state = record {
-  journal = after_checkpoint state.journal;
-  newest = state.newest;
-  text = state.text;
-}
+after_fold state = record state { journal = after_checkpoint state.journal }
 
 -- the journal that begins anew: the objects with what is in them for good, the number of the next
 -- entry, and actions from 0 on
@@ -124,22 +107,19 @@ renewed journal = record {
   entries = [];
 }
 
--- the same with the journal begun anew; no action has been begun
+-- the same with the journal begun anew
 abbrev pub after_renewal : EmbeddedState → EmbeddedState
-after_renewal state = record { journal = renewed state.journal; newest = None; text = state.text }
+after_renewal state = record state { journal = renewed state.journal }
 
 -- the same with all that was live aborted
 abbrev pub after_abort_live : EmbeddedState → EmbeddedState
-after_abort_live state = record {
-  journal = after_aborts state.journal (live_topactions state.journal);
-  newest = state.newest;
-  text = state.text;
-}
+after_abort_live state =
+    record state { journal = after_aborts state.journal (live_topactions state.journal) }
 
 -- the same with some of it aborted, from the first topaction on
 abbrev pub IsAbortedInPart : EmbeddedState → EmbeddedState → Type 0
 IsAbortedInPart old new =
-    IsPartlyAborted old.journal new.journal × (new.newest ≡ old.newest) × (new.text ≡ old.text)
+    IsPartlyAborted old.journal new.journal × (new.text ≡ old.text) × (new.taken ≡ old.taken)
 
 -- the outcome that a value is: an integer is a number, a truth value a flag
 abbrev pub value_outcome : PlainValue → Outcome

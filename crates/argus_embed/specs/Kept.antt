@@ -1,16 +1,19 @@
 -- The text that is kept.
 use Rattle.std.specs.Prelude.{Bool, List, None, Option, Some, false, length, map, take, true, ℕ, ◌++◌, ◌<◌, ◌≡◌, ◌≤◌}
+use Rattle.argus_journal.specs.EntrySpelling.{reply_spelling}
 use Rattle.argus_journal.specs.Reply.{plain_reply}
 use Rattle.argus_embed.specs.Embedded.{reply_lines, reply_text}
 use Rattle.argus_embed.specs.declared.kept.Kept.{Kept}
 use Rattle.argus_embed.specs.declared.kept.Kept.TheVariants as kept
 
--- the text of the reply, a line for each text of the replies, or the text itself
+-- the text of the reply, a line for each text of the replies, the text itself, or the reply as its
+-- line has it
 abbrev pub kept_text : Kept → Option (List ℕ)
 kept_text kept.Nothing = None
 kept_text (kept.Reply reply) = reply_text (plain_reply reply)
 kept_text (kept.Replies replies) = Some (reply_lines (map plain_reply replies.items))
 kept_text (kept.Text text) = Some text.items
+kept_text (kept.Given reply) = Some (reply_spelling (plain_reply reply))
 
 -- the bytes are at the front of the room, where they fit; else the room is as it was
 abbrev pub IsPut : List ℕ → List ℕ → List ℕ → Type 0

@@ -5,3 +5,5 @@ pub mod Requests
 pub mod Embedded
 pub mod CallEach
 pub mod JournalLines
+pub mod Resuming
+pub mod ReadyEmbedded

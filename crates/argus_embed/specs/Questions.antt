@@ -15,11 +15,12 @@ use Rattle.argus_journal.specs.Events.{says_yes}
 use Rattle.argus_journal.specs.Folding.{next_entry_number}
 use Rattle.argus_journal.specs.Journal.{entry_at}
 use Rattle.argus_journal.specs.Objects.{declared, shape_of}
-use Rattle.argus_journal.specs.JournalFacts.{base_of, is_live_in, readers_of, versions_of}
+use Rattle.argus_journal.specs.JournalFacts.{base_of, is_live_in, next_action_number, readers_of}
+use Rattle.argus_journal.specs.JournalFacts.{versions_of}
 use Rattle.argus_guardian.specs.Listing.{content_text, listing_of}
 use Rattle.argus_journal.specs.JournalView.{JournalView, reply_to}
 use Rattle.argus_embed.specs.Codes.{as_number, status_code}
-use Rattle.argus_embed.specs.Embedded.{EmbeddedState, actions_begun}
+use Rattle.argus_embed.specs.Embedded.{EmbeddedState}
 use Rattle.argus_embed.specs.declared.embed_error.EmbedError.{EmbedError}
 use Rattle.argus_embed.specs.declared.embed_error.EmbedError.TheVariants as error
 use Rattle.argus_embed.specs.declared.outcome.Outcome.{Outcome}
@@ -101,11 +102,7 @@ text_to journal question.FirstEntry = None
 
 -- the same with this text kept
 abbrev pub with_text : EmbeddedState → List ℕ → EmbeddedState
-with_text state text = record {
-  journal = state.journal;
-  newest = state.newest;
-  text = Some text;
-}
+with_text state text = record state { text = Some text }
 
 -- it is told as a text, which is there and is kept
 abbrev pub IsText : Option (List ℕ) → EmbeddedState → EmbeddedState → Outcome → Type 0
@@ -136,7 +133,8 @@ IsAnswerTo (question.CanWrite a o) old new told =
 IsAnswerTo question.Objects old new told =
     IsPlain (outcome.Number (pos (declared old.journal.opening old.journal.entries))) old new told
 IsAnswerTo question.Actions old new told =
-    IsPlain (outcome.Number (actions_begun old.newest)) old new told
+    IsPlain (outcome.Number (pos (next_action_number old.journal.opening old.journal.entries))) old
+    new told
 IsAnswerTo question.Entries old new told =
     IsPlain (outcome.Number (as_number
     (next_entry_number old.journal.opening old.journal.entries))) old new told

@@ -4,15 +4,14 @@ ghost use Rattle.std.specs.Option.{option_map};
 ghost use Rattle.std.specs.Prelude.{IfErr, IfOk, None, OnErr, ◌≡◌};
 ghost use Rattle.argus_embed.specs.Questions.{IsAnswerTo, IsText, IsUnanswered};
 ghost use Rattle.argus_embed.specs.Questions.{IsFirstLive, IsStatus};
-ghost use Rattle.argus_embed.specs.Embedded.{actions_begun};
 ghost use Rattle.argus_embed.specs.declared.embed_error.EmbedError.TheVariants.{NotThere};
 ghost use Rattle.argus_guardian.specs.Statuses.{NoneLiveFrom, status_in};
 ghost use Rattle.argus_journal.specs.Call.{test_read, test_write};
 ghost use Rattle.argus_journal.specs.Events.{says_yes};
-ghost use Rattle.argus_journal.specs.Journal.{action_number_of};
 ghost use Rattle.argus_journal.specs.JournalView.{reply_to};
 
 use crate::codes::{as_number, status_code};
+use crate::counting::actions_begun;
 use crate::embed_error::EmbedError;
 use crate::embedded::Embedded;
 use crate::journal_writing::{entry_text, listing_text};
@@ -39,7 +38,7 @@ impl Embedded {
             Question::CanRead(a, o) => Ok(Outcome::Flag(self.may_read(a, o))),
             Question::CanWrite(a, o) => Ok(Outcome::Flag(self.may_write(a, o))),
             Question::Objects => Ok(Outcome::Number(i64::from(self.guardian.objects()))),
-            Question::Actions => Ok(Outcome::Number(number_behind(self.newest))),
+            Question::Actions => Ok(Outcome::Number(i64::from(actions_begun(&self.guardian)))),
             Question::Entries => {
                 let entries = self.guardian.journal().journal().len();
                 Ok(Outcome::Number(as_number(entries)))
@@ -125,15 +124,5 @@ impl Embedded {
             }
             None => Err(EmbedError::NotThere),
         }
-    }
-}
-
-/// How many actions were begun, where this is the newest.
-fn number_behind(newest: Option<ActionId>) -> i64
-    ensures { result ≡ actions_begun (action_number_of newest) }
-{
-    match newest {
-        Some(a) => i64::from(a.0) + 1,
-        None => 0,
     }
 }

@@ -2,18 +2,19 @@
 
 ghost use Rattle.std.specs.Prelude.{IfErr, IfOk, OnErr, OnOk, ◌≡◌};
 ghost use Rattle.argus_embed.specs.Requests.{IsCalled, IsUnread};
-ghost use Rattle.argus_embed.specs.Embedded.{after_call, outcome_of};
+ghost use Rattle.argus_embed.specs.Embedded.{after_call, outcome_of, with_reply};
 ghost use Rattle.argus_journal.specs.Call.{plain_call};
 ghost use Rattle.argus_journal.specs.JournalView.{reply_to};
+ghost use Rattle.argus_journal.specs.Reply.{plain_reply};
 
 use crate::embed_error::EmbedError;
 use crate::embedded::Embedded;
 use crate::kept::Kept;
 use crate::outcome::Outcome;
-use crate::reporting::{newest_by, outcome_of};
+use crate::reporting::outcome_of;
 use crate::request::Request;
 use crate::requesting::call_of;
-use argus_journal::Call;
+use argus_journal::{Call, Reply};
 use argus_values::OutOfMemory;
 use std::mem::replace;
 
@@ -50,9 +51,16 @@ impl Embedded {
         ensures err { OnErr result (self.new ≡ self.old) }
     {
         let reply = self.guardian.call(call)?;
+        Ok(self.keep_reply(reply))
+    }
+
+    /// Keeps the reply of a call that was made, and says what came of it.
+    pub(crate) fn keep_reply(&mut self, reply: Reply) -> Outcome
+        ensures outcome { result ≡ outcome_of (plain_reply reply) }
+        ensures kept { self.new ≡ with_reply self.old (plain_reply reply) }
+    {
         let outcome = outcome_of(&reply);
-        self.newest = newest_by(&reply, self.newest);
         let _before = replace(&mut self.kept, Kept::Reply(reply));
-        Ok(outcome)
+        outcome
     }
 }

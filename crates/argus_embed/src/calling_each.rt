@@ -17,7 +17,7 @@ use crate::list_end::ListEnd;
 use crate::listed_call::ListedCall;
 use crate::listed_reading::listed_call_of;
 use crate::outcome_writing::{write_end, write_outcomes};
-use crate::reporting::{newest_by, outcome_of};
+use crate::reporting::outcome_of;
 use argus_journal::Reply;
 use argus_values::Room;
 use std::mem::replace;
@@ -94,7 +94,6 @@ impl Embedded {
         let call = listed_call_of(self.heap, each, replies.as_slice())?;
         let reply = self.guardian.call(call)?;
         let is_met = demand.is_met(outcome_of(&reply));
-        self.newest = newest_by(&reply, self.newest);
         replies.push_reserved(reply);
         Ok(is_met)
     }

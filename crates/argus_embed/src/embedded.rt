@@ -4,13 +4,12 @@ ghost use Rattle.std.specs.Prelude.{◌≡◌};
 ghost use Rattle.argus_embed.specs.Embedded.{empty_state};
 
 use crate::kept::Kept;
-use argus_actions::ActionId;
-use argus_guardian::Guardian;
+use argus_guardian::{Guardian, Resuming};
 use argus_values::Heap;
 use std::marker::Model;
 
-/// A guardian as a host holds it. Contracts see its journal, the newest action that was begun, and
-/// the text that is kept, if any.
+/// A guardian as a host holds it. Contracts see its journal, the text that is kept, if any, and the
+/// journal whose lines were taken so far, of which a guardian is to be made.
 ///
 /// ```text
 /// let mut bank = Embedded::new(heap);
@@ -22,14 +21,13 @@ use std::marker::Model;
 pub struct Embedded {
     pub(crate) heap: Heap,
     pub(crate) guardian: Guardian,
-    pub(crate) newest: Option<ActionId>,
     pub(crate) kept: Kept,
+    pub(crate) taken: Resuming,
 }
 
 impl Model for Embedded {
     ghost use Rattle.argus_embed.specs.Kept.{kept_text};
     ghost use Rattle.argus_embed.specs.Embedded.{EmbeddedState, embedded_state_coded};
-    ghost use Rattle.argus_journal.specs.Journal.{action_number_of};
 
     ghost Value = { EmbeddedState };
 
@@ -37,8 +35,8 @@ impl Model for Embedded {
 
     ghost view = { λ e. record {
       journal = e.guardian;
-      newest = action_number_of e.newest;
       text = kept_text e.kept;
+      taken = e.taken;
     } };
 }
 
@@ -50,8 +48,8 @@ impl Embedded {
         Embedded {
             heap,
             guardian: Guardian::new(heap),
-            newest: None,
             kept: Kept::Nothing,
+            taken: Resuming::new(heap),
         }
     }
 

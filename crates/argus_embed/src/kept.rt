@@ -12,4 +12,6 @@ pub(crate) enum Kept {
     Reply(Reply),
     Replies(Vec<Reply, Room>),
     Text(Vec<u8, Room>),
+    /// A reply as its line has it, whole: what the journal gives in place of the one that was read.
+    Given(Reply),
 }

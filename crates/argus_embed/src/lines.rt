@@ -2,17 +2,16 @@
 
 /// How many whole lines of the journal a room has taken.
 ///
-/// | Field | What it says |
-/// |---|---|
-/// | `count` | of so many entries; 0 where there is none from that number on, or the room is too small for the first |
-/// | `size` | so many bytes are at the front of the room; where `count` is 0, so many bytes the first line has, 0 where there is none |
-///
 /// ```text
 /// let lines = bank.lines(3, &mut room)?;                  // Lines { count: 2, size: 41 }
 /// let more = bank.lines(3 + lines.count, &mut room)?;     // Lines { count: 0, size: 0 }: that was all
 /// ```
 #[derive(Clone, Copy, Debug)]
 pub struct Lines {
+    /// Of so many entries; 0 where there is none from that number on, or the room is too small for
+    /// the first.
     pub count: u64,
+    /// So many bytes are at the front of the room. Where `count` is 0, so many bytes the first line
+    /// has, 0 where there is none.
     pub size: usize,
 }

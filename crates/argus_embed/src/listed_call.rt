@@ -11,7 +11,9 @@ ghost use Rattle.argus_embed.specs.CallEach.{with_codes};
 /// |---|---|
 /// | `kind`, `object`, `first`, `second`, `text` | as in `Request`; the text is UTF-8 |
 /// | `demand` | 0: the outcome is no refusal; 1: it may be anything; 2: no refusal and no signal |
-/// | `begun_by` | 0: the action is `action`; 1, 2 and so on: the one that this call of the list began, counted from 1 |
+/// | `begun_by` | 0: the action is `action`; 1, 2 ..: the one that this call of the list began |
+///
+/// The calls of the list are counted from 1.
 ///
 /// ```text
 /// let commit = ListedCall { kind: 4, begun_by: 1, ..ListedCall::default() };

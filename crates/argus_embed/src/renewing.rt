@@ -40,7 +40,6 @@ impl Embedded {
     {
         let guardian = renewed(self.heap, &self.guardian)?;
         let _before = replace(&mut self.guardian, guardian);
-        self.newest = None;
         Ok(())
     }
 }

@@ -7,18 +7,20 @@ ghost use Rattle.argus_embed.specs.Kept.{IsAppended, IsCopied, IsPut};
 ghost use Rattle.argus_values.specs.Value.{plain_value};
 ghost use Rattle.argus_embed.specs.Embedded.{answer_text, reply_lines, reply_text, text_line};
 ghost use Rattle.argus_embed.specs.Embedded.{value_text};
+ghost use Rattle.argus_journal.specs.EntrySpelling.{reply_spelling};
 ghost use Rattle.argus_journal.specs.Reply.{plain_reply};
 
 use crate::embedded::Embedded;
 use crate::kept::Kept;
-use argus_journal::Reply;
+use argus_journal::{Reply, write_reply};
 use argus_values::{Answer, Heap, OutOfMemory, Room, Value, write_content, write_value};
 
 impl Embedded {
     /// The size of the text that is kept, which is put at the front of the room where it fits; a
     /// room that is too small stays as it is. None where no text is kept: after a call whose reply
     /// has none, or before the first one. Of a list of calls it is a line for each reply that has a
-    /// text, in their order. It can be had again as long as it is kept.
+    /// text, in their order; where `resume` has ended at `NotTheReply`, the journal's reply as its
+    /// line has it. It can be had again as long as it is kept.
     pub fn reply(&self, room: &mut [u8]) -> Result<Option<usize>, OutOfMemory>
         ensures copied { IfOk result (λ size. IsCopied self.now.text size room.old room.new) }
         ensures room { length room.new ≡ length room.old }
@@ -31,6 +33,10 @@ impl Embedded {
                 Some(text) => Ok(Some(put(room, text.as_slice()))),
                 None => Ok(None),
             },
+            Kept::Given(reply) => {
+                let text = given_bytes(self.heap, reply)?;
+                Ok(Some(put(room, text.as_slice())))
+            }
             Kept::Replies(replies) => {
                 let lines = lines_bytes(self.heap, replies.as_slice())?;
                 Ok(Some(put(room, lines.as_slice())))
@@ -50,6 +56,15 @@ fn reply_bytes(heap: Heap, reply: &Reply) -> Result<Option<Vec<u8, Room>>, OutOf
     } else {
         Ok(None)
     }
+}
+
+/// The reply as its line has it.
+fn given_bytes(heap: Heap, reply: &Reply) -> Result<Vec<u8, Room>, OutOfMemory>
+    ensures { IfOk result (λ bytes. bytes.items ≡ reply_spelling (plain_reply reply.now)) }
+{
+    let mut text = String::new(heap.room());
+    write_reply(reply, &mut text)?;
+    Ok(text.into_bytes())
 }
 
 /// A line for each reply that has a text.

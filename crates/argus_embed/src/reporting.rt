@@ -3,12 +3,10 @@
 ghost use Rattle.std.specs.Prelude.{◌≡◌};
 ghost use Rattle.argus_values.specs.Answer.{plain_answer};
 ghost use Rattle.argus_values.specs.Value.{plain_value};
-ghost use Rattle.argus_embed.specs.Embedded.{answer_outcome, newest_by, outcome_of, value_outcome};
+ghost use Rattle.argus_embed.specs.Embedded.{answer_outcome, outcome_of, value_outcome};
 ghost use Rattle.argus_journal.specs.Reply.{plain_reply};
-ghost use Rattle.argus_journal.specs.Journal.{action_number_of};
 
 use crate::outcome::Outcome;
-use argus_actions::ActionId;
 use argus_journal::Reply;
 use argus_values::{Answer, Value};
 
@@ -48,16 +46,5 @@ fn value_outcome(value: &Value) -> Outcome
         | Value::Sequence(_)
         | Value::Fields(_)
         | Value::Choice(_, _) => Outcome::Value,
-    }
-}
-
-/// The newest action, after this reply.
-pub(crate) fn newest_by(reply: &Reply, newest: Option<ActionId>) -> Option<ActionId>
-    ensures { action_number_of result ≡ newest_by (plain_reply reply.now)
-        (action_number_of newest) }
-{
-    match reply {
-        Reply::Begun(a) => Some(*a),
-        Reply::Object(_) | Reply::Answered(_) | Reply::Refused(_) => newest,
     }
 }

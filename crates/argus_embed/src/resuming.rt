@@ -1,0 +1,80 @@
+//! How a guardian is made again from the lines of a journal.
+
+ghost use Rattle.std.specs.Prelude.{IfErr, IfOk, OnErr, OnOk, ◌≡◌};
+ghost use Rattle.argus_embed.specs.Resuming.{EndsText, IsDropped, IsTextTaken};
+ghost use Rattle.argus_embed.specs.Resuming.{after_resumption};
+ghost use Rattle.argus_embed.specs.declared.embed_error.EmbedError.TheVariants.{OutOfMemory};
+
+use crate::embed_error::EmbedError;
+use crate::embedded::Embedded;
+use crate::kept::Kept;
+use crate::text_end::TextEnd;
+use crate::text_taken::TextTaken;
+use argus_guardian::{LineFault, Opened, Resuming, Taken, TakenEnd};
+use std::mem::replace;
+
+impl Embedded {
+    /// Takes whole lines of a journal's listing from the front of the text, up to the first that
+    /// isn't the next one. They add to what was taken before; `resumed` makes a guardian of it. The
+    /// guardian that is held stays as it is until then.
+    ///
+    /// What is left of the text may be handed in again, with more behind it. What was kept stays,
+    /// but at `NotTheReply`: there the reply that the journal gives is kept, as its line has it.
+    ///
+    /// ```text
+    /// bank.resume(b"0 begin_top -> a0\n1 com");       // 18 bytes, 1 line, Torn
+    /// bank.resume(b"1 commit a0 -> done\n");          // 20 bytes, 1 line, Whole
+    /// bank.resumed()?;                                // the guardian of these two entries
+    /// ```
+    pub fn resume(&mut self, text: &[u8]) -> TextTaken
+        ensures { IsTextTaken self.old self.new text.now result }
+    {
+        let Taken { bytes, lines, end } = self.taken.take(text);
+        let end = self.text_end(end);
+        TextTaken { bytes, lines, end }
+    }
+
+    /// Puts the guardian of what was taken in place of the one that is held, and begins anew with
+    /// nothing taken and no text kept. Of an opening without entries it has as many objects as make
+    /// a sound one. It returns how many bytes were let go with the others.
+    ///
+    /// `OutOfMemory`: all is as before.
+    pub fn resumed(&mut self) -> Result<u64, EmbedError>
+        ensures ok { OnOk result (self.new ≡ after_resumption self.old) }
+        ensures dropped { IfOk result (λ dropped. IsDropped dropped self.old self.new) }
+        ensures error { IfErr result (λ e. e ≡ OutOfMemory) }
+        ensures err { OnErr result (self.new ≡ self.old) }
+    {
+        match replace(&mut self.taken, Resuming::new(self.heap)).into_guardian() {
+            Ok(Opened { guardian, dropped }) => {
+                let _before = replace(&mut self.guardian, guardian);
+                let _text = replace(&mut self.kept, Kept::Nothing);
+                Ok(dropped)
+            }
+            Err(taken) => {
+                let _none = replace(&mut self.taken, taken);
+                Err(EmbedError::OutOfMemory)
+            }
+        }
+    }
+
+    /// The end as the host gets it; the reply of a fault is kept.
+    fn text_end(&mut self, end: TakenEnd) -> TextEnd
+        ensures { EndsText end self.old self.new result }
+    {
+        match end {
+            TakenEnd::Whole => TextEnd::Whole,
+            TakenEnd::Torn => TextEnd::Torn,
+            TakenEnd::OutOfMemory => TextEnd::OutOfMemory,
+            TakenEnd::Fault(LineFault::NoText { at }) => TextEnd::NoText(at),
+            TakenEnd::Fault(LineFault::NotAnOpening) => TextEnd::NotAnOpening,
+            TakenEnd::Fault(LineFault::NoLine { at }) => TextEnd::NoLine(at),
+            TakenEnd::Fault(LineFault::NotNext) => TextEnd::NotNext(self.taken.next_entry()),
+            TakenEnd::Fault(LineFault::NotSound) => TextEnd::NotSound,
+            TakenEnd::Fault(LineFault::NotTheReply(reply)) => {
+                let _before = replace(&mut self.kept, Kept::Given(reply));
+                TextEnd::NotTheReply
+            }
+        }
+    }
+}
