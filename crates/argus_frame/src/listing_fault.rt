@@ -6,7 +6,7 @@ use thiserror::Error;
 /// The first faulty line of a listing, numbered from 1, and why it is refused.
 ///
 /// ```text
-/// line 3: BadNumber
+/// line 3: NotNext
 /// ```
 #[derive(Clone, Copy, Debug, PartialEq, Eq, Error)]
 #[error("line {line}: {kind}")]

@@ -136,7 +136,7 @@ fn draw_refused(run: &Run<'_>, frame: &Frame, out: &mut String<Room>) -> Result<
         if let Some(until) = taken.get_mut(row.unwrap_or(MAX_ROWS as u32) as usize) {
             if *until <= x {
                 draw_why(frame, call, row, out)?;
-                *until = x.saturating_add(6 * (call.why.len() as u64).min(1000) + 10);
+                *until = x.saturating_add(6 * (call.why().len() as u64).min(1000) + 10);
             }
         }
         out.push_str("</g>\n")?;
@@ -172,7 +172,7 @@ fn draw_why(
     let x = entry_left(frame, call.at).saturating_sub(4);
     let y = top_of(frame, row).saturating_add(24);
     write!(out, "<text class=\"small refusal\" x=\"{x}\" y=\"{y}\">")?;
-    append_escaped(call.why, out)?;
+    append_escaped(call.why(), out)?;
     out.push_str("</text>")?;
     Ok(())
 }

@@ -1,8 +1,9 @@
 //! `draw`: from a reader of a listing to a writer of its picture.
 
-ghost use Rattle.std.specs.Prelude.{◌≡◌, false, true, IfErr};
+ghost use Rattle.std.specs.Prelude.{◌≡◌, false, true, IfErr, OnOk};
 ghost use Rattle.argus_frame.specs.declared.draw_error.DrawError.TheVariants as DrawError;
-ghost use Rattle.argus_streams.specs.FailStop.{has_failed};
+ghost use Rattle.argus_picture.specs.Drawn.{ReadsListing, RefusesListing};
+ghost use Rattle.argus_streams.specs.FailStop.{has_failed, inner_of};
 
 use crate::limits::MAX_BYTES;
 use crate::picture_error::PictureError;
@@ -26,6 +27,10 @@ pub fn draw<R: Read + Drop, W: Write + Drop>(
 ) -> Result<(), DrawError>
     requires reader { has_failed reader.old ≡ false }
     requires writer { has_failed writer.old ≡ false }
+    ensures drawn { OnOk result (ReadsListing (R.remaining (inner_of reader.old))
+        (R.remaining (inner_of reader.new))) }
+    ensures fault { IfErr result (RefusesListing (R.remaining (inner_of reader.old))
+        (R.remaining (inner_of reader.new))) }
     ensures read { IfErr result (λ e. e ≡ DrawError.Read → has_failed reader.new ≡ true) }
     ensures written { IfErr result (λ e. e ≡ DrawError.Write → has_failed writer.new ≡ true) }
 {

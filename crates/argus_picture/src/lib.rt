@@ -4,30 +4,31 @@
 //! reader and writes the picture to a writer.
 #![tactic(auto)]
 
-mod access;
 mod action;
 mod action_drawing;
-mod call;
-mod change_reading;
+mod asking;
+mod call_error;
+mod calling;
 mod drawing;
+mod ending;
 mod escaping;
 mod fate;
 mod held_lock;
 mod legend;
 mod life;
 mod limits;
-mod line;
 mod line_error;
-mod line_reading;
-mod number;
+mod lock_asked;
 mod object;
 mod object_drawing;
+mod opening_line;
+mod opening_reading;
 mod origin;
 mod picture_error;
 mod picturing;
+mod reading;
 mod refused_call;
 mod replaying;
-mod reply;
 mod run;
 mod settling;
 mod taking;

@@ -1,6 +1,6 @@
 //! `Life`: from which entry to which an action lives.
 
-ghost use Rattle.std.specs.Prelude.{◌≡◌, ◌≤◌};
+ghost use Rattle.std.specs.Prelude.{IfNone, IfSome, ◌≡◌, ◌≤◌};
 
 use crate::action::Action;
 
@@ -14,6 +14,8 @@ pub(crate) struct Life {
 /// From the action's begin to its end, or to this last entry where it is live.
 pub(crate) fn life_of(action: &Action<'_>, last: u32) -> Life
     ensures begin { result.begin ≡ action.now.begin }
+    ensures ended { IfSome action.now.end (λ end. action.now.begin ≤ end → result.end ≡ end) }
+    ensures live { IfNone action.now.end (action.now.begin ≤ last → result.end ≡ last) }
     ensures ordered { result.begin ≤ result.end }
 {
     let end = action.end.unwrap_or(last);

@@ -3,44 +3,42 @@
 ghost use Rattle.std.specs.Prelude.{◌≡◌, true};
 ghost use Rattle.argus_contents.specs.Content.{KeepsLimits, plain_option};
 
-use crate::line_error::LineError;
+use crate::call_error::CallError;
 use argus_contents::{Change, Content, Shape, alter_in_place, change_fits, fits};
-use argus_frame::ListingFaultKind;
-use argus_memory::{Heap, Room};
-use argus_texts::{read_content, read_shape, write_content};
+use argus_memory::{Heap, OutOfMemory, Room};
+use argus_texts::{write_content, write_shape};
 
 /// A declared object: its shape, what is in it for good, and the line that tells it.
 #[derive(Drop)]
 pub(crate) struct Object<'a> {
     pub shape: Shape,
+    /// The shape, as it is written.
+    pub shape_text: String<Room>,
     pub base: Option<Content>,
-    pub shape_text: &'a str,
     pub line: &'a str,
 }
 
-/// The object that a line tells: its shape and its content, as they are written.
-pub(crate) fn object_told<'a>(
-    heap: Heap,
-    shape_text: &'a str,
-    content: &str,
-    line: &'a str,
-) -> Result<Object<'a>, LineError> {
-    let shape = read_shape(heap, shape_text)?.ok_or(ListingFaultKind::BadWord)?;
-    let base = if content == "absent" {
-        None
-    } else {
-        Some(read_content(heap, content)?)
-    };
-    Ok(Object {
-        shape,
-        base,
-        shape_text,
-        line,
-    })
+impl<'a> Object<'a> {
+    /// The object that a line tells.
+    pub(crate) fn new(
+        heap: Heap,
+        shape: Shape,
+        base: Option<Content>,
+        line: &'a str,
+    ) -> Result<Object<'a>, OutOfMemory> {
+        let mut shape_text = String::new(heap.room());
+        write_shape(&shape, &mut shape_text)?;
+        Ok(Object {
+            shape,
+            shape_text,
+            base,
+            line,
+        })
+    }
 }
 
 /// What is in the object for good, as it is written.
-pub(crate) fn base_text(heap: Heap, base: &Option<Content>) -> Result<String<Room>, LineError> {
+pub(crate) fn base_text(heap: Heap, base: &Option<Content>) -> Result<String<Room>, OutOfMemory> {
     let mut text = String::new(heap.room());
     match base {
         Some(content) => write_content(content, &mut text)?,
@@ -55,9 +53,9 @@ pub(crate) fn make_for_good(
     base: &mut Option<Content>,
     declared: u32,
     change: Change,
-) -> Result<(), LineError> {
+) -> Result<(), CallError> {
     if !change_fits(shape, declared, &change) || !base_fits(shape, base, declared) {
-        return Err(LineError::Fault(ListingFaultKind::Unlawful));
+        return Err(CallError::Unlawful);
     }
     alter_in_place(base, change)?;
     Ok(())

@@ -50,7 +50,7 @@ fn draw_lane(
     let (name, shape) = (y.saturating_add(15), y.saturating_add(29));
     write!(out, "<text x=\"14\" y=\"{name}\">o{lane}</text>")?;
     write!(out, "<text class=\"small\" x=\"14\" y=\"{shape}\">")?;
-    append_shortened(object.shape_text, MAX_SHAPE_LETTERS, out)?;
+    append_shortened(object.shape_text.as_str(), MAX_SHAPE_LETTERS, out)?;
     out.push_str("</text></g>\n")?;
     Ok(())
 }

@@ -8,7 +8,7 @@ use thiserror::Error;
 ///
 /// ```text
 /// match picture(heap, b"0 begin_top -> a1\n") {
-///     Err(PictureError::Fault(fault)) => ..,        // line 1: BadNumber
+///     Err(PictureError::Fault(fault)) => ..,        // line 1: Unlawful
 ///     ..
 /// }
 /// ```

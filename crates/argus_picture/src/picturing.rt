@@ -1,16 +1,19 @@
 //! `picture`: the picture that a listing tells.
 
+ghost use Rattle.std.specs.Prelude.{IfErr, IfOk};
+ghost use Rattle.argus_picture.specs.Faults.{SaysOfListing};
+ghost use Rattle.argus_picture.specs.Listing.{IsListing};
+
 use crate::action_drawing::draw_actions;
 use crate::legend::{LEGEND, LOOKS};
-use crate::limits::{MAX_BYTES, MAX_LANES};
-use crate::line_error::LineError;
+use crate::limits::MAX_LANES;
 use crate::object_drawing::draw_objects;
 use crate::picture_error::PictureError;
+use crate::reading::read_run;
 use crate::run::Run;
-use argus_frame::{EntrySpacing, Frame, ListingFault, ListingFaultKind, entry_left, height, width};
+use argus_frame::{EntrySpacing, Frame, entry_left, height, width};
 use argus_memory::{Heap, OutOfMemory, Room};
 use std::fmt::Write;
-use std::str::from_utf8;
 
 /// The text of the picture of a journal's listing: an SVG 1.1 document, with no script and no link.
 ///
@@ -20,46 +23,16 @@ use std::str::from_utf8;
 /// ```text
 /// let text = picture(heap, b"0 begin_top -> a0\n1 commit a0 -> done\n")?;
 /// ```
-pub fn picture(heap: Heap, listing: &[u8]) -> Result<String<Room>, PictureError> {
-    let text = text_of(listing)?;
-    let run = read_run(heap, text)?;
+pub fn picture(heap: Heap, listing: &[u8]) -> Result<String<Room>, PictureError>
+    ensures lines { IfOk result (λ text. IsListing listing.now) }
+    ensures fault { IfErr result (λ e. SaysOfListing e listing.now) }
+{
+    let run = read_run(heap, listing)?;
     let mut out = String::new(heap.room());
-    draw_run(&run, &mut out)?;
-    Ok(out)
-}
-
-// The listing as a text.
-fn text_of(listing: &[u8]) -> Result<&str, PictureError> {
-    if listing.len() > MAX_BYTES {
-        return Err(fault_at(1, ListingFaultKind::TooLong));
+    match draw_run(&run, &mut out) {
+        Ok(()) => Ok(out),
+        Err(OutOfMemory) => Err(PictureError::OutOfMemory),
     }
-    match from_utf8(listing) {
-        Ok(text) => Ok(text),
-        Err(error) => {
-            let front = listing.get(..error.valid_up_to()).unwrap_or(b"");
-            let feeds = front.iter().filter(|byte| **byte == b'\n').count() as u64;
-            Err(fault_at(feeds.saturating_add(1), ListingFaultKind::BadWord))
-        }
-    }
-}
-
-fn fault_at(line: u64, kind: ListingFaultKind) -> PictureError {
-    PictureError::Fault(ListingFault { line, kind })
-}
-
-// What the lines tell, or the first faulty one.
-fn read_run<'a>(heap: Heap, text: &'a str) -> Result<Run<'a>, PictureError> {
-    let mut run = Run::new(heap);
-    let mut number = 0u64;
-    for line in text.lines() {
-        number = number.saturating_add(1);
-        match run.take(heap, line) {
-            Ok(()) => {}
-            Err(LineError::OutOfMemory) => return Err(PictureError::OutOfMemory),
-            Err(LineError::Fault(kind)) => return Err(fault_at(number, kind)),
-        }
-    }
-    Ok(run)
 }
 
 fn draw_run(run: &Run<'_>, out: &mut String<Room>) -> Result<(), OutOfMemory> {
@@ -133,28 +106,44 @@ fn draw_counts(
     high: u64,
     out: &mut String<Room>,
 ) -> Result<(), OutOfMemory> {
-    let (line, entries) = (high.saturating_sub(14), frame.entries);
-    let (actions, objects) = (run.actions.len(), run.objects.len());
+    let line = high.saturating_sub(14);
     let no_row = run
         .actions
         .iter()
         .filter(|action| action.row.is_none())
         .count();
     let no_strip = run.holds.iter().filter(|hold| hold.strip.is_none()).count();
-    let no_lane = objects.saturating_sub(frame.lanes as usize);
-    write!(
-        out,
-        "<text class=\"small\" x=\"14\" y=\"{line}\">{entries} entries, "
-    )?;
-    write!(out, "{actions} actions, {objects} objects. ")?;
+    let no_lane = run.objects.len().saturating_sub(frame.lanes as usize);
+    write!(out, "<text class=\"small\" x=\"14\" y=\"{line}\">")?;
+    append_count(frame.entries as usize, "entry", "entries", out)?;
+    out.push_str(", ")?;
+    append_count(run.actions.len(), "action", "actions", out)?;
+    out.push_str(", ")?;
+    append_count(run.objects.len(), "object", "objects", out)?;
+    out.push_str(". ")?;
     if no_row > 0 || no_strip > 0 || no_lane > 0 {
-        write!(
-            out,
-            "Without room, and not drawn: {no_row} actions, {no_lane} objects, {no_strip} locks. "
-        )?;
+        out.push_str("Without room, and not drawn: ")?;
+        append_count(no_row, "action", "actions", out)?;
+        out.push_str(", ")?;
+        append_count(no_lane, "object", "objects", out)?;
+        out.push_str(", ")?;
+        append_count(no_strip, "lock", "locks", out)?;
+        out.push_str(". ")?;
     }
     out.push_str(
         "Point at a thing to read its entries. A name without room stands there alone.</text>\n",
     )?;
+    Ok(())
+}
+
+// How many there are of what has this name, if it is one, and else that one.
+fn append_count(
+    count: usize,
+    one: &str,
+    several: &str,
+    out: &mut String<Room>,
+) -> Result<(), OutOfMemory> {
+    let name = if count == 1 { one } else { several };
+    write!(out, "{count} {name}")?;
     Ok(())
 }

@@ -1,12 +1,21 @@
 //! `RefusedCall`: a call that was refused.
 
-/// A refused call: its entry and its line, why, who made it where that one was live, and the
-/// holder that stood against it.
+/// A refused call: its entry and its line, who made it where that one was live, and the holder that
+/// stood against it.
 #[derive(Clone, Copy)]
 pub(crate) struct RefusedCall<'a> {
     pub at: u32,
     pub line: &'a str,
-    pub why: &'a str,
     pub caller: Option<usize>,
     pub holder: Option<usize>,
+}
+
+impl<'a> RefusedCall<'a> {
+    /// Why it was refused: the last word of its line.
+    pub(crate) fn why(&self) -> &'a str {
+        match self.line.rsplit_once(' ') {
+            Some((_, why)) => why,
+            None => "",
+        }
+    }
 }

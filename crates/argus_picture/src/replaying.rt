@@ -1,27 +1,25 @@
 //! What commits leave in objects for good: the changes of a run, made again.
 
-use crate::change_reading::read_change;
-use crate::line_error::LineError;
+use crate::call_error::CallError;
 use crate::object::{base_text, make_for_good};
 use crate::run::Run;
 use crate::settling::Settling;
 use crate::write::Write;
+use argus_contents::{Change, ObjId};
 use argus_memory::Heap;
 
 impl<'a> Run<'a> {
     /// The action made this change.
     pub(crate) fn note_change(
         &mut self,
-        heap: Heap,
         owner: usize,
-        object: usize,
-        text: &str,
-    ) -> Result<(), LineError> {
-        let change = Some(read_change(heap, text)?);
+        object: ObjId,
+        change: Change,
+    ) -> Result<(), CallError> {
         self.writes.push(Write {
             owner,
-            object,
-            change,
+            object: object.0 as usize,
+            change: Some(change),
         })?;
         Ok(())
     }
@@ -51,7 +49,7 @@ impl<'a> Run<'a> {
         place: usize,
         object: usize,
         line: &'a str,
-    ) -> Result<(), LineError> {
+    ) -> Result<(), CallError> {
         for at in 0..self.writes.len() {
             self.settle_change(at, place, object)?;
         }
@@ -70,7 +68,7 @@ impl<'a> Run<'a> {
     }
 
     // The change at this place is there for good, where it is the action's change of the object.
-    fn settle_change(&mut self, at: usize, place: usize, object: usize) -> Result<(), LineError> {
+    fn settle_change(&mut self, at: usize, place: usize, object: usize) -> Result<(), CallError> {
         let declared = self.objects.len().min(65_535) as u32;
         let Some(write) = self.writes.get_mut(at) else {
             return Ok(());

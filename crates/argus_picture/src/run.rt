@@ -3,10 +3,12 @@
 use crate::action::Action;
 use crate::held_lock::HeldLock;
 use crate::limits::{MAX_ROWS, MAX_STRIPS};
+use crate::lock_asked::LockAsked;
 use crate::object::Object;
 use crate::refused_call::RefusedCall;
 use crate::settling::Settling;
 use crate::write::Write;
+use argus_actions::ActionId;
 use argus_memory::{Heap, Room};
 
 /// What the lines that were read so far tell. Actions and objects stand at their places, which are
@@ -58,8 +60,8 @@ impl<'a> Run<'a> {
     }
 
     /// The place of the live action with this number.
-    pub(crate) fn live_place(&self, number: u32) -> Option<usize> {
-        let place = number.checked_sub(self.first_action)? as usize;
+    pub(crate) fn live_place(&self, action: ActionId) -> Option<usize> {
+        let place = action.0.checked_sub(self.first_action)? as usize;
         match self.actions.get(place)?.end {
             None => Some(place),
             Some(_) => None,
@@ -126,24 +128,21 @@ impl<'a> Run<'a> {
     }
 
     /// Whether the action has this lock.
-    pub(crate) fn has_lock(&self, place: usize, object: usize, writes: bool) -> bool {
+    pub(crate) fn has_lock(&self, place: usize, asked: LockAsked) -> bool {
         self.holds.iter().any(|hold| {
             hold.end.is_none()
                 && hold.action == place
-                && hold.object == object
-                && hold.writes == writes
+                && hold.object == asked.object
+                && hold.writes == asked.writes
         })
     }
 
     /// The first holder that keeps the action from this lock: none of those above it.
-    pub(crate) fn holder_against(
-        &self,
-        place: usize,
-        object: usize,
-        writes: bool,
-    ) -> Option<usize> {
+    pub(crate) fn holder_against(&self, place: usize, asked: LockAsked) -> Option<usize> {
         for hold in &self.holds {
-            let counts = hold.end.is_none() && hold.object == object && (writes || hold.writes);
+            let counts = hold.end.is_none()
+                && hold.object == asked.object
+                && (asked.writes || hold.writes);
             if counts && !self.is_above(hold.action, place) {
                 return Some(hold.action);
             }

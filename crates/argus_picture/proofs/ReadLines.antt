@@ -1,0 +1,107 @@
+-- How far a listing is read, line by line.
+use Rattle.std.proofs.Common.{◌≡◌, ◌≢◌, ℕ, ◌+◌, ◌<◌, ◌≤◌, Bool, true, false, cond, List, [], ◌∷◌, ◌++◌, length}
+use Rattle.std.proofs.Common.{None, Some, take, drop, refl, sym, ap, ◌∙◌, arith, append_assoc, inr}
+use Rattle.std.proofs.lemmas.List.{length-append}
+use Rattle.std.proofs.lemmas.List.Elements.{All-append, All-cons, All-nil}
+use Rattle.std.proofs.lemmas.List.Splits.{length-slice_split, slice_split_first, slice_split_none}
+use Rattle.std.proofs.lemmas.List.Sums.{fails_before_first}
+use Rattle.std.specs.List.{All, position, position_or_len}
+use Rattle.std.specs.Prelude.{nat_lt, ◌==◌}
+use Rattle.argus_frame.specs.declared.listing_fault_kind.ListingFaultKind.{ListingFaultKind}
+use Rattle.argus_frame.specs.declared.listing_fault_kind.ListingFaultKind.TheVariants as kind
+use Rattle.argus_picture.specs.Faults.{IsFaultyLine, IsTorn, SaysOf, SaysOfLine, SaysOfListing, error_at}
+use Rattle.argus_picture.specs.declared.line_error.LineError.{LineError}
+use Rattle.argus_picture.specs.declared.line_error.LineError.TheVariants as line_error
+use Rattle.argus_picture.specs.Listing.{IsListed, IsListing, parts}
+
+abbrev is_feed : ℕ → Bool
+is_feed b = b == 10
+
+-- PARTS
+
+-- where the first line feed is, if there is one
+found : (b : Bool) (n m : ℕ) → cond b (Some n) None ≡ Some m → (b ≡ true) × (n ≡ m)
+found true n m e = (refl, cc)
+found false n m e = (cc, cc)
+
+missed : (b : Bool) (n : ℕ) → cond b (Some n) None ≡ None → b ≡ false
+missed true n e = cc
+missed false n e = refl
+
+-- the first part ends at the first line feed
+pub first_part : (text : List ℕ) (n : ℕ) → position is_feed text ≡ Some n
+    → (n < length text) × (parts text ≡ take n text ∷ parts (drop (n + 1) text))
+first_part text n e =
+    let at = position_or_len is_feed text in
+    let there = found (nat_lt at (length text)) at n e in
+    let within : at < length text = grind (arith, there.0) in
+    let next : at + 1 ≡ n + 1 = omega (arith, there.1) in (
+      omega (arith, within, there.1),
+      slice_split_first is_feed text 0 within ∙ ap (λ k. take k text ∷ parts (drop (at + 1) text)) there.1
+          ∙ ap (λ k. take n text ∷ parts (drop k text)) next,
+    )
+
+-- a text without a line feed is one part
+pub one_part : (text : List ℕ) → position is_feed text ≡ None → parts text ≡ text ∷ []
+one_part text e =
+    let at = position_or_len is_feed text in
+    let p = missed (nat_lt at (length text)) at e in
+    let far : length text ≤ at = grind (arith, p) in
+    slice_split_none is_feed text (λ k d l. fails_before_first is_feed text k d (omega (arith, l, far)))
+
+-- a text has a part
+some_parts : (text : List ℕ) → parts text ≢ []
+some_parts text e = let l = length-slice_split is_feed text in omega (arith, l, ap length e)
+
+-- LINES
+
+-- Up to this line, which is numbered from 1 and is the first of the rest, the lines are a listing's.
+pub record ReadTo (line : ℕ) (rest listing : List ℕ) : Type 0 where
+  pub front : List (List ℕ)
+  pub number : line ≡ length front + 1
+  pub each : All IsListed front
+  pub is : parts listing ≡ front ++ parts rest
+
+pub read_none : (listing : List ℕ) → ReadTo 1 listing listing
+read_none listing = record { front = []; number = refl; each = All-nil IsListed; is = refl }
+
+pub read_more : (line : ℕ) (rest listing x more : List ℕ) → ReadTo line rest listing
+    → parts rest ≡ x ∷ parts more → IsListed x → ReadTo (line + 1) more listing
+read_more line rest listing x more r e h = record {
+  front = r.front ++ x ∷ [];
+  number = omega (arith, r.number, length-append r.front (x ∷ []));
+  each = All-append IsListed r.front (x ∷ []) r.each (All-cons IsListed x [] h (All-nil IsListed));
+  is = r.is ∙ ap (λ t. r.front ++ t) e ∙ sym (append_assoc r.front (x ∷ []) (parts more));
+}
+
+pub read_whole : (line : ℕ) (rest listing : List ℕ) → rest ≡ [] → ReadTo line rest listing → IsListing listing
+read_whole line rest listing e r = record {
+  lines = r.front;
+  is = r.is ∙ ap (λ t. r.front ++ parts t) e;
+  each = r.each;
+}
+
+pub read_torn : (line : ℕ) (rest listing : List ℕ) → 0 < length rest → parts rest ≡ rest ∷ [] → ReadTo line rest listing
+    → IsTorn listing (record { line = line; kind = kind.Torn })
+read_torn line rest listing n e r = record {
+  line = rest;
+  some = λ none. omega (arith, n, ap length none);
+  at = record { front = r.front; number = r.number; each = r.each; is = r.is ∙ ap (λ t. r.front ++ t) e };
+  is = refl;
+}
+
+read_faulty : (line : ℕ) (rest listing x more : List ℕ) (of : ListingFaultKind) → ReadTo line rest listing
+    → parts rest ≡ x ∷ parts more → SaysOf of x → IsFaultyLine listing (record { line = line; kind = of })
+read_faulty line rest listing x more of r e says = record {
+  line = x;
+  behind = parts more;
+  whole = some_parts more;
+  at = record { front = r.front; number = r.number; each = r.each; is = r.is ∙ ap (λ t. r.front ++ t) e };
+  says = says;
+}
+
+pub read_refused : (line : ℕ) (rest listing x more : List ℕ) (e : LineError) → ReadTo line rest listing
+    → parts rest ≡ x ∷ parts more → SaysOfLine e x → SaysOfListing (error_at line e) listing
+read_refused line rest listing x more line_error.OutOfMemory r e says = tt
+read_refused line rest listing x more (line_error.Fault of) r e says =
+    inr (inr (read_faulty line rest listing x more of r e says))

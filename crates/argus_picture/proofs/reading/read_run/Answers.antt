@@ -1,0 +1,23 @@
+-- The lines in front of the fault are a listing's.
+use Rattle.std.proofs.Common.{arith, inl, inr}
+use Rattle.argus_picture.proofs.ReadLines.{read_more, read_refused, read_torn}
+use Rattle.argus_picture.proofs.reading.read_run.Goals as goal
+
+pub loop-text-preserved : goal.loop-text-preserved
+loop-text-preserved c = record {
+  read = read_more c.loop-text.line c.loop-text.rest.now c.args.listing.now c.in-Some.text.now c.in-Some.behind.now
+      c.loop-text.invariant.read c.in-Some.ensures.some c.in-Ok.ensures.line;
+  within = omega (arith, c.loop-text.invariant.within, c.in-Some.ensures.shorter);
+}
+
+pub returns-in-Err-clause-fault : goal.returns-in-Err-clause-fault
+returns-in-Err-clause-fault c =
+    rw c.error_at.ensures
+    (read_refused c.loop-text.line c.loop-text.rest.now c.args.listing.now c.in-Some.text.now c.in-Some.behind.now
+    c.in-Err.error c.loop-text.invariant.read c.in-Some.ensures.some c.in-Err.ensures.fault)
+
+pub returns-then-rest-gt0-clause-fault : goal.returns-then-rest-gt0-clause-fault
+returns-then-rest-gt0-clause-fault c =
+    rw c.fault_at-then-rest-gt0.ensures
+    (inr (inl (read_torn c.loop-text.line c.loop-text.rest.now c.args.listing.now c.if-rest-gt0.true
+    c.in_default.ensures.none c.loop-text.invariant.read)))

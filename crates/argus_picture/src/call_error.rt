@@ -1,0 +1,30 @@
+//! `CallError`: why a call with its reply was not taken.
+
+use argus_memory::OutOfMemory;
+use std::alloc::{AllocError, AllocFailed};
+
+/// Why a call with its reply was not taken.
+#[derive(Clone, Copy)]
+pub(crate) enum CallError {
+    OutOfMemory,
+    /// No guardian answers so.
+    Unlawful,
+}
+
+impl From<OutOfMemory> for CallError {
+    fn from(_refused: OutOfMemory) -> CallError {
+        CallError::OutOfMemory
+    }
+}
+
+impl From<AllocError> for CallError {
+    fn from(_refused: AllocError) -> CallError {
+        CallError::OutOfMemory
+    }
+}
+
+impl<T: Drop> From<AllocFailed<T>> for CallError {
+    fn from(_refused: AllocFailed<T>) -> CallError {
+        CallError::OutOfMemory
+    }
+}

@@ -1,0 +1,91 @@
+//! How a listing is read: line by line, up to the first that is at fault.
+
+ghost use Rattle.std.specs.List.{position};
+ghost use Rattle.std.specs.Prelude.{IfErr, IfNone, IfOk, IfSome, OnOk, [], length, ◌<◌, ◌==◌, ◌∷◌};
+ghost use Rattle.std.specs.Prelude.{◌≡◌};
+ghost use Rattle.argus_picture.specs.Faults.{SaysOfLine, SaysOfListing, error_at};
+ghost use Rattle.argus_picture.specs.declared.picture_error.PictureError.TheVariants as error;
+ghost use Rattle.argus_picture.specs.Listing.{IsListed, IsListing, parts};
+
+use crate::limits::MAX_BYTES;
+use crate::line_error::LineError;
+use crate::picture_error::PictureError;
+use crate::run::Run;
+use argus_frame::{ListingFault, ListingFaultKind};
+use argus_memory::Heap;
+use std::str::from_utf8;
+
+/// What the lines tell, or the first that is at fault.
+pub(crate) fn read_run<'a>(heap: Heap, listing: &'a [u8]) -> Result<Run<'a>, PictureError>
+    ensures lines { IfOk result (λ run. IsListing listing.now) }
+    ensures fault { IfErr result (λ e. SaysOfListing e listing.now) }
+{
+    if listing.len() > MAX_BYTES {
+        return Err(fault_at(1, ListingFaultKind::TooLong));
+    }
+    let mut run = Run::new(heap);
+    let mut rest = listing;
+    let mut line = 1;
+    while let Some((text, behind)) = first_line(rest) {
+        match run.take_bytes(heap, text) {
+            Ok(()) => {}
+            Err(error) => return Err(error_at(line, error)),
+        }
+        rest = behind;
+        line += 1;
+    }
+    if rest.len() > 0 {
+        return Err(fault_at(line, ListingFaultKind::Torn));
+    }
+    Ok(run)
+}
+
+// What is wrong with the listing, where this is wrong with the line.
+fn error_at(line: u64, error: LineError) -> PictureError
+    ensures { result ≡ error_at line error }
+{
+    match error {
+        LineError::OutOfMemory => PictureError::OutOfMemory,
+        LineError::Fault(kind) => fault_at(line, kind),
+    }
+}
+
+fn fault_at(line: u64, kind: ListingFaultKind) -> PictureError
+    ensures { result ≡ error.Fault (record { line = line; kind = kind }) }
+{
+    PictureError::Fault(ListingFault { line, kind })
+}
+
+// The first line, and what is behind its line feed. None where there is no line feed.
+fn first_line(text: &[u8]) -> Option<(&[u8], &[u8])>
+    ensures some { IfSome result (λ r. parts text.now ≡ r.0.now ∷ parts r.1.now) }
+    ensures shorter { IfSome result (λ r. length r.1.now < length text.now) }
+    ensures none { IfNone result (parts text.now ≡ text.now ∷ []) }
+{
+    let Some(feed) = first_feed(text) else {
+        return None;
+    };
+    Some((&text[..feed], &text[feed + 1..]))
+}
+
+// How many bytes stand before the first line feed.
+fn first_feed(text: &[u8]) -> Option<usize>
+    ensures { result ≡ position (λ b. b == 10) text.now }
+{
+    text.iter().position(|byte| *byte == b'\n')
+}
+
+impl<'a> Run<'a> {
+    // A whole line, without its line feed.
+    fn take_bytes(&mut self, heap: Heap, line: &'a [u8]) -> Result<(), LineError>
+        ensures line { OnOk result (IsListed line.now) }
+        ensures fault { IfErr result (λ e. SaysOfLine e line.now) }
+    {
+        match from_utf8(line) {
+            Ok(text) => self.take(heap, text),
+            Err(error) => Err(LineError::Fault(ListingFaultKind::NoText {
+                at: error.valid_up_to(),
+            })),
+        }
+    }
+}
