@@ -1,7 +1,7 @@
 //! `Host`: who calls an embedded guardian, as the rows say.
 
-use crate::request_reading::{has_outcome, listed_of, question_of, request_of};
-use argus_embed::{EmbedError, Embedded, ListEnd, ListedCall, Outcome, Question};
+use crate::request_reading::{has_outcome, lines_of, listed_of, question_of, request_of};
+use argus_embed::{EmbedError, Embedded, ListEnd, ListedCall, Outcome, Question, TextEnd};
 use argus_values::{Heap, OutOfMemory, Room};
 use std::fmt::Write;
 use std::str::from_utf8;
@@ -19,13 +19,18 @@ const ROOM: usize = 1_024;
 /// ```
 #[derive(Drop)]
 pub(crate) struct Host {
-    bank: Embedded,
+    pub(crate) bank: Embedded,
+    // How many bytes and lines of a row were taken before memory was refused: it is told again.
+    bytes: usize,
+    lines: usize,
 }
 
 impl Subject for Host {
     fn new(setting: Setting) -> Host {
         Host {
             bank: Embedded::new(setting.heap),
+            bytes: 0,
+            lines: 0,
         }
     }
 
@@ -65,6 +70,10 @@ impl Subject for Host {
             "room" => return self.copied(setting, rest),
             "lines" => return self.lines(setting, rest),
             "each" => return self.called_each(setting, rest),
+            "make_ready" => return self.made_ready(setting, rest),
+            "cancel_ready" => return self.cancelled(setting, rest),
+            "resume" => return self.resume(setting, rest),
+            "resumed" => return self.resumed(setting),
             _ => return Err(RowFault::NotSpelled),
         };
         setting.lift();
@@ -100,7 +109,7 @@ impl Host {
 
     // How many objects, actions and entries there are, and where the journal begins: nothing of it
     // takes memory.
-    fn counts(&mut self) -> [i64; 4] {
+    pub(crate) fn counts(&mut self) -> [i64; 4] {
         [
             self.count(Question::Objects),
             self.count(Question::Actions),
@@ -158,6 +167,54 @@ impl Host {
         Ok(out)
     }
 
+    // How many bytes and lines of these were taken, and the two numbers of why no more. The guardian
+    // that is held stays.
+    fn resume(&mut self, setting: Setting, row: &str) -> Result<String<Room>, RowFault> {
+        let text = lines_of(setting.texts, row)?;
+        let Some(left) = text.as_bytes().get(self.bytes..) else {
+            return Err(RowFault::Changed);
+        };
+        let counts = self.counts();
+        setting.limit();
+        let taken = self.bank.resume(left);
+        setting.lift();
+        if self.counts() != counts {
+            return Err(RowFault::Changed);
+        }
+        self.bytes = self.bytes.saturating_add(taken.bytes);
+        self.lines = self.lines.saturating_add(taken.lines);
+        if matches!(taken.end, TextEnd::OutOfMemory) {
+            return Err(RowFault::OutOfMemory);
+        }
+        let mut out = String::new(setting.texts.room());
+        let (status, number) = taken.end.codes();
+        write!(out, "{} {} {status} {number}", self.bytes, self.lines)?;
+        self.bytes = 0;
+        self.lines = 0;
+        Ok(out)
+    }
+
+    // How many bytes were let go.
+    fn resumed(&mut self, setting: Setting) -> Result<String<Room>, RowFault> {
+        let before = self.kept(setting.texts)?;
+        let counts = self.counts();
+        setting.limit();
+        let told = self.bank.resumed();
+        setting.lift();
+        let mut out = String::new(setting.texts.room());
+        match told {
+            Ok(dropped) => {
+                write!(out, "{dropped}")?;
+                Ok(out)
+            }
+            Err(_) if self.kept(setting.texts)?.as_str() != before.as_str() => Err(
+                RowFault::Changed,
+            ),
+            Err(_) if self.counts() != counts => Err(RowFault::Changed),
+            Err(_) => Err(RowFault::OutOfMemory),
+        }
+    }
+
     // The size that is told for so much room, with the text or `too small`; or `none`.
     fn copied(&self, setting: Setting, room: &str) -> Result<String<Room>, RowFault> {
         let size = room.parse::<usize>()?;
@@ -181,7 +238,7 @@ impl Host {
     }
 
     // The text that is kept, or `none`; `nothing` where it is empty.
-    fn kept(&self, texts: Heap) -> Result<String<Room>, OutOfMemory> {
+    pub(crate) fn kept(&self, texts: Heap) -> Result<String<Room>, OutOfMemory> {
         let mut room = Vec::from_elem(texts.room(), 0u8, ROOM)?;
         let mut out = String::new(texts.room());
         match self.bank.reply(room.as_mut_slice())? {
@@ -215,14 +272,14 @@ fn has_text(outcome: Outcome) -> bool {
     matches!(outcome, Outcome::Value | Outcome::Content | Outcome::Text)
 }
 
-fn codes_text(texts: Heap, codes: (u32, i64)) -> Result<String<Room>, OutOfMemory> {
+pub(crate) fn codes_text(texts: Heap, codes: (u32, i64)) -> Result<String<Room>, OutOfMemory> {
     let mut out = String::new(texts.room());
     write!(out, "{} {}", codes.0, codes.1)?;
     Ok(out)
 }
 
 // The text, with a bar for each line's end.
-fn push_lines(bytes: &[u8], out: &mut String<Room>) -> Result<(), OutOfMemory> {
+pub(crate) fn push_lines(bytes: &[u8], out: &mut String<Room>) -> Result<(), OutOfMemory> {
     let Ok(text) = from_utf8(bytes) else {
         return tell_word("no text", out);
     };

@@ -12,6 +12,7 @@ mod closing;
 mod crowd;
 mod host;
 mod host_lists;
+mod host_ready;
 mod listing;
 mod making;
 mod memory_refusing;
@@ -66,13 +67,15 @@ const ALONE: [(&str, bool); 10] = [
 // Those for shared guardians.
 const SHARED: [&str; 3] = ["lookers.rows", "settling.rows", "waiting.rows"];
 
-// Those for a guardian that a host holds.
-const HELD: [&str; 5] = [
+// Rows for a guardian that a host holds.
+const HELD: [&str; 7] = [
     "host_calls.rows",
     "host_lists.rows",
     "host_questions.rows",
     "host_lines.rows",
     "host_renewals.rows",
+    "host_resuming.rows",
+    "host_ready_commits.rows",
 ];
 
 fn main(rt: HostRuntime) -> Result<()> {

@@ -1,7 +1,7 @@
 //! The numbers of rows.
 
 use argus_embed::{ListedCall, Question, Request};
-use argus_values::Room;
+use argus_values::{Heap, Room};
 use test_rows::{RowFault, Setting, first_word, place};
 
 /// A request's five numbers, and the text behind them.
@@ -32,6 +32,13 @@ pub(crate) fn question_of(row: &str) -> Result<Option<Question>, RowFault> {
         object.parse::<u32>()?,
         entry.parse::<u64>()?,
     ))
+}
+
+/// The lines of a listing, of which a bar stands for each one's end. An arrow is `=>` there, since
+/// behind `->` comes what the row gets.
+pub(crate) fn lines_of(texts: Heap, row: &str) -> Result<String<Room>, RowFault> {
+    let lines = row.replace(texts.room(), " => ", " -> ")?;
+    Ok(lines.replace(texts.room(), "|", "\n")?)
 }
 
 // What stands in a listed call's status and number until it has an outcome.

@@ -4,6 +4,9 @@
 use crate::making::make;
 use crate::starting::later;
 use anyhow::{Result, bail, ensure};
+use argus_guardian::resume_laws::{
+    listings_are_resumed, listings_are_taken_back, no_longer_front_is_a_listing,
+};
 use argus_guardian::{
     FailStop, Guardian, LineError, LineFault, Listing, Opened, ReadEnd, Resuming, TakenEnd, resume,
     write_listing,
@@ -45,6 +48,7 @@ const CALLS_BEHIND: [&str; 5] = [
 /// All of these, of listings of entries alone, of an opening with entries behind it, and of an
 /// opening alone.
 pub(crate) fn resume_listings(setting: Setting) -> Result<()> {
+    call_laws();
     let mut guardian = Guardian::new(setting.heap);
     make_each(&mut guardian, setting.heap, &CALLS)?;
     try_all(setting, &guardian)?;
@@ -53,6 +57,13 @@ pub(crate) fn resume_listings(setting: Setting) -> Result<()> {
     make_each(&mut guardian, setting.heap, &CALLS_BEHIND)?;
     try_all(setting, &guardian)?;
     try_all(setting, &later(setting.heap)?)
+}
+
+// They do nothing when they are called.
+fn call_laws() {
+    no_longer_front_is_a_listing();
+    listings_are_taken_back();
+    listings_are_resumed();
 }
 
 fn make_each(guardian: &mut Guardian, heap: Heap, calls: &[&str]) -> Result<()> {

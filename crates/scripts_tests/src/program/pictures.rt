@@ -28,13 +28,21 @@ pub(crate) fn check_pictures(heaps: Heaps, text: &str) -> Result<u64> {
     Ok(rows)
 }
 
-// The row's lines, which stand apart by strokes.
+// The row's lines, which stand apart by strokes, with a line feed each; a row that ends in two dots
+// is torn there.
 fn listing_of(heap: Heap, row: &str) -> Result<String<Room>> {
     let mut listing = String::new(heap.room());
-    for line in row.split(" / ") {
+    let (text, end) = match row.strip_suffix("..") {
+        Some(text) => (text, ""),
+        None => (row, "\n"),
+    };
+    for (at, line) in text.split(" / ").enumerate() {
+        if at > 0 {
+            listing.push('\n')?;
+        }
         listing.push_str(line)?;
-        listing.push('\n')?;
     }
+    listing.push_str(end)?;
     Ok(listing)
 }
 
