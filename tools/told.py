@@ -7,8 +7,9 @@
     tools/told.py --check    writes nothing, and says whether the column isn't as it would be written
 
 The lines of edits that are no more are left out of bench/edits.txt, and those of other edits stay as they
-are. The column names the tests that tell a mistake's edits, each once, two at most. Python 3 and its own
-library are all that it needs.
+are. Where nothing tells an edit, what bench/edits.txt has behind it in square brackets is why, written by
+hand, and stays. The column names the tests that tell a mistake's edits, each once, two at most. Python 3
+and its own library are all that it needs.
 """
 
 import re
@@ -19,14 +20,28 @@ TOP = Path(__file__).resolve().parent.parent
 LINES = TOP / "bench/edits.txt"
 PAGE = TOP / "docs/MISTAKES.md"
 LINE = re.compile(r"(?P<edit>\w+/\w+): (?P<answer>(told by|nothing told|not tried).*)")
+REASON = re.compile(r" \[.*\]$")
 HEAD = "| Mistake | Promise that it breaks | Refused by | Told by |"
 NAMED = 2
 
 
+def reason_kept(before, answer):
+    """Why nothing tells an edit, as the line before has it, where nothing tells it now."""
+    reason = REASON.search(before)
+    if not reason or REASON.search(answer) or "told by" in before + answer:
+        return ""
+    return reason[0]
+
+
 def answers_of(paths):
-    """What was printed of each edit."""
-    found = (LINE.fullmatch(line) for path in paths for line in path.read_text(encoding="utf-8").splitlines())
-    return {it["edit"]: it["answer"] for it in found if it}
+    """What was printed of each edit, with the reason that stands in an earlier line where nothing told it."""
+    answers = {}
+    for path in paths:
+        for line in path.read_text(encoding="utf-8").splitlines():
+            found = LINE.fullmatch(line)
+            if found:
+                answers[found["edit"]] = found["answer"] + reason_kept(answers.get(found["edit"], ""), found["answer"])
+    return answers
 
 
 def is_there(edit):
