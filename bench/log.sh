@@ -3,13 +3,15 @@
 # Prints what a log costs: the bank's orders a second, and how long half of them and all but a hundredth
 # take at the most, in milliseconds: in memory; with a sync for each commit; with commits that wait
 # together; and in SQLite (WAL, synchronous FULL) with a savepoint for each transfer. Medians of interleaved
-# runs. Then the bytes of an entry in the log, and what it takes to read 100,000 of them.
+# runs. Then, of logs of 100,000 and of 1,000,000 entries, the bytes of an entry, what it takes to read them, and
+# what it takes to open them: to make the guardian again.
 # Nothing is compared with a limit: the figures are the machine's, and above all its disk's.
 #
-#   [REPS=3] [TIME=3] [ROOM=FOLDER] bench/log.sh
+#   [REPS=3] [TIME=3] [ROOM=FOLDER] [ENTRIES='100000 1000000'] bench/log.sh
 #
 # TIME is that of one run in seconds, ROOM a folder on the disk that is measured; build/ if left out. The
-# archive has to be there (tools/archive.sh makes dist/ of it), SQLite where it is to be compared.
+# archive has to be there (tools/archive.sh makes dist/ of it, or ARGUS_LIB_DIR names where it is), SQLite where it
+# is to be compared.
 set -euo pipefail
 export LC_ALL=C
 
@@ -17,6 +19,7 @@ top=$(cd "$(dirname "$0")/.." && pwd)
 reps=${REPS:-3}
 time=${TIME:-3}
 numbers="1 4 16 64"
+entries=${ENTRIES:-100000 1000000}
 mkdir -p "$top/build"
 room=$(mktemp -d "${ROOM:-$top/build}/log.XXXXXX")
 trap 'rm -r "$room"' EXIT
@@ -50,11 +53,18 @@ print_orders() {
     done
 }
 
-# log ENTRIES BATCHES BYTES READ
+# log ENTRIES BATCHES BYTES READ OPENED READ OPENED
 print_log() {
+    local file=$room/log-$1
     awk '{ printf "%d entries in %d batches: %.1f bytes an entry in their lines\n", $2, $3, $4 / $2 }' \
-        <(head -n 1 "$room/log")
-    echo "read in $(median "$room/log" 5) s"
+        <(head -n 1 "$file")
+    echo "read in $(median "$file" 5) s, opened in $(median "$file" 6) s;" \
+        "on the processor $(median "$file" 7) s and $(median "$file" 8) s"
+}
+
+# The processes that were running or waiting for the disk, in the mean of the last minute.
+load() {
+    echo "$1: load $(cut -d ' ' -f 1 /proc/loadavg) on $(nproc) processors"
 }
 
 build() {
@@ -66,6 +76,7 @@ build() {
 }
 
 build
+load before
 bench=$CARGO_TARGET_DIR/release/log-bench
 for _ in $(seq "$reps"); do
     measured sync "$bench" sync FOLDER
@@ -77,8 +88,13 @@ for _ in $(seq "$reps"); do
             measured "orders-sqlite-$clients" "$sqlite" FOLDER full "$clients" "$time"
         fi
     done
-    measured log "$bench" read FOLDER 100000
+    for count in $entries; do
+        measured "log-$count" "$bench" read FOLDER "$count"
+    done
 done
+load after
 echo "a write of 2,000 bytes and its sync: half of them up to $(median "$room/sync" 2) ms, 99 % up to $(median "$room/sync" 3) ms"
 print_orders
-print_log
+for count in $entries; do
+    print_log "$count"
+done

@@ -13,7 +13,7 @@ use std::sync::atomic::{AtomicU64, Ordering};
 use std::thread;
 use std::time::{Duration, Instant};
 
-const ACCOUNTS: u32 = 1000;
+pub const ACCOUNTS: u32 = 1000;
 const PATIENCE: Duration = Duration::from_secs(100);
 // A hundred thousand entries.
 const FOLD_AFTER: u64 = 2500;

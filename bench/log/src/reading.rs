@@ -1,35 +1,91 @@
-//! What it takes to read a log, and how long one is.
+//! What it takes to read a log, to make its guardian again, and how long a log is.
 
 use crate::act::Act;
-use crate::bank::{carry_out, logged_in};
+use crate::bank::{ACCOUNTS, carry_out, logged_in};
 use crate::orders::Order;
-use argus_guardian::log::{FileLog, Folder};
+use argus_guardian::log::{FileLog, Folder, Logged, LoggedError};
 use std::error::Error;
+use std::fs;
 use std::path::Path;
+use std::thread;
 use std::time::Instant;
 
-/// Writes a log of that many entries, and reads it. One line: `log ENTRIES BATCHES BYTES READ`: the bytes are
-/// those of the lines alone, the time is in seconds.
+const CLIENTS: u32 = 16;
+
+/// Writes a log of that many entries, reads it, and opens it. One line: `log ENTRIES BATCHES BYTES READ OPENED READ
+/// OPENED`: the bytes are those of the lines alone, the times are in seconds, first by the clock and then on the
+/// processor, where the system counts that.
 pub fn run(folder: &Path, entries: u64) -> Result<(), Box<dyn Error>> {
+    let entries = write(folder, entries)?;
+    let ((batches, bytes), read) = timed(|| read(folder, entries))?;
+    let ((), opened) = timed(|| open(folder, entries))?;
+    println!(
+        "log {entries} {batches} {bytes} {:.4} {:.4} {:.4} {:.4}",
+        read.clock, opened.clock, read.processor, opened.processor
+    );
+    Ok(())
+}
+
+/// How many seconds something took, by the clock, and on the processor.
+struct Taken {
+    clock: f64,
+    processor: f64,
+}
+
+fn timed<T>(
+    work: impl FnOnce() -> Result<T, Box<dyn Error>>,
+) -> Result<(T, Taken), Box<dyn Error>> {
+    let (begin, from) = (Instant::now(), on_processor());
+    let result = work()?;
+    let taken = Taken {
+        clock: begin.elapsed().as_secs_f64(),
+        processor: on_processor() - from,
+    };
+    Ok((result, taken))
+}
+
+// The seconds that this thread has been on a processor, as Linux counts them; else 0.
+fn on_processor() -> f64 {
+    let counted = fs::read_to_string("/proc/thread-self/schedstat").unwrap_or_default();
+    let nanoseconds = counted.split(' ').next().and_then(|it| it.parse().ok());
+    nanoseconds.unwrap_or(0.0) / 1e9
+}
+
+// By many clients, whose commits share syncs.
+fn write(folder: &Path, entries: u64) -> Result<u64, Box<dyn Error>> {
     let logged = logged_in(folder)?;
-    let mut number = 0;
-    while logged.entries() < entries {
-        let order = Order::drawn(0, number, 1000);
-        carry_out(logged.topaction()?, &order, Act::commit)?;
-        number += 1;
-    }
+    let serve = |client: u32| {
+        let mut orders = (0..).map(|number| Order::drawn(client, number, ACCOUNTS));
+        while logged.entries() < entries {
+            let order = orders.next().expect("without end");
+            carry_out(logged.topaction()?, &order, Act::commit)?;
+        }
+        Ok(())
+    };
+    thread::scope(|scope| {
+        let clients: Vec<_> = (0..CLIENTS)
+            .map(|client| scope.spawn(move || serve(client)))
+            .collect();
+        let ended = clients.into_iter().map(|it| it.join().expect("no panic"));
+        ended.collect::<Result<(), LoggedError>>()
+    })?;
     logged.barrier()?;
-    let entries = logged.entries();
-    drop(logged);
+    Ok(logged.entries())
+}
+
+fn read(folder: &Path, entries: u64) -> Result<(u64, usize), Box<dyn Error>> {
     let mut bytes = 0;
-    let begin = Instant::now();
     let found = FileLog::read(Folder::open(folder)?, |batch| {
         bytes += batch.lines.len();
         Ok(())
     })?;
-    let read = begin.elapsed();
     assert_eq!(found.found().next, entries);
-    let batches = found.found().batches;
-    println!("log {entries} {batches} {bytes} {:.4}", read.as_secs_f64());
+    Ok((found.found().batches, bytes))
+}
+
+// Until the guardian takes calls: each of the log's is made again.
+fn open(folder: &Path, entries: u64) -> Result<(), Box<dyn Error>> {
+    let (logged, opened) = Logged::open(folder)?;
+    assert_eq!((opened.found.next, logged.entries()), (entries, entries));
     Ok(())
 }

@@ -1,36 +1,43 @@
-//! Reads a log, and says what is there and what is wrong with its bytes.
+//! Checks a log, and prints what is there and what is wrong with it. Nothing in it is changed.
 //!
-//!     cargo run --release --features log --example log_check -- FOLDER [--lines]
+//!     cargo run --release --features logged --example log_check -- FOLDER [--bytes | --lines]
 //!
-//! `--lines` prints the lines of the journal as they are read; `./replay` of the repository makes their calls
-//! again and compares the replies. For a log that no process has, as a copy: while a process has it, it is
-//! locked. Nothing in it is changed. The status is 1 where something is wrong.
+//! It reads the files, makes each call of the log again, and compares the replies. With `--bytes` it reads the files
+//! alone; with `--lines` it also prints the journal's lines, as `./replay` of the repository reads them. It is for a
+//! log that no process has, such as a copy: one that a process has is locked. The status is 1 where something is
+//! wrong.
 
-use argus_guardian::log::{FileLog, Folder};
+use argus_guardian::log::{FileLog, Folder, Found, Logged, OpenError};
 use std::env;
 use std::error::Error;
 use std::path::Path;
 use std::process::ExitCode;
 
-const USAGE: &str = "log_check FOLDER [--lines]";
+const USAGE: &str = "log_check FOLDER [--bytes | --lines]";
 
-#[derive(Clone, Copy, PartialEq, Eq)]
-enum Print {
-    Nothing,
-    Lines,
-}
-
-fn check(folder: &Path, print: Print) -> Result<(), Box<dyn Error>> {
-    if !folder.is_dir() {
-        return Err(format!("{} is no folder", folder.display()).into());
-    }
-    let log = FileLog::read(Folder::open(folder)?, |batch| {
-        if print == Print::Lines {
-            print!("{}", batch.lines);
-        }
+fn print_lines(folder: Folder) -> Result<Found, OpenError> {
+    let log = FileLog::read(folder, |batch| {
+        print!("{}", batch.lines);
         Ok(())
     })?;
-    let found = log.found();
+    Ok(log.found().clone())
+}
+
+fn check_bytes(folder: Folder) -> Result<Found, OpenError> {
+    let log = FileLog::read(folder, |_| Ok(()))?;
+    Ok(log.found().clone())
+}
+
+// A log is made where there is none: so the folder has to be there.
+fn open(folder: &str) -> Result<Folder, Box<dyn Error>> {
+    if Path::new(folder).is_dir() {
+        Ok(Folder::open(folder)?)
+    } else {
+        Err(format!("{folder} is no folder").into())
+    }
+}
+
+fn print_found(found: &Found) {
     eprintln!(
         "{} segments, {} batches, {} entries; the next one is {}",
         found.segments, found.batches, found.entries, found.next
@@ -41,17 +48,19 @@ fn check(folder: &Path, print: Print) -> Result<(), Box<dyn Error>> {
     if let Some(torn) = &found.torn {
         eprintln!("to be cut off: {torn}");
     }
-    Ok(())
 }
 
 fn run() -> Result<(), Box<dyn Error>> {
     let words: Vec<String> = env::args().skip(1).collect();
     let words: Vec<&str> = words.iter().map(String::as_str).collect();
-    match words[..] {
-        [folder] => check(Path::new(folder), Print::Nothing),
-        [folder, "--lines"] => check(Path::new(folder), Print::Lines),
-        _ => Err(USAGE.into()),
-    }
+    let found = match words[..] {
+        [folder] => Logged::check(open(folder)?)?,
+        [folder, "--bytes"] => check_bytes(open(folder)?)?,
+        [folder, "--lines"] => print_lines(open(folder)?)?,
+        _ => return Err(USAGE.into()),
+    };
+    print_found(&found);
+    Ok(())
 }
 
 fn main() -> ExitCode {

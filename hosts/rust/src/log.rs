@@ -23,10 +23,8 @@
 //! ```
 //!
 //! With the feature `logged`, `Logged` is a [`Shared`](crate::Shared) each of whose entries goes to a log, and
-//! whose commits return once the log has them.
-//!
-//! **This crate can't make a guardian of a log yet**: the library's call for that isn't proved, so it isn't in
-//! the library. `Logged::open` takes what does, a type with `Resume`.
+//! whose commits return once the log has them. `Logged::open` makes it again of its log: each call is made again,
+//! and each reply compared.
 //!
 //! # Files
 //!
@@ -81,11 +79,11 @@ mod logged_action;
 #[cfg(feature = "logged")]
 mod logged_error;
 #[cfg(feature = "logged")]
+mod logged_opening;
+#[cfg(feature = "logged")]
 mod logged_options;
 mod memory_storage;
 mod open_error;
-#[cfg(feature = "logged")]
-mod opened;
 mod opening;
 #[cfg(feature = "logged")]
 mod outgoing;
@@ -95,7 +93,9 @@ mod position;
 #[cfg(feature = "logged")]
 mod progress;
 #[cfg(feature = "logged")]
-mod resume;
+mod recovered;
+#[cfg(feature = "logged")]
+mod recovery;
 mod seal;
 mod segment_head;
 mod segment_list;
@@ -127,11 +127,11 @@ pub use logged_error::LoggedError;
 pub use logged_options::LoggedOptions;
 pub use memory_storage::MemoryStorage;
 pub use open_error::OpenError;
-#[cfg(feature = "logged")]
-pub use opened::Opened;
 pub use opening::Opening;
 #[cfg(feature = "logged")]
-pub use resume::Resume;
+pub use recovered::Recovered;
+#[cfg(feature = "logged")]
+pub use recovery::Recovery;
 pub use step::Step;
 pub use storage::Storage;
 pub use torn::Torn;

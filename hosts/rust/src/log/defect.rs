@@ -27,7 +27,7 @@ pub enum Defect {
     Missing,
     /// It was written in a format that this version doesn't read.
     Format(u64),
-    /// A line isn't what the guardian writes there, in the words of who has read it.
+    /// A line isn't what the guardian writes there, in the words of its reader.
     Line(String),
 }
 

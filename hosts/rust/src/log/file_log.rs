@@ -22,9 +22,9 @@ use std::io;
 /// A log in files, of which one process is the writer: segments of batches, and in them a journal's lines
 /// as they are.
 ///
-/// A batch that [`append`](Self::append) has answered `Ok` is on disk, with all before it. After any
+/// Once [`append`](Self::append) has returned `Ok`, its batch is on disk, with all before it. After any
 /// failed write or sync the log is *broken*: nothing is tried again, and each later call gives the same
-/// [`Failure`]. Who reads the files then finds all batches that were acknowledged, and maybe the one that
+/// [`Failure`]. A reader of the files then finds all batches that were acknowledged, and maybe the one that
 /// failed.
 ///
 /// ```

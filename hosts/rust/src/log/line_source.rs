@@ -4,7 +4,7 @@ use crate::error::Error;
 use crate::guardian::Guardian;
 use crate::log::entry_lines::EntryLines;
 
-// What the library can't have answered.
+// What the library can't return.
 const UNKNOWN: Error = Error::Unknown(0);
 
 impl Guardian {

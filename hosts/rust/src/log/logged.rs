@@ -1,6 +1,6 @@
 //! `Logged`: a guardian that threads share, and whose entries go to a log.
 
-use crate::ObjId;
+use crate::{ActionId, ObjId};
 use crate::checkpoint_error::CheckpointError;
 use crate::content::Content;
 use crate::error::Error;
@@ -8,38 +8,33 @@ use crate::guardian::Guardian;
 use crate::listing::Listing;
 use crate::log::batch_log::BatchLog;
 use crate::log::failure::Failure;
-use crate::log::file_log::FileLog;
-use crate::log::folder::Folder;
 use crate::log::goal::Goal;
 use crate::log::group::Group;
 use crate::log::logged_action::LoggedAction;
 use crate::log::logged_error::LoggedError;
-use crate::log::logged_options::LoggedOptions;
-use crate::log::open_error::OpenError;
-use crate::log::opened::Opened;
-use crate::log::resume::Resume;
 use crate::may_conflict::MayConflict;
 use crate::object::Object;
 use crate::retrying::waits;
 use crate::shared::Shared;
-use std::path::Path;
+use std::iter;
 use std::thread;
 use std::time::Duration;
 
 /// A guardian that threads share, and each entry of whose journal goes to a log.
 ///
 /// *Acknowledged* is a topaction whose [`commit`](LoggedAction::commit) has returned `Ok`: the commit and
-/// all entries before it are in the log. A nested topaction likewise. What a program tells others has to
+/// all entries before it are in the log. A nested topaction likewise. What a program passes on has to
 /// be acknowledged, too: the contents that [`base`](Self::base) gives and the numbers of
 /// [`declare`](Self::declare) are, and so is all that was called before a [`barrier`](Self::barrier).
 ///
-/// Who waits for the log waits together: calls go on while a batch is written, and one write and one sync
+/// Commits wait for the log together: calls go on while a batch is written, and one write and one sync
 /// serve all commits that came meanwhile.
 ///
 /// Where the log fails, this is *broken*: each later call gives [`LoggedError::Broken`], and commits that
 /// were waiting [`LoggedError::InDoubt`]. A restart decides.
 ///
-/// **None of this is proved**, but for what the guardian itself answers.
+/// **None of this is proved**, except for the guardian's replies and for the call that makes it again from its
+/// log's lines.
 ///
 /// ```
 /// use argus_guardian::{Change, Content, Value};
@@ -54,105 +49,59 @@ use std::time::Duration;
 /// assert_eq!(bank.base(account)?, Some("{5}".parse()?));
 /// # Ok::<(), LoggedError>(())
 /// ```
+///
+/// # An order that is sent again
+///
+/// After a crash a client can't know whether its order was carried out. So it numbers its orders, and the
+/// topaction that carries one out keeps its number, too:
+///
+/// ```
+/// use argus_guardian::log::{Logged, LoggedAction, LoggedError};
+/// use argus_guardian::{Change, ObjId};
+/// # use argus_guardian::log::{LoggedOptions, MemoryStorage};
+///
+/// fn once(
+///     bank: &Logged,
+///     last: ObjId, // the client's record, atomic_record[number:int], created as {0}
+///     number: i64,
+///     work: impl Fn(&LoggedAction<'_>) -> Result<(), LoggedError>,
+/// ) -> Result<(), LoggedError> {
+///     bank.run(|top| {
+///         top.lock(last)?;
+///         if i64::try_from(top.get(last, 0)?)? >= number {
+///             return Ok(()); // it was carried out before
+///         }
+///         work(top)?;
+///         top.set(last, 0, number)
+///     })
+/// }
+/// # let (bank, _) = Logged::open_in(MemoryStorage::default(), LoggedOptions::default())?;
+/// # let last = bank.declare("atomic_record[number:int]")?;
+/// # let paid = bank.declare("atomic_record[sum:int]")?;
+/// # bank.run(|top| {
+/// #     for record in [last, paid] {
+/// #         top.alter(record, Change::Create("{0}".parse()?))?.done()?;
+/// #     }
+/// #     Ok::<_, LoggedError>(())
+/// # })?;
+///
+/// let pay = |top: &LoggedAction<'_>| {
+///     top.lock(paid)?;
+///     let sum = i64::try_from(top.get(paid, 0)?)?;
+///     top.set(paid, 0, sum + 70)
+/// };
+/// once(&bank, last, 1, pay)?;
+/// once(&bank, last, 1, pay)?; // sent again
+/// assert_eq!(bank.base(paid)?, Some("{70}".parse()?));
+/// # Ok::<(), Box<dyn std::error::Error>>(())
+/// ```
 #[derive(Debug)]
 pub struct Logged {
-    shared: Shared,
-    group: Group,
+    pub(crate) shared: Shared,
+    pub(crate) group: Group,
 }
 
 impl Logged {
-    /// Opens the guardian whose log is in a folder, or a new one where there is no log: hands what makes it
-    /// the log's lines, cuts off what is torn, and aborts what was live when the log ended, as a guardian of
-    /// Argus aborts its actions at a crash.
-    ///
-    /// # Errors
-    ///
-    /// [`OpenError`], each of them. But for [`OpenError::Broken`] the log is left as it was.
-    ///
-    /// ```
-    /// use argus_guardian::Guardian;
-    /// use argus_guardian::log::{LineError, Logged, OpenError, Resume};
-    ///
-    /// struct NewOnly; // takes a log without lines
-    ///
-    /// impl Resume for NewOnly {
-    ///     fn take(&mut self, _: &str) -> Result<(), LineError> {
-    ///         Err(LineError::Fault { line: 0, why: "a new log was expected".into() })
-    ///     }
-    ///     fn into_guardian(self) -> Result<Guardian, LineError> {
-    ///         Guardian::new().map_err(|_| LineError::OutOfMemory)
-    ///     }
-    /// }
-    ///
-    /// # let path = std::env::temp_dir().join(format!("argus-open-{}", std::process::id()));
-    /// let (bank, opened) = Logged::open(&path, NewOnly)?;
-    /// assert!(opened.is_new());
-    /// bank.declare("atomic_record[balance:int]").expect("declared");
-    /// drop(bank);
-    /// assert!(matches!(Logged::open(&path, NewOnly), Err(OpenError::Damaged(_))));
-    /// # std::fs::remove_dir_all(&path).expect("removed");
-    /// # Ok::<(), OpenError>(())
-    /// ```
-    pub fn open(path: impl AsRef<Path>, maker: impl Resume) -> Result<(Logged, Opened), OpenError> {
-        Logged::open_with(path, maker, LoggedOptions::default())
-    }
-
-    /// Opens it with other sizes and another patience.
-    ///
-    /// # Errors
-    ///
-    /// As of [`open`](Self::open).
-    ///
-    /// ```
-    /// use argus_guardian::Guardian;
-    /// use argus_guardian::log::{LineError, Logged, LoggedOptions, OpenError, Resume};
-    /// use std::time::Duration;
-    /// # struct NewOnly;
-    /// # impl Resume for NewOnly {
-    /// #     fn take(&mut self, _: &str) -> Result<(), LineError> {
-    /// #         Err(LineError::Fault { line: 0, why: "a new log was expected".into() })
-    /// #     }
-    /// #     fn into_guardian(self) -> Result<Guardian, LineError> {
-    /// #         Guardian::new().map_err(|_| LineError::OutOfMemory)
-    /// #     }
-    /// # }
-    /// # let path = std::env::temp_dir().join(format!("argus-with-{}", std::process::id()));
-    /// let options = LoggedOptions { patience: Duration::ZERO, ..LoggedOptions::default() };
-    /// assert!(Logged::open_with(&path, NewOnly, options)?.1.is_new());
-    /// # std::fs::remove_dir_all(&path).expect("removed");
-    /// # Ok::<(), OpenError>(())
-    /// ```
-    pub fn open_with(
-        path: impl AsRef<Path>,
-        mut maker: impl Resume,
-        options: LoggedOptions,
-    ) -> Result<(Logged, Opened), OpenError> {
-        let log = FileLog::read(Folder::open(path)?, |batch| maker.take(batch.lines))?;
-        let guardian = maker.into_guardian().map_err(|it| log.not_taken(it))?;
-        let found = log.found().clone();
-        let log = log.begin_with(options.files)?;
-        let (logged, aborted) = Logged::resumed(guardian, Box::new(log), options.patience)?;
-        Ok((logged, Opened { found, aborted }))
-    }
-
-    // A guardian that was made of this log. What is live is aborted, and the log has that.
-    fn resumed(
-        mut guardian: Guardian,
-        log: Box<dyn BatchLog>,
-        patience: Duration,
-    ) -> Result<(Logged, u64), OpenError> {
-        let next = guardian.entries();
-        guardian.abort_live()?;
-        let entries = guardian.entries();
-        let logged = Logged {
-            shared: Shared::new(guardian, patience),
-            group: Group::new(log, next),
-        };
-        let goal = Goal::entry(entries);
-        logged.group.wait(&logged.shared, goal)?;
-        Ok((logged, entries - next))
-    }
-
     /// A guardian over a log that has all of its entries. Accesses wait so long for their locks.
     ///
     /// ```
@@ -166,6 +115,16 @@ impl Logged {
     #[must_use]
     pub fn over(mut guardian: Guardian, log: Box<dyn BatchLog>, patience: Duration) -> Logged {
         let next = guardian.entries();
+        Logged::over_from(guardian, log, next, patience)
+    }
+
+    // A guardian over a log that has its entries up to this one.
+    pub(crate) fn over_from(
+        guardian: Guardian,
+        log: Box<dyn BatchLog>,
+        next: u64,
+        patience: Duration,
+    ) -> Logged {
         Logged {
             shared: Shared::new(guardian, patience),
             group: Group::new(log, next),
@@ -254,7 +213,7 @@ impl Logged {
     /// # Ok::<(), argus_guardian::log::LoggedError>(())
     /// ```
     pub fn declare(&self, shape: &str) -> Result<ObjId, LoggedError> {
-        self.told(|guardian| guardian.declare(shape))
+        self.acknowledged(|guardian| guardian.declare(shape))
     }
 
     /// Declares an object of each of these shapes, and waits for the log once. Their numbers are acknowledged.
@@ -280,7 +239,7 @@ impl Logged {
             let objects = shapes.into_iter().map(|shape| guardian.declare(shape));
             objects.collect()
         };
-        self.told(declared)
+        self.acknowledged(declared)
     }
 
     /// What is in the object for good, and acknowledged; `None` where it has no content yet.
@@ -299,7 +258,7 @@ impl Logged {
     /// # Ok::<(), argus_guardian::log::LoggedError>(())
     /// ```
     pub fn base(&self, object: ObjId) -> Result<Option<Content>, LoggedError> {
-        self.told(|guardian| guardian.base(object))
+        self.acknowledged(|guardian| guardian.base(object))
     }
 
     /// The object with the names of its fields or tags; that it is declared is acknowledged.
@@ -318,7 +277,7 @@ impl Logged {
     /// # Ok::<(), argus_guardian::log::LoggedError>(())
     /// ```
     pub fn object(&self, object: ObjId) -> Result<Object, LoggedError> {
-        self.told(|guardian| guardian.object(object))
+        self.acknowledged(|guardian| guardian.object(object))
     }
 
     /// A listing, all of which is acknowledged.
@@ -337,7 +296,7 @@ impl Logged {
     /// # Ok::<(), argus_guardian::log::LoggedError>(())
     /// ```
     pub fn list(&self, listing: Listing) -> Result<String, LoggedError> {
-        self.told(|guardian| guardian.list(listing))
+        self.acknowledged(|guardian| guardian.list(listing))
     }
 
     /// How many objects are declared, all of them acknowledged.
@@ -355,7 +314,7 @@ impl Logged {
     /// # Ok::<(), argus_guardian::log::LoggedError>(())
     /// ```
     pub fn objects(&self) -> Result<u32, LoggedError> {
-        self.told(|guardian| Ok(guardian.objects()))
+        self.acknowledged(|guardian| Ok(guardian.objects()))
     }
 
     /// How many entries the journal has had. They needn't be in the log yet.
@@ -374,8 +333,46 @@ impl Logged {
         self.shared.lend(Guardian::entries)
     }
 
+    /// How many actions are live. They needn't be in the log yet.
+    ///
+    /// ```
+    /// # use argus_guardian::log::{FileLog, Logged, MemoryStorage};
+    /// # let log = FileLog::read(MemoryStorage::default(), |_| Ok(())).expect("read").begin().expect("begun");
+    /// # let patience = std::time::Duration::ZERO;
+    /// # let logged = Logged::over(argus_guardian::Guardian::new()?, Box::new(log), patience);
+    /// let top = logged.topaction()?;
+    /// let sub = top.subaction()?;
+    /// assert_eq!(logged.live_actions(), 2);
+    /// # drop(sub);
+    /// # Ok::<(), argus_guardian::log::LoggedError>(())
+    /// ```
+    #[must_use]
+    pub fn live_actions(&self) -> usize {
+        self.shared.lend(|guardian| {
+            let first = guardian.live(ActionId(0));
+            iter::successors(first, |it| guardian.live(ActionId(it.0 + 1))).count()
+        })
+    }
+
+    /// How many actions can begin until a checkpoint gives their numbers anew.
+    ///
+    /// ```
+    /// # use argus_guardian::log::{FileLog, Logged, MemoryStorage};
+    /// # let log = FileLog::read(MemoryStorage::default(), |_| Ok(())).expect("read").begin().expect("begun");
+    /// # let patience = std::time::Duration::ZERO;
+    /// # let logged = Logged::over(argus_guardian::Guardian::new()?, Box::new(log), patience);
+    /// let left = logged.actions_left();
+    /// logged.topaction()?.commit()?;
+    /// assert_eq!(logged.actions_left(), left - 1);
+    /// # Ok::<(), argus_guardian::log::LoggedError>(())
+    /// ```
+    #[must_use]
+    pub fn actions_left(&self) -> u32 {
+        self.shared.lend(Guardian::actions_left)
+    }
+
     // What the guardian says, once all of it is in the log.
-    fn told<T>(
+    fn acknowledged<T>(
         &self,
         what: impl FnOnce(&mut Guardian) -> Result<T, Error>,
     ) -> Result<T, LoggedError> {
@@ -393,8 +390,8 @@ impl Logged {
         waited.map_err(LoggedError::InDoubt)
     }
 
-    /// Returns once all that was called before is in the log: before values that were read, or that they
-    /// couldn't be, are told to others.
+    /// Returns once all that was called before is in the log. A program calls it before it passes on what an
+    /// action has read, if that action doesn't commit first.
     ///
     /// # Errors
     ///
@@ -419,8 +416,8 @@ impl Logged {
     ///
     /// # Errors
     ///
-    /// As of [`Shared::checkpoint_waiting`], and then the log goes on as it was, but that after want of
-    /// memory it may begin anew with the next commit; [`LoggedError::Broken`]; [`LoggedError::InDoubt`].
+    /// As of [`Shared::checkpoint_waiting`]: the log goes on as it was, except that after `OutOfMemory` it may
+    /// begin anew with the next commit. [`LoggedError::Broken`]; [`LoggedError::InDoubt`].
     ///
     /// ```
     /// # use argus_guardian::log::{FileLog, Logged, MemoryStorage};

@@ -14,7 +14,7 @@ use crate::{ActionId, ObjId};
 /// nested one, returns once the log has it.
 ///
 /// It aborts when it is dropped, unless it has committed. What it reads may come from commits that aren't
-/// in the log yet: who tells it to others without committing calls [`Logged::barrier`] first.
+/// in the log yet: to pass it on without committing, call [`Logged::barrier`] first.
 ///
 /// ```
 /// # use argus_guardian::{Change, log::{FileLog, Logged, MemoryStorage}};
@@ -305,7 +305,7 @@ impl<'l> LoggedAction<'l> {
         Ok(LoggedAction::outer(self.logged, action))
     }
 
-    /// Aborts all live siblings: who is done first ends the others.
+    /// Aborts all live siblings: the first that is done ends the others.
     ///
     /// # Errors
     ///

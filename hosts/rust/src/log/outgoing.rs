@@ -77,19 +77,19 @@ impl Outgoing {
     }
 
     /// Folds the journal once all of it has been taken, and takes the opening. When the log has that. Where
-    /// memory is wanting for the opening, it is taken before the next lines.
+    /// there is no memory for the opening, it is taken before the next lines.
     pub(crate) fn fold(&mut self, guardian: &mut Guardian) -> Result<Goal, CheckpointError> {
-        let wanting = |_: Error| CheckpointError::OutOfMemory;
-        self.take_opening(guardian).map_err(wanting)?;
+        let out_of_memory = |_: Error| CheckpointError::OutOfMemory;
+        self.take_opening(guardian).map_err(out_of_memory)?;
         while self.next < guardian.entries() {
-            self.take(guardian).map_err(wanting)?;
+            self.take(guardian).map_err(out_of_memory)?;
         }
         Shared::fold(guardian)?;
         // The opening of a journal without entries is none.
         if self.next > 0 {
             self.folds += 1;
             self.owes_opening = true;
-            self.take_opening(guardian).map_err(wanting)?;
+            self.take_opening(guardian).map_err(out_of_memory)?;
         }
         Ok(Goal {
             entry: self.next,

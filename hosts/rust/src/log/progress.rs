@@ -1,10 +1,10 @@
-//! `Progress`: how far a log has come, and who waits for it.
+//! `Progress`: how far a log has come, and which threads wait for it.
 
 use crate::log::failure::Failure;
 use crate::log::goal::Goal;
 use std::thread::{self, Thread, ThreadId};
 
-/// How far a log has come, and who waits for it.
+/// How far a log has come, and which threads wait for it.
 #[derive(Debug)]
 pub(crate) struct Progress {
     // All entries before this one are in the log.
@@ -22,7 +22,7 @@ struct Waiter {
     thread: Thread,
 }
 
-/// What who waits has to do.
+/// What a waiting thread has to do.
 pub(crate) enum Turn {
     /// It is as was wanted.
     Done,

@@ -1,10 +1,7 @@
 //! A disk that is really full. `hosts/run` mounts a small one.
 
-use crate::remaking::Remaking;
 use crate::scratch::Scratch;
-use argus_guardian::log::{
-    FileLog, FileLogOptions, Folder, Logged, LoggedAction, LoggedError, LoggedOptions,
-};
+use argus_guardian::log::{FileLogOptions, Logged, LoggedAction, LoggedError, LoggedOptions};
 use argus_guardian::{Change, ObjId};
 use std::fs;
 use std::io::ErrorKind;
@@ -38,7 +35,7 @@ fn a_full_disk() {
     fs::create_dir_all(scratch.path()).expect("made");
     let spare = scratch.path().join("spare");
     fs::write(&spare, vec![0; 96 * 1024]).expect("written");
-    let (logged, _) = Logged::open_with(scratch.path(), Remaking::new(), OPTIONS).expect("opened");
+    let (logged, _) = Logged::open_with(scratch.path(), OPTIONS).expect("opened");
     logged.declare("atomic_record[n:int]").expect("declared");
     let create = |top: &LoggedAction<'_>| {
         let zero = Change::Create("{0}".parse()?);
@@ -60,21 +57,15 @@ fn a_full_disk() {
     assert!(matches!(count(&logged), Err(LoggedError::Broken(_))));
     drop(logged);
     // All that was acknowledged is read.
-    let (logged, _) = Logged::open_with(scratch.path(), Remaking::new(), OPTIONS).expect("opened");
+    let (logged, _) = Logged::open_with(scratch.path(), OPTIONS).expect("opened");
     assert_eq!(base(&logged), format!("{{{acknowledged}}}"));
     drop(logged);
     fs::remove_file(spare).expect("removed");
-    let (logged, _) = Logged::open_with(scratch.path(), Remaking::new(), OPTIONS).expect("opened");
+    let (logged, _) = Logged::open_with(scratch.path(), OPTIONS).expect("opened");
     logged.checkpoint_waiting(Duration::ZERO).expect("folded");
     count(&logged).expect("acknowledged");
     drop(logged);
-    let mut text = String::new();
-    let log = FileLog::read(Folder::open(scratch.path()).expect("free"), |batch| {
-        text.push_str(batch.lines);
-        Ok(())
-    })
-    .expect("whole");
-    assert_eq!(log.found().segments, 1);
-    let folded = format!("opening o0 atomic_record[n:int] {{{acknowledged}}}\n");
-    assert!(text.contains(&folded), "{text}");
+    let (logged, opened) = Logged::open_with(scratch.path(), OPTIONS).expect("opened");
+    assert_eq!((opened.found.segments, opened.aborted), (1, 0));
+    assert_eq!(base(&logged), format!("{{{}}}", acknowledged + 1));
 }

@@ -2,8 +2,17 @@
 
 #[cfg(feature = "logged")]
 mod bank;
+#[cfg(feature = "logged")]
+mod bank_failures;
+#[cfg(feature = "logged")]
+mod bank_kills;
 mod bytes;
+#[cfg(feature = "logged")]
 mod checkpoints;
+#[cfg(feature = "logged")]
+mod child;
+#[cfg(feature = "logged")]
+mod dying_storage;
 mod failing;
 mod failing_storage;
 #[cfg(feature = "logged")]
@@ -15,12 +24,12 @@ mod groups;
 mod handle;
 mod kills;
 #[cfg(feature = "logged")]
+mod ledger;
+#[cfg(feature = "logged")]
 mod opening;
 #[cfg(feature = "logged")]
 mod orders;
 mod power;
 mod power_storage;
-#[cfg(feature = "logged")]
-mod remaking;
 mod scratch;
 mod written_log;

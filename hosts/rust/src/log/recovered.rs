@@ -1,28 +1,28 @@
-//! `Opened`: what was found and done when a guardian with a log was opened.
+//! `Recovered`: what was found and done when a guardian with a log was opened.
 
 use crate::log::found::Found;
 
 /// What was found and done when a guardian with a log was opened.
 ///
 /// ```
-/// use argus_guardian::log::Opened;
-/// assert!(Opened::default().is_new());
+/// use argus_guardian::log::Recovered;
+/// assert!(Recovered::default().is_new());
 /// ```
 #[derive(Debug, Clone, PartialEq, Eq, Default)]
-pub struct Opened {
+pub struct Recovered {
     /// What the log had. Where something was torn, it has been cut off.
     pub found: Found,
     /// How many entries it took to abort the actions that were live when the log ended.
     pub aborted: u64,
 }
 
-impl Opened {
+impl Recovered {
     /// Whether the folder had no log before. Where one should be there, a disk may not be mounted.
     ///
     /// ```
-    /// use argus_guardian::log::{Found, Opened};
+    /// use argus_guardian::log::{Found, Recovered};
     /// let found = Found { segments: 1, ..Found::default() };
-    /// assert!(!Opened { found, aborted: 0 }.is_new());
+    /// assert!(!Recovered { found, aborted: 0 }.is_new());
     /// ```
     #[must_use]
     pub fn is_new(&self) -> bool {

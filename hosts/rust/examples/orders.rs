@@ -1,0 +1,120 @@
+//! Payments that may be sent again: each is carried out once, whatever becomes of the process in between.
+//!
+//!     cargo run --release --features logged --example orders -- FOLDER < PAYMENTS
+//!
+//! A line `CLIENT NUMBER AMOUNT` of standard input is a payment of one of eight clients (0 to 7), which number theirs
+//! 1, 2, 3 and so on. A line is printed once its payment is on disk in FOLDER; the last line has the balance. Kill it,
+//! and send the same lines again.
+
+use argus_guardian::log::{Logged, LoggedAction, LoggedError};
+use argus_guardian::{Change, ObjId};
+use std::env;
+use std::error::Error;
+use std::io::{self, BufRead};
+use std::str::FromStr;
+
+const CLIENTS: u32 = 8;
+const BALANCE: ObjId = ObjId(0);
+
+// The record of a client's last number.
+fn last_of(client: u32) -> ObjId {
+    ObjId(1 + client)
+}
+
+/// What became of an order.
+enum Carried {
+    Out,
+    Before,
+}
+
+struct Payment {
+    client: u32,
+    number: i64,
+    amount: i64,
+}
+
+impl FromStr for Payment {
+    type Err = Box<dyn Error>;
+
+    fn from_str(line: &str) -> Result<Payment, Box<dyn Error>> {
+        let words: Vec<&str> = line.split(' ').collect();
+        let [client, number, amount] = words[..] else {
+            return Err(format!("`{line}` isn't CLIENT NUMBER AMOUNT").into());
+        };
+        let client: u32 = client.parse()?;
+        if client >= CLIENTS {
+            return Err(format!("there is no client {client}").into());
+        }
+        Ok(Payment {
+            client,
+            number: number.parse()?,
+            amount: amount.parse()?,
+        })
+    }
+}
+
+fn int(action: &LoggedAction<'_>, record: ObjId) -> Result<i64, LoggedError> {
+    Ok(i64::try_from(action.get(record, 0)?)?)
+}
+
+// Carries out a client's order once, however often it is sent.
+fn once(
+    bank: &Logged,
+    last: ObjId,
+    number: i64,
+    work: impl Fn(&LoggedAction<'_>) -> Result<(), LoggedError>,
+) -> Result<Carried, LoggedError> {
+    bank.run(|top| {
+        top.lock(last)?;
+        if int(top, last)? >= number {
+            // By the commit of this topaction that is on disk, too.
+            return Ok(Carried::Before);
+        }
+        work(top)?;
+        top.set(last, 0, number)?;
+        Ok(Carried::Out)
+    })
+}
+
+fn pay(bank: &Logged, payment: &Payment) -> Result<Carried, LoggedError> {
+    once(bank, last_of(payment.client), payment.number, |top| {
+        top.lock(BALANCE)?;
+        top.set(BALANCE, 0, int(top, BALANCE)? + payment.amount)
+    })
+}
+
+// Declares and creates what isn't there: a crash may have come in the middle of it.
+fn open(folder: &str) -> Result<Logged, Box<dyn Error>> {
+    let (bank, _) = Logged::open(folder)?;
+    let missing = bank.objects()?..=CLIENTS;
+    bank.declare_each(missing.map(|_| "atomic_record[number:int]"))?;
+    if bank.base(BALANCE)?.is_none() {
+        bank.run(|top| {
+            (0..=CLIENTS).try_for_each(|record| {
+                let zero = Change::Create("{0}".parse()?);
+                Ok::<_, LoggedError>(top.alter(ObjId(record), zero)?.done()?)
+            })
+        })?;
+    }
+    Ok(bank)
+}
+
+fn main() -> Result<(), Box<dyn Error>> {
+    let words: Vec<String> = env::args().skip(1).collect();
+    let [folder] = &words[..] else {
+        return Err("orders FOLDER < PAYMENTS".into());
+    };
+    let bank = open(folder)?;
+    for line in io::stdin().lock().lines() {
+        let payment: Payment = line?.parse()?;
+        let words = match pay(&bank, &payment)? {
+            Carried::Out => "carried out",
+            Carried::Before => "carried out before",
+        };
+        println!("{} {} {words}", payment.client, payment.number);
+    }
+    if let Some(balance) = bank.base(BALANCE)? {
+        println!("balance {balance}");
+    }
+    Ok(())
+}

@@ -1,0 +1,134 @@
+//! `Recovery`: a guardian that is being made again from the lines of its log.
+
+use crate::error::Error;
+use crate::guardian::Guardian;
+use crate::line_fault::LineFault;
+use crate::log::file_log::FileLog;
+use crate::log::found_log::FoundLog;
+use crate::log::line_error::LineError;
+use crate::log::open_error::OpenError;
+use crate::log::storage::Storage;
+use crate::opened::Opened;
+use crate::resuming::Resuming;
+use crate::taken_end::TakenEnd;
+
+/// A log that was read, and the guardian of its lines.
+pub(crate) fn recovered<S: Storage>(storage: S) -> Result<(FoundLog<S>, Guardian), OpenError> {
+    let mut recovery = Recovery::new()?;
+    let log = FileLog::read(storage, |batch| recovery.take(batch.lines))?;
+    match recovery.into_guardian() {
+        Ok(guardian) => Ok((log, guardian)),
+        Err(error) => Err(log.not_taken(error)),
+    }
+}
+
+/// A guardian that is being made again from the lines of its log, by the library's proved call: each call is made
+/// again, and its reply compared with that of the line.
+///
+/// ```
+/// use argus_guardian::log::{LineError, Recovery};
+/// let mut recovery = Recovery::new()?;
+/// recovery.take("0 begin_top -> a0\n").expect("a journal's line");
+/// let LineError::Fault { line, why } = recovery.take("1 commit a7 -> done\n").expect_err("no action a7") else {
+///     panic!("there is memory");
+/// };
+/// assert_eq!(line, 0);
+/// assert_eq!(why, "`1 commit a7 -> done`: the journal before it gives the reply `refused NoAction`");
+/// # Ok::<(), argus_guardian::Error>(())
+/// ```
+#[derive(Debug)]
+pub struct Recovery {
+    resuming: Resuming,
+}
+
+impl Recovery {
+    /// Of no line so far.
+    ///
+    /// # Errors
+    ///
+    /// As of [`Guardian::new`].
+    ///
+    /// ```
+    /// use argus_guardian::log::Recovery;
+    /// let mut guardian = Recovery::new()?.into_guardian().expect("there is memory");
+    /// assert_eq!(guardian.entries(), 0);
+    /// # Ok::<(), argus_guardian::Error>(())
+    /// ```
+    pub fn new() -> Result<Recovery, Error> {
+        let resuming = Resuming::new()?;
+        Ok(Recovery { resuming })
+    }
+
+    /// Takes whole lines, which follow those that were taken: an opening's and entries', as a log has them.
+    ///
+    /// # Errors
+    ///
+    /// [`LineError::Fault`]: the lines before that one were taken, and no more can be.
+    /// [`LineError::OutOfMemory`].
+    ///
+    /// ```
+    /// use argus_guardian::log::Recovery;
+    /// let mut recovery = Recovery::new()?;
+    /// recovery.take("opening entries 4 actions 1\nopening o0 atomic_record[n:int] {5}\n").expect("lines");
+    /// recovery.take("4 begin_top -> a1\n").expect("the next one");
+    /// # Ok::<(), argus_guardian::Error>(())
+    /// ```
+    pub fn take(&mut self, lines: &str) -> Result<(), LineError> {
+        let taken = self.resuming.take(lines);
+        let why = match taken.end {
+            TakenEnd::Whole => return Ok(()),
+            TakenEnd::Torn => "it has no line feed".to_owned(),
+            TakenEnd::Fault(fault) => words_of(&fault),
+            TakenEnd::OutOfMemory => return Err(LineError::OutOfMemory),
+        };
+        let text = lines[taken.bytes..].lines().next().unwrap_or("");
+        Err(LineError::Fault {
+            line: taken.lines as u64,
+            why: format!("`{text}`: {why}"),
+        })
+    }
+
+    /// The guardian of all lines that were taken. What was live in it is live.
+    ///
+    /// # Errors
+    ///
+    /// [`LineError::Fault`] where an opening isn't whole; [`LineError::OutOfMemory`].
+    ///
+    /// ```
+    /// use argus_guardian::log::Recovery;
+    /// let mut recovery = Recovery::new()?;
+    /// recovery.take("0 begin_top -> a0\n").expect("a journal's line");
+    /// let mut guardian = recovery.into_guardian().expect("there is memory");
+    /// assert_eq!(guardian.entry(0)?, "0 begin_top -> a0");
+    /// # Ok::<(), argus_guardian::Error>(())
+    /// ```
+    pub fn into_guardian(self) -> Result<Guardian, LineError> {
+        match self.resuming.into_guardian() {
+            Ok(Opened {
+                guardian,
+                dropped: 0,
+            }) => Ok(guardian),
+            Ok(_) => Err(LineError::Fault {
+                line: 0,
+                why: "the opening refers to objects that aren't there".to_owned(),
+            }),
+            Err(_) => Err(LineError::OutOfMemory),
+        }
+    }
+}
+
+// What is wrong with a line.
+fn words_of(fault: &LineFault) -> String {
+    match fault {
+        LineFault::NotAnOpening => "it isn't the next line of an opening".to_owned(),
+        LineFault::NoLine { at } => format!("it isn't the line of an entry, from byte {at} on"),
+        LineFault::NotNext { next } => format!("entry {next} comes next"),
+        LineFault::NotTheReply { reply: Some(reply) } => {
+            format!("the journal before it gives the reply `{reply}`")
+        }
+        LineFault::NotTheReply { reply: None } => {
+            "the journal before it gives another reply".to_owned()
+        }
+        other => other.to_string(),
+    }
+}
