@@ -16,6 +16,7 @@ from pathlib import Path
 
 TOP = Path(__file__).resolve().parent.parent
 EXPORTS = TOP / "crates/argus_c/src/lib.rt"
+READYING = TOP / "crates/argus_c/src/readying.rt"
 LISTED = TOP / "crates/argus_embed/src/listed_call.rt"
 HEADER = TOP / "crates/argus_c/include/argus.h"
 RUST = TOP / "hosts/rust/src/sys.rs"
@@ -25,22 +26,23 @@ PYTHON = TOP / "hosts/python/argus_guardian/library.py"
 IN_RATTLE = {
     "Global": (), "&mut Slot": ("handle",), "&[u8]": ("bytes", "size"), "&mut [u8]": ("bytes", "size"),
     "u32": ("u32",), "u64": ("u64",), "i64": ("i64",), "&mut i64": ("number",), "&mut usize": ("length",),
-    "&mut u64": ("count",),
+    "&mut u64": ("count",), "&mut ReadySlot": ("ready",),
     "&mut [ListedCall<'_>]": ("calls", "size"), "&'a [u8]": ("bytes", "size"),
 }  # fmt: skip
 IN_C = {
     "argus_guardian *": "handle", "const uint8_t *": "bytes", "uint8_t *": "bytes", "size_t": "size", "uint32_t": "u32",
     "uint64_t": "u64", "int64_t": "i64", "int64_t *": "number", "size_t *": "length", "uint64_t *": "count",
-    "argus_listed_call *": "calls", "const void *": "bytes",
+    "argus_listed_call *": "calls", "const void *": "bytes", "argus_ready *": "ready",
 }  # fmt: skip
 IN_RUST = {
     "*mut Handle": "handle", "*const u8": "bytes", "*mut u8": "bytes", "usize": "size", "u32": "u32", "u64": "u64",
     "i64": "i64", "*mut i64": "number", "*mut usize": "length", "*mut u64": "count", "*mut ListedCall": "calls",
+    "*mut Ready": "ready",
 }  # fmt: skip
 IN_PYTHON = {
     "handle": "handle", "ctypes.c_char_p": "bytes", "size": "size", "u32": "u32", "u64": "u64", "i64": "i64",
     "number": "number", "ctypes.POINTER(size)": "length", "ctypes.POINTER(u64)": "count", "listed": "calls", "made": "length",
-    "ctypes.c_uint32": "u32", "ctypes.c_int64": "i64", "ctypes.c_size_t": "size",
+    "ctypes.c_uint32": "u32", "ctypes.c_int64": "i64", "ctypes.c_size_t": "size", "ready": "ready",
 }  # fmt: skip
 
 
@@ -117,7 +119,8 @@ def numbers_in_python():
 
 
 def main():
-    exports, header = EXPORTS.read_text(encoding="utf-8"), HEADER.read_text(encoding="utf-8")
+    exports = "".join(file.read_text(encoding="utf-8") for file in (EXPORTS, READYING))
+    header = HEADER.read_text(encoding="utf-8")
     rust, python = RUST.read_text(encoding="utf-8"), PYTHON.read_text(encoding="utf-8")
     wanted, failed = exported(exports), []
     declared = {HEADER: declared_in_c(header), RUST: declared_in_rust(rust), PYTHON: declared_in_python(python)}

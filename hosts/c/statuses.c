@@ -180,9 +180,105 @@ static void abort_all(argus_guardian *bank) {
     want_answer(argus_abort_live(bank), ARGUS_DONE, 0, "an abort of nothing");
 }
 
+/* Whether the line of the commit that is ready is this text, and a room that is too small for it stays as it is. */
+static void want_line(argus_ready *ready, const char *text) {
+    char room[64] = "???";
+    int64_t size = (int64_t)strlen(text);
+    want_answer(argus_ready_line(ready, room, 3), ARGUS_TOO_SMALL, size, "a room that is too small for the line");
+    want(memcmp(room, "???", 4) == 0, "such a room stays as it is");
+    want_answer(argus_ready_line(ready, room, sizeof room), ARGUS_DONE, size, text);
+    want(memcmp(room, text, strlen(text)) == 0, text);
+}
+
+/* A commit in two steps: each status of each step, with both handles as before where it isn't made. */
+static void commit_in_two_steps(void) {
+    argus_guardian bank = ARGUS_CLOSED, other = ARGUS_CLOSED;
+    argus_ready ready = ARGUS_NOTHING_READY;
+    want_answer(argus_ready_commit(&bank, &ready, 0), ARGUS_NOT_OPEN, 0, "a commit of a closed one");
+    want_answer(argus_make_ready(&ready, &bank), ARGUS_NOT_OPEN, 0, "nothing is ready to be made");
+    want_answer(argus_cancel_ready(&ready, &bank), ARGUS_NOT_OPEN, 0, "nothing is ready to be cancelled");
+    want_answer(argus_ready_line(&ready, NULL, 0), ARGUS_NOT_OPEN, 0, "nothing is ready that has a line");
+    want(argus_open(&bank).status == ARGUS_DONE, "opening one");
+    want(argus_open_beside(&other, &bank).status == ARGUS_DONE, "and one beside it");
+    want_answer(argus_begin_top(&bank), ARGUS_ACTION, 0, "an action");
+    want_answer(argus_make_ready(&ready, &bank), ARGUS_NOT_OPEN, 0, "nothing is ready for an open one");
+    want_answer(argus_ready_commit(&bank, &ready, 0), ARGUS_DONE, 0, "a commit that is ready");
+    want_answer(argus_entries(&bank), ARGUS_NOT_OPEN, 0, "a question meanwhile");
+    want_answer(argus_close(&bank), ARGUS_NOT_OPEN, 0, "closing meanwhile");
+    want_answer(argus_ready_commit(&other, &ready, 0), ARGUS_OCCUPIED, 0, "a second one that is ready");
+    want_answer(argus_make_ready(&ready, &other), ARGUS_OCCUPIED, 0, "made into an open one");
+    want_answer(argus_cancel_ready(&ready, &other), ARGUS_OCCUPIED, 0, "cancelled into an open one");
+    want_answer(argus_entries(&other), ARGUS_NUMBER, 0, "the other one is as before");
+    want_line(&ready, "1 commit a0 -> done\n");
+    want_answer(argus_cancel_ready(&ready, &bank), ARGUS_DONE, 0, "cancelled");
+    want_answer(argus_entries(&bank), ARGUS_NUMBER, 1, "all is as before");
+    want_answer(argus_ready_commit(&bank, &ready, 0), ARGUS_DONE, 0, "ready again");
+    want_answer(argus_make_ready(&ready, &bank), ARGUS_DONE, 0, "made");
+    want_answer(argus_status_of(&bank, 0), ARGUS_NUMBER, ARGUS_COMMITTED, "it has committed");
+    want_answer(argus_ready_commit(&bank, &ready, 0), ARGUS_DONE, 0, "one that is going to be refused");
+    want_line(&ready, "2 commit a0 -> refused Over\n");
+    want_answer(argus_make_ready(&ready, &bank), ARGUS_REFUSED, ARGUS_OVER, "its refusal");
+    want_answer(argus_entries(&bank), ARGUS_NUMBER, 3, "which is an entry");
+    want(argus_close(&bank).status == ARGUS_DONE && argus_close(&other).status == ARGUS_DONE, "both are closed");
+}
+
+/* A line that isn't the next one behind these, and why. */
+typedef struct bad_line {
+    const char *before, *line;
+    uint32_t status;
+    int64_t number;
+} bad_line;
+
+static const bad_line BAD_LINES[] = {
+    {"0 begin_top -> a0\n", "1 \xff\n", ARGUS_NOT_UTF8, 2},
+    {"0 begin_top -> a0\n", "opening entries 1 actions 0\n", ARGUS_NOT_AN_OPENING, 0},
+    {"0 begin_top -> a0\n", "1 comit a0 -> done\n", ARGUS_NO_LINE, 5},
+    {"0 begin_top -> a0\n", "2 commit a0 -> done\n", ARGUS_NOT_NEXT, 1},
+    {"opening entries 4 actions 1\n", "4 begin_sub a0 -> a1\n", ARGUS_NOT_THE_REPLY, 0},
+    {"opening entries 4 actions 1\nopening o0 atomic_array[atomic] 1[@1]\n", "4 begin_top -> a1\n", ARGUS_NOT_SOUND, 0},
+};
+
+/* The guardian that is held stays as it is until the one of the lines takes its place. */
+static void resume_bad_line(argus_guardian *bank, const bad_line *it) {
+    char text[128];
+    size_t bytes = 99, lines = 99, size = strlen(it->before);
+    argus_guardian again = ARGUS_CLOSED;
+    snprintf(text, sizeof text, "%s%s", it->before, it->line);
+    want(argus_open_beside(&again, bank).status == ARGUS_DONE, "one beside");
+    want_answer(argus_begin_top(&again), ARGUS_ACTION, 0, "its action");
+    want_answer(argus_resume(&again, text, strlen(text), &bytes, &lines), it->status, it->number, it->line);
+    want(bytes == size && lines == (it->status == ARGUS_NOT_SOUND ? 2 : 1), "the lines before it are taken");
+    want_answer(argus_entries(&again), ARGUS_NUMBER, 1, "the one that is held");
+    if (it->status == ARGUS_NOT_THE_REPLY) want_reply(&again, "refused Over");
+    want_answer(argus_resumed(&again), ARGUS_DONE, it->status == ARGUS_NOT_SOUND ? 38 : 0, "the lines' guardian");
+    want(argus_entries(&again).number == (it->before[0] == '0' ? 1 : 4), "it has their entries");
+    want_answer(argus_close(&again), ARGUS_DONE, 0, "closing it");
+}
+
+/* A listing in two pieces, the first of which ends within a line; what is taken then begins anew. */
+static void resume_lines(argus_guardian *bank) {
+    size_t bytes = 99, lines = 99, size = sizeof FIRST_LINES - 1;
+    argus_guardian again = ARGUS_CLOSED;
+    want(argus_open_beside(&again, bank).status == ARGUS_DONE, "one beside");
+    want_answer(argus_resume(&again, NULL, 0, &bytes, &lines), ARGUS_DONE, 0, "no text");
+    want(bytes == 0 && lines == 0, "nothing is taken of it");
+    want_answer(argus_resume(&again, FIRST_LINES, size - 1, &bytes, &lines), ARGUS_DONE, 0, "a torn text");
+    want(bytes < size - 1 && lines == 2, "its whole lines are taken");
+    want_answer(argus_resume(&again, FIRST_LINES + bytes, size - bytes, &bytes, &lines), ARGUS_DONE, 0, "the rest");
+    want(lines == 1, "the last line is taken");
+    want_answer(argus_resumed(&again), ARGUS_DONE, 0, "the guardian of three lines");
+    want_answer(argus_objects(&again), ARGUS_NUMBER, 3, "its objects");
+    want_answer(argus_begin_top(&again), ARGUS_ACTION, 0, "it goes on");
+    want_answer(argus_resumed(&again), ARGUS_DONE, 0, "the guardian of no line");
+    want_answer(argus_objects(&again), ARGUS_NUMBER, 0, "it has no object");
+    want_answer(argus_close(&again), ARGUS_DONE, 0, "closing it");
+    for (size_t at = 0; at < sizeof BAD_LINES / sizeof BAD_LINES[0]; at++) resume_bad_line(bank, &BAD_LINES[at]);
+}
+
 static void be_closed(argus_guardian *bank) {
-    size_t size = 99;
+    size_t size = 99, lines = 99;
     uint64_t count = 99;
+    int64_t number = 99;
     uint8_t room[1] = {'?'};
     want_answer(argus_close(bank), ARGUS_DONE, 0, "closing");
     want_answer(argus_close(bank), ARGUS_NOT_OPEN, 0, "closing twice");
@@ -195,10 +291,16 @@ static void be_closed(argus_guardian *bank) {
     want(count == 0 && room[0] == '?', "no lines of a closed one");
     want(argus_c_reply(bank, room, 1, &size) == ARGUS_NOT_OPEN && size == 0 && room[0] == '?', "its reply");
     want(argus_open_beside(bank, bank).status == ARGUS_NOT_OPEN, "one beside itself");
+    size = 99;
+    want(argus_c_resume(bank, room, 1, &size, &lines, &number) == ARGUS_NOT_OPEN, "lines for a closed one");
+    want(size == 0 && lines == 0 && number == 0, "none is taken");
+    count = 99;
+    want(argus_c_resumed(bank, &count) == ARGUS_NOT_OPEN && count == 0, "a guardian in a closed one");
 }
 
 static void be_null(argus_guardian *bank) {
     uint64_t count;
+    size_t size;
     want(argus_open(NULL).status == ARGUS_NULL, "argus_open");
     want(argus_open_beside(NULL, bank).status == ARGUS_NULL, "argus_open_beside");
     want(argus_open_beside(bank, NULL).status == ARGUS_NULL, "argus_open_beside a null one");
@@ -213,11 +315,42 @@ static void be_null(argus_guardian *bank) {
     want(argus_lines(NULL, 0, NULL, 0, &count).status == ARGUS_NULL, "argus_lines");
     want(argus_lines(bank, 0, NULL, 1, &count).status == ARGUS_NULL, "argus_lines into a null room");
     want(argus_lines(bank, 0, NULL, 0, NULL).status == ARGUS_NULL, "argus_lines with a null count");
+    argus_ready ready = ARGUS_NOTHING_READY;
+    want(argus_ready_commit(NULL, &ready, 0).status == ARGUS_NULL, "argus_ready_commit");
+    want(argus_ready_commit(bank, NULL, 0).status == ARGUS_NULL, "argus_ready_commit into a null one");
+    want(argus_ready_line(NULL, NULL, 0).status == ARGUS_NULL, "argus_ready_line");
+    want(argus_ready_line(&ready, NULL, 1).status == ARGUS_NULL, "argus_ready_line into a null room");
+    want(argus_make_ready(NULL, bank).status == ARGUS_NULL, "argus_make_ready");
+    want(argus_make_ready(&ready, NULL).status == ARGUS_NULL, "argus_make_ready into a null one");
+    want(argus_cancel_ready(NULL, bank).status == ARGUS_NULL, "argus_cancel_ready");
+    want(argus_cancel_ready(&ready, NULL).status == ARGUS_NULL, "argus_cancel_ready into a null one");
+    want(argus_resume(NULL, NULL, 0, &size, &size).status == ARGUS_NULL, "argus_resume");
+    want(argus_resume(bank, NULL, 1, &size, &size).status == ARGUS_NULL, "argus_resume of a null text");
+    want(argus_resume(bank, NULL, 0, NULL, &size).status == ARGUS_NULL, "argus_resume with null bytes");
+    want(argus_resume(bank, NULL, 0, &size, NULL).status == ARGUS_NULL, "argus_resume with null lines");
+    want(argus_resumed(NULL).status == ARGUS_NULL, "argus_resumed");
     want(argus_reply(NULL, NULL, 0).status == ARGUS_NULL, "argus_reply");
     want(argus_reply(bank, NULL, 1).status == ARGUS_NULL, "argus_reply into a null room");
     want(argus_alter(bank, 0, 0, ARGUS_WHOLE, 0, 0, NULL).status == ARGUS_BAD_KIND, "argus_alter by a query");
     want(argus_ask(bank, 0, 0, ARGUS_TOUCH, 0).status == ARGUS_BAD_KIND, "argus_ask by a change");
     want(argus_list(bank, ARGUS_OBJECTS).status == ARGUS_BAD_KIND, "argus_list by another question");
+}
+
+/* A process that gets no more memory: commits of which each is made ready, until that finds none; then all is as
+ * before, and a commit that is ready is made without any. */
+static int find_no_memory_for_a_commit(void) {
+    argus_guardian bank = ARGUS_CLOSED;
+    argus_ready ready = ARGUS_NOTHING_READY;
+    struct rlimit none = {0, 0};
+    argus_answer answer = argus_open(&bank);
+    setrlimit(RLIMIT_AS, &none);
+    for (int calls = 0; calls < 1000000 && answer.status == ARGUS_DONE; calls++) {
+        int64_t entries = argus_entries(&bank).number;
+        answer = argus_ready_commit(&bank, &ready, 7);
+        if (answer.status == ARGUS_DONE && argus_make_ready(&ready, &bank).status != ARGUS_REFUSED) return 2;
+        if (argus_entries(&bank).number != entries + (answer.status == ARGUS_DONE)) return 3;
+    }
+    return answer.status == ARGUS_NO_MEMORY && argus_close(&bank).status == ARGUS_DONE ? 0 : 1;
 }
 
 /* A process that gets no more memory: the call that finds none changes nothing. */
@@ -234,22 +367,25 @@ static int find_no_memory(void) {
     return answer.status == ARGUS_NO_MEMORY && answer.number == 0 && argus_close(&bank).status == ARGUS_DONE ? 0 : 1;
 }
 
-static void want_memory(void) {
+static void want_memory(int (*find)(void)) {
     int status = 0;
     fflush(NULL);
     pid_t child = fork();
-    if (child == 0) _exit(find_no_memory());
+    if (child == 0) _exit(find());
     want(child > 0 && waitpid(child, &status, 0) == child && status == 0, "want of memory");
 }
 
 int statuses(void) {
     argus_guardian bank = ARGUS_CLOSED;
-    want_memory();
+    want_memory(find_no_memory);
+    want_memory(find_no_memory_for_a_commit);
+    commit_in_two_steps();
     want(argus_open(&bank).status == ARGUS_DONE, "opening");
     be_null(&bank);
     make_steps(&bank);
     ask_of_actions(&bank);
     copy_lines(&bank);
+    resume_lines(&bank);
     ask_and_copy(&bank);
     reach_limits(&bank);
     abort_all(&bank);

@@ -107,6 +107,87 @@ static void test_example(void) {
     CHECK(argus_close(&bank).status == ARGUS_DONE);
 }
 
+/* The example of argus.h: whether the action has committed. What became of it is in the log before. */
+static int commit_logged(argus_guardian *bank, uint32_t action, FILE *log) {
+    char line[64];
+    argus_ready ready = ARGUS_NOTHING_READY;
+    argus_answer answer = argus_ready_commit(bank, &ready, action);
+    if (answer.status != ARGUS_DONE) return fprintf(stderr, "%s\n", argus_answer_name(answer)), 0;
+    answer = argus_ready_line(&ready, line, sizeof line);
+    if (answer.status == ARGUS_DONE && fwrite(line, (size_t)answer.number, 1, log) == 1 && fflush(log) == 0)
+        return argus_make_ready(&ready, bank).status == ARGUS_DONE;
+    argus_cancel_ready(&ready, bank);
+    return 0;
+}
+
+/* An account of 5, which topaction 0 has created and not yet committed. */
+static void create_account(argus_guardian *bank) {
+    CHECK(argus_open(bank).status == ARGUS_DONE);
+    CHECK(argus_declare(bank, "atomic_record[balance:int]").status == ARGUS_OBJECT);
+    CHECK(argus_begin_top(bank).status == ARGUS_ACTION);
+    CHECK(argus_alter(bank, 0, 0, ARGUS_CREATE, 0, 0, "{5}").status == ARGUS_DONE);
+}
+
+/* Whether the object's base is this text. */
+static int base_is(argus_guardian *bank, uint32_t object, const char *text) {
+    char room[16];
+    argus_answer answer = argus_base(bank, object);
+    if (answer.status == ARGUS_TEXT) answer = argus_reply(bank, room, sizeof room);
+    return answer.status == ARGUS_DONE && (size_t)answer.number == strlen(text) && !memcmp(room, text, strlen(text));
+}
+
+/* What stands in the log is what the journal then has: of a commit, and of one that is refused. */
+static void test_commit_logged(void) {
+    argus_guardian bank = ARGUS_CLOSED;
+    static const char wanted[] = "3 commit a0 -> done\n4 commit a0 -> refused Over\n";
+    char logged[sizeof wanted] = "", listed[sizeof wanted] = "";
+    uint64_t count = 0;
+    FILE *log = tmpfile();
+    CHECK(log != NULL);
+    if (log == NULL) return;
+    create_account(&bank);
+    CHECK(commit_logged(&bank, 0, log));
+    CHECK(base_is(&bank, 0, "{5}"));
+    CHECK(!commit_logged(&bank, 0, log));
+    rewind(log);
+    CHECK(fread(logged, 1, sizeof wanted, log) == sizeof wanted - 1 && strcmp(logged, wanted) == 0);
+    CHECK(argus_lines(&bank, 3, listed, sizeof wanted - 1, &count).status == ARGUS_DONE && count == 2);
+    CHECK(strcmp(listed, wanted) == 0);
+    CHECK(fclose(log) == 0);
+    CHECK(argus_close(&bank).status == ARGUS_DONE);
+}
+
+/* A log that takes nothing: nothing is committed, and the action goes on. */
+static void test_commit_cancelled(void) {
+    argus_guardian bank = ARGUS_CLOSED;
+    FILE *log = fopen("/dev/full", "w");
+    CHECK(log != NULL);
+    if (log == NULL) return;
+    create_account(&bank);
+    CHECK(!commit_logged(&bank, 0, log));
+    CHECK(argus_entries(&bank).number == 3 && argus_status_of(&bank, 0).number == ARGUS_LIVE);
+    CHECK(base_is(&bank, 0, "absent"));
+    CHECK(argus_commit(&bank, 0).status == ARGUS_DONE);
+    CHECK(base_is(&bank, 0, "{5}"));
+    fclose(log);
+    CHECK(argus_close(&bank).status == ARGUS_DONE);
+}
+
+/* Of two guardians side by side, each has what its own calls left, and no text before its first reply. */
+static void test_beside(void) {
+    argus_guardian bank = ARGUS_CLOSED, branch = ARGUS_CLOSED;
+    CHECK(argus_open(&bank).status == ARGUS_DONE);
+    CHECK(open_account(&bank, "{5}"));
+    CHECK(argus_open_beside(&branch, &bank).status == ARGUS_DONE);
+    CHECK(argus_reply(&branch, NULL, 0).status == ARGUS_NOT_THERE);
+    CHECK(argus_objects(&branch).number == 0 && argus_actions(&branch).number == 0);
+    CHECK(argus_objects(&bank).number == 1 && argus_actions(&bank).number == 1);
+    CHECK(open_account(&branch, "{6}"));
+    CHECK(argus_close(&branch).status == ARGUS_DONE);
+    CHECK(argus_objects(&bank).number == 1 && argus_actions(&bank).number == 1);
+    CHECK(argus_close(&bank).status == ARGUS_DONE);
+}
+
 static void test_names(void) {
     for (uint32_t status = ARGUS_DONE; status <= ARGUS_BAD_DEMAND; status++)
         CHECK(strncmp(argus_status_name(status), "ARGUS_", 6) == 0);
@@ -115,7 +196,8 @@ static void test_names(void) {
     for (int64_t refusal = ARGUS_NO_ACTION; refusal <= ARGUS_NO_SIBLINGS; refusal++)
         CHECK(strncmp(argus_refusal_name(refusal), "ARGUS_", 6) == 0);
     CHECK(strcmp(argus_status_name(ARGUS_BAD_TEXT), "ARGUS_BAD_TEXT") == 0);
-    CHECK(strcmp(argus_status_name(25), "?") == 0);
+    CHECK(strcmp(argus_status_name(ARGUS_OCCUPIED), "ARGUS_OCCUPIED") == 0);
+    CHECK(strcmp(argus_status_name(31), "?") == 0);
     CHECK(strcmp(argus_signal_name(0), "?") == 0 && strcmp(argus_refusal_name(10), "?") == 0);
     CHECK(strcmp(argus_answer_name(argus_answer_of(ARGUS_REFUSED, ARGUS_CONFLICT)), "ARGUS_CONFLICT") == 0);
     CHECK(strcmp(argus_answer_name(argus_answer_of(ARGUS_SIGNAL, ARGUS_BOUNDS)), "ARGUS_BOUNDS") == 0);
@@ -184,6 +266,9 @@ static void test_fork(void) {
 int tests(void) {
     test_fork();
     test_example();
+    test_commit_logged();
+    test_commit_cancelled();
+    test_beside();
     test_names();
     test_version();
     test_grammar();

@@ -20,6 +20,7 @@ from .errors import (
     ArgusError,
     BadDemand,
     BadKind,
+    BadLine,
     BadNumber,
     BadShape,
     BadText,
@@ -50,6 +51,8 @@ from .errors import (
 from .guardian import Guardian
 from .library import Demand, Kind
 from .lists import CallsMade, Listed
+from .ready_commit import ReadyCommit
+from .resuming import resume
 from .shapes import Shape
 from .values import Array, Choice, Ref, read_content, read_value, write_content, write_value
 
@@ -62,6 +65,7 @@ __all__ = [
     "Array",
     "BadDemand",
     "BadKind",
+    "BadLine",
     "BadNumber",
     "BadShape",
     "BadText",
@@ -87,6 +91,7 @@ __all__ = [
     "NotThere",
     "OutOfMemory",
     "Over",
+    "ReadyCommit",
     "Ref",
     "Refused",
     "Shape",
@@ -98,6 +103,7 @@ __all__ = [
     "WrongTag",
     "read_content",
     "read_value",
+    "resume",
     "write_content",
     "write_value",
 ]

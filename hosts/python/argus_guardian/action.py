@@ -2,12 +2,14 @@
 
 from __future__ import annotations
 
+from contextlib import AbstractContextManager
 from types import TracebackType
 from typing import TYPE_CHECKING, Any, NoReturn
 
 from .errors import ArgusError
 from .library import Kind
 from .ranges import U32, u32
+from .ready_commit import ReadyCommit, ready_commit
 from .values import Content, Object, Value, write_content, write_value
 
 if TYPE_CHECKING:
@@ -87,6 +89,20 @@ class Action:
             self._abort_quietly()
             raise
         self._is_ended = True
+
+    def ready_commit(self) -> AbstractContextManager[ReadyCommit]:
+        """Makes all ready for its commit, for a `with` block that logs the commit and then makes it:
+
+            with top.ready_commit() as ready:
+                log.write(ready.line)
+                log.flush()
+                ready.make()
+
+        Where the block ends without `make`, by an exception too, all is as before, and the action live.
+        In the block the guardian's lock is held: calls of other threads wait, and one of this thread
+        would wait for itself, so make none. OutOfMemory, Closed.
+        """
+        return ready_commit(self)
 
     def abort(self) -> None:
         """Aborts it and all subactions below it."""

@@ -7,12 +7,14 @@ from collections.abc import Iterator
 from typing import Any
 
 from .errors import Refused, Signal
-from .library import Handle, Question, Status, bare, load
+from .library import Handle, Question, Ready, Status, bare, load
 from .telling import Call, error_of, error_of_call, error_of_question
 from .values import read_content, read_value
 
 # The two that come most often.
 NUMBER, DONE = Status.NUMBER, Status.DONE
+# The line of a commit has no more bytes: two numbers of 20 and 10 digits, and the longest refusal.
+LINE = 61
 
 
 class Archive:
@@ -29,8 +31,12 @@ class Archive:
         self._abort_live, self._renew = library.argus_c_abort_live, library.argus_c_renew
         self._lines, self._count = library.argus_c_lines, ctypes.c_uint64()
         self._call_each = library.argus_c_call_each
+        self._ready_commit, self._ready_line = library.argus_c_ready_commit, library.argus_c_ready_line
+        self._make_ready, self._cancel_ready = library.argus_c_make_ready, library.argus_c_cancel_ready
+        self._resume, self._resumed = library.argus_c_resume, library.argus_c_resumed
         # What the calls take, of the types that library.py declares.
         self._handle, self._number, self._size = Handle(), ctypes.c_int64(), ctypes.c_size_t()
+        self._ready = Ready()
         self._handle_at, self._number_at = ctypes.byref(self._handle), ctypes.byref(self._number)
         self._size_at = ctypes.byref(self._size)
         self._first, self._second, self._entry = ctypes.c_int64(), ctypes.c_int64(), ctypes.c_uint64()
@@ -45,7 +51,7 @@ class Archive:
 
     def leave_behind(self) -> None:
         """Is closed, and its memory is left as it is."""
-        self._handle = Handle()
+        self._handle, self._ready = Handle(), Ready()
         self._handle_at = ctypes.byref(self._handle)
 
     def make(
@@ -80,6 +86,26 @@ class Archive:
         """The status of a renewal."""
         return self._renew(self._handle_at)
 
+    def ready_commit(self, action: int) -> int:
+        """The status of making the commit of an action ready. Until it is made or cancelled it is closed."""
+        return self._ready_commit(self._handle_at, self._ready, action)
+
+    def ready_line(self) -> str:
+        """The line that the commit is going to be, with its line feed."""
+        room = ctypes.create_string_buffer(LINE)
+        status = self._ready_line(self._ready, room, LINE, self._size_at)
+        if status != Status.DONE:
+            raise error_of(status)
+        return room.raw[: self._size.value].decode()
+
+    def make_ready(self) -> tuple[int, int]:
+        """The status and the number of the commit that is ready."""
+        return self._make_ready(self._ready, self._handle_at, self._number_at), self._number.value
+
+    def cancel_ready(self) -> int:
+        """The status of cancelling the commit that is ready; NOT_OPEN where none is."""
+        return self._cancel_ready(self._ready, self._handle_at)
+
     def lines(self, entry: int, size: int) -> list[str]:
         """The journal's lines from an entry on, as many as fit into so many bytes; one at least, if there is one."""
         while True:
@@ -91,6 +117,22 @@ class Archive:
         if status != Status.DONE:
             raise error_of_question(status, 0, Question.ENTRY, entry)
         return room.raw[: self._size.value].decode().split("\n")[:-1]
+
+    def take(self, text: bytes) -> tuple[int, int, int]:
+        """The status and the number with which lines of a journal are taken, and how many were."""
+        lines = ctypes.c_size_t()
+        given = text, len(text), self._size_at, ctypes.byref(lines), self._number_at
+        status = self._resume(self._handle_at, *given)
+        return status, self._number.value, lines.value
+
+    def resumed(self) -> tuple[int, int]:
+        """The status with which the guardian of these lines is made, and how many bytes of them were let go."""
+        status = self._resumed(self._handle_at, ctypes.byref(self._count))
+        return status, self._count.value
+
+    def kept(self) -> str:
+        """The text that the library keeps."""
+        return self._text().decode()
 
     def answer(self, status: int, number: int, call: Call) -> Any:
         """What a call answers, by its status and its number. Raises what they say."""

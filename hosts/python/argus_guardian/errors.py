@@ -45,6 +45,17 @@ class BadKind(ArgusError, ValueError):
     why = "no call has this kind"
 
 
+class BadLine(ArgusError, ValueError):
+    """A line isn't the next one of a guardian's journal; `line` is how many came before it, `reason` why it isn't."""
+
+    def __init__(self, line: int, reason: str) -> None:
+        super().__init__(line, reason)
+        self.line, self.reason = line, reason
+
+    def __str__(self) -> str:
+        return f"line {self.line}, counted from 0: {self.reason}"
+
+
 class NotBegun(ArgusError, LookupError):
     """Of a call of a list: `begun_by` names no earlier one, or one that began no action. It wasn't journalled."""
 

@@ -19,6 +19,12 @@ class Handle(ctypes.Structure):
     _fields_ = [("mark", ctypes.c_uint32), ("at", ctypes.c_void_p)]
 
 
+class Ready(ctypes.Structure):
+    """The handle of a guardian whose commit is ready. All zero is none."""
+
+    _fields_ = [("mark", ctypes.c_uint32), ("at", ctypes.c_void_p)]
+
+
 class ListedCall(ctypes.Structure):
     """One call of a list, with what came of it."""
 
@@ -44,6 +50,8 @@ class Status:
     NO_MEMORY, NOT_OPEN, NOT_UTF8, BAD_TEXT, BAD_SHAPE, BAD_NUMBER, BAD_KIND = range(10, 17)
     TOO_SMALL, NOT_THERE, BUSY, FULL = range(17, 21)
     UNMET, NOT_BEGUN, BAD_DEMAND = range(22, 25)
+    NOT_AN_OPENING, NO_LINE, NOT_NEXT, NOT_SOUND, NOT_THE_REPLY = range(25, 30)
+    OCCUPIED = 30
 
 
 class Demand:
@@ -93,6 +101,7 @@ def load() -> ctypes.CDLL:
         raise OSError(f"no library {NAME} is to be had: {words} ({error})") from None
     handle, number = ctypes.POINTER(Handle), ctypes.POINTER(ctypes.c_int64)
     listed, made = ctypes.POINTER(ListedCall), ctypes.POINTER(ctypes.c_size_t)
+    ready = ctypes.POINTER(Ready)
     u32, u64, i64, size = ctypes.c_uint32, ctypes.c_uint64, ctypes.c_int64, ctypes.c_size_t
     calls = {
         "argus_c_open": (handle, handle),
@@ -104,8 +113,14 @@ def load() -> ctypes.CDLL:
         "argus_c_checkpoint": (handle,),
         "argus_c_reply": (handle, ctypes.c_char_p, size, ctypes.POINTER(size)),
         "argus_c_renew": (handle,),
+        "argus_c_resume": (handle, ctypes.c_char_p, size, ctypes.POINTER(size), ctypes.POINTER(size), number),
+        "argus_c_resumed": (handle, ctypes.POINTER(u64)),
         "argus_c_lines": (handle, u64, ctypes.c_char_p, size, ctypes.POINTER(size), ctypes.POINTER(u64)),
         "argus_c_version": (),
+        "argus_c_ready_commit": (handle, ready, u32),
+        "argus_c_ready_line": (ready, ctypes.c_char_p, size, ctypes.POINTER(size)),
+        "argus_c_make_ready": (ready, handle, number),
+        "argus_c_cancel_ready": (ready, handle),
     }
     for name, given in calls.items():
         call = getattr(library, name)

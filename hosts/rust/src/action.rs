@@ -306,6 +306,23 @@ impl<'g> Action<'g> {
         self.end(Call::Abort)
     }
 
+    /// Its number alone. It stays live, and nothing aborts it when this guard is gone: for a commit
+    /// that is [made ready](Guardian::ready_commit).
+    ///
+    /// ```
+    /// use argus_guardian::{Guardian, Status};
+    /// let mut guardian = Guardian::new()?;
+    /// let top = guardian.topaction()?.into_id();
+    /// assert_eq!(guardian.status(top), Some(Status::Live));
+    /// # Ok::<(), argus_guardian::Error>(())
+    /// ```
+    #[must_use]
+    pub fn into_id(self) -> ActionId {
+        let id = self.id;
+        mem::forget(self);
+        id
+    }
+
     fn end(self, how: impl FnOnce(ActionId) -> Call) -> Result<(), Error> {
         self.guardian.call(&how(self.id))?.answer()?.done()?;
         // It is over: there is nothing to abort, and nothing in it to drop.

@@ -7,12 +7,13 @@ use std::fmt;
 
 /// What a guardian is asked: one step, which its journal keeps with the reply.
 ///
-/// `Display` gives the words that stand in a journal's line.
+/// `Display` gives the words that stand in a journal's line, and `FromStr` reads them.
 ///
 /// ```
 /// use argus_guardian::{ActionId, Call, ObjId, Query};
 /// let call = Call::Ask(ActionId(1), ObjId(0), Query::Field(0));
 /// assert_eq!(call.to_string(), "ask a1 o0 field 0");
+/// assert_eq!("ask a1 o0 field 0".parse(), Ok(call));
 /// ```
 #[derive(Debug, Clone, PartialEq, Eq, Hash)]
 pub enum Call {

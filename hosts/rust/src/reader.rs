@@ -37,6 +37,19 @@ impl<'t> Reader<'t> {
         Some(())
     }
 
+    /// What stands before the next space, or before the end.
+    pub(crate) fn word(&mut self) -> &'t str {
+        let end = self.left.find(' ').unwrap_or(self.left.len());
+        let (word, left) = self.left.split_at(end);
+        self.left = left;
+        word
+    }
+
+    /// Takes all that is left.
+    pub(crate) fn skip_rest(&mut self) {
+        self.left = "";
+    }
+
     // A number of this sign, within these bounds: as many digits as make one.
     fn number(&mut self, sign: i64, within: RangeInclusive<i64>) -> Option<i64> {
         let mut number = None;
@@ -62,7 +75,8 @@ impl<'t> Reader<'t> {
         u32::try_from(number).ok()
     }
 
-    fn tag(&mut self) -> Option<u8> {
+    /// The number of a field or of a tag.
+    pub(crate) fn tag(&mut self) -> Option<u8> {
         let number = self.number(1, 0..=i64::from(u8::MAX))?;
         u8::try_from(number).ok()
     }

@@ -17,6 +17,21 @@ impl Handle {
     };
 }
 
+/// The handle of a guardian whose commit is ready: `argus_ready`. All zero is none.
+#[repr(C)]
+#[allow(dead_code, reason = "the library alone reads and writes them")]
+pub(crate) struct Ready {
+    mark: u32,
+    at: *mut c_void,
+}
+
+impl Ready {
+    pub(crate) const NOTHING: Ready = Ready {
+        mark: 0,
+        at: std::ptr::null_mut(),
+    };
+}
+
 /// One call of a list: `argus_listed_call`.
 #[repr(C)]
 pub(crate) struct ListedCall {
@@ -71,6 +86,15 @@ unsafe extern "C" {
         size: *mut usize,
     ) -> u32;
     pub(crate) fn argus_c_renew(handle: *mut Handle) -> u32;
+    pub(crate) fn argus_c_resume(
+        handle: *mut Handle,
+        text: *const u8,
+        text_size: usize,
+        bytes: *mut usize,
+        lines: *mut usize,
+        number: *mut i64,
+    ) -> u32;
+    pub(crate) fn argus_c_resumed(handle: *mut Handle, dropped: *mut u64) -> u32;
     pub(crate) fn argus_c_lines(
         handle: *mut Handle,
         from: u64,
@@ -80,6 +104,19 @@ unsafe extern "C" {
         count: *mut u64,
     ) -> u32;
     pub(crate) fn argus_c_version() -> u32;
+    pub(crate) fn argus_c_ready_commit(handle: *mut Handle, ready: *mut Ready, action: u32) -> u32;
+    pub(crate) fn argus_c_ready_line(
+        ready: *mut Ready,
+        room: *mut u8,
+        room_size: usize,
+        size: *mut usize,
+    ) -> u32;
+    pub(crate) fn argus_c_make_ready(
+        ready: *mut Ready,
+        handle: *mut Handle,
+        number: *mut i64,
+    ) -> u32;
+    pub(crate) fn argus_c_cancel_ready(ready: *mut Ready, handle: *mut Handle) -> u32;
 }
 
 /// What came of a call: `argus_status`.
@@ -95,6 +132,7 @@ pub(crate) mod status {
     pub(crate) const SIGNAL: u32 = 8;
     pub(crate) const REFUSED: u32 = 9;
     pub(crate) const NO_MEMORY: u32 = 10;
+    pub(crate) const NOT_UTF8: u32 = 12;
     pub(crate) const BAD_TEXT: u32 = 13;
     pub(crate) const BAD_SHAPE: u32 = 14;
     pub(crate) const TOO_SMALL: u32 = 17;
@@ -103,6 +141,11 @@ pub(crate) mod status {
     pub(crate) const FULL: u32 = 20;
     pub(crate) const UNMET: u32 = 22;
     pub(crate) const NOT_BEGUN: u32 = 23;
+    pub(crate) const NOT_AN_OPENING: u32 = 25;
+    pub(crate) const NO_LINE: u32 = 26;
+    pub(crate) const NOT_NEXT: u32 = 27;
+    pub(crate) const NOT_SOUND: u32 = 28;
+    pub(crate) const NOT_THE_REPLY: u32 = 29;
 }
 
 /// What the outcome of a call of a list must be: `argus_demand`.

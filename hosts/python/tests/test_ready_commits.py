@@ -1,0 +1,96 @@
+"""Tests of commits in two steps: ready, and then made or cancelled."""
+
+import io
+import threading
+import unittest
+
+from argus_guardian import Action, Closed, Guardian, NoAction, Over, Suspended
+
+
+class ReadyCommits(unittest.TestCase):
+    """What is logged is what the journal then has; what is cancelled leaves all as it was."""
+
+    def setUp(self):
+        self.guardian = Guardian(patience=0)
+        self.addCleanup(self.guardian.close)
+        self.record = self.guardian.declare("atomic_record[n:int]")
+        self.top = self.guardian.topaction()
+        self.top.create(self.record, (5,))
+
+    def test_logged_and_then_made(self):
+        log = io.StringIO()
+        with self.top:
+            with self.top.ready_commit() as ready:
+                log.write(ready.line)
+                ready.make()
+        self.assertEqual(log.getvalue(), "3 commit a0 -> done\n")
+        self.assertEqual(self.guardian.lines(3), ["3 commit a0 -> done"])
+        self.assertEqual(self.guardian.base(self.record), (5,))
+
+    def test_cancelled(self):
+        with self.top.ready_commit() as ready:
+            self.assertEqual(ready.line, "3 commit a0 -> done\n")
+        self.assertEqual((self.guardian.entries, self.guardian.status(0)), (3, "live"))
+        self.assertIsNone(self.guardian.base(self.record))
+        with self.assertRaises(Closed):
+            ready.make()
+        self.top.commit()
+        self.assertEqual(self.guardian.base(self.record), (5,))
+
+    def test_a_log_that_fails_cancels(self):
+        with self.assertRaises(OSError), self.top, self.top.ready_commit():
+            raise OSError("the disk is full")
+        self.assertEqual(self.guardian.lines(3), ["3 abort a0 -> done"])
+        self.assertIsNone(self.guardian.base(self.record))
+
+    def test_a_refused_one_is_ready_too(self):
+        for action, error, line in (
+            (Action(self.guardian, 7), NoAction, "5 commit a7 -> refused NoAction\n"),
+            (self.top, Suspended, "6 commit a0 -> refused Suspended\n"),
+        ):
+            if action.number == 7:
+                sub = self.top.subaction()
+                sub.lock(self.record)
+            with action.ready_commit() as ready:
+                self.assertEqual(ready.line, line)
+                with self.assertRaises(error):
+                    ready.make()
+        self.assertEqual(self.guardian.entries, 7)
+        sub.commit()
+        self.top.commit()
+
+    def test_once(self):
+        with self.top.ready_commit() as ready:
+            ready.make()
+            with self.assertRaises(Closed):
+                ready.make()
+        self.assertEqual(self.guardian.entries, 4)
+
+    def test_other_threads_wait(self):
+        found = []
+        thread = threading.Thread(target=lambda: found.append(self.guardian.base(self.record)))
+        with self.top.ready_commit() as ready:
+            thread.start()
+            thread.join(0.05)
+            self.assertEqual(found, [])
+            ready.make()
+        thread.join()
+        self.assertEqual(found, [(5,)])
+
+    def test_a_closed_guardian_has_none(self):
+        guardian = Guardian()
+        top = guardian.topaction()
+        guardian.close()
+        with self.assertRaises(Closed), top.ready_commit():
+            pass
+
+    def test_what_was_begun_before_a_renewal_is_over(self):
+        self.top.commit()
+        self.guardian.renew()
+        with self.assertRaises(Over), self.top.ready_commit():
+            pass
+        self.assertEqual(self.guardian.actions, 0)
+
+
+if __name__ == "__main__":
+    unittest.main()

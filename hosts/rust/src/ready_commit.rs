@@ -1,0 +1,171 @@
+//! `ReadyCommit`: a guardian with a commit for which all is at hand.
+
+use crate::ActionId;
+use crate::answer::Answer;
+use crate::decoding::{self, error_of};
+use crate::error::Error;
+use crate::guardian::Guardian;
+use crate::not_ready::NotReady;
+use crate::reply::Reply;
+use crate::sys::{self, Handle, Ready, kind, status};
+use std::fmt;
+
+// A line of a commit, with its line feed, has no more bytes: two numbers of 20 and 10 digits, and the
+// longest refusal, `Suspended`.
+const LINE: usize = 61;
+
+/// A guardian with a commit for which all is at hand, so that it can't fail. It is made or cancelled,
+/// and then the guardian is there again. Where it is dropped, so is the guardian, without the commit.
+///
+/// So a commit is in a log before anybody can see what it leaves:
+///
+/// ```
+/// use argus_guardian::{Error, Guardian};
+/// let mut guardian = Guardian::new()?;
+/// let top = guardian.topaction()?.into_id();
+/// let mut log = String::new();
+/// let mut ready = guardian.ready_commit(top)?;
+/// log.push_str(&ready.line()?);
+/// let (mut guardian, committed) = ready.make();
+/// committed?;
+/// assert_eq!(log, "1 commit a0 -> done\n");
+/// assert_eq!(guardian.entry(1)?, "1 commit a0 -> done");
+/// # Ok::<(), Error>(())
+/// ```
+#[must_use = "a commit that is ready and dropped takes its guardian with it"]
+pub struct ReadyCommit {
+    ready: Ready,
+    // Its handle is closed meanwhile.
+    guardian: Guardian,
+}
+
+// SAFETY: the archive's handle is proved to be such as may go to another thread, and all calls that
+// use it take `&mut self` or `self`.
+unsafe impl Send for ReadyCommit {}
+
+impl Guardian {
+    /// Makes all ready for the commit of an action, but for the commit itself. A commit that is going
+    /// to be refused is made ready, too.
+    ///
+    /// # Errors
+    ///
+    /// [`NotReady`], with the guardian as it was, and [`Error::OutOfMemory`].
+    ///
+    /// ```
+    /// use argus_guardian::{ActionId, Error, Guardian};
+    /// let ready = Guardian::new()?.ready_commit(ActionId(7))?;
+    /// let mut guardian = ready.cancel();
+    /// assert_eq!(guardian.entries(), 0);
+    /// # Ok::<(), Error>(())
+    /// ```
+    pub fn ready_commit(mut self, action: ActionId) -> Result<ReadyCommit, NotReady> {
+        let mut ready = Ready::NOTHING;
+        // SAFETY: both handles are borrowed for the call, and are two.
+        let status =
+            unsafe { sys::argus_c_ready_commit(&raw mut self.handle, &raw mut ready, action.0) };
+        match status {
+            status::DONE => Ok(ReadyCommit {
+                ready,
+                guardian: self,
+            }),
+            other => Err(NotReady {
+                guardian: self,
+                error: error_of(other, 0),
+            }),
+        }
+    }
+}
+
+impl ReadyCommit {
+    /// The line that the commit is going to be in the journal's listing, with its line feed.
+    ///
+    /// # Errors
+    ///
+    /// [`Error::OutOfMemory`].
+    ///
+    /// ```
+    /// use argus_guardian::{ActionId, Error, Guardian};
+    /// let mut ready = Guardian::new()?.ready_commit(ActionId(7))?;
+    /// assert_eq!(ready.line()?, "0 commit a7 -> refused NoAction\n");
+    /// # Ok::<(), Error>(())
+    /// ```
+    pub fn line(&mut self) -> Result<String, Error> {
+        let (mut room, mut size) = ([0; LINE], 0);
+        // SAFETY: the handle is this one's alone; handle, room and size are three memories, and no
+        // pointer is null.
+        let status = unsafe {
+            sys::argus_c_ready_line(
+                &raw mut self.ready,
+                room.as_mut_ptr(),
+                room.len(),
+                &raw mut size,
+            )
+        };
+        if status != status::DONE {
+            return Err(error_of(status, 0));
+        }
+        let line = room.get(..size).ok_or(Error::Unknown(status))?;
+        let line = std::str::from_utf8(line).map_err(|_| Error::Unknown(status))?;
+        Ok(line.to_owned())
+    }
+
+    /// Makes the commit: the guardian with it as the journal's newest entry, and whether it was
+    /// refused ([`Error::Refused`]). It takes no memory.
+    ///
+    /// ```
+    /// use argus_guardian::{Error, Guardian, Refusal};
+    /// let mut guardian = Guardian::new()?;
+    /// let top = guardian.topaction()?.into_id();
+    /// let (guardian, committed) = guardian.ready_commit(top)?.make();
+    /// assert_eq!(committed, Ok(()));
+    /// let (mut guardian, committed) = guardian.ready_commit(top)?.make();
+    /// assert_eq!(committed, Err(Error::Refused(Refusal::Over)));
+    /// assert_eq!(guardian.entries(), 3);
+    /// # Ok::<(), Error>(())
+    /// ```
+    pub fn make(self) -> (Guardian, Result<(), Error>) {
+        let ReadyCommit {
+            mut ready,
+            mut guardian,
+        } = self;
+        let mut number = 0;
+        // SAFETY: both handles are this one's alone, and handles and number are three memories.
+        let status = unsafe {
+            sys::argus_c_make_ready(&raw mut ready, &raw mut guardian.handle, &raw mut number)
+        };
+        guardian.kept = status;
+        let reply = decoding::reply_of(kind::COMMIT, status, number, || Err(Error::OtherAnswer));
+        let committed = reply.and_then(Reply::answer).and_then(Answer::done);
+        (guardian, committed)
+    }
+
+    /// Gives the guardian back as it was; nothing was journalled, and the action is live.
+    #[must_use]
+    pub fn cancel(self) -> Guardian {
+        let ReadyCommit {
+            mut ready,
+            mut guardian,
+        } = self;
+        // SAFETY: both handles are this one's alone, and are two.
+        unsafe { sys::argus_c_cancel_ready(&raw mut ready, &raw mut guardian.handle) };
+        guardian
+    }
+}
+
+impl Drop for Ready {
+    fn drop(&mut self) {
+        let mut handle = Handle::CLOSED;
+        // SAFETY: this handle isn't used again, and the other one is closed before it ends. Where
+        // nothing is ready, both calls do nothing.
+        unsafe {
+            sys::argus_c_cancel_ready(self, &raw mut handle);
+            sys::argus_c_close(&raw mut handle);
+        }
+    }
+}
+
+impl fmt::Debug for ReadyCommit {
+    fn fmt(&self, f: &mut fmt::Formatter<'_>) -> fmt::Result {
+        f.debug_struct("ReadyCommit").finish_non_exhaustive()
+    }
+}

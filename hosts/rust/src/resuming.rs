@@ -1,0 +1,127 @@
+//! `Resuming`: a guardian that is being made from the lines of its journal.
+
+use crate::error::Error;
+use crate::guardian::Guardian;
+use crate::line_fault::LineFault;
+use crate::opened::Opened;
+use crate::sys::{self, status};
+use crate::taken::Taken;
+use crate::taken_end::TakenEnd;
+
+/// A guardian that is being made from the lines of its journal's listing, a piece of text at a time.
+/// Each entry's call is made again, and its reply compared with the line's: so the guardian's listing
+/// is what was taken.
+///
+/// ```
+/// use argus_guardian::{Guardian, Listing, Resuming, TakenEnd};
+/// let mut first = Guardian::new()?;
+/// first.declare("atomic_array[int]")?;
+/// let listing = first.list(Listing::Journal)?;
+///
+/// let mut resuming = Resuming::new()?;
+/// assert_eq!(resuming.take(&listing).end, TakenEnd::Whole);
+/// let mut second = resuming.into_guardian()?.guardian;
+/// assert_eq!(second.list(Listing::Journal)?, listing);
+/// # Ok::<(), argus_guardian::Error>(())
+/// ```
+#[derive(Debug)]
+pub struct Resuming {
+    guardian: Guardian,
+}
+
+impl Resuming {
+    /// Of no line so far. As [`Guardian::new`] it leaves a word of 8 bytes for good.
+    ///
+    /// # Errors
+    ///
+    /// As of [`Guardian::new`].
+    pub fn new() -> Result<Resuming, Error> {
+        Ok(Resuming {
+            guardian: Guardian::new()?,
+        })
+    }
+
+    /// Takes whole lines from the front of the text, up to the first that isn't the next one of the
+    /// listing. What is left may be handed in again, with more behind it.
+    ///
+    /// ```
+    /// use argus_guardian::{LineFault, Resuming, TakenEnd};
+    /// let mut resuming = Resuming::new()?;
+    /// let taken = resuming.take("0 begin_top -> a0\n1 commit a0 -> refused Over\n");
+    /// assert_eq!((taken.bytes, taken.lines), (18, 1));
+    /// let reply = Some("done".to_owned());
+    /// assert_eq!(taken.end, TakenEnd::Fault(LineFault::NotTheReply { reply }));
+    /// # Ok::<(), argus_guardian::Error>(())
+    /// ```
+    pub fn take(&mut self, text: impl AsRef<[u8]>) -> Taken {
+        let text = text.as_ref();
+        let (mut bytes, mut lines, mut number) = (0, 0, 0);
+        // SAFETY: the handle is this guardian's alone, the text is never null, and the three numbers
+        // are other memories.
+        let status = unsafe {
+            sys::argus_c_resume(
+                &raw mut self.guardian.handle,
+                text.as_ptr(),
+                text.len(),
+                &raw mut bytes,
+                &raw mut lines,
+                &raw mut number,
+            )
+        };
+        let end = match status {
+            status::DONE if bytes == text.len() => TakenEnd::Whole,
+            status::DONE => TakenEnd::Torn,
+            status::NOT_UTF8 => TakenEnd::Fault(LineFault::NotUtf8 { at: place(number) }),
+            status::NOT_AN_OPENING => TakenEnd::Fault(LineFault::NotAnOpening),
+            status::NO_LINE => TakenEnd::Fault(LineFault::NoLine { at: place(number) }),
+            status::NOT_NEXT => TakenEnd::Fault(LineFault::NotNext {
+                next: u64::try_from(number).unwrap_or(0),
+            }),
+            status::NOT_SOUND => TakenEnd::Fault(LineFault::NotSound),
+            status::NOT_THE_REPLY => TakenEnd::Fault(LineFault::NotTheReply {
+                reply: self.guardian.text().map(str::to_owned).ok(),
+            }),
+            _ => TakenEnd::OutOfMemory,
+        };
+        Taken { bytes, lines, end }
+    }
+
+    /// The guardian of what was taken: of an opening without entries with as many of its objects as
+    /// refer to none that didn't come.
+    ///
+    /// # Errors
+    ///
+    /// Where memory is wanting it comes back as it was; by `?` that is [`Error::OutOfMemory`].
+    ///
+    /// ```
+    /// use argus_guardian::{ActionId, Resuming, Status};
+    /// let mut resuming = Resuming::new()?;
+    /// resuming.take("0 begin_top -> a0\n");
+    /// let mut guardian = resuming.into_guardian()?.guardian;
+    /// assert_eq!(guardian.status(ActionId(0)), Some(Status::Live));
+    /// # Ok::<(), argus_guardian::Error>(())
+    /// ```
+    pub fn into_guardian(mut self) -> Result<Opened, Resuming> {
+        let mut dropped = 0;
+        // SAFETY: the handle is this guardian's alone, and the number is another memory.
+        let status =
+            unsafe { sys::argus_c_resumed(&raw mut self.guardian.handle, &raw mut dropped) };
+        if status != status::DONE {
+            return Err(self);
+        }
+        Ok(Opened {
+            guardian: self.guardian,
+            dropped,
+        })
+    }
+}
+
+impl From<Resuming> for Error {
+    fn from(_unmade: Resuming) -> Error {
+        Error::OutOfMemory
+    }
+}
+
+fn place(number: i64) -> usize {
+    usize::try_from(number).unwrap_or(0)
+}
