@@ -1,0 +1,81 @@
+//! Reads a log in etcd and checks it: each call is made again, and its reply compared. With `--lines` it prints the
+//! journal's lines, which `./replay` checks and lists, or a backup keeps.
+//!
+//! ```text
+//! cargo run --release --example etcd_check -- [--prefix NAME] [--lines] ENDPOINT..
+//! ```
+
+use argus_guardian_etcd::{EtcdLog, EtcdOptions, Follower, Maintenance, Position};
+use std::env;
+use std::error::Error;
+use std::io::{self, Write};
+use std::process::ExitCode;
+
+const USAGE: &str = "usage: etcd_check [--prefix NAME] [--lines] ENDPOINT..";
+
+struct Asked {
+    options: EtcdOptions,
+    prints_lines: bool,
+}
+
+fn asked(words: impl Iterator<Item = String>) -> Option<Asked> {
+    let mut asked = Asked {
+        options: EtcdOptions::at::<String>([]),
+        prints_lines: false,
+    };
+    let mut words = words;
+    while let Some(word) = words.next() {
+        match word.as_str() {
+            "--prefix" => asked.options.prefix = words.next()?,
+            "--lines" => asked.prints_lines = true,
+            _ if word.starts_with("http") => asked.options.endpoints.push(word),
+            _ => return None,
+        }
+    }
+    Some(asked).filter(|it| !it.options.endpoints.is_empty())
+}
+
+// Prints all lines of the log, as they are there.
+fn print_lines(options: &EtcdOptions) -> Result<Position, Box<dyn Error>> {
+    let (mut text, mut is_opening) = (String::new(), false);
+    let read = EtcdLog::read(options, |batch| {
+        // A checkpoint came meanwhile: what was before it doesn't count any more.
+        if batch.is_opening && !is_opening {
+            text.clear();
+        }
+        is_opening = batch.is_opening;
+        text.push_str(batch.lines);
+        Ok(())
+    })?;
+    io::stdout().write_all(text.as_bytes())?;
+    Ok(read)
+}
+
+fn check(options: &EtcdOptions) -> Result<Position, Box<dyn Error>> {
+    if let Some((name, epoch)) = Maintenance::new(options)?.leader()? {
+        eprintln!("{name} leads, epoch {epoch}");
+    }
+    Ok(Follower::begin(options)?.catch_up()?)
+}
+
+fn main() -> ExitCode {
+    let Some(asked) = asked(env::args().skip(1)) else {
+        eprintln!("{USAGE}");
+        return ExitCode::from(2);
+    };
+    let read = if asked.prints_lines {
+        print_lines(&asked.options)
+    } else {
+        check(&asked.options)
+    };
+    match read {
+        Ok(position) => {
+            eprintln!("all lines are right {position}");
+            ExitCode::SUCCESS
+        }
+        Err(error) => {
+            eprintln!("{error}");
+            ExitCode::FAILURE
+        }
+    }
+}

@@ -1,0 +1,145 @@
+//! `Leadership`: the right to append to a log, while a lease lasts.
+
+use crate::answers::Transacted;
+use crate::client::Client;
+use crate::etcd_error::EtcdError;
+use crate::etcd_options::EtcdOptions;
+use crate::lease::Lease;
+use crate::transaction::Transaction;
+use std::sync::{Arc, Mutex, PoisonError};
+use std::time::Duration;
+
+/// The right to append to a log, while a lease lasts. Clones are the same leadership; it ends by
+/// [`resign`](Self::resign), or when the last clone is dropped.
+///
+/// etcd decides at each append whether this host still leads. [`is_over`](Self::is_over) is only this host's own
+/// estimate.
+///
+/// ```no_run
+/// use argus_guardian_etcd::{Campaign, EtcdError, EtcdOptions};
+/// let leadership = Campaign::begin(&EtcdOptions::at(["http://127.0.0.1:2379"]), "host-1")?.wait()?;
+/// leadership.confirm()?; // it leads, or did when it asked
+/// leadership.resign();
+/// # Ok::<(), EtcdError>(())
+/// ```
+#[derive(Debug, Clone)]
+pub struct Leadership(Arc<Held>);
+
+#[derive(Debug)]
+struct Held {
+    lease: Lease,
+    key: String,
+    epoch: u64,
+    client: Mutex<Client>,
+    timeout: Duration,
+}
+
+impl Leadership {
+    pub(crate) fn new(
+        lease: Lease,
+        key: String,
+        epoch: u64,
+        options: &Arc<EtcdOptions>,
+    ) -> Result<Leadership, EtcdError> {
+        Ok(Leadership(Arc::new(Held {
+            lease,
+            key,
+            epoch,
+            client: Mutex::new(Client::new(options)?),
+            timeout: options.timeout,
+        })))
+    }
+
+    pub(crate) fn key(&self) -> &str {
+        &self.0.key
+    }
+
+    /// Its number. A later leader of the same log has a higher one; each batch carries that of its writer.
+    ///
+    /// ```no_run
+    /// # use argus_guardian_etcd::{Campaign, EtcdError, EtcdOptions};
+    /// # let options = EtcdOptions::at(["http://127.0.0.1:2379"]);
+    /// # let leadership = Campaign::begin(&options, "host-1")?.wait()?;
+    /// println!("leads, epoch {}", leadership.epoch());
+    /// # Ok::<(), EtcdError>(())
+    /// ```
+    #[must_use]
+    pub fn epoch(&self) -> u64 {
+        self.0.epoch
+    }
+
+    /// Whether the lease has ended, by this host's monotonic clock and by what etcd has said. It ends here before it
+    /// ends in etcd.
+    ///
+    /// ```no_run
+    /// # use argus_guardian_etcd::{Campaign, EtcdError, EtcdOptions};
+    /// # let options = EtcdOptions::at(["http://127.0.0.1:2379"]);
+    /// # let leadership = Campaign::begin(&options, "host-1")?.wait()?;
+    /// assert!(!leadership.is_over());
+    /// # Ok::<(), EtcdError>(())
+    /// ```
+    #[must_use]
+    pub fn is_over(&self) -> bool {
+        self.remaining().is_zero()
+    }
+
+    /// How long the lease lasts if etcd isn't heard from again.
+    ///
+    /// ```no_run
+    /// # use argus_guardian_etcd::{Campaign, EtcdError, EtcdOptions};
+    /// # let options = EtcdOptions::at(["http://127.0.0.1:2379"]);
+    /// # let leadership = Campaign::begin(&options, "host-1")?.wait()?;
+    /// assert!(leadership.remaining() <= options.lease);
+    /// # Ok::<(), EtcdError>(())
+    /// ```
+    #[must_use]
+    pub fn remaining(&self) -> Duration {
+        self.0.lease.remaining()
+    }
+
+    /// Asks etcd whether this host leads. `Ok`: it did, at some moment after the call. A leader that calls this
+    /// after it has read something from its guardian knows that no newer leader had changed that yet.
+    ///
+    /// # Errors
+    ///
+    /// [`EtcdError::Deposed`]; [`EtcdError::Unreached`]; `Refused`.
+    ///
+    /// ```no_run
+    /// # use argus_guardian_etcd::{Campaign, EtcdError, EtcdOptions};
+    /// # let options = EtcdOptions::at(["http://127.0.0.1:2379"]);
+    /// # let leadership = Campaign::begin(&options, "host-1")?.wait()?;
+    /// leadership.confirm()?;
+    /// # Ok::<(), EtcdError>(())
+    /// ```
+    pub fn confirm(&self) -> Result<(), EtcdError> {
+        let mut client = self.0.client.lock().unwrap_or_else(PoisonError::into_inner);
+        let question = self.fenced(Transaction::default()).question();
+        let answer: Transacted = client.ask("kv/txn", &question)?;
+        if answer.succeeded {
+            Ok(())
+        } else {
+            Err(EtcdError::Deposed)
+        }
+    }
+
+    /// Gives it up: the lease is revoked, and another host may lead at once. Later appends fail. Returns once etcd
+    /// has answered, or after twice the [`timeout`](crate::EtcdOptions::timeout).
+    ///
+    /// ```no_run
+    /// # use argus_guardian_etcd::{Campaign, EtcdError, EtcdOptions};
+    /// # let options = EtcdOptions::at(["http://127.0.0.1:2379"]);
+    /// # let leadership = Campaign::begin(&options, "host-1")?.wait()?;
+    /// leadership.resign();
+    /// assert!(leadership.is_over());
+    /// # Ok::<(), EtcdError>(())
+    /// ```
+    pub fn resign(&self) {
+        self.0.lease.end();
+        self.0.lease.wait_revoked(2 * self.0.timeout);
+    }
+
+    /// The transaction, with the condition that this host leads.
+    pub(crate) fn fenced(&self, transaction: Transaction) -> Transaction {
+        transaction.if_made_at(&self.0.key, self.0.epoch)
+    }
+}

@@ -1,0 +1,132 @@
+//! A bank on three hosts over three nodes of etcd, while leaders are killed, paused and cut off, and nodes die and
+//! hang. After each: all journals are the same, no acknowledged order is missing or doubled, none is there in part.
+//!
+//! `ARGUS_ETCD_ROUNDS` says how often all of it comes; once if nothing is said.
+
+use crate::cluster::has_etcd;
+use crate::host::Said;
+use crate::hosts::{Hosts, until};
+use crate::proxy::Way;
+use crate::replica::LEASE;
+use std::env;
+use std::thread;
+use std::time::{Duration, Instant};
+
+#[test]
+fn no_fault_loses_or_doubles_an_acknowledged_order() {
+    if !has_etcd("three hosts and three nodes") {
+        return;
+    }
+    let rounds = env::var("ARGUS_ETCD_ROUNDS").map_or(1, |it| it.parse().expect("a number"));
+    let mut hosts = Hosts::start();
+    hosts.leader();
+    for round in 0..rounds {
+        kill_leader(&mut hosts);
+        pause_leader(&mut hosts);
+        cut_off_leader(&mut hosts);
+        kill_node(&mut hosts, round % 3);
+        hang_two_nodes(&mut hosts, round % 3);
+    }
+}
+
+// A machine that is busy may take longer than what is aimed at: twice the lease.
+fn tell_failover(what: &str, took: Duration, hosts: &mut Hosts) {
+    let words = hosts.compare();
+    println!("{what}: the next order after {took:.2?} (lease {LEASE:?}); {words}");
+}
+
+// The leader, in the midst of orders.
+fn busy_leader(hosts: &Hosts) -> (usize, u64) {
+    hosts.orders_after(Instant::now(), 20);
+    hosts.leader()
+}
+
+fn kill_leader(hosts: &mut Hosts) {
+    let (at, epoch) = busy_leader(hosts);
+    let since = Instant::now();
+    hosts.each[at].kill();
+    let took = hosts.failover(epoch, since);
+    hosts.each[at].start_again();
+    tell_failover("a leader killed", took, hosts);
+}
+
+// The leader of this epoch is refused. Until then it may say of each client's order that was under way that it is
+// acknowledged, if etcd had it before another host led: `compare` finds out whether it did. More it can't say, from
+// `late` on.
+fn refused(hosts: &Hosts, at: usize, epoch: u64, since: Instant, late: Instant) -> Duration {
+    let refused = until("the leader to be refused", || hosts.deposed(at, epoch));
+    let late = hosts.each[at].said_since(late);
+    let mut clients: Vec<u32> = late
+        .iter()
+        .filter_map(|(_, said)| match said {
+            Said::Acknowledged {
+                epoch: it, client, ..
+            } if *it == epoch => Some(*client),
+            _ => None,
+        })
+        .collect();
+    clients.sort_unstable();
+    let each_once = clients.windows(2).all(|two| two[0] < two[1]);
+    assert!(each_once, "it went on to acknowledge orders: {late:?}");
+    refused.saturating_duration_since(since)
+}
+
+fn pause_leader(hosts: &mut Hosts) {
+    let (at, epoch) = busy_leader(hosts);
+    let since = Instant::now();
+    hosts.each[at].signal("STOP");
+    let took = hosts.failover(epoch, since);
+    thread::sleep(Duration::from_millis(500));
+    let again = Instant::now();
+    hosts.each[at].signal("CONT");
+    let refused = refused(hosts, at, epoch, again, again);
+    tell_failover("a leader paused past its lease", took, hosts);
+    println!("  it was refused {refused:.2?} after it went on");
+}
+
+fn cut_off_leader(hosts: &mut Hosts) {
+    let (at, epoch) = busy_leader(hosts);
+    let since = Instant::now();
+    hosts.each[at].set_ways(Way::Cut);
+    let took = hosts.failover(epoch, since);
+    // What it had said before the cut may be heard in the first moments.
+    let late = since + Duration::from_secs(1);
+    let refused = refused(hosts, at, epoch, since, late);
+    hosts.each[at].set_ways(Way::Open);
+    tell_failover("a leader cut off", took, hosts);
+    println!("  it knew after {refused:.2?}");
+}
+
+fn kill_node(hosts: &mut Hosts, node: usize) {
+    busy_leader(hosts);
+    let since = Instant::now();
+    hosts.cluster.nodes[node].kill();
+    thread::sleep(Duration::from_secs(2));
+    hosts.orders_after(Instant::now(), 20);
+    let gap = hosts.longest_gap(since);
+    let words = hosts.compare();
+    hosts.cluster.nodes[node].start_again();
+    println!("one node of three killed: longest time without an order {gap:.2?}; {words}");
+}
+
+fn hang_two_nodes(hosts: &mut Hosts, first: usize) {
+    let hung = [first, (first + 1) % 3];
+    busy_leader(hosts);
+    let since = Instant::now();
+    for node in hung {
+        hosts.cluster.nodes[node].hang();
+    }
+    thread::sleep(LEASE + Duration::from_secs(1));
+    // What was on its way may have come in the first moments; then nothing can.
+    let late = hosts.said_since(since + Duration::from_secs(2)).into_iter();
+    let late = late.filter(|(_, said)| matches!(said, Said::Acknowledged { .. }));
+    assert_eq!(late.count(), 0, "one node of three has acknowledged orders");
+    let again = Instant::now();
+    for node in hung {
+        hosts.cluster.nodes[node].go_on();
+    }
+    hosts.orders_after(again, 20);
+    let gap = hosts.longest_gap(again);
+    let words = hosts.compare();
+    println!("two nodes of three hung, and went on: orders again within {gap:.2?}; {words}");
+}

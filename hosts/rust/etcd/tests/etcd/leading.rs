@@ -1,0 +1,34 @@
+//! What tests of a log without a guardian have in common.
+
+use argus_guardian::log::{EntryLines, Failure};
+use argus_guardian_etcd::{Campaign, EtcdError, EtcdLog, EtcdOptions};
+
+/// Leads, and reads the log.
+pub(crate) fn lead(options: &EtcdOptions, name: &str) -> EtcdLog {
+    let leadership = Campaign::begin(options, name)
+        .and_then(Campaign::wait)
+        .expect("elected");
+    EtcdLog::open(options, leadership, |_| Ok(())).expect("read")
+}
+
+pub(crate) fn lines(first: u64, text: &str) -> EntryLines {
+    EntryLines::new(first, text.to_owned()).expect("whole lines")
+}
+
+/// What the log has, and in how many batches.
+pub(crate) fn text_of(options: &EtcdOptions) -> (String, u64) {
+    let (mut text, mut batches) = (String::new(), 0);
+    let read = EtcdLog::read(options, |batch| {
+        text.push_str(batch.lines);
+        batches += 1;
+        Ok(())
+    });
+    read.expect("whole");
+    (text, batches)
+}
+
+/// What etcd has said to a log that is broken.
+pub(crate) fn etcd_error(failure: &Failure) -> &EtcdError {
+    let error = failure.error().get_ref().expect("an error of etcd");
+    error.downcast_ref().expect("an error of etcd")
+}

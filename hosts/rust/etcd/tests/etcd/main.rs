@@ -1,0 +1,27 @@
+//! A log in etcd, whatever becomes of its hosts and of etcd's nodes. Where etcd isn't installed, each test says
+//! that it is left out.
+
+mod appends;
+#[allow(dead_code, reason = "the tests of files need more of it")]
+#[path = "../../../tests/log/bank.rs"]
+mod bank;
+mod checkpoints;
+mod cluster;
+mod doubts;
+mod faults;
+mod followers;
+mod host;
+mod hosts;
+mod kept_log;
+mod leading;
+#[path = "../../../tests/log/ledger.rs"]
+mod ledger;
+mod node;
+#[path = "../../../tests/log/orders.rs"]
+mod orders;
+mod proxy;
+mod quotas;
+mod replica;
+mod scratch;
+mod secured;
+mod signals;
