@@ -1,0 +1,267 @@
+//! `Bank`: accounts and orders, over a guardian with a log.
+
+use crate::bank_error::BankError;
+use crate::carried::Carried;
+use crate::kept::Kept;
+use crate::keys::Keys;
+use crate::known::Known;
+use crate::order::Order;
+use crate::records::{ACCOUNT, KEY, Records};
+use crate::slot::Slot;
+use crate::transfer::Transfer;
+use crate::transfer_end::TransferEnd;
+use argus_guardian::log::{Logged, LoggedAction, LoggedError};
+use argus_guardian::{Change, Content, ObjId, Value};
+use std::sync::{Mutex, MutexGuard, PoisonError, RwLock};
+use std::time::Instant;
+
+// So many records of keys are made at a time.
+const MADE_AT_ONCE: usize = 64;
+
+/// The account that may owe: what comes into the bank and goes out of it. The sum of all balances is always 0.
+const OUTSIDE: u32 = 0;
+
+fn locked<T>(mutex: &Mutex<T>) -> MutexGuard<'_, T> {
+    mutex.lock().unwrap_or_else(PoisonError::into_inner)
+}
+
+/// Accounts and orders, over a guardian with a log.
+#[derive(Debug)]
+pub(crate) struct Bank {
+    pub(crate) logged: Logged,
+    records: RwLock<Records>,
+    keys: Mutex<Keys>,
+    // One account is opened at a time: its number is its place.
+    opening: Mutex<()>,
+}
+
+fn zero() -> Content {
+    Content::Record(vec![Value::Int(0)])
+}
+
+fn no_key() -> Content {
+    let text = || Value::from("");
+    Content::Record(vec![Value::Int(0), text(), text(), text()])
+}
+
+fn create(top: &LoggedAction<'_>, record: ObjId, content: Content) -> Result<(), LoggedError> {
+    Ok(top.alter(record, Change::Create(content))?.done()?)
+}
+
+// The fields of a record that keeps a key.
+fn kept_in(content: Content) -> Option<(i64, String, Kept)> {
+    let Content::Record(fields) = content else {
+        return None;
+    };
+    let [sequence, key, order, ends] = <[Value; 4]>::try_from(fields).ok()?;
+    let kept = Kept {
+        order: order.try_into().ok()?,
+        ends: ends.try_into().ok()?,
+    };
+    Some((sequence.try_into().ok()?, key.try_into().ok()?, kept))
+}
+
+/// What a record of an account holds.
+pub(crate) fn balance_in(content: &Content) -> Option<i64> {
+    match content {
+        Content::Record(fields) => match fields[..] {
+            [Value::Int(balance)] => Some(balance),
+            _ => None,
+        },
+        _ => None,
+    }
+}
+
+impl Bank {
+    /// The bank of this guardian, which recognizes so many keys.
+    pub(crate) fn over(logged: Logged, keys: usize) -> Result<Bank, LoggedError> {
+        let mut records = Records::default();
+        for number in 0..logged.objects()? {
+            records.take(&logged.object(ObjId(number))?);
+        }
+        let bank = Bank {
+            logged,
+            records: RwLock::new(records.clone()),
+            keys: Mutex::new(Keys::with_room(keys)),
+            opening: Mutex::new(()),
+        };
+        bank.create_missing(&records)?;
+        bank.read_keys(&records)?;
+        if records.accounts.is_empty() {
+            bank.open_account()?;
+        }
+        Ok(bank)
+    }
+
+    // A process may have died after it had declared a record.
+    fn create_missing(&self, records: &Records) -> Result<(), LoggedError> {
+        let accounts = records.accounts.iter().map(|it| (*it, zero()));
+        let keys = records.keys.iter().map(|it| (*it, no_key()));
+        let mut missing = Vec::new();
+        for (record, content) in accounts.chain(keys) {
+            if self.logged.base(record)?.is_none() {
+                missing.push((record, content));
+            }
+        }
+        self.logged.run(|top| {
+            let mut missing = missing.iter();
+            missing.try_for_each(|it| create(top, it.0, it.1.clone()))
+        })
+    }
+
+    fn read_keys(&self, records: &Records) -> Result<(), LoggedError> {
+        let mut kept = Vec::new();
+        let mut keys = locked(&self.keys);
+        for record in &records.keys {
+            match self.logged.base(*record)?.and_then(kept_in) {
+                Some((sequence, key, it)) if !key.is_empty() => {
+                    kept.push((sequence, *record, key, it));
+                }
+                _ => keys.add_unused([*record]),
+            }
+        }
+        kept.sort_unstable_by_key(|it| it.0);
+        for (sequence, record, key, it) in kept {
+            keys.add_kept(record, sequence, key, it);
+        }
+        Ok(())
+    }
+
+    fn record(&self, account: u32) -> Option<ObjId> {
+        let records = self.records.read().unwrap_or_else(PoisonError::into_inner);
+        records.account(account)
+    }
+
+    /// Opens an account with a balance of 0; its number.
+    pub(crate) fn open_account(&self) -> Result<u32, LoggedError> {
+        let _one_at_a_time = locked(&self.opening);
+        let record = self.logged.declare(ACCOUNT)?;
+        let number = {
+            let mut records = self.records.write().unwrap_or_else(PoisonError::into_inner);
+            records.accounts.push(record);
+            u32::try_from(records.accounts.len() - 1).unwrap_or(u32::MAX)
+        };
+        self.logged.run(|top| create(top, record, zero()))?;
+        Ok(number)
+    }
+
+    /// What an account has; None: there is no such account.
+    pub(crate) fn balance(&self, account: u32) -> Result<Option<i64>, LoggedError> {
+        let Some(record) = self.record(account) else {
+            return Ok(None);
+        };
+        Ok(self.logged.base(record)?.as_ref().and_then(balance_in))
+    }
+
+    /// Carries out an order once, however often it is sent under this key.
+    pub(crate) fn order(
+        &self,
+        key: &str,
+        order: &Order,
+        deadline: Instant,
+    ) -> Result<Carried, BankError> {
+        let slot = match self.known(key)? {
+            Known::New(slot) => slot,
+            Known::Kept(kept) if kept.order == order.text() => {
+                return Ok(Carried {
+                    is_before: true,
+                    ends: kept.ends,
+                });
+            }
+            Known::Kept(_) => return Err(BankError::OtherOrder),
+            Known::UnderWay => return Err(BankError::UnderWay),
+            Known::InDoubt => return Err(BankError::InDoubt),
+            Known::Busy | Known::NoSlot => return Err(BankError::Busy),
+        };
+        let carried = self.carry_out(&slot, key, order, deadline);
+        let mut keys = locked(&self.keys);
+        match carried {
+            Ok(kept) => {
+                let ends = kept.ends.clone();
+                keys.keep(slot, key, kept);
+                Ok(Carried {
+                    is_before: false,
+                    ends,
+                })
+            }
+            Err(error) => {
+                if error.is_in_doubt() {
+                    keys.doubt(key);
+                } else {
+                    keys.release(slot, key);
+                }
+                Err(error)
+            }
+        }
+    }
+
+    // What is known of a key; where there is no record for it, some are made.
+    fn known(&self, key: &str) -> Result<Known, LoggedError> {
+        let mut keys = locked(&self.keys);
+        let known = keys.reserve(key);
+        if !matches!(known, Known::NoSlot) {
+            return Ok(known);
+        }
+        let records = self.logged.declare_each([KEY; MADE_AT_ONCE])?;
+        self.logged
+            .run(|top| records.iter().try_for_each(|it| create(top, *it, no_key())))?;
+        keys.add_unused(records);
+        Ok(keys.reserve(key))
+    }
+
+    // One topaction: the transfers, each of them a subaction, and the key.
+    fn carry_out(
+        &self,
+        slot: &Slot,
+        key: &str,
+        order: &Order,
+        deadline: Instant,
+    ) -> Result<Kept, BankError> {
+        let top = self.logged.topaction()?;
+        for record in order
+            .accounts()
+            .into_iter()
+            .filter_map(|it| self.record(it))
+        {
+            if Instant::now() > deadline {
+                return Err(BankError::Busy);
+            }
+            top.lock(record)?;
+        }
+        let ends = order.transfers.iter().map(|it| self.transfer(&top, it));
+        let ends: Vec<String> = ends
+            .map(|it| it.map(|end| end.to_string()))
+            .collect::<Result<_, _>>()?;
+        let kept = Kept {
+            order: order.text(),
+            ends: ends.join(" "),
+        };
+        top.set(slot.record, 0, slot.sequence)?;
+        top.set(slot.record, 1, key)?;
+        top.set(slot.record, 2, kept.order.as_str())?;
+        top.set(slot.record, 3, kept.ends.as_str())?;
+        top.commit()?;
+        Ok(kept)
+    }
+
+    // A subaction, which pays in before it pays out, and aborts where that can't be.
+    fn transfer(&self, top: &LoggedAction<'_>, it: &Transfer) -> Result<TransferEnd, LoggedError> {
+        let (Some(from), Some(to)) = (self.record(it.from), self.record(it.to)) else {
+            return Ok(TransferEnd::NoAccount);
+        };
+        let sub = top.subaction()?;
+        let Some(there) = i64::try_from(sub.get(to, 0)?)?.checked_add(it.amount) else {
+            sub.abort()?;
+            return Ok(TransferEnd::TooMuch);
+        };
+        sub.set(to, 0, there)?;
+        let here = i64::try_from(sub.get(from, 0)?)?.checked_sub(it.amount);
+        let Some(here) = here.filter(|here| *here >= 0 || it.from == OUTSIDE) else {
+            sub.abort()?;
+            return Ok(TransferEnd::TooLittle);
+        };
+        sub.set(from, 0, here)?;
+        sub.commit()?;
+        Ok(TransferEnd::Made)
+    }
+}

@@ -1,0 +1,165 @@
+//! `BankService`: a bank's routes.
+
+use crate::bank::Bank;
+use crate::bank_error::BankError;
+use crate::figures::Figures;
+use crate::opened::Opened;
+use crate::order::Order;
+use crate::reply::Reply;
+use crate::request::Request;
+use crate::serve_arguments::ServeArguments;
+use crate::service::Service;
+use argus_guardian::log::LoggedError;
+use serde_json::json;
+use std::sync::Arc;
+use std::sync::atomic::{AtomicU64, Ordering};
+use std::time::Duration;
+
+// So long a checkpoint waits until no order is under way.
+const PATIENCE: Duration = Duration::from_secs(1);
+
+const LONGEST_KEY: usize = 128;
+
+/// A bank's routes.
+#[derive(Debug)]
+pub(crate) struct BankService {
+    bank: Bank,
+    figures: Arc<Figures>,
+    epoch: u64,
+    checkpoint: u64,
+    // The next entry after the last checkpoint.
+    folded: AtomicU64,
+}
+
+/// The number of an account in a path.
+pub(crate) fn account_in(path: &str) -> Option<u32> {
+    path.strip_prefix("/accounts/")?.parse().ok()
+}
+
+pub(crate) fn no_account() -> Reply {
+    Reply::error(404, "no_account", "no such account")
+}
+
+impl BankService {
+    pub(crate) fn over(opened: Opened, asked: &ServeArguments) -> Result<BankService, LoggedError> {
+        let folded = AtomicU64::new(opened.logged.entries());
+        Ok(BankService {
+            bank: Bank::over(opened.logged, asked.keys as usize)?,
+            figures: opened.figures,
+            epoch: opened.epoch,
+            checkpoint: asked.checkpoint,
+            folded,
+        })
+    }
+
+    fn failed(&self, error: &BankError) -> Reply {
+        if error.is_in_doubt() {
+            self.figures.note_doubt();
+        }
+        error.reply()
+    }
+
+    fn open_account(&self) -> Reply {
+        match self.bank.open_account() {
+            Ok(account) => Reply::json(201, &json!({ "account": account })),
+            Err(error) => self.failed(&error.into()),
+        }
+    }
+
+    fn balance(&self, account: u32) -> Reply {
+        match self.bank.balance(account) {
+            Ok(Some(balance)) => {
+                Reply::json(200, &json!({ "account": account, "balance": balance }))
+            }
+            Ok(None) => no_account(),
+            Err(error) => self.failed(&error.into()),
+        }
+    }
+
+    fn order(&self, request: &Request) -> Reply {
+        let key = request.head.header("idempotency-key").unwrap_or_default();
+        if key.is_empty() || key.len() > LONGEST_KEY || !key.bytes().all(|it| it.is_ascii_graphic())
+        {
+            let words =
+                "an order has one header Idempotency-Key: 1 to 128 visible characters of ASCII";
+            return Reply::error(400, "no_key", words);
+        }
+        let order = match Order::read(&request.body) {
+            Ok(order) => order,
+            Err(words) => return Reply::error(400, "no_order", &words),
+        };
+        match self.bank.order(key, &order, request.deadline) {
+            Ok(carried) => {
+                let ends: Vec<&str> = carried.ends.split(' ').collect();
+                Reply::json(
+                    200,
+                    &json!({ "before": carried.is_before, "transfers": ends }),
+                )
+            }
+            Err(error) => self.failed(&error),
+        }
+    }
+
+    fn metrics(&self) -> Reply {
+        let logged = &self.bank.logged;
+        Reply::text(format!(
+            "argus_entries {}\nargus_log_batches_total {}\nargus_log_seconds_total {:.6}\n\
+             argus_doubts_total {}\nargus_epoch {}\nargus_live_actions {}\nargus_actions_left {}\n\
+             argus_broken {}\n",
+            logged.entries(),
+            self.figures.batches(),
+            self.figures.time().as_secs_f64(),
+            self.figures.doubts(),
+            self.epoch,
+            logged.live_actions(),
+            logged.actions_left(),
+            u8::from(logged.broken().is_some()),
+        ))
+    }
+
+    fn health(&self) -> Reply {
+        match self.bank.logged.broken() {
+            None => Reply::json(200, &json!({ "health": "serves", "epoch": self.epoch })),
+            Some(failure) => BankError::Logged(LoggedError::Broken(failure)).reply(),
+        }
+    }
+
+    fn fold(&self) {
+        if self.bank.logged.checkpoint_waiting(PATIENCE).is_ok() {
+            self.folded
+                .store(self.bank.logged.entries(), Ordering::Relaxed);
+        }
+    }
+}
+
+impl Service for BankService {
+    fn answer(&self, request: &Request) -> Reply {
+        let path = request.head.path.as_str();
+        match (request.head.method.as_str(), path) {
+            ("POST", "/accounts") => self.open_account(),
+            ("POST", "/orders") => self.order(request),
+            ("GET", "/metrics") => self.metrics(),
+            ("GET", "/health") => self.health(),
+            ("GET", _) => account_in(path).map_or_else(Reply::no_route, |it| self.balance(it)),
+            _ => Reply::no_route(),
+        }
+    }
+
+    fn tick(&self) -> bool {
+        if let Some(failure) = self.bank.logged.broken() {
+            eprintln!("argus-host: {failure}");
+            return true;
+        }
+        let entries = self.bank.logged.entries();
+        if entries.saturating_sub(self.folded.load(Ordering::Relaxed)) >= self.checkpoint {
+            self.fold();
+        }
+        false
+    }
+
+    fn end(&self) {
+        if self.bank.logged.broken().is_none() {
+            self.fold();
+        }
+    }
+}

@@ -1,0 +1,73 @@
+//! `Head`: the first line and the headers of a request.
+
+use crate::limits::LARGEST_HEAD;
+use crate::reply::Reply;
+
+/// The first line and the headers of a request.
+#[derive(Debug)]
+pub(crate) struct Head {
+    pub(crate) method: String,
+    pub(crate) path: String,
+    // Names in lower case.
+    headers: Vec<(String, String)>,
+}
+
+impl Head {
+    /// The head at the beginning of these bytes and its length; None: it hasn't arrived as a whole.
+    pub(crate) fn of(bytes: &[u8]) -> Result<Option<(Head, usize)>, Reply> {
+        let mut headers = [httparse::EMPTY_HEADER; 32];
+        let mut parsed = httparse::Request::new(&mut headers);
+        let malformed = |_| Reply::error(400, "malformed", "the head of the request can't be read");
+        let length = match parsed.parse(bytes).map_err(malformed)? {
+            httparse::Status::Complete(length) => length,
+            httparse::Status::Partial if bytes.len() < LARGEST_HEAD => return Ok(None),
+            httparse::Status::Partial => {
+                return Err(Reply::error(431, "head_too_large", "the head is too large"));
+            }
+        };
+        let text = |it: &httparse::Header<'_>| {
+            let value = String::from_utf8_lossy(it.value).into_owned();
+            (it.name.to_ascii_lowercase(), value)
+        };
+        let head = Head {
+            method: parsed.method.unwrap_or_default().to_owned(),
+            path: parsed.path.unwrap_or_default().to_owned(),
+            headers: parsed.headers.iter().map(text).collect(),
+        };
+        Ok(Some((head, length)))
+    }
+
+    /// The header of this name, in lower case, unless it isn't there or is there more than once.
+    pub(crate) fn header(&self, name: &str) -> Option<&str> {
+        let mut found = self.headers.iter().filter(|it| it.0 == name);
+        let value = found.next().map(|it| it.1.as_str());
+        if found.next().is_some() { None } else { value }
+    }
+
+    /// How long the body is: none where no header says so.
+    pub(crate) fn body_length(&self, largest: usize) -> Result<usize, Reply> {
+        let has = |name: &str| self.headers.iter().any(|it| it.0 == name);
+        if has("transfer-encoding") {
+            return Err(Reply::error(
+                411,
+                "no_length",
+                "the body needs a Content-Length",
+            ));
+        }
+        if !has("content-length") {
+            return Ok(0);
+        }
+        let length = self
+            .header("content-length")
+            .filter(|it| it.bytes().all(|it| it.is_ascii_digit()));
+        match length.map(str::parse::<usize>) {
+            Some(Ok(length)) if length <= largest => Ok(length),
+            Some(_) => Err(Reply::error(413, "body_too_large", "the body is too large")),
+            None => Err(Reply::error(
+                400,
+                "malformed",
+                "the Content-Length can't be read",
+            )),
+        }
+    }
+}

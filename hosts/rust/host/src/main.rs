@@ -1,0 +1,88 @@
+//! `argus-host`: a small bank over HTTP, over a guardian that outlives its process.
+//!
+//! Neither this program nor the logs that it stands on are proved; the archive of the guardian is. The README beside
+//! it says how to run it, and the repository's page docs/OUTLIVING.md what a log promises.
+
+mod arguments;
+mod bank;
+mod bank_error;
+mod bank_service;
+mod carried;
+mod command;
+mod etcd_arguments;
+mod figures;
+mod follower_service;
+mod following;
+mod head;
+mod http_arguments;
+mod kept;
+mod key_state;
+mod keys;
+mod known;
+mod limits;
+mod measured;
+mod opened;
+mod opening;
+mod order;
+mod records;
+mod reply;
+mod request;
+mod serve_arguments;
+mod service;
+mod serving;
+mod slot;
+mod token;
+mod transfer;
+mod transfer_end;
+mod verifying;
+mod visit;
+
+use crate::arguments::Arguments;
+use crate::bank_service::BankService;
+use crate::command::Command;
+use crate::follower_service::FollowerService;
+use crate::serving::Serving;
+use clap::Parser;
+use std::error::Error;
+use std::process::ExitCode;
+use std::sync::Arc;
+use std::sync::atomic::AtomicBool;
+
+fn signals() -> Result<Arc<AtomicBool>, Box<dyn Error>> {
+    let ends = Arc::new(AtomicBool::new(false));
+    for signal in [signal_hook::consts::SIGTERM, signal_hook::consts::SIGINT] {
+        signal_hook::flag::register(signal, Arc::clone(&ends))?;
+    }
+    Ok(ends)
+}
+
+fn run(command: Command) -> Result<ExitCode, Box<dyn Error>> {
+    match command {
+        Command::Verify { folder } => Ok(verifying::verify(&folder)),
+        Command::Serve(asked) => {
+            let ends = signals()?;
+            let serving = Serving::begin(&asked.http)?;
+            let Some(opened) = opening::open(&asked, &ends)? else {
+                return Ok(ExitCode::SUCCESS);
+            };
+            let service = BankService::over(opened, &asked)?;
+            serving.run(&service, &ends)
+        }
+        Command::Follow { etcd, http } => {
+            let ends = signals()?;
+            let serving = Serving::begin(&http)?;
+            let service = FollowerService::over(&etcd.options()?)?;
+            serving.run(&service, &ends)
+        }
+    }
+}
+
+fn main() -> ExitCode {
+    match run(Arguments::parse().command) {
+        Ok(code) => code,
+        Err(error) => {
+            eprintln!("argus-host: {error}");
+            ExitCode::from(2)
+        }
+    }
+}

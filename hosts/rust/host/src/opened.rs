@@ -1,0 +1,12 @@
+//! `Opened`: a guardian over its log.
+
+use crate::figures::Figures;
+use argus_guardian::log::Logged;
+use std::sync::Arc;
+
+/// A guardian over its log.
+pub(crate) struct Opened {
+    pub(crate) logged: Logged,
+    pub(crate) figures: Arc<Figures>,
+    pub(crate) epoch: u64,
+}

@@ -1,0 +1,93 @@
+//! `open`: a guardian made again of its log, in files or in etcd.
+
+use crate::figures::Figures;
+use crate::measured::Measured;
+use crate::opened::Opened;
+use crate::serve_arguments::ServeArguments;
+use argus_guardian::log::{BatchLog, FileLog, Folder, LineError, Logged, Recovery};
+use argus_guardian::{Guardian, Shared};
+use argus_guardian_etcd::{Campaign, EtcdLog, EtcdOptions, Leadership};
+use std::error::Error;
+use std::path::Path;
+use std::sync::Arc;
+use std::sync::atomic::{AtomicBool, Ordering};
+use std::thread;
+use std::time::Duration;
+
+const POLL: Duration = Duration::from_millis(100);
+
+/// The guardian of a log; over etcd, once this host leads. None: a signal came before that.
+pub(crate) fn open(
+    asked: &ServeArguments,
+    ends: &AtomicBool,
+) -> Result<Option<Opened>, Box<dyn Error>> {
+    if let Some(folder) = &asked.log {
+        return open_files(folder).map(Some);
+    }
+    let options = asked.etcd.options()?;
+    let Some(leadership) = lead(&options, &asked.name, ends)? else {
+        return Ok(None);
+    };
+    open_etcd(&options, leadership).map(Some)
+}
+
+fn open_files(folder: &Path) -> Result<Opened, Box<dyn Error>> {
+    let mut recovery = Recovery::new()?;
+    let log = FileLog::read(Folder::open(folder)?, |batch| recovery.take(batch.lines))?;
+    let found = log.found().clone();
+    if let Some(torn) = &found.torn {
+        eprintln!("argus-host: cut off: {torn}");
+    }
+    let guardian = recovery
+        .into_guardian()
+        .map_err(|error| log.not_taken(error))?;
+    resumed(guardian, log.begin()?, found.epoch + 1)
+}
+
+fn open_etcd(options: &EtcdOptions, leadership: Leadership) -> Result<Opened, Box<dyn Error>> {
+    let epoch = leadership.epoch();
+    let mut recovery = Recovery::new()?;
+    let log = EtcdLog::open(options, leadership, |batch| recovery.take(batch.lines))?;
+    let guardian = recovery.into_guardian().map_err(|error| match error {
+        LineError::Fault { why, .. } => why,
+        LineError::OutOfMemory => "out of memory".to_owned(),
+    })?;
+    resumed(guardian, log, epoch)
+}
+
+fn resumed(
+    guardian: Guardian,
+    log: impl BatchLog + 'static,
+    epoch: u64,
+) -> Result<Opened, Box<dyn Error>> {
+    let figures = Arc::new(Figures::default());
+    let log = Measured {
+        log,
+        figures: Arc::clone(&figures),
+    };
+    let (logged, aborted) = Logged::resumed(guardian, Box::new(log), Shared::PATIENCE)?;
+    eprintln!(
+        "argus-host: {} entries, epoch {epoch}; {aborted} of them abort what was live",
+        logged.entries()
+    );
+    Ok(Opened {
+        logged,
+        figures,
+        epoch,
+    })
+}
+
+fn lead(
+    options: &EtcdOptions,
+    name: &str,
+    ends: &AtomicBool,
+) -> Result<Option<Leadership>, Box<dyn Error>> {
+    let mut campaign = Campaign::begin(options, name)?;
+    while !ends.load(Ordering::Relaxed) {
+        if let Some(leadership) = campaign.poll()? {
+            return Ok(Some(leadership));
+        }
+        thread::sleep(POLL);
+    }
+    Ok(None)
+}
