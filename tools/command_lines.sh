@@ -102,6 +102,12 @@ of_picture() {
     shows "Draws a journal's listing from standard input" "$picture" -h
     tried "$top/crates/picture/stdin" 0 "$(cat "$top/crates/picture/stdout")" '' "$picture"
     tried "$top/crates/picture/stdin" 0 '<svg ' '' "$picture" --
+    printf '0 begin_top -> a0\n1 com\xffmit a0 -> done\n' > "$room/no_text"
+    tried "$room/no_text" 3 '' 'line 2: NoText at 5' "$picture"
+    printf '0 begin_top -> a0\n1 commit a+0 -> done\n' > "$room/signed"
+    tried "$room/signed" 3 '' 'line 2: NoLine at 10' "$picture"
+    printf '0 begin_top -> a0\n1 commit a0 -> done' > "$room/torn"
+    tried "$room/torn" 3 '' 'line 2: Torn' "$picture"
     refuses "error: unexpected argument 'run.svg' found" "$picture" run.svg
     refuses "error: unexpected argument '--list' found" "$picture" --list journal
 }
@@ -129,6 +135,54 @@ of_replay() {
     tried "$room/journal" 0 "$(cat "$room/journal")" '' "$replay" --list journal
 }
 
+# A script by chance: blocks in blocks, arms, and accesses to three objects. script SEED
+script() {
+    awk -v seed="$1" '
+        function chance(n) { return int(rand() * n) }
+        function access(    x) {
+            x = "x" chance(3)
+            return chance(4) == 0 ? "create " x " {" chance(9) ",\"t\"}" : chance(2) ? "set " x " n " chance(99) : "read " x
+        }
+        function kind() { return chance(3) ? "action" : "topaction" }
+        function block(depth,    k) {
+            for (k = 1 + chance(4); k > 0; k--) print access()
+            if (depth < 4 && chance(3) == 0) { print "enter " kind(); block(depth + 1); print "end" }
+            if (depth < 3 && chance(4) == 0) arms(depth + 1)
+            if (chance(5) == 0) print "abort leave"
+        }
+        function arms(depth,    k, last) {
+            print "coenter"
+            for (k = 1 + chance(3); k > 0; k--) { print kind(); block(depth) }
+            print "end"
+        }
+        BEGIN {
+            srand(seed)
+            for (x = 0; x < 3; x++) print "declare x" x " atomic_record[n:int,t:text]"
+            for (k = 2 + chance(4); k > 0; k--) { print "enter topaction"; block(1); print "end" }
+        }'
+}
+
+# Whether the journal that the script leaves is replayed and listed again, byte for byte: comes_back SCRIPT
+comes_back() {
+    "$argus" --list journal < "$1" > "$room/listed" && [ -s "$room/listed" ] &&
+        "$replay" --list journal < "$room/listed" | cmp -s - "$room/listed"
+}
+
+# The journals of all examples that are scripts, and of 1,000 scripts by chance.
+journals_come_back() {
+    local it seed whole=0 wanted=1000
+    for it in "$top"/examples/*.argus; do
+        if [ "${it##*/}" = refused.argus ]; then continue; fi
+        wanted=$((wanted + 1))
+        if comes_back "$it"; then whole=$((whole + 1)); else echo "command lines: $it doesn't come back"; fi
+    done
+    for ((seed = 1; seed <= 1000; seed++)); do
+        script "$seed" > "$room/script"
+        if comes_back "$room/script"; then whole=$((whole + 1)); else echo "command lines: script $seed doesn't come back"; fi
+    done
+    if [ "$whole" = "$wanted" ]; then passed=$((passed + 1)); else failed=$((failed + 1)); fi
+}
+
 for program in "$argus" "$picture" "$replay"; do
     if [ ! -x "$program" ]; then
         echo "command lines: no program $program: .ci/run leaves it, and ./${program##*/} --prove"
@@ -139,6 +193,7 @@ done
 of_argus
 of_picture
 of_replay
+journals_come_back
 echo "command lines: $((passed + failed)) tried"
 echo "$passed passed, $failed failed"
 [ "$failed" = 0 ]

@@ -1,0 +1,47 @@
+#!/usr/bin/env bash
+# SPDX-License-Identifier: MIT
+# Debian's packages that the hosts' tests need beside a C compiler, cargo and Python: those of
+# hosts/rust/etcd and hosts/rust/host, and etcd itself. Without them hosts/run leaves those tests out.
+#
+#   tools/packages.sh             prints the packages that are missing, one a line; status 1 if any is
+#   tools/packages.sh --install   installs those, by apt-get, as root
+#
+# etcd-server may begin a service of its own, which the tests don't use.
+set -euo pipefail
+export LC_ALL=C.UTF-8
+
+packages=(
+    # nodes for the tests, and the program that looks at them
+    etcd-server etcd-client
+    # certificates for the tests of TLS
+    openssl
+    # the crates that hosts/rust/etcd is built of
+    librust-base64-dev librust-curl-dev librust-serde-json-dev "librust-serde+serde-derive-dev"
+    # those of hosts/rust/host beside them
+    librust-clap-dev librust-clap-derive-dev librust-httparse-dev librust-signal-hook-dev librust-subtle-dev
+    # how the crate of libcurl finds it
+    pkg-config
+)
+
+if ! command -v dpkg-query > /dev/null; then
+    echo "packages: LEFT OUT: this isn't Debian" >&2
+    exit 1
+fi
+
+# is_there PACKAGE
+is_there() {
+    [ "$(dpkg-query -W -f='${db:Status-Status}' "$1" 2> /dev/null)" = installed ]
+}
+
+missing=()
+for package in "${packages[@]}"; do
+    is_there "$package" || missing+=("$package")
+done
+if [ ${#missing[@]} = 0 ]; then exit 0; fi
+if [ "${1:-}" != --install ]; then
+    printf '%s\n' "${missing[@]}"
+    exit 1
+fi
+export DEBIAN_FRONTEND=noninteractive
+apt-get update -qq
+apt-get install -y -qq --no-install-recommends "${missing[@]}"
