@@ -29,7 +29,7 @@ LAYERS = [
     ],
     [
         ("surface", "argus_cli", "what argus and replay do", [("argus_usage", "command lines")]),
-        ("surface", "argus_picture", "a listing, drawn", [("argus_frame", "where things stand")]),
+        ("surface", "argus_picture", "a listing, drawn", [("argus_frame", "places and names")]),
         ("surface", "argus_embed", "calls by numbers and texts", []),
         ("surface", "argus_c", "a static library for C", []),
     ],
@@ -56,6 +56,7 @@ LAYERS = [
         ("surface", "argus_journal", "calls, replies, what a legal journal is", [
             ("argus_entries", "entries and their lines"),
             ("argus_reading", "lines, read back"),
+            ("argus_openings", "openings, read back"),
         ]),
         ("laws", "argus_refinement", "trees and cells are what the journal says", []),
         ("laws", "argus_model", "nested transactions: definitions and laws", []),

@@ -117,6 +117,14 @@ keep_input() {
     fi
 }
 
+# The path of a file, from the root on.
+from_root() {
+    case $1 in
+        /* | '') printf '%s\n' "$1" ;;
+        *) printf '%s/%s\n' "$PWD" "$1" ;;
+    esac
+}
+
 # Runs the program by `rt try`, whose own lines stand behind the program's on standard error.
 run_unproved() {
     kit=$(find_kit)
@@ -127,6 +135,18 @@ run_unproved() {
     say "this run is unproved, and takes most of a minute; ./$name --prove proves and builds the program"
     is_read=yes
     keep_input "$@" || { is_read=no; : > "$room/input"; }
+    # It runs in its crate's folder, where a script's path has to lead to the same file.
+    left=$#
+    before=
+    while [ "$left" -gt 0 ]; do
+        word=$1
+        shift
+        left=$((left - 1))
+        [ "$before" != --script ] || word=$(from_root "$word")
+        case $word in --script=*) word=--script=$(from_root "${word#--script=}") ;; esac
+        before=$word
+        set -- "$@" "$word"
+    done
     (cd "$top/crates/$name" && "$kit" try -- "$@") < "$room/input" > "$room/output" 2> "$room/errors" || true
     status=$(tail -n 1 "$room/errors" | sed -n 's/^run=ended status=\([0-9]*\) .*/\1/p')
     if [ -z "$status" ]; then

@@ -1,1 +1,4 @@
 pub mod ReadLines
+pub mod Openings
+pub mod Agreeing
+pub mod Numbered

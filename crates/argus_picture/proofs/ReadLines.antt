@@ -1,18 +1,17 @@
 -- How far a listing is read, line by line.
 use Rattle.std.proofs.Common.{◌≡◌, ◌≢◌, ℕ, ◌+◌, ◌<◌, ◌≤◌, Bool, true, false, cond, List, [], ◌∷◌, ◌++◌, length}
-use Rattle.std.proofs.Common.{None, Some, take, drop, refl, sym, ap, ◌∙◌, arith, append_assoc, inr}
+use Rattle.std.proofs.Common.{None, Some, take, drop, refl, sym, ap, ◌∙◌, subst, arith, append_assoc, inr}
 use Rattle.std.proofs.lemmas.List.{length-append}
-use Rattle.std.proofs.lemmas.List.Elements.{All-append, All-cons, All-nil}
 use Rattle.std.proofs.lemmas.List.Splits.{length-slice_split, slice_split_first, slice_split_none}
 use Rattle.std.proofs.lemmas.List.Sums.{fails_before_first}
-use Rattle.std.specs.List.{All, position, position_or_len}
+use Rattle.std.specs.List.{position, position_or_len}
 use Rattle.std.specs.Prelude.{nat_lt, ◌==◌}
 use Rattle.argus_frame.specs.declared.listing_fault_kind.ListingFaultKind.{ListingFaultKind}
 use Rattle.argus_frame.specs.declared.listing_fault_kind.ListingFaultKind.TheVariants as kind
 use Rattle.argus_picture.specs.Faults.{IsFaultyLine, IsTorn, SaysOf, SaysOfLine, SaysOfListing, error_at}
 use Rattle.argus_picture.specs.declared.line_error.LineError.{LineError}
 use Rattle.argus_picture.specs.declared.line_error.LineError.TheVariants as line_error
-use Rattle.argus_picture.specs.Listing.{IsListed, IsListing, parts}
+use Rattle.argus_picture.specs.Listing.{IsListing, Leads, Place, Takes, parts, start}
 
 abbrev is_feed : ℕ → Bool
 is_feed b = b == 10
@@ -55,53 +54,65 @@ some_parts text e = let l = length-slice_split is_feed text in omega (arith, l, 
 
 -- LINES
 
--- Up to this line, which is numbered from 1 and is the first of the rest, the lines are a listing's.
-pub record ReadTo (line : ℕ) (rest listing : List ℕ) : Type 0 where
+-- one more line behind those that lead to a place
+leads_more : (a : Place) (front : List (List ℕ)) (b : Place) (x : List ℕ) (c : Place) → Leads a front b → Takes b c x
+    → Leads a (front ++ x ∷ []) c
+leads_more a [] b x c l t = (c, subst (λ (p : Place). Takes p c x) (sym l) t, refl)
+leads_more a (y ∷ front) b x c l t = (l.0, l.1, leads_more l.0 front b x c l.2 t)
+
+-- Up to this line, which is numbered from 1 and is the first of the rest, the lines are a listing's, which has come
+-- so far.
+pub record ReadTo (at : Place) (line : ℕ) (rest listing : List ℕ) : Type 0 where
   pub front : List (List ℕ)
   pub number : line ≡ length front + 1
-  pub each : All IsListed front
+  pub leads : Leads start front at
   pub is : parts listing ≡ front ++ parts rest
 
-pub read_none : (listing : List ℕ) → ReadTo 1 listing listing
-read_none listing = record { front = []; number = refl; each = All-nil IsListed; is = refl }
+pub read_none : (at : Place) (listing : List ℕ) → at ≡ start → ReadTo at 1 listing listing
+read_none at listing e = record { front = []; number = refl; leads = sym e; is = refl }
 
-pub read_more : (line : ℕ) (rest listing x more : List ℕ) → ReadTo line rest listing
-    → parts rest ≡ x ∷ parts more → IsListed x → ReadTo (line + 1) more listing
-read_more line rest listing x more r e h = record {
+pub read_more : (at next : Place) (line : ℕ) (rest listing x more : List ℕ) → ReadTo at line rest listing
+    → parts rest ≡ x ∷ parts more → Takes at next x → ReadTo next (line + 1) more listing
+read_more at next line rest listing x more r e h = record {
   front = r.front ++ x ∷ [];
   number = omega (arith, r.number, length-append r.front (x ∷ []));
-  each = All-append IsListed r.front (x ∷ []) r.each (All-cons IsListed x [] h (All-nil IsListed));
+  leads = leads_more start r.front at x next r.leads h;
   is = r.is ∙ ap (λ t. r.front ++ t) e ∙ sym (append_assoc r.front (x ∷ []) (parts more));
 }
 
-pub read_whole : (line : ℕ) (rest listing : List ℕ) → rest ≡ [] → ReadTo line rest listing → IsListing listing
-read_whole line rest listing e r = record {
+pub read_whole : (at : Place) (line : ℕ) (rest listing : List ℕ) → rest ≡ [] → ReadTo at line rest listing
+    → IsListing listing
+read_whole at line rest listing e r = record {
   lines = r.front;
+  end = at;
   is = r.is ∙ ap (λ t. r.front ++ parts t) e;
-  each = r.each;
+  leads = r.leads;
 }
 
-pub read_torn : (line : ℕ) (rest listing : List ℕ) → 0 < length rest → parts rest ≡ rest ∷ [] → ReadTo line rest listing
-    → IsTorn listing (record { line = line; kind = kind.Torn })
-read_torn line rest listing n e r = record {
+pub read_torn : (at : Place) (line : ℕ) (rest listing : List ℕ) → 0 < length rest → parts rest ≡ rest ∷ []
+    → ReadTo at line rest listing → IsTorn listing (record { line = line; kind = kind.Torn })
+read_torn at line rest listing n e r = record {
   line = rest;
+  place = at;
   some = λ none. omega (arith, n, ap length none);
-  at = record { front = r.front; number = r.number; each = r.each; is = r.is ∙ ap (λ t. r.front ++ t) e };
+  at = record { front = r.front; number = r.number; leads = r.leads; is = r.is ∙ ap (λ t. r.front ++ t) e };
   is = refl;
 }
 
-read_faulty : (line : ℕ) (rest listing x more : List ℕ) (of : ListingFaultKind) → ReadTo line rest listing
-    → parts rest ≡ x ∷ parts more → SaysOf of x → IsFaultyLine listing (record { line = line; kind = of })
-read_faulty line rest listing x more of r e says = record {
+read_faulty : (at : Place) (line : ℕ) (rest listing x more : List ℕ) (of : ListingFaultKind)
+    → ReadTo at line rest listing → parts rest ≡ x ∷ parts more → SaysOf of at x
+    → IsFaultyLine listing (record { line = line; kind = of })
+read_faulty at line rest listing x more of r e says = record {
   line = x;
+  place = at;
   behind = parts more;
   whole = some_parts more;
-  at = record { front = r.front; number = r.number; each = r.each; is = r.is ∙ ap (λ t. r.front ++ t) e };
+  at = record { front = r.front; number = r.number; leads = r.leads; is = r.is ∙ ap (λ t. r.front ++ t) e };
   says = says;
 }
 
-pub read_refused : (line : ℕ) (rest listing x more : List ℕ) (e : LineError) → ReadTo line rest listing
-    → parts rest ≡ x ∷ parts more → SaysOfLine e x → SaysOfListing (error_at line e) listing
-read_refused line rest listing x more line_error.OutOfMemory r e says = tt
-read_refused line rest listing x more (line_error.Fault of) r e says =
-    inr (inr (read_faulty line rest listing x more of r e says))
+pub read_refused : (at : Place) (line : ℕ) (rest listing x more : List ℕ) (e : LineError) → ReadTo at line rest listing
+    → parts rest ≡ x ∷ parts more → SaysOfLine e at x → SaysOfListing (error_at line e) listing
+read_refused at line rest listing x more line_error.OutOfMemory r e says = tt
+read_refused at line rest listing x more (line_error.Fault of) r e says =
+    inr (inr (read_faulty at line rest listing x more of r e says))

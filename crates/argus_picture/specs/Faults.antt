@@ -1,34 +1,45 @@
 -- What a fault says of a listing: which line is at fault, and why.
-use Rattle.std.specs.List.{All}
-use Rattle.std.specs.Prelude.{List, [], length, ℕ, ◌+◌, ◌++◌, ◌<◌, ◌∷◌, ◌≡◌, ◌≢◌, ◌⊎◌}
+use Rattle.std.specs.Prelude.{List, [], length, ℕ, ◌+◌, ◌++◌, ◌<◌, ◌∷◌, ◌≡◌, ◌≢◌, ◌≤◌, ◌⊎◌}
 use Rattle.std.specs.Str.{IsUtf8, IsValidUpTo}
 use Rattle.argus_frame.specs.declared.listing_fault.ListingFault.{ListingFault}
 use Rattle.argus_frame.specs.declared.listing_fault_kind.ListingFaultKind.{ListingFaultKind}
 use Rattle.argus_frame.specs.declared.listing_fault_kind.ListingFaultKind.TheVariants as kind
 use Rattle.argus_reading.specs.Line.{IsEntryLine, LacksShape}
 use Rattle.argus_texts.specs.Fault.{IsFault}
-use Rattle.argus_picture.specs.Listing.{IsListed, IsOfOpening, parts}
-use Rattle.argus_picture.specs.declared.limits.TheConstants.{MAX_BYTES}
+use Rattle.argus_picture.specs.Listing.{IsNextOfOpening, IsNumbered, IsOfOpening, Leads, Place}
+use Rattle.argus_picture.specs.Listing.{parts, start}
+use Rattle.argus_picture.specs.declared.limits.TheConstants.{MAX_BYTES, MAX_ENTRIES}
 use Rattle.argus_picture.specs.declared.line_error.LineError.{LineError}
 use Rattle.argus_picture.specs.declared.line_error.LineError.TheVariants as line_error
 use Rattle.argus_picture.specs.declared.picture_error.PictureError.{PictureError}
 use Rattle.argus_picture.specs.declared.picture_error.PictureError.TheVariants as error
 
--- what a kind of fault says of a whole line; no whole line is torn
-abbrev pub SaysOf : ListingFaultKind → List ℕ → Type 0
-SaysOf kind.TooLong line = IsEntryLine line
-SaysOf kind.Torn line = ⊥
-SaysOf (kind.NoText at) line = (IsUtf8 line → ⊥) × IsValidUpTo line at
-SaysOf kind.NotAnOpening line = IsOfOpening line
-SaysOf (kind.NoLine at) line =
-    (IsOfOpening line → ⊥) × (IsFault IsEntryLine line at ⊎ LacksShape line at)
-SaysOf kind.NotNext line = IsEntryLine line
-SaysOf kind.Unlawful line = IsEntryLine line
+-- the line isn't the next one of an opening
+abbrev pub IsNoOpening : Place → List ℕ → Type 0
+IsNoOpening at line = (next : Place) → IsNextOfOpening at next line → ⊥
+
+-- the line is that of an entry, and its number isn't the next one
+pub record HasOtherNumber (at : Place) (line : List ℕ) : Type 0 where
+  pub number : ℕ
+  pub numbered : IsNumbered number line
+  pub other : number ≢ at.first + at.entries
+
+-- what a kind of fault says of a whole line, where the listing has come so far; no whole line is
+-- torn
+abbrev pub SaysOf : ListingFaultKind → Place → List ℕ → Type 0
+SaysOf kind.TooLong at line = (MAX_ENTRIES ≤ at.entries) × IsEntryLine line
+SaysOf kind.Torn at line = ⊥
+SaysOf (kind.NoText b) at line = (IsUtf8 line → ⊥) × IsValidUpTo line b
+SaysOf kind.NotAnOpening at line = IsOfOpening line × IsNoOpening at line
+SaysOf (kind.NoLine b) at line =
+    (IsOfOpening line → ⊥) × (IsFault IsEntryLine line b ⊎ LacksShape line b)
+SaysOf kind.NotNext at line = HasOtherNumber at line
+SaysOf kind.Unlawful at line = IsNumbered (at.first + at.entries) line
 
 -- what an error says of a whole line; want of memory says nothing
-abbrev pub SaysOfLine : LineError → List ℕ → Type 0
-SaysOfLine line_error.OutOfMemory line = Unit {0}
-SaysOfLine (line_error.Fault kind) line = SaysOf kind line
+abbrev pub SaysOfLine : LineError → Place → List ℕ → Type 0
+SaysOfLine line_error.OutOfMemory at line = Unit {0}
+SaysOfLine (line_error.Fault kind) at line = SaysOf kind at line
 
 -- what is wrong with a listing, where this is wrong with the line of this number
 abbrev pub error_at : ℕ → LineError → PictureError
@@ -40,28 +51,32 @@ pub record IsTooLarge (listing : List ℕ) (fault : ListingFault) : Type 0 where
   pub more : MAX_BYTES < length listing
   pub is : fault ≡ record { line = 1; kind = kind.TooLong }
 
--- the lines in front of the fault's, which has its number from 1 on, are a listing's
-pub record IsAt (fault : ListingFault) (line : List ℕ) (behind : List (List ℕ)) (text : List ℕ)
+-- the lines in front of the fault's, which has its number from 1 on, are a listing's, and so far has
+-- it come behind them
+pub record IsAt (fault : ListingFault) (at : Place) (line : List ℕ) (behind : List (List ℕ))
+    (text : List ℕ)
     : Type 0 where
   pub front : List (List ℕ)
   pub number : fault.line ≡ length front + 1
-  pub each : All IsListed front
+  pub leads : Leads start front at
   pub is : parts text ≡ front ++ line ∷ behind
 
 -- bytes without a line feed are left behind the lines of a listing
 pub record IsTorn (listing : List ℕ) (fault : ListingFault) : Type 0 where
   pub line : List ℕ
+  pub place : Place
   pub some : line ≢ []
-  pub at : IsAt fault line [] listing
+  pub at : IsAt fault place line [] listing
   pub is : fault.kind ≡ kind.Torn
 
 -- the first whole line that isn't the listing's next one is at fault
 pub record IsFaultyLine (listing : List ℕ) (fault : ListingFault) : Type 0 where
   pub line : List ℕ
+  pub place : Place
   pub behind : List (List ℕ)
   pub whole : behind ≢ []
-  pub at : IsAt fault line behind listing
-  pub says : SaysOf fault.kind line
+  pub at : IsAt fault place line behind listing
+  pub says : SaysOf fault.kind place line
 
 -- what an error says of a listing; want of memory says nothing
 abbrev pub SaysOfListing : PictureError → List ℕ → Type 0

@@ -1,14 +1,14 @@
 //! The actions of a picture: bars, ties and refused calls.
 
 use crate::action::Action;
-use crate::escaping::{append_escaped, open_group};
+use crate::escaping::open_group;
 use crate::fate::Fate;
 use crate::life::{Life, life_of, life_within};
 use crate::limits::MAX_ROWS;
 use crate::origin::Origin;
 use crate::refused_call::RefusedCall;
 use crate::run::Run;
-use argus_frame::{BAR, Frame, bar_top, entry_left};
+use argus_frame::{BAR, Frame, append_escaped, bar_top, entry_left};
 use argus_memory::{OutOfMemory, Room};
 use std::fmt::Write;
 

@@ -1,23 +1,7 @@
-//! Texts in a picture: escaped.
+//! Titles, and texts that are cut short.
 
+use argus_frame::append_escaped;
 use argus_memory::{OutOfMemory, Room};
-
-/// Appends the text, so that it stands in the picture as it is: nothing in it is markup. A
-/// character that no XML text may have stands as `U+FFFD`.
-pub(crate) fn append_escaped(text: &str, out: &mut String<Room>) -> Result<(), OutOfMemory> {
-    for character in text.chars() {
-        match character {
-            '&' => out.push_str("&amp;")?,
-            '<' => out.push_str("&lt;")?,
-            '>' => out.push_str("&gt;")?,
-            '"' => out.push_str("&quot;")?,
-            '\u{0}'..='\u{8}' | '\u{b}'..='\u{1f}' => out.push('\u{fffd}')?,
-            '\u{fffe}' | '\u{ffff}' => out.push('\u{fffd}')?,
-            _ => out.push(character)?,
-        }
-    }
-    Ok(())
-}
 
 /// Begins a group, whose title is these lines; the second is left out where it is the first.
 pub(crate) fn open_group(

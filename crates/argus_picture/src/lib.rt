@@ -1,7 +1,8 @@
 //! The picture of a run: a journal's listing, drawn as SVG.
 //!
 //! [`picture`] reads the listing and answers the text of the picture; [`draw`] reads it from a
-//! reader and writes the picture to a writer.
+//! reader and writes the picture to a writer. [`sketch_listing`] answers a picture in which the
+//! names of objects are still open; [`draw_named`] takes them from a script.
 #![tactic(auto)]
 
 mod action;
@@ -19,10 +20,15 @@ mod life;
 mod limits;
 mod line_error;
 mod lock_asked;
+mod named_draw_error;
+mod named_drawing;
+mod names_error;
+mod names_fault;
+mod names_fault_kind;
+mod naming;
 mod object;
 mod object_drawing;
-mod opening_line;
-mod opening_reading;
+mod opening_taking;
 mod origin;
 mod picture_error;
 mod picturing;
@@ -31,11 +37,20 @@ mod refused_call;
 mod replaying;
 mod run;
 mod settling;
+mod sketch;
+mod sketching;
 mod taking;
 mod write;
 
-pub use argus_frame::{DrawError, ListingFault, ListingFaultKind};
+pub use argus_frame::{Canvas, DrawError, ListingFault, ListingFaultKind, Stretch};
 pub use argus_streams::FailStop;
 pub use drawing::draw;
+pub use named_draw_error::NamedDrawError;
+pub use named_drawing::draw_named;
+pub use names_error::NamesError;
+pub use names_fault::NamesFault;
+pub use names_fault_kind::NamesFaultKind;
 pub use picture_error::PictureError;
 pub use picturing::picture;
+pub use sketch::Sketch;
+pub use sketching::sketch_listing;

@@ -23,3 +23,9 @@ pub(crate) const MAX_TITLE_LETTERS: usize = 500;
 
 /// So many letters of a shape have room in front of its lane.
 pub(crate) const MAX_SHAPE_LETTERS: usize = 24;
+
+/// The name of an object stands once more above its lane every so many pixels.
+pub(crate) const NAME_DISTANCE: u64 = 800;
+
+/// A picture that is higher has the numbers of entries below it, too.
+pub(crate) const TALL: u64 = 900;

@@ -1,57 +1,107 @@
 //! The objects of a picture: lanes, the locks in them, and commits.
 
 use crate::action_drawing::room_for;
-use crate::escaping::{append_escaped, append_shortened, open_group};
+use crate::escaping::{append_shortened, open_group};
 use crate::held_lock::HeldLock;
-use crate::limits::{MAX_CONTENT_LETTERS, MAX_LANES, MAX_SHAPE_LETTERS, MAX_TITLE_LETTERS};
+use crate::limits::{
+    MAX_CONTENT_LETTERS, MAX_LANES, MAX_SHAPE_LETTERS, MAX_TITLE_LETTERS, NAME_DISTANCE,
+};
 use crate::object::Object;
 use crate::run::Run;
 use crate::settling::Settling;
-use argus_frame::{Frame, LANE, entry_left, lane_at, width};
-use argus_memory::{OutOfMemory, Room};
+use argus_frame::{Canvas, Frame, LANE, append_escaped, entry_left, lane_at, width};
+use argus_memory::{Heap, OutOfMemory, Room};
 use std::fmt::Write;
 
 /// Draws the lanes, then the locks, then the commits.
 pub(crate) fn draw_objects(
+    heap: Heap,
     run: &Run<'_>,
     frame: &Frame,
-    out: &mut String<Room>,
+    canvas: &mut Canvas,
 ) -> Result<(), OutOfMemory> {
-    draw_lanes(run, frame, out)?;
-    draw_holds(run, frame, out)?;
-    draw_settlings(run, frame, out)
+    draw_lanes(heap, run, frame, canvas)?;
+    draw_holds(run, frame, &mut canvas.last)?;
+    draw_settlings(run, frame, &mut canvas.last)
 }
 
-fn draw_lanes(run: &Run<'_>, frame: &Frame, out: &mut String<Room>) -> Result<(), OutOfMemory> {
+fn draw_lanes(
+    heap: Heap,
+    run: &Run<'_>,
+    frame: &Frame,
+    canvas: &mut Canvas,
+) -> Result<(), OutOfMemory> {
     let mut lane = 0u32;
     for object in &run.objects {
         if lane >= frame.lanes {
             return Ok(());
         }
-        draw_lane(frame, lane, object, out)?;
+        draw_lane(heap, frame, lane, object, canvas)?;
         lane += 1;
     }
     Ok(())
 }
 
 fn draw_lane(
+    heap: Heap,
     frame: &Frame,
     lane: u32,
     object: &Object<'_>,
-    out: &mut String<Room>,
+    canvas: &mut Canvas,
 ) -> Result<(), OutOfMemory> {
     let y = lane_at(frame, lane);
+    open_lane(frame, y, object, &mut canvas.last)?;
+    let (name, shape) = (y.saturating_add(15), y.saturating_add(29));
+    let out = &mut canvas.last;
+    write!(out, "<text x=\"14\" y=\"{name}\">")?;
+    canvas.put_name(heap, lane)?;
+    canvas.last.push_str("</text>")?;
+    draw_shape(object, shape, &mut canvas.last)?;
+    draw_names_again(heap, frame, lane, canvas)?;
+    canvas.last.push_str("</g>\n")?;
+    Ok(())
+}
+
+// The lane itself.
+fn open_lane(
+    frame: &Frame,
+    y: u64,
+    object: &Object<'_>,
+    out: &mut String<Room>,
+) -> Result<(), OutOfMemory> {
     let wide = width(frame).saturating_sub(16);
     open_group(object.line, object.line, out)?;
     write!(
         out,
         "<rect class=\"lane\" x=\"8\" y=\"{y}\" width=\"{wide}\" height=\"{LANE}\"/>"
     )?;
-    let (name, shape) = (y.saturating_add(15), y.saturating_add(29));
-    write!(out, "<text x=\"14\" y=\"{name}\">o{lane}</text>")?;
-    write!(out, "<text class=\"small\" x=\"14\" y=\"{shape}\">")?;
+    Ok(())
+}
+
+// The object's shape, in front of its lane.
+fn draw_shape(object: &Object<'_>, y: u64, out: &mut String<Room>) -> Result<(), OutOfMemory> {
+    write!(out, "<text class=\"small\" x=\"14\" y=\"{y}\">")?;
     append_shortened(object.shape_text.as_str(), MAX_SHAPE_LETTERS, out)?;
-    out.push_str("</text></g>\n")?;
+    out.push_str("</text>")?;
+    Ok(())
+}
+
+// The object's name once more above its lane, every so many pixels of a wide picture.
+fn draw_names_again(
+    heap: Heap,
+    frame: &Frame,
+    lane: u32,
+    canvas: &mut Canvas,
+) -> Result<(), OutOfMemory> {
+    let y = lane_at(frame, lane).saturating_sub(1);
+    let times = width(frame) / NAME_DISTANCE;
+    for time in 1..times {
+        let x = time.saturating_mul(NAME_DISTANCE);
+        let out = &mut canvas.last;
+        write!(out, "<text class=\"tiny\" x=\"{x}\" y=\"{y}\">")?;
+        canvas.put_name(heap, lane)?;
+        canvas.last.push_str("</text>")?;
+    }
     Ok(())
 }
 

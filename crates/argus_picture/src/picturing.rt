@@ -1,21 +1,22 @@
 //! `picture`: the picture that a listing tells.
 
-ghost use Rattle.std.specs.Prelude.{IfErr, IfOk};
+ghost use Rattle.std.specs.Prelude.{IfErr, OnOk};
 ghost use Rattle.argus_picture.specs.Faults.{SaysOfListing};
 ghost use Rattle.argus_picture.specs.Listing.{IsListing};
 
 use crate::action_drawing::draw_actions;
 use crate::legend::{LEGEND, LOOKS};
-use crate::limits::MAX_LANES;
+use crate::limits::{MAX_LANES, TALL};
 use crate::object_drawing::draw_objects;
 use crate::picture_error::PictureError;
-use crate::reading::read_run;
 use crate::run::Run;
-use argus_frame::{EntrySpacing, Frame, entry_left, height, width};
+use crate::sketching::sketch_listing;
+use argus_frame::{Canvas, EntrySpacing, Frame, entry_left, height, width};
 use argus_memory::{Heap, OutOfMemory, Room};
 use std::fmt::Write;
 
 /// The text of the picture of a journal's listing: an SVG 1.1 document, with no script and no link.
+/// Objects are called by their numbers.
 ///
 /// `Fault` comes with the first faulty line, and why. `OutOfMemory` may come in place of any
 /// answer.
@@ -24,20 +25,30 @@ use std::fmt::Write;
 /// let text = picture(heap, b"0 begin_top -> a0\n1 commit a0 -> done\n")?;
 /// ```
 pub fn picture(heap: Heap, listing: &[u8]) -> Result<String<Room>, PictureError>
-    ensures lines { IfOk result (λ text. IsListing listing.now) }
+    ensures lines { OnOk result (IsListing listing.now) }
     ensures fault { IfErr result (λ e. SaysOfListing e listing.now) }
 {
-    let run = read_run(heap, listing)?;
-    let mut out = String::new(heap.room());
-    match draw_run(&run, &mut out) {
-        Ok(()) => Ok(out),
+    let sketch = sketch_listing(heap, listing)?;
+    match sketch.text(heap) {
+        Ok(text) => Ok(text),
         Err(OutOfMemory) => Err(PictureError::OutOfMemory),
     }
 }
 
-fn draw_run(run: &Run<'_>, out: &mut String<Room>) -> Result<(), OutOfMemory> {
+/// Draws the run.
+pub(crate) fn draw_run(heap: Heap, run: &Run<'_>, canvas: &mut Canvas) -> Result<(), OutOfMemory> {
     let frame = frame_of(run);
-    let (wide, high) = (width(&frame), height(&frame));
+    draw_page(run, &frame, &mut canvas.last)?;
+    draw_actions(run, &frame, &mut canvas.last)?;
+    draw_objects(heap, run, &frame, canvas)?;
+    draw_counts(run, &frame, height(&frame), &mut canvas.last)?;
+    canvas.last.push_str("</svg>\n")?;
+    Ok(())
+}
+
+// The looks, the legend, and the numbers of entries.
+fn draw_page(run: &Run<'_>, frame: &Frame, out: &mut String<Room>) -> Result<(), OutOfMemory> {
+    let (wide, high) = (width(frame), height(frame));
     out.push_str("<svg xmlns=\"http://www.w3.org/2000/svg\" version=\"1.1\"")?;
     write!(out, " width=\"{wide}\" height=\"{high}\"")?;
     write!(out, " viewBox=\"0 0 {wide} {high}\">\n")?;
@@ -48,12 +59,7 @@ fn draw_run(run: &Run<'_>, out: &mut String<Room>) -> Result<(), OutOfMemory> {
         "<rect class=\"page\" width=\"{wide}\" height=\"{high}\"/>\n"
     )?;
     out.push_str(LEGEND)?;
-    draw_axis(run, &frame, high, out)?;
-    draw_actions(run, &frame, out)?;
-    draw_objects(run, &frame, out)?;
-    draw_counts(run, &frame, high, out)?;
-    out.push_str("</svg>\n")?;
-    Ok(())
+    draw_axis(run, frame, high, out)
 }
 
 // The frame that all rows and lanes have room in.
@@ -76,7 +82,7 @@ fn frame_of(run: &Run<'_>) -> Frame {
     }
 }
 
-// The numbers of entries, each with a line from top to bottom.
+// The numbers of entries, each with a line from top to bottom; in a tall picture also below it.
 fn draw_axis(
     run: &Run<'_>,
     frame: &Frame,
@@ -90,12 +96,21 @@ fn draw_axis(
             let x = entry_left(frame, entry);
             let number = run.first_entry.saturating_add(u64::from(entry));
             write!(out, "<path class=\"grid\" d=\"M{x} 124V{bottom}\"/>")?;
-            write!(
-                out,
-                "<text class=\"tick\" x=\"{x}\" y=\"120\">{number}</text>\n"
-            )?;
+            draw_number(number, x, 120, out)?;
+            if high > TALL {
+                draw_number(number, x, bottom.saturating_add(9), out)?;
+            }
         }
     }
+    Ok(())
+}
+
+// The number of an entry.
+fn draw_number(number: u64, x: u64, y: u64, out: &mut String<Room>) -> Result<(), OutOfMemory> {
+    write!(
+        out,
+        "<text class=\"tick\" x=\"{x}\" y=\"{y}\">{number}</text>\n"
+    )?;
     Ok(())
 }
 

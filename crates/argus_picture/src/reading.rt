@@ -5,7 +5,8 @@ ghost use Rattle.std.specs.Prelude.{IfErr, IfNone, IfOk, IfSome, OnOk, [], lengt
 ghost use Rattle.std.specs.Prelude.{◌≡◌};
 ghost use Rattle.argus_picture.specs.Faults.{SaysOfLine, SaysOfListing, error_at};
 ghost use Rattle.argus_picture.specs.declared.picture_error.PictureError.TheVariants as error;
-ghost use Rattle.argus_picture.specs.Listing.{IsListed, IsListing, parts};
+ghost use Rattle.argus_picture.specs.Listing.{IsListing, Takes, parts};
+ghost use Rattle.argus_picture.specs.RunPlace.{place_of};
 
 use crate::limits::MAX_BYTES;
 use crate::line_error::LineError;
@@ -78,8 +79,8 @@ fn first_feed(text: &[u8]) -> Option<usize>
 impl<'a> Run<'a> {
     // A whole line, without its line feed.
     fn take_bytes(&mut self, heap: Heap, line: &'a [u8]) -> Result<(), LineError>
-        ensures line { OnOk result (IsListed line.now) }
-        ensures fault { IfErr result (λ e. SaysOfLine e line.now) }
+        ensures line { OnOk result (Takes (place_of self.old) (place_of self.new) line.now) }
+        ensures fault { IfErr result (λ e. SaysOfLine e (place_of self.old) line.now) }
     {
         match from_utf8(line) {
             Ok(text) => self.take(heap, text),

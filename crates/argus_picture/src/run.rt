@@ -1,5 +1,9 @@
 //! `Run`: what a listing tells, as a picture shows it.
 
+ghost use Rattle.std.specs.Prelude.{◌≡◌};
+ghost use Rattle.argus_picture.specs.Listing.{start};
+ghost use Rattle.argus_picture.specs.RunPlace.{place_of};
+
 use crate::action::Action;
 use crate::held_lock::HeldLock;
 use crate::limits::{MAX_ROWS, MAX_STRIPS};
@@ -45,7 +49,9 @@ impl Drop for Run<'_> {
 
 impl<'a> Run<'a> {
     /// Nothing is read yet.
-    pub(crate) fn new(heap: Heap) -> Run<'a> {
+    pub(crate) fn new(heap: Heap) -> Run<'a>
+        ensures { place_of result ≡ start }
+    {
         Run {
             first_entry: 0,
             first_action: 0,

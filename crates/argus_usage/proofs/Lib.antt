@@ -1,2 +1,2 @@
-pub mod Bare
+pub mod Free
 pub mod Ends

@@ -20,7 +20,7 @@ pub record IsBare (name : Text) (c : Command) : Type 0 where
   pub no_groups : groups_of c ≡ []
   pub no_globals : (out-Command c).has_globals ≡ false
 
--- the status is 0 where a text was asked for, and 2 for a mistake
+-- the status is 0 if a text was asked for, and 2 for a mistake
 pub record IsStatusOf (error : ErrorKind) (status : ℕ) : Type 0 where
   pub help : error ≡ kind.DisplayHelp → status ≡ 0
   pub version : error ≡ kind.DisplayVersion → status ≡ 0
@@ -31,8 +31,8 @@ abbrev pub IsUsage : ErrorKind → NoOptions → Type 0
 IsUsage error (no.Usage status text) = (error ≢ kind.OutOfMemory) × IsStatusOf error status
 IsUsage error no.Memory = Unit {0}
 
--- why a program with this command line ends at these words, of which the first is its name: the
--- status tells a mistake in them, or that they ask for help or the version
+-- why a program with this command line ends at these words, the first of which is its name: the
+-- status says that they have a mistake, or ask for help or the version
 abbrev pub EndsBy : App → List Text → NoOptions → Type 0
 EndsBy app words (no.Usage status text) =
     (error : ErrorKind) × IsAmong error (fault_of app words) × IsStatusOf error status
@@ -43,12 +43,12 @@ abbrev pub EndsWith0Or2 : NoOptions → Type 0
 EndsWith0Or2 (no.Usage status text) = (status ≡ 0) ⊎ (status ≡ 2)
 EndsWith0Or2 no.Memory = Unit {0}
 
--- the program ends with the status of a mistake, or memory is wanting
+-- the program ends with the status of a mistake, or there is no memory
 abbrev pub IsMistake : NoOptions → Type 0
 IsMistake (no.Usage status text) = status ≡ 2
 IsMistake no.Memory = Unit {0}
 
--- the program may end with this status: with that of its text, or with 5 where the text can't be
+-- the program may end with this status: with that of its text, or with 5 if the text can't be
 -- written; without memory with 4
 abbrev pub MayEndWith : NoOptions → ℕ → Type 0
 MayEndWith (no.Usage status text) ended = (ended ≡ status) ⊎ (ended ≡ 5)

@@ -1,12 +1,9 @@
 //! `clap`'s command of a program: its name, the project's version, and how its errors end it.
 
-ghost use Rattle.std.specs.Prelude.{IfErr, IfOk, [], map, string_bytes, ◌∷◌, ◌≡◌};
-ghost use Rattle.argus_usage.specs.Usage.{EndsBy, EndsWith0Or2, IsBare, IsUsage};
-ghost use Rattle.argus_usage.specs.Usage.{named_program};
-ghost use Rattle.clap.specs.Words.{fault_of, kind_of};
+ghost use Rattle.argus_usage.specs.Usage.{EndsWith0Or2, IsBare, IsUsage};
+ghost use Rattle.clap.specs.Words.{kind_of};
 
 use crate::no_options::NoOptions;
-use crate::words::with_name;
 use clap::error::ErrorKind;
 use clap::{Command, Error};
 use std::alloc::Global;
@@ -14,8 +11,8 @@ use std::alloc::Global;
 /// The version of the project, which both programs have.
 pub const VERSION: &str = "0.1.0";
 
-/// The command of a program that takes `--help` and `--version` and nothing else. Help begins with
-/// `about` and ends with `details`.
+/// The command of a program that takes `--help` and `--version` and nothing else yet. Help begins
+/// with `about` and ends with `details`.
 ///
 /// ```text
 /// let command = new_command(rt.alloc(), "picture", "Draws a listing.", "It comes from ..");
@@ -32,35 +29,6 @@ pub fn new_command<'a>(
         .version(VERSION)
         .about(about)
         .after_help(details)
-}
-
-/// Reads the words of a program that takes `--help` and `--version` and nothing else. Ok where there
-/// is no mistake in them and neither is asked for.
-///
-/// `Usage` has the text with which the program ends and its status: 2 for a mistake, 0 for `--help`
-/// and `--version`. `Memory` may come in place of any answer.
-///
-/// ```text
-/// take_no_options(rt.alloc(), "picture", ABOUT, DETAILS, words)?;
-/// ```
-pub fn take_no_options(
-    alloc: Global,
-    name: &str,
-    about: &str,
-    details: &str,
-    words: Vec<String>,
-) -> Result<(), NoOptions>
-    ensures status { IfErr result EndsWith0Or2 }
-    ensures taken { IfOk result (λ _.
-        fault_of (named_program name.now) (name.now ∷ map string_bytes words.items) ≡ []) }
-    ensures refused { IfErr result
-        (EndsBy (named_program name.now) (name.now ∷ map string_bytes words.items)) }
-{
-    let all = with_name(alloc, name, words.as_slice())?;
-    match new_command(alloc, name, about, details).try_get_matches_from(all.as_slice()) {
-        Ok(_) => Ok(()),
-        Err(error) => Err(usage(alloc, &error)),
-    }
 }
 
 /// How a program ends on an error of `clap`: with its text, and status 2 for a mistake, 0 for

@@ -4,8 +4,10 @@
 
 mod command;
 mod no_options;
+mod script_option;
 mod words;
 
-pub use command::{VERSION, new_command, take_no_options, usage};
+pub use command::{VERSION, new_command, usage};
 pub use no_options::NoOptions;
+pub use script_option::take_script;
 pub use words::{with_name, words_given};

@@ -1,11 +1,11 @@
-//! `NoOptions`: why a command line gives no options.
+//! `NoOptions`: why there are no options from a command line.
 
 ghost use Rattle.std.specs.Prelude.{◌≡◌, ◌⊎◌};
 ghost use Rattle.argus_usage.specs.Usage.{MayEndWith};
 
 use std::alloc::AllocError;
 
-/// Why a command line gives no options.
+/// Why there are no options from a command line.
 ///
 /// ```text
 /// match options(rt.alloc(), words) {
@@ -24,8 +24,8 @@ pub enum NoOptions {
 
 impl NoOptions {
     /// Writes the text with which the program ends: help and the version to standard output, a
-    /// mistake and want of memory to standard error. Returns the status with which it ends: that of
-    /// `Usage`, 4 for want of memory, and 5 where the text of `Usage` can't be written.
+    /// mistake or `out of memory` to standard error. Returns the status with which it ends: that of
+    /// `Usage`, 4 for out of memory, and 5 if the text of `Usage` can't be written.
     pub fn show(&self, rt: &(impl Print + Eprint)) -> u8
         ensures { MayEndWith self.now result }
     {
@@ -39,7 +39,7 @@ impl NoOptions {
     }
 }
 
-// That standard error can't be written is told by the status alone.
+// If standard error can't be written, only the status says so.
 fn show_text(rt: &(impl Print + Eprint), status: u8, text: &String) -> u8
     ensures { (result ≡ status) ⊎ (result ≡ 5) }
 {

@@ -8,11 +8,11 @@ use std::alloc::{AllocError, Global};
 use std::rt::Env;
 use std::{env, io};
 
-// The text with which a program ends where a word isn't UTF-8, as `clap` words it.
+// The text with which a program ends if a word isn't UTF-8, as `clap` words it.
 const NOT_UTF_8: &str = "error: invalid UTF-8 was detected in one or more arguments\n\n\
     For more information, try '--help'.\n";
 
-/// The words behind the program's name.
+/// The words after the program's name.
 ///
 /// `Usage`: one of them isn't UTF-8; the status is 2. `Memory`: there is no memory for them.
 ///
@@ -41,7 +41,7 @@ fn behind_name(alloc: Global, words: env::Args) -> Result<Vec<String>, AllocErro
     Ok(behind)
 }
 
-/// The program's name, and the words behind it: the list that `clap` reads.
+/// The program's name, and the words after it: the list that `clap` reads.
 ///
 /// `AllocError`: there is no memory for the list.
 pub fn with_name<'a>(

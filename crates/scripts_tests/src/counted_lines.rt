@@ -1,9 +1,9 @@
-//! Lines of a row of which one may stand for many: `from 1 to 256: #`.
+//! Lines of a row, one of which may stand for many: `from 1 to 256: #`.
 
 use argus_values::{Heap, Room};
 use test_rows::{Counted, RowFault, counted_of, spell_line};
 
-/// Adds the lines that this line of a row stands for, and tells how many they are.
+/// Adds the lines that this line of a row stands for, and returns how many they are.
 ///
 /// ```text
 /// spell_lines(texts, "from 1 to 3: begin_sub a^ -> a%", &mut out)?;      // 3 lines

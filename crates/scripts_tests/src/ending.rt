@@ -3,9 +3,8 @@
 use anyhow::Result;
 use std::io::Print;
 
-/// Tells what is wrong with the row at which a part ended, behind that row's name. Answers whether
-/// the
-/// part went through.
+/// Reports what is wrong with the row at which a part ended, after that row's name. Returns whether
+/// the part passed.
 pub(crate) fn tell_end(rt: &impl Print, part: Result<()>) -> Result<bool> {
     match part {
         Ok(()) => Ok(true),

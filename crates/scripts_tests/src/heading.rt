@@ -2,7 +2,7 @@
 
 use test_rows::{Block, RowFault, block_of};
 
-/// The name of a row, whether it is run with ample memory alone, and its further lines.
+/// The name of a row, whether it is run only with ample memory, and its further lines.
 ///
 /// ```text
 /// heading_of("test nothing\n| name a")?       // Some(Heading { name: "nothing", .. })
@@ -14,7 +14,7 @@ pub(crate) struct Heading<'a> {
     pub(crate) lines: &'a str,
 }
 
-/// What the row begins with that a block of text has; None where the block is none.
+/// What the row in a block of text begins with; `None` if the block isn't a row.
 pub(crate) fn heading_of<'a>(block: &'a str) -> Result<Option<Heading<'a>>, RowFault> {
     match block_of(block) {
         Block::Test {

@@ -55,7 +55,7 @@ pub(crate) fn check_rows<T: Files + Print + Alloc>(
     Ok(is_parsed && is_run && is_shown)
 }
 
-// Whether each script says, once parsed, what its row says.
+// Whether each script, when parsed, says what its row says.
 fn check_parsed<T: Files + Print + Alloc>(rt: &T, alloc: Global) -> Result<bool> {
     let mut tester = Tester::new(alloc)?;
     for name in PARSED {

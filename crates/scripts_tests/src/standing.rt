@@ -5,7 +5,7 @@ use argus_guardian::Guardian;
 use argus_values::Heap;
 use test_rows::{Counted, RowFault, call_of, counted_of, reply_of};
 
-/// A guardian on which these calls were made, each of which has to be answered as its row says:
+/// A guardian on which these calls were made, each of which has to get the reply that its row says:
 /// `CALL -> REPLY`, or `checkpoint -> done`. A row may stand for many.
 ///
 /// ```text
@@ -45,7 +45,7 @@ fn make(guardian: &mut Guardian, heap: Heap, row: &str) -> Result<()> {
     }
 }
 
-// Whether the row is answered as it says.
+// Whether the row gets the answer that it says.
 fn is_answered(guardian: &mut Guardian, heap: Heap, row: &str) -> Result<bool, RowFault> {
     let (asked, wanted) = row.split_once(" -> ").unwrap_or((row, ""));
     if asked == "checkpoint" {

@@ -1,8 +1,6 @@
 //! Scripts, run by workers: each is run by each number of workers that its row names, under the
-//! gate
-//! that the row describes, what is reported is compared, and all is settled; then it is run without
-//! a
-//! gate, with each allocation refused in turn.
+//! gate that the row describes; what is reported is compared, and all is settled. Then it is run
+//! without a gate, with each allocation refused in turn.
 
 mod checking;
 mod done;
@@ -55,7 +53,7 @@ fn check_files<R: Threads + Wait + Files + Print + Alloc + Copy + Drop + Send + 
     Ok(())
 }
 
-// Runs the scripts of a text. Answers how many allocations were refused.
+// Runs the scripts of a text. Returns how many allocations were refused.
 fn check_text<R: Threads + Wait + Print + Copy + Drop + Send + Sync>(
     rt: R,
     setting: Setting,

@@ -29,7 +29,7 @@ fn push_words(alloc: Global, row: &str, words: &mut Vec<String>) -> Result<()> {
     Ok(())
 }
 
-// Checks that each row's words ask for what stands after them. Returns how many rows there are.
+// Checks that each row's words ask for what comes after them. Returns how many rows there are.
 pub(crate) fn check_command_lines(alloc: Global, text: &str) -> Result<u64> {
     let mut rows = 0u64;
     for line in text.lines() {

@@ -18,7 +18,7 @@ const STEP: usize = 97;
 // What comes of a listing.
 type Picture = Result<String<Room>, PictureError>;
 
-/// Checks that `draw` writes what `picture` answers, and what it leaves where anything fails.
+/// Checks that `draw` writes what `picture` returns, and what it leaves if anything fails.
 pub(crate) fn check_draw(heaps: Heaps, listing: &[u8]) -> Result<()> {
     let heap = heaps.texts;
     let wanted = picture(heap, listing);
@@ -69,7 +69,7 @@ fn check_memory(heaps: Heaps, listing: &[u8], wanted: &Picture) -> Result<()> {
     bail!("there is never enough memory")
 }
 
-// The writer is full after so many bytes: the front of the picture was written, and no write is
+// The writer is full after this many bytes: a prefix of the picture was written, and no write is
 // tried again.
 fn check_writer(heap: Heap, listing: &[u8], text: &[u8]) -> Result<()> {
     for room in (0..text.len()).step_by(STEP) {
@@ -79,7 +79,7 @@ fn check_writer(heap: Heap, listing: &[u8], text: &[u8]) -> Result<()> {
     Ok(())
 }
 
-// To a writer that has room for this front alone, and then fails or takes nothing.
+// To a writer that has room for just this prefix, and then fails or accepts nothing.
 fn check_full_writer(heap: Heap, listing: &[u8], front: &[u8], fails: bool) -> Result<()> {
     let mut reader = FailStop::new(listing);
     let mut writer = FailStop::new(Full {
@@ -96,7 +96,7 @@ fn check_full_writer(heap: Heap, listing: &[u8], front: &[u8], fails: bool) -> R
     Ok(())
 }
 
-// Checks that this picture was written whole, or that this fault was told.
+// Checks that this picture was written whole, or that this fault was returned.
 fn check_drawn(answer: Result<(), DrawError>, written: &[u8], wanted: &Picture) -> Result<()> {
     match wanted {
         Ok(text) => {

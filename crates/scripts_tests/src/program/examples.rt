@@ -1,6 +1,5 @@
-//! The example scripts, run as their own comments say: what each lists is told, and with which
-//! status
-//! the program ends.
+//! The example scripts, run as their own comments say: prints what each lists, and with which
+//! status the program ends.
 //!
 //! The scripts lie in data/examples/, which `examples` at the top of the repository leads to. A
 //! comment
@@ -35,7 +34,7 @@ const EXAMPLES: [&str; 9] = [
     "examples/checkpoint.argus",
 ];
 
-// Tells what comes of each example, and of command lines that have no script.
+// Reports what comes of each example, and of command lines that have no script.
 pub(crate) fn tell_examples<T: Threads + Wait + Files + Print + Alloc + Copy + Drop + Send + Sync>(
     rt: &T,
     alloc: Global,
@@ -70,9 +69,8 @@ fn tell_example<T: Threads + Wait + Files + Print + Alloc + Copy + Drop + Send +
     Ok(())
 }
 
-// Draws the journal of the script's run, and tells whether this is the picture that is stored. If
-// it
-// is another, that one is told whole.
+// Draws the journal of the script's run, and reports whether this is the picture that is stored. If
+// it is another, it is printed whole.
 fn tell_picture<T: Threads + Wait + Files + Print + Alloc + Copy + Drop + Send + Sync>(
     rt: &T,
     alloc: Global,
@@ -107,7 +105,7 @@ fn tell_picture<T: Threads + Wait + Files + Print + Alloc + Copy + Drop + Send +
     Ok(())
 }
 
-// Tells a command line, and what comes of it where this is the program's input.
+// Reports a command line, and what comes of it if this is the program's input.
 fn tell_command<T: Threads + Wait + Print + Copy + Drop + Send + Sync, R: Read + Drop>(
     rt: &T,
     alloc: Global,
@@ -116,7 +114,7 @@ fn tell_command<T: Threads + Wait + Print + Copy + Drop + Send + Sync, R: Read +
     reader: R,
 ) -> Result<()> {
     rt.println(format_args!("./argus {command}"))?;
-    // The program's words are those in front of `<`.
+    // The program's words are those before `<`.
     let (words, _) = command.split_once('<').unwrap_or((command, ""));
     match options(alloc, words_of(alloc, words)?) {
         Ok(asked) => tell_run(rt, heap, reader, asked),
@@ -128,7 +126,7 @@ fn tell_command<T: Threads + Wait + Print + Copy + Drop + Send + Sync, R: Read +
     }
 }
 
-// Tells the listing of the script that the reader has, and the status.
+// Reports the listing of the script that the reader has, and the status.
 fn tell_run<T: Threads + Wait + Print + Copy + Drop + Send + Sync, R: Read + Drop>(
     rt: &T,
     heap: Heap,

@@ -3,7 +3,7 @@
 use argus_values::{Budget, Heap};
 use std::alloc::{AllocError, Global};
 
-// Memory for what is read and compared, and memory of which so many allocations may be made.
+// Memory for what is read and compared, and memory of which this many allocations may be made.
 #[derive(Clone, Copy)]
 pub(crate) struct Heaps {
     pub(crate) texts: Heap,
@@ -22,12 +22,12 @@ impl Heaps {
         })
     }
 
-    // From now on each allocation behind so many is refused.
+    // From now on each allocation after this many is refused.
     pub(crate) fn allow(self, allocations: u64) {
         self.budget.allow(allocations);
     }
 
-    // From now on none is refused. Answers whether all that were allowed have been made, so that
+    // From now on none is refused. Returns whether all that were allowed have been made, so that
     // some may have been refused.
     pub(crate) fn lift(self) -> bool {
         let is_spent = self.budget.left() == Some(0);

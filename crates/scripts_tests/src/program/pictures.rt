@@ -11,6 +11,12 @@ use argus_values::{Heap, Room};
 // More allocations than a picture of any row takes.
 const MANY: u64 = 10_000;
 
+// How each tag of a picture begins.
+const TAGS: [&str; 11] = [
+    "svg ", "svg>", "title>", "style>", "rect ", "text", "path ", "g>", "circle ", "defs>",
+    "pattern",
+];
+
 // Checks what comes of each row's listing. Returns how many rows there are.
 pub(crate) fn check_pictures(heaps: Heaps, text: &str) -> Result<u64> {
     let mut rows = 0u64;
@@ -28,9 +34,9 @@ pub(crate) fn check_pictures(heaps: Heaps, text: &str) -> Result<u64> {
     Ok(rows)
 }
 
-// The row's lines, which stand apart by strokes, with a line feed each; a row that ends in two dots
-// is torn there.
-fn listing_of(heap: Heap, row: &str) -> Result<String<Room>> {
+// The row's lines, which are separated by strokes, with a line feed each; a row that ends in two
+// dots is torn there.
+pub(crate) fn listing_of(heap: Heap, row: &str) -> Result<String<Room>> {
     let mut listing = String::new(heap.room());
     let (text, end) = match row.strip_suffix("..") {
         Some(text) => (text, ""),
@@ -54,6 +60,7 @@ fn check_row(heap: Heap, listing: &str, wanted: &str) -> Result<()> {
                 text.as_str().ends_with("</svg>\n"),
                 "a picture without its end"
             );
+            check_tags(text.as_str())?;
             String::from_str(heap.room(), "drawn")?
         }
         Err(PictureError::Fault(fault)) => {
@@ -66,7 +73,17 @@ fn check_row(heap: Heap, listing: &str, wanted: &str) -> Result<()> {
     Ok(())
 }
 
-// Checks that want of memory is told, whichever allocation is the first to be refused, and that
+// Checks that each tag is one that a picture has: no text of the listing is markup.
+fn check_tags(text: &str) -> Result<()> {
+    for part in text.split("<").skip(1) {
+        let part = part.strip_prefix("/").unwrap_or(part);
+        let is_known = TAGS.iter().any(|tag| part.starts_with(*tag));
+        ensure!(is_known, "a tag that no picture has");
+    }
+    Ok(())
+}
+
+// Checks that `OutOfMemory` is returned, whichever allocation is the first to be refused, and that
 // otherwise the answer is as with ample memory.
 fn check_memory(heaps: Heaps, listing: &[u8]) -> Result<()> {
     let wanted = picture(heaps.texts, listing);

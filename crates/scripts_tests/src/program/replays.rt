@@ -1,5 +1,5 @@
-//! Journals' listings, replayed: for each test what a replay answers and writes is compared; then each
-//! allocation, each read and each write fails in turn.
+//! Journals' listings, replayed: for each test what a replay returns and writes is compared; then
+//! each allocation, each read and each write fails in turn.
 
 ghost use Rattle.std.specs.Prelude.{false};
 ghost use Rattle.argus_commands.specs.FailStop.{has_failed};
@@ -59,7 +59,7 @@ fn check_row(alloc: Global, heaps: Heaps, row: &Row<'_>) -> Result<()> {
     check_memory(heaps, row, asked)
 }
 
-// The fault is the row's: with a prefix beside the listing, and else in its place.
+// The fault is the row's: with a prefix beside the listing, otherwise in its place.
 fn check_told(heap: Heap, row: &Row<'_>, asked: ReplayOptions, answer: &Replay) -> Result<()> {
     let mut told = String::new(heap.room());
     match answer {
@@ -106,7 +106,7 @@ fn check_reader(heap: Heap, row: &Row<'_>, asked: ReplayOptions) -> Result<()> {
     bail!("too many reads")
 }
 
-// The writer is full after each byte in turn: the front of the listing was written, and no write is
+// The writer is full after each byte in turn: a prefix of the listing was written, and no write is
 // tried again.
 fn check_writer(heap: Heap, row: &Row<'_>, asked: ReplayOptions) -> Result<()> {
     for room in 0..row.listing.len() {
@@ -116,7 +116,7 @@ fn check_writer(heap: Heap, row: &Row<'_>, asked: ReplayOptions) -> Result<()> {
     Ok(())
 }
 
-// To a writer with so much room, which then fails or takes nothing.
+// To a writer with this much room, which then fails or accepts nothing.
 fn check_full_writer(
     heap: Heap,
     row: &Row<'_>,
@@ -143,7 +143,7 @@ fn check_full_writer(
     Ok(())
 }
 
-// Each allocation is refused in turn: the front of the listing was written, if anything.
+// Each allocation is refused in turn: a prefix of the listing was written, if anything.
 fn check_memory(heaps: Heaps, row: &Row<'_>, asked: ReplayOptions) -> Result<()> {
     for allowed in 0..MANY {
         let mut writer = FailStop::new(Vec::new(heaps.texts.room()));

@@ -6,8 +6,8 @@ use argus_values::{Heap, Room};
 use test_rows::{RowFault, spell_line};
 
 // A script, the words with which the program is called, and what comes of it: its listing, with the
-// number of its lines, or the fault's text. Where the order of workers matters there is another
-// listing, which may come in its place. A large one is run with ample memory alone.
+// number of its lines, or the fault's text. If the order of workers matters there is another
+// listing, which may come in its place. A large one is run only with ample memory.
 #[derive(Drop)]
 pub(crate) struct Row<'a> {
     pub(crate) name: &'a str,
@@ -21,7 +21,7 @@ pub(crate) struct Row<'a> {
 }
 
 impl<'a> Row<'a> {
-    // The row that a block of text has; None where the block is none.
+    // The row in a block of text; `None` if the block isn't a row.
     pub(crate) fn of_block(heap: Heap, block: &'a str) -> Result<Option<Row<'a>>, RowFault> {
         match heading_of(block)? {
             Some(heading) => Ok(Some(Row::of_heading(heap, heading)?)),
@@ -72,7 +72,7 @@ impl<'a> Row<'a> {
             || (!self.other.is_empty() && listed == self.other.as_slice())
     }
 
-    // Whether the row says that this is the front of what is listed, or may be.
+    // Whether the row says that this is a prefix of what is listed, or may be.
     pub(crate) fn is_front(&self, listed: &[u8]) -> bool {
         self.listing.as_slice().starts_with(listed) || self.other.as_slice().starts_with(listed)
     }

@@ -1,6 +1,5 @@
-//! Scripts, run and listed: for each test of the files what a run answers and writes is compared;
-//! then
-//! each allocation, each read and each write fails in turn.
+//! Scripts, run and listed: for each test of the files what a run returns and writes is compared;
+//! then each allocation, each read and each write fails in turn.
 
 ghost use Rattle.std.specs.Prelude.{IfOk};
 ghost use Rattle.argus_cli.specs.Ranges.{KeepsRanges};
@@ -41,9 +40,8 @@ pub(crate) fn check_scripts<T: Threads + Wait + Files + Print + Alloc + Copy + D
     Ok(())
 }
 
-// Runs the scripts of a text. Each row's name is told ahead, so that what is wrong stands behind
-// it.
-// Answers how many allocations were refused.
+// Runs the scripts of a text. Each row's name is printed first, so that what is wrong comes after
+// it. Returns how many allocations were refused.
 fn check_text<T: Threads + Wait + Print + Copy + Drop + Send + Sync>(
     rt: &T,
     alloc: Global,
@@ -66,7 +64,7 @@ fn check_text<T: Threads + Wait + Print + Copy + Drop + Send + Sync>(
     Ok(refused)
 }
 
-// Runs the row's script in all ways. Answers how many allocations were refused in turn.
+// Runs the row's script in all ways. Returns how many allocations were refused in turn.
 fn check_row<T: Threads + Wait + Copy + Drop + Send + Sync>(
     rt: &T,
     alloc: Global,
@@ -81,7 +79,8 @@ fn check_row<T: Threads + Wait + Copy + Drop + Send + Sync>(
     check_reader(rt, heaps.texts, row, asked)?;
     check_writer(rt, heaps.texts, row, asked)?;
     if asked.patience > 0 {
-        // An arm that is refused memory keeps its locks, and who waits for them waits for ever.
+        // An arm that is refused memory keeps its locks, and an arm that waits for them waits for
+        // ever.
         return Ok(0);
     }
     check_memory(rt, heaps, row, asked)

@@ -18,7 +18,7 @@ use test_rows::{Failing, Full};
 // More allocations, and more reads, than any run here makes.
 const MANY: u64 = 5_000;
 
-// What the run answers and writes is what the row says.
+// What the run returns and writes is what the row says.
 pub(crate) fn check_listing<T: Threads + Wait + Copy + Drop + Send + Sync>(
     rt: &T,
     alloc: Global,
@@ -82,7 +82,7 @@ pub(crate) fn check_reader<T: Threads + Wait + Copy + Drop + Send + Sync>(
     Ok(())
 }
 
-// The writer is full after each byte in turn: the front of the listing was written, and no write is
+// The writer is full after each byte in turn: a prefix of the listing was written, and no write is
 // tried again.
 pub(crate) fn check_writer<T: Threads + Wait + Copy + Drop + Send + Sync>(
     rt: &T,
@@ -99,7 +99,7 @@ pub(crate) fn check_writer<T: Threads + Wait + Copy + Drop + Send + Sync>(
     Ok(())
 }
 
-// To a writer with so much room, which then fails or takes nothing.
+// To a writer with this much room, which then fails or accepts nothing.
 fn check_full_writer<T: Threads + Wait + Copy + Drop + Send + Sync>(
     rt: &T,
     heap: Heap,
@@ -127,8 +127,8 @@ fn check_full_writer<T: Threads + Wait + Copy + Drop + Send + Sync>(
     Ok(())
 }
 
-// Each allocation is refused in turn, on whichever thread: the front of the listing was written, if
-// anything. Answers how many there are.
+// Each allocation is refused in turn, on whichever thread: a prefix of the listing was written, if
+// anything. Returns how many there are.
 pub(crate) fn check_memory<T: Threads + Wait + Copy + Drop + Send + Sync>(
     rt: &T,
     heaps: Heaps,

@@ -5,7 +5,7 @@ use crate::runs::line_row::LineRow;
 use argus_values::{Heap, Room};
 use test_rows::{RowFault, spell, spell_line};
 
-// Said of a script, or of a line, that has no step.
+// What is said of a script, or of a line, without a step.
 const NOTHING: &str = "nothing";
 
 /// What the scripts of a test have in common: its lines with `|`, and those with `=`, which are
@@ -39,7 +39,7 @@ impl<'a> Frame<'a> {
         Ok(out)
     }
 
-    /// What has to come of it, with the row's answer at `STEP`. A fault stands alone.
+    /// What has to come of it, with the row's answer at `STEP`. A fault comes alone.
     pub(crate) fn wanted(&self, texts: Heap, row: LineRow<'_>) -> Result<Vec<u8, Room>, RowFault> {
         let mut out = Vec::new(texts.room());
         if row.answer.starts_with("line ") {
@@ -55,7 +55,7 @@ impl<'a> Frame<'a> {
         Ok(out)
     }
 
-    // What a row says is to have a place.
+    // What a row says needs a place.
     fn check_place(&self, place: &str, text: &str) -> Result<(), RowFault> {
         if text.is_empty() || self.lines.contains(place) {
             Ok(())
@@ -65,7 +65,7 @@ impl<'a> Frame<'a> {
     }
 }
 
-// The text behind a mark and a space; None where the line has another mark.
+// The text after a mark and a space; `None` if the line has another mark.
 fn behind_mark<'a>(mark: &str, line: &'a str) -> Option<&'a str> {
     let text = line.strip_prefix(mark)?;
     Some(text.strip_prefix(' ').unwrap_or(text))

@@ -1,4 +1,4 @@
-//! What an operation says, as text. Fields and tags are told by their numbers.
+//! What an operation says, as text. Fields and tags are given by their numbers.
 
 use argus_values::{Change, Content, OutOfMemory, Query, Room, Value, write_content, write_value};
 use std::fmt::Write;

@@ -1,8 +1,8 @@
-//! `Outline`: the lines that tell a script.
+//! `Outline`: the lines that describe a script.
 
 use argus_values::{Heap, OutOfMemory, Room};
 
-/// The lines that tell a script, so far.
+/// The lines that describe a script, so far.
 ///
 /// ```text
 /// let mut outline = Outline::new(texts);
@@ -11,7 +11,7 @@ use argus_values::{Heap, OutOfMemory, Room};
 #[derive(Drop)]
 pub(crate) struct Outline {
     pub(crate) text: String<Room>,
-    /// How many declarations are told.
+    /// How many declarations are described.
     pub(crate) declared: usize,
 }
 

@@ -7,16 +7,16 @@ use test_rows::RowFault;
 #[derive(Clone, Copy)]
 pub(crate) struct RunRow<'a> {
     pub(crate) name: &'a str,
-    /// It is run with ample memory alone.
+    /// It is run only with ample memory.
     pub(crate) is_large: bool,
-    /// A call with its reply in each line; none where the guardian is new.
+    /// A call with its reply in each line; none if the guardian is new.
     pub(crate) before: &'a str,
     pub(crate) script: &'a str,
     pub(crate) lines: &'a str,
 }
 
 impl<'a> RunRow<'a> {
-    // The row that a block of text has; None where the block is a comment.
+    // The row in a block of text; `None` if the block is a comment.
     pub(crate) fn of_block(block: &'a str) -> Result<Option<RunRow<'a>>, RowFault> {
         let Some(heading) = heading_of(block)? else {
             return Ok(None);

@@ -1,5 +1,5 @@
-//! Scripts, run: the lines that a run writes are compared; then each of its allocations is refused in
-//! turn, and it writes to a writer that is full after each byte.
+//! Scripts, run: the lines that a run writes are compared; then each of its allocations is refused
+//! in turn, and it writes to a writer that is full after each byte.
 
 ghost use Rattle.std.specs.Prelude.{false, ◌≡◌};
 ghost use Rattle.argus_commands.specs.FailStop.{has_failed};
@@ -14,7 +14,8 @@ use test_rows::{Full, Setting};
 // More allocations than any run here makes.
 const MANY: u64 = 2_000;
 
-// Runs the scripts of a text. Each row's name is printed first, so that what is wrong stands after it.
+// Runs the scripts of a text. Each row's name is printed first, so that what is wrong comes after
+// it.
 pub(crate) fn check_text<T: Print>(rt: &T, setting: Setting, text: &str) -> Result<()> {
     for block in text.split("\n\n") {
         match RunRow::of_block(block) {
@@ -38,7 +39,7 @@ fn check_row<T: Print>(rt: &T, setting: Setting, row: RunRow<'_>) -> Result<()> 
     Ok(())
 }
 
-// Runs the row's script on the row's guardian, within so many allocations.
+// Runs the row's script on the row's guardian, within this many allocations.
 fn run_row<W: Write + Drop>(
     setting: Setting,
     row: RunRow<'_>,
@@ -94,7 +95,7 @@ fn check_writer(setting: Setting, row: RunRow<'_>) -> Result<()> {
     Ok(())
 }
 
-// To a writer with so much room, which then fails or takes nothing.
+// To a writer with this much room, which then fails or accepts nothing.
 fn check_full_writer(setting: Setting, row: RunRow<'_>, room: usize, fails: bool) -> Result<()> {
     let mut writer = FailStop::new(Full {
         taken: Vec::new(setting.texts.room()),
@@ -120,7 +121,7 @@ fn is_whole(bytes: &[u8], lines: &str) -> bool {
     }
 }
 
-// Whether the bytes are the front of the lines. The row lacks the last line feed.
+// Whether the bytes are a prefix of the lines. The row lacks the last line feed.
 fn is_front(bytes: &[u8], lines: &str) -> bool {
     lines.as_bytes().starts_with(bytes) || is_whole(bytes, lines)
 }

@@ -6,7 +6,7 @@ use argus_commands::{ActionKind, BlockKind, Lock, ParseError, Script, Step};
 use argus_values::{Heap, OutOfMemory, Room, write_shape};
 use std::fmt::Write;
 
-/// What `parse` has answered. A fault is told as the line that it prints.
+/// What `parse` returned. A fault is given as the line that it prints.
 pub(crate) fn tell_answer(
     texts: Heap,
     answer: &Result<Script, ParseError>,

@@ -13,7 +13,7 @@ use test_rows::Setting;
 const MANY: u64 = 1_000;
 
 // Checks the receipts of a text against its scripts. Each row's name is printed first, so that what
-// is wrong stands after it.
+// is wrong comes after it.
 pub(crate) fn check_text<T: Print>(rt: &T, setting: Setting, text: &str) -> Result<()> {
     for block in text.split("\n\n") {
         match ShownRow::of_block(block) {
@@ -29,7 +29,7 @@ pub(crate) fn check_text<T: Print>(rt: &T, setting: Setting, text: &str) -> Resu
     Ok(())
 }
 
-// What is told of the row's receipts once no allocation is refused any more.
+// What is said of the row's receipts when no allocation is refused any more.
 fn check_row(setting: Setting, row: ShownRow<'_>) -> Result<&'static str> {
     let heap = setting.texts;
     let script = parse(heap, row.script.as_bytes())?;

@@ -13,7 +13,7 @@ pub(crate) struct ShownRow<'a> {
 }
 
 impl<'a> ShownRow<'a> {
-    // The row that a block of text has; None where the block is a comment.
+    // The row in a block of text; `None` if the block is a comment.
     pub(crate) fn of_block(block: &'a str) -> Result<Option<ShownRow<'a>>, RowFault> {
         let Some(heading) = heading_of(block)? else {
             return Ok(None);

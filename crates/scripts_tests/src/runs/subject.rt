@@ -1,10 +1,10 @@
-//! `Subject`: `parse`, which scripts are told to.
+//! `Subject`: `parse`, which scripts are passed to.
 
 use crate::runs::script_telling::tell_answer;
 use argus_commands::{ParseError, Script, parse};
 use argus_values::{Heap, OutOfMemory, Room};
 
-/// `parse` over a heap. What it answers is written in another heap, which always has memory.
+/// `parse` over a heap. What it returns is written in another heap, which always has memory.
 ///
 /// ```text
 /// let subject = Subject::new(heap, texts);

@@ -42,7 +42,7 @@ impl Tester {
         })
     }
 
-    /// Runs each test of the text, and tells how many scripts it has.
+    /// Runs each test of the text, and prints how many scripts it has.
     pub(crate) fn run_text(&mut self, rt: &impl Print, text: &str) -> io::Result<()> {
         for block in text.split("\n\n") {
             self.run_block(rt, block)?;
@@ -101,7 +101,7 @@ impl Tester {
         self.wrong = self.wrong.saturating_add(trial.wrong);
     }
 
-    /// Tells how many tests there are, in how many scripts each allocation was refused, and how
+    /// Reports how many tests there are, in how many scripts each allocation was refused, and how
     /// many answers were wrong.
     pub(crate) fn tell_counts(&self, rt: &impl Print) -> io::Result<()> {
         println!(rt;
@@ -114,7 +114,7 @@ impl Tester {
         )
     }
 
-    /// Whether every script was answered as its row says.
+    /// Whether every script got the answer that its row says.
     pub(crate) fn is_content(&self) -> bool {
         self.wrong == 0
     }

@@ -5,11 +5,11 @@ use argus_commands::ParseError;
 use argus_values::Budget;
 use test_rows::{RowFault, TightAnswer};
 
-// No script takes so many allocations.
+// No script takes this many allocations.
 const MOST: u64 = 1_000_000_000;
 
 /// `parse`, with the budget of its heap. Each allocation that a script takes is refused before the
-/// script is answered.
+/// script gets its answer.
 ///
 /// ```text
 /// let tight = TightSubject::new(Subject::new(heap, texts), budget);
@@ -29,7 +29,7 @@ impl TightSubject {
     }
 
     /// Refuses the first allocation, then the second, and so on to the last, and then allows just
-    /// so many. Each refusal has to be answered as want of memory.
+    /// this many. Each refusal has to be returned as `OutOfMemory`.
     pub(crate) fn answer(&self, script: &[u8]) -> Result<TightAnswer, RowFault> {
         let taken = self.allocations(script);
         for allowed in 0..taken {

@@ -10,8 +10,8 @@ use std::io::Print;
 use std::str::from_utf8;
 use test_rows::{RowFault, TightAnswer};
 
-/// One test, script by script: with ample memory and, but for large tests, once more where each
-/// allocation is refused in turn.
+/// One test, script by script: with ample memory and, except for large tests, once more with each
+/// allocation refused in turn.
 ///
 /// ```text
 /// let mut trial = Trial::new(texts, Subject::new(texts, texts), None);
@@ -39,7 +39,7 @@ impl Trial {
         }
     }
 
-    /// Parses the frame's script with the row's line in it, and tells where another answer comes.
+    /// Parses the frame's script with the row's line in it, and reports if another answer comes.
     pub(crate) fn run(
         &mut self,
         rt: &impl Print,

@@ -17,7 +17,7 @@ use test_rows::Setting;
 // More allocations than any run here makes.
 const MANY: u64 = 5_000;
 
-/// Runs the row's script by each number of workers that the row names. Answers how many allocations
+/// Runs the row's script by each number of workers that the row names. Returns how many allocations
 /// were refused in turn.
 pub(crate) fn check_row<R: Threads + Wait + Print + Copy + Drop + Send + Sync>(
     rt: R,
@@ -58,9 +58,9 @@ fn check_gated<R: Threads + Wait + Print + Copy + Drop + Send + Sync>(
     check_ran(&rt, plan.setting.texts, row, made, &ran)
 }
 
-// Each allocation of the run is refused in turn, on whichever thread. Where the run is answered so,
-// its guardian is settled all the same; else it comes to what it comes to with memory. Answers how
-// many were refused.
+// Each allocation of the run is refused in turn, on whichever thread. If the run returns that, its
+// guardian is settled all the same; otherwise the run comes to what it comes to with memory.
+// Returns how many were refused.
 fn check_memory<R: Threads + Wait + Print + Copy + Drop + Send + Sync>(
     rt: R,
     plan: Plan<'_>,

@@ -1,9 +1,9 @@
-//! `Hold`: what happens where an arm comes to a step.
+//! `Hold`: what happens when an arm comes to a step.
 
 use crate::workers::place::Place;
 use test_rows::{RowFault, first_word};
 
-/// What happens where an arm comes to a step.
+/// What happens when an arm comes to a step.
 ///
 /// ```text
 /// let hold = Hold::of_line("hold 1 0 until 0 1")?;        // Hold::Until { .. }
@@ -12,7 +12,7 @@ use test_rows::{RowFault, first_word};
 pub(crate) enum Hold {
     /// The arm is held up there until another arm has come to a step.
     Until { at: Place, other: Place },
-    /// The arm yields so often before each of its steps.
+    /// The arm yields this many times before each of its steps.
     Slow { arm: u32, turns: u32 },
     /// From there on no allocation is allowed.
     Refuse(Place),

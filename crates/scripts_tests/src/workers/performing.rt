@@ -16,7 +16,7 @@ use std::sync::Wait;
 use std::thread::{Threads, join};
 
 /// Runs the script by all seats, while the lookers look, and settles: with all receipts, or with
-/// none where allocations were refused.
+/// none if allocations were refused.
 pub(crate) fn perform<
     N: Sharing + Send + Sync,
     R: Threads + Wait + Copy + Drop + Send + Sync,

@@ -2,7 +2,7 @@
 
 use test_rows::{RowFault, first_word};
 
-/// A step that stands directly in an arm. Both are counted from 0.
+/// A step that is directly in an arm. Both are counted from 0.
 ///
 /// ```text
 /// let place = Place::of_words("1 0")?;            // Place { arm: 1, step: 0 }

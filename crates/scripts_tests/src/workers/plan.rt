@@ -12,7 +12,7 @@ use test_rows::Setting;
 #[derive(Clone, Copy)]
 pub(crate) struct Plan<'a> {
     pub(crate) setting: Setting,
-    /// Allocations may be refused, so that receipts may be lacking.
+    /// Allocations may be refused, so receipts may be missing.
     pub(crate) is_tight: bool,
     /// The calls that were made before, with their replies, a line each.
     pub(crate) before: &'a str,

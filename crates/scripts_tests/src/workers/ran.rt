@@ -4,8 +4,8 @@ use argus_commands::{RunFault, RunReport};
 use argus_guardian::Guardian;
 use argus_values::Room;
 
-/// What came of a run: the guardian once it is settled, what was reported, how many calls each seat
-/// made, and whether no allocation was left.
+/// What came of a run: the guardian after the settlement, what was reported, how many calls each
+/// seat made, and whether no allocation was left.
 ///
 /// ```text
 /// let ran = run(rt, plan, &NoGate)?;

@@ -14,7 +14,7 @@ use test_rows::{Counted, RowFault, counted_of, first_word, spell_line, spelled_r
 #[derive(Drop)]
 pub(crate) struct Row<'a> {
     pub(crate) name: &'a str,
-    /// It is run with ample memory alone.
+    /// It is run only with ample memory.
     pub(crate) is_large: bool,
     pub(crate) teams: Vec<Team<'a>, Room>,
     pub(crate) patience: u32,
@@ -31,12 +31,12 @@ pub(crate) struct Row<'a> {
     pub(crate) settlements: String<Room>,
     /// What is in the objects afterwards.
     pub(crate) bases: String<Room>,
-    /// The run is to be answered that memory is wanting.
+    /// The run should return that there is no memory.
     pub(crate) is_refused: bool,
 }
 
 impl<'a> Row<'a> {
-    /// The row that a block of text has; None where the block is none.
+    /// The row in a block of text; `None` if the block isn't a row.
     pub(crate) fn of_block(heap: Heap, block: &'a str) -> Result<Option<Row<'a>>, RowFault> {
         match heading_of(block)? {
             Some(heading) => Ok(Some(Row::of_heading(heap, heading)?)),
@@ -91,7 +91,7 @@ impl<'a> Row<'a> {
         Ok(())
     }
 
-    // A line of those of which there may be many.
+    // A line of a kind that may come many times.
     fn add_text(&mut self, line: &str) -> Result<(), RowFault> {
         let (word, rest) = first_word(line);
         match word {

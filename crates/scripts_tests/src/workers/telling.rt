@@ -1,4 +1,4 @@
-//! What comes of a run, as a row tells it.
+//! What comes of a run, as a row says it.
 
 use argus_commands::{ArmOutcome, RunReport};
 use argus_guardian::{Guardian, Receipt, Seat, Sharing};
@@ -19,7 +19,7 @@ pub(crate) fn told_made<N: Sharing>(
     Ok(out)
 }
 
-/// What is in the objects for good.
+/// The bases of the objects.
 pub(crate) fn told_bases(heap: Heap, guardian: &Guardian) -> Result<String<Room>, OutOfMemory> {
     let mut out = String::new(heap.room());
     for number in 0..guardian.objects() {
@@ -72,7 +72,7 @@ fn tell_receipt(receipt: &Receipt, out: &mut String<Room>) -> Result<(), OutOfMe
     Ok(())
 }
 
-/// Whether the text is one of those that `or` parts.
+/// Whether the text is one of those that `or` separates.
 pub(crate) fn is_among(wanted: &str, told: &str) -> bool {
     let mut is_there = false;
     for one in wanted.split(" or ") {

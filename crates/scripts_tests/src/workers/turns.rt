@@ -1,4 +1,4 @@
-//! `Turns`: a gate that does what a row says where arms come to steps.
+//! `Turns`: a gate that does what a row says when arms come to steps.
 
 use crate::workers::hold::Hold;
 use crate::workers::place::Place;
@@ -8,14 +8,14 @@ use std::sync::atomic::{AtomicU64, Ordering};
 use std::thread::yield_now;
 use test_rows::Setting;
 
-// How often an arm that is held up yields, before it is given up.
+// How often an arm that is held up yields before the gate gives up.
 const MOST: u32 = 1_000_000;
 
 // The arms that others may be held up for.
 const ARMS: u32 = 16;
 
 /// Holds arms up, and refuses memory, as a row says. No arm is held up for ever: after a million
-/// turns, each of which yields, it is given up.
+/// turns, each of which yields, the gate gives up.
 ///
 /// ```text
 /// let gate = Turns::new(setting, row.holds.as_slice())?;
@@ -27,7 +27,7 @@ pub(crate) struct Turns {
     holds: Vec<Hold, Room>,
     // For each arm to how many of its steps it has come.
     come: Vec<AtomicU64, Room>,
-    // How many times an arm was given up.
+    // How many times the gate gave up.
     given_up: AtomicU64,
     setting: Setting,
 }

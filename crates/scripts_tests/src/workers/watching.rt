@@ -58,7 +58,8 @@ fn says_the_same(first: &Option<Content>, second: &Option<Content>) -> bool {
 /// A looker that was briefed, and what it found then.
 pub(crate) type Briefed<N> = (Looker<N>, String<Room>);
 
-/// Each looker, once it is briefed and has looked once more. None may have found two things.
+/// Each looker, after it was briefed and looked once more. None may have found two different
+/// things.
 pub(crate) fn brief_all<N: Sharing, R: Wait + Drop>(
     rt: &R,
     heap: Heap,
@@ -76,7 +77,7 @@ pub(crate) fn brief_all<N: Sharing, R: Wait + Drop>(
     Ok(briefed)
 }
 
-/// What each briefed looker found has to be what the guardian has, and once it is settled a look
+/// What each briefed looker found has to be what the guardian has. After the settlement a look
 /// finds the same, or that the board has ended.
 pub(crate) fn look_again<N: Sharing>(
     heap: Heap,

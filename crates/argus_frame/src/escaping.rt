@@ -1,0 +1,37 @@
+//! Texts in a picture: escaped.
+
+ghost use Rattle.std.specs.Prelude.{OnOk, encode_utf8, string_bytes, ◌++◌, ◌≡◌};
+ghost use Rattle.argus_frame.specs.Escaping.{escape, escaped};
+
+use argus_memory::{OutOfMemory, Room};
+
+/// Appends the text, so that it stands in the picture as it is: nothing in it is markup. A
+/// character that no XML text may have stands as `U+FFFD`.
+///
+/// ```text
+/// append_escaped("<a> & b", &mut out)?;              // &lt;a&gt; &amp; b
+/// ```
+pub fn append_escaped(text: &str, out: &mut String<Room>) -> Result<(), OutOfMemory>
+    ensures { OnOk result (string_bytes out.new ≡ string_bytes out.old ++ escaped text.now) }
+{
+    let mut rest = text.chars();
+    while let Some(character) = rest.next() {
+        append_character(character, out)?;
+    }
+    Ok(())
+}
+
+fn append_character(character: char, out: &mut String<Room>) -> Result<(), OutOfMemory>
+    ensures { OnOk result (string_bytes out.new ≡ string_bytes out.old ++ escape character) }
+{
+    match character {
+        '&' => out.push_str("&amp;")?,
+        '<' => out.push_str("&lt;")?,
+        '>' => out.push_str("&gt;")?,
+        '"' => out.push_str("&quot;")?,
+        '\u{0}'..='\u{8}' | '\u{b}'..='\u{1f}' => out.push('\u{fffd}')?,
+        '\u{fffe}' | '\u{ffff}' => out.push('\u{fffd}')?,
+        _ => out.push(character)?,
+    }
+    Ok(())
+}

@@ -1,0 +1,45 @@
+-- The languages of an opening's lines, behind their first word.
+use Rattle.std.specs.Prelude.{List, None, Option, Some, codes, ℕ, ◌≡◌}
+use Rattle.argus_contents.specs.Content.{PlainContent}
+use Rattle.argus_contents.specs.declared.limits.TheConstants.{MAX_ACTIONS, MAX_VALUE_DEPTH}
+use Rattle.argus_openings.specs.declared.limits.TheConstants.{MAX_FIRST_ENTRY}
+use Rattle.argus_reading.specs.Combined.{Worded}
+use Rattle.argus_reading.specs.Operations.{Ids, blank}
+use Rattle.argus_texts.specs.ContentSpelling.{PartsWithin, content_spelling}
+use Rattle.argus_texts.specs.Language.{Language}
+use Rattle.argus_texts.specs.Languages.{Numbers, Pairs}
+use Rattle.argus_texts.specs.ShapeLanguages.{Shapes}
+
+-- how many entries and actions went before
+abbrev pub FoldedLines : Language
+FoldedLines =
+    Pairs (Worded (codes "entries ") (Numbers 1 MAX_FIRST_ENTRY)) blank
+    (Worded (codes "actions ") (Numbers 0 MAX_ACTIONS))
+
+-- a content as it is written; `absent` where there is none
+abbrev pub content_text : Option PlainContent → List ℕ
+content_text None = codes "absent"
+content_text (Some c) = content_spelling c
+
+-- no content, or one whose values have a depth of at most 16
+abbrev pub IsReadableContent : Option PlainContent → Type 0
+IsReadableContent None = Unit {0}
+IsReadableContent (Some c) = PartsWithin MAX_VALUE_DEPTH c
+
+-- contents, or the word that says that there is none
+abbrev pub OptionContents : Language
+OptionContents = record {
+  Thing = Option PlainContent;
+  Good = IsReadableContent;
+  form = content_text;
+  Ends = λ c rest. Unit {0};
+}
+
+-- objects with their shapes and contents
+abbrev pub ObjectLines : Language
+ObjectLines = Pairs (Worded (codes "o") Ids) blank (Pairs Shapes blank OptionContents)
+
+-- text is the form of this thing
+pub record IsForm (L : Language) (thing : L.Thing) (text : List ℕ) : Type 0 where
+  pub good : L.Good thing
+  pub is : text ≡ L.form thing

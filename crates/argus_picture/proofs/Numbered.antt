@@ -1,0 +1,31 @@
+-- The line of an entry, with its number: it is the listing's next one, or what is wrong with it.
+use Rattle.std.proofs.Common.{Err, List, Ok, Result, inl, inr, subst, sym, ◌+◌, ◌<◌, ◌≡◌, ◌⊎◌, ℕ}
+use Rattle.std.proofs.lemmas.Result.{IfErr-weaker}
+use Rattle.std.specs.Prelude.{IfErr, OnOk}
+use Rattle.argus_frame.specs.declared.listing_fault_kind.ListingFaultKind.TheVariants as kind
+use Rattle.argus_picture.specs.Faults.{SaysOfLine}
+use Rattle.argus_picture.specs.Listing.{Enters, IsNumbered, Place}
+use Rattle.argus_picture.specs.declared.limits.TheConstants.{MAX_ENTRIES}
+use Rattle.argus_picture.specs.declared.line_error.LineError.{LineError}
+use Rattle.argus_picture.specs.declared.line_error.LineError.TheVariants as line_error
+
+-- it was entered, if there was no error
+pub entered : (r : Result (Unit {0}) LineError) (at next : Place) (line : List ℕ) → at.entries < MAX_ENTRIES
+    → IsNumbered (at.first + at.entries) line → OnOk r (next.first ≡ at.first)
+    → OnOk r (next.entries ≡ at.entries + 1) → OnOk r (Enters at next line)
+entered (Ok x) at next line room numbered first entries =
+    record { room = room; numbered = numbered; first = first; entries = entries }
+entered (Err e) at next line room numbered first entries = tt
+
+says_of_next : (e : LineError) (at : Place) (line : List ℕ) → IsNumbered (at.first + at.entries) line
+    → (e ≡ line_error.OutOfMemory) ⊎ (e ≡ line_error.Fault kind.Unlawful) → SaysOfLine e at line
+says_of_next e at line numbered (inl is) = subst (λ x. SaysOfLine x at line) (sym is) tt
+says_of_next e at line numbered (inr is) = subst (λ x. SaysOfLine x at line) (sym is) numbered
+
+-- the next entry's line was refused: for no memory, or since no guardian would reply so
+pub refused : (r : Result (Unit {0}) LineError) (at : Place) (line : List ℕ) → IsNumbered (at.first + at.entries) line
+    → IfErr r (λ e. (e ≡ line_error.OutOfMemory) ⊎ (e ≡ line_error.Fault kind.Unlawful))
+    → IfErr r (λ e. SaysOfLine e at line)
+refused r at line numbered says =
+    IfErr-weaker r (λ e. (e ≡ line_error.OutOfMemory) ⊎ (e ≡ line_error.Fault kind.Unlawful))
+    (λ e. SaysOfLine e at line) (λ e why. says_of_next e at line numbered why) says

@@ -1,0 +1,27 @@
+-- The text is the line of the opening's next object, or isn't.
+use Rattle.std.proofs.Common.{sym, ◌∙◌}
+use Rattle.std.proofs.lemmas.Bool.{false≢true}
+use Rattle.std.proofs.lemmas.Result.{on_ok_weaker}
+use Rattle.argus_contents.specs.Content.{plain_option}
+use Rattle.argus_picture.specs.RunPlace.{place_of}
+use Rattle.argus_picture.proofs.Openings.{adds, no_adding, no_object}
+use Rattle.argus_picture.proofs.run.Run.take_opened.Goals as goal
+
+pub returns-in-Err-Left-clause-fault : goal.returns-in-Err-Left-clause-fault
+returns-in-Err-Left-clause-fault c =
+    no_object (place_of c.args.self.now) c.args.rest.now c.requires.opened
+    (rw c.in-Err-Left.field-0-is at c.in-Err-Left.ensures.stops)
+
+pub returns-then-not-may_add-clause-fault : goal.returns-then-not-may_add-clause-fault
+returns-then-not-may_add-clause-fault c =
+    no_adding (place_of c.args.self.now) c.args.rest.now c.in-Ok.object c.in-Ok.shape (plain_option c.in-Ok.content)
+    c.requires.opened c.in-Ok.ensures.read
+    (λ o r f. false≢true (sym c.if-not-may_add.true ∙ c.may_add.ensures.1 (o, r, f)))
+
+pub returns-else-not-may_add-clause-line : goal.returns-else-not-may_add-clause-line
+returns-else-not-may_add-clause-line c =
+    on_ok_weaker c.add_object.result
+    (λ is. adds (place_of c.args.self.now) (place_of c.add_object.new.self) c.args.rest.now c.in-Ok.object
+    c.in-Ok.shape (plain_option c.in-Ok.content) c.requires.none c.requires.opened
+    (c.may_add.ensures.0 c.if-not-may_add.false) c.in-Ok.ensures.read is)
+    c.add_object.ensures.added

@@ -1,0 +1,12 @@
+-- Neither nothing came before, nor is there an opening without an entry.
+use Rattle.std.proofs.Common.{sym, ◌∙◌}
+use Rattle.std.proofs.lemmas.Bool.{false≢true}
+use Rattle.argus_picture.specs.RunPlace.{place_of}
+use Rattle.argus_picture.proofs.Openings.{no_opening}
+use Rattle.argus_picture.proofs.run.Run.take_opening.Goals as goal
+
+pub returns-clause-fault : goal.returns-clause-fault
+returns-clause-fault c =
+    no_opening (place_of c.args.self.now) c.args.rest.now
+    (λ e. false≢true (sym c.if-is_at_start.false ∙ c.is_at_start.ensures.1 e))
+    (λ n h. false≢true (sym c.if-is_in_opening.false ∙ c.is_in_opening.ensures.1 (n, h)))

@@ -1,0 +1,12 @@
+-- How far the listing has come that a run was read from.
+use Rattle.std.specs.Prelude.{length}
+use Rattle.argus_picture.specs.Listing.{Place}
+use Rattle.argus_picture.specs.declared.run.Run.{Run}
+
+-- how far the listing has come
+abbrev pub place_of : Run → Place
+place_of run = record {
+  first = run.first_entry;
+  objects = length run.objects.items;
+  entries = run.entries;
+}

@@ -1,0 +1,52 @@
+//! Whether a script's names are those of a journal's objects.
+
+ghost use Rattle.std.specs.Prelude.{IfNone, IfOk, IfSome, IsTrue, List, map, ◌++◌, ◌↔◌, ◌≡◌};
+ghost use Rattle.argus_contents.specs.Shape.{PlainShape};
+ghost use Rattle.argus_picture.specs.Naming.{IsNamesFault};
+
+use crate::names_fault::NamesFault;
+use crate::names_fault_kind::NamesFaultKind;
+use argus_contents::{Name, Shape};
+use argus_memory::{Heap, OutOfMemory, Room};
+
+/// The first object that is named, with its shape, and isn't there so. None: the first objects that
+/// are there have these shapes.
+pub(crate) fn names_fault(there: &[Shape], named: &[Shape]) -> Option<NamesFault>
+    ensures none { IfNone result ((more : List PlainShape) × (there.now ≡ named.now ++ more)) }
+    ensures some { IfSome result (IsNamesFault there.now named.now) }
+{
+    let mut object = 0;
+    while object < named.len() {
+        if object >= there.len() {
+            return Some(fault_at(object, NamesFaultKind::NotDeclared));
+        }
+        if !are_same(&there[object], &named[object]) {
+            return Some(fault_at(object, NamesFaultKind::OtherShape));
+        }
+        object += 1;
+    }
+    None
+}
+
+fn are_same(there: &Shape, named: &Shape) -> bool
+    ensures { IsTrue result ↔ (there.now ≡ named.now) }
+{
+    *there == *named
+}
+
+fn fault_at(object: usize, kind: NamesFaultKind) -> NamesFault
+    ensures { result ≡ record { object = object; kind = kind } }
+{
+    NamesFault { object, kind }
+}
+
+/// The names as texts.
+pub(crate) fn texts_of(heap: Heap, names: &[Name]) -> Result<Vec<&str, Room>, OutOfMemory>
+    ensures { IfOk result (λ texts. map (λ text. text.now) texts.items ≡ names.now) }
+{
+    let mut texts = Vec::new(heap.room());
+    for name in names {
+        texts.push(name.as_str())?;
+    }
+    Ok(texts)
+}
