@@ -1,10 +1,10 @@
 //! The guardian: the crate that users name.
 //!
-//! It passes on `argus_core` (the guardian of one thread), `argus_sharing` (the guardian that threads
-//! share), `argus_receipts` (receipts of its calls), `argus_board` (the readers' board),
-//! `argus_listings` (what is listed of a guardian), `argus_reading` (a line of the journal's listing
-//! read back) and `argus_resume` (a guardian made again from such lines), with the reader or the
-//! writer that a listing comes from or goes to.
+//! It re-exports `argus_core` (the guardian of one thread), `argus_sharing` (the guardian that
+//! threads share), `argus_receipts` (receipts of its calls), `argus_board` (the readers' board),
+//! `argus_listings` (listings of a guardian), `argus_reading` (a line of the journal's listing read
+//! back) and `argus_resume` (a guardian rebuilt from such lines). It also re-exports the reader
+//! that a listing comes from and the writer that it goes to.
 //!
 //! ```text
 //! use argus_guardian::{Guardian, Keeper, Looker, Seat, Shared};

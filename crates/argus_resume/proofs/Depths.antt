@@ -1,4 +1,4 @@
--- What a change leaves and answers, and what a query answers, is no deeper than what was there and what was handed in.
+-- What a change leaves and returns, and what a query returns, is no deeper than what was there and what was passed in.
 use Rattle.std.proofs.Common.{Bool, List, None, Option, Some, [], arith, drop, false, length, nat_lt, pos, negsuc, suc}
 use Rattle.std.proofs.Common.{take, true, zero, ℕ, ℤ, ◌++◌, ◌-◌, ◌-ℤ◌, ◌<◌, ◌^◌, ◌∷◌, ◌≤ℤ◌}
 use Rattle.std.proofs.lemmas.Int.{ints}

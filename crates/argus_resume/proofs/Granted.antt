@@ -1,4 +1,4 @@
--- A call that was not refused has values of depth at most 16, if it is such as a program can hold.
+-- A call that was not refused has values of depth at most 16, if a program can hold it.
 use Rattle.std.proofs.Common.{Bool, List, None, Option, Some, [], false, length, refl, suc, true, zero, ℕ}
 use Rattle.std.proofs.Common.{◌++◌, ◌+◌, ◌∙◌, ◌∷◌, ◌≡◌}
 use Rattle.std.proofs.lemmas.Bool.{false≢true}

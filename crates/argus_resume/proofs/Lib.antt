@@ -22,3 +22,4 @@ pub mod Readable
 pub mod Folds
 pub mod NextLines
 pub mod Crossing
+pub mod WellFormedValues

@@ -1,4 +1,4 @@
--- No listing is longer than what was taken where the next line is at fault, and a listing is taken whole.
+-- No listing is longer than what was taken if the next line is at fault, and a listing is taken whole.
 use Rattle.std.proofs.Common.{◌≡◌, ◌≢◌, ℕ, ◌+◌, ◌<◌, ◌^◌, List, [], ◌∷◌, ◌++◌, length, refl}
 use Rattle.std.proofs.Common.{sym, ap}
 use Rattle.std.proofs.Common.{◌∙◌, subst, inl, inr, arith, append_assoc, append-nil, length-append, true}

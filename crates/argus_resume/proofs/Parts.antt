@@ -1,4 +1,4 @@
--- Texts that are forms of a language whole: where a part of a pair doesn't come, the text is no form of it.
+-- Texts that are whole forms of a language: if a part of a pair doesn't come, the text isn't a form of it.
 use Rattle.std.proofs.Common.{◌≡◌, ℕ, ◌<◌, List, [], ◌∷◌, ◌++◌, length, refl, sym, ap, ◌∙◌, subst, append-nil, arith}
 use Rattle.argus_texts.specs.Language.{FormOf, IsNot, Language, NoWay, Reads, Starts, Stops}
 use Rattle.argus_texts.specs.Languages.{Pairs}

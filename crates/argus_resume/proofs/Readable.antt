@@ -1,4 +1,4 @@
--- The lines of a legal journal can be read exactly where its calls can.
+-- The lines of a legal journal can be read exactly if its calls can.
 use Rattle.std.proofs.Common.{List, [], subst, sym, true, ◌∷◌, ◌≡◌}
 use Rattle.argus_contents.specs.declared.limits.TheConstants.{MAX_VALUE_DEPTH}
 use Rattle.argus_entries.specs.Entry.{PlainEntry}

@@ -1,4 +1,4 @@
--- A journal that is made again entry by entry, the oldest first.
+-- A journal that is rebuilt entry by entry, the oldest first.
 use Rattle.std.proofs.Common.{◌≡◌, ℕ, suc, zero, ◌+◌, ◌-◌, ◌<◌, ◌≤◌, List, [], ◌∷◌, length, drop, get_or, sym, ap, ◌∙◌}
 use Rattle.std.proofs.Common.{None, Option, Some, subst, arith, cond, false, nat_lt, reverse, drop-cons, inl, inr, refl}
 use Rattle.std.proofs.Common.{◌≢◌}

@@ -1,4 +1,4 @@
--- The replies of a legal journal can be read, where its opening and its calls can.
+-- The replies of a legal journal can be read if its opening and its calls can.
 use Rattle.std.proofs.Common.{Bool, List, None, Option, Some, arith, inl, inr, subst, sym, true, ℕ, ◌+◌}
 use Rattle.std.proofs.Common.{◌<◌, ◌^◌, ◌≡◌}
 use Rattle.argus_contents.specs.Content.{KeepsLimits, PlainContent}

@@ -1,4 +1,4 @@
--- What is in an object is no deeper than what was there in the opening and what calls handed in.
+-- What is in an object is no deeper than what the opening had and what calls passed in.
 use Rattle.std.proofs.Common.{Bool, List, None, Option, Some, [], false, suc, true, zero, ℕ, ◌+◌, ◌∷◌}
 use Rattle.std.specs.Prelude.{◌&&◌, ◌==◌}
 use Rattle.argus_contents.specs.Change.{touch}

@@ -1,4 +1,4 @@
--- How a stage comes further by a line.
+-- How a stage advances by a line.
 use Rattle.std.proofs.Common.{◌≡◌, ℕ, ◌<◌, ◌==◌, List, [], ◌∷◌, ◌++◌, length, refl, sym, ap, ◌∙◌, subst}
 use Rattle.std.proofs.Common.{inl, inr, arith, true, false, cond}
 use Rattle.std.specs.Prelude.{Err, Ok, OnOk, Result, codes}

@@ -22,7 +22,7 @@ pub record HasFrontLine (number : ℕ) (entry : PlainEntry) (text rest : List �
   pub readable : IsReadable entry
   pub is : text ≡ entry_line number entry ++ rest
 
--- what an error says of the first line of a text behind the journal's listing; out of memory says
+-- what an error says of the first line of a text after the journal's listing; out of memory says
 -- nothing
 abbrev pub IsFrontError : LineError → JournalView → List ℕ → Type 0
 IsFrontError (error.Fault fault) journal text = IsFaulty journal text fault

@@ -18,9 +18,9 @@ use Rattle.argus_resume.specs.declared.resumed.Resumed.{Resumed}
 use Rattle.argus_resume.specs.declared.taken_end.TakenEnd.{TakenEnd}
 use Rattle.argus_resume.specs.declared.taken_end.TakenEnd.TheVariants.{OutOfMemory, Whole}
 
--- a journal that a guardian can have and lines stand for: it is legal, its opening is sound and can
--- be read, its entries are numbered within 64 bits, and each of its calls can be read. Of its
--- replies nothing is asked
+-- a journal that a guardian can have and lines can spell: it is legal, its opening is sound and can
+-- be read, its entries are numbered within 64 bits, and each of its calls can be read. Nothing is
+-- asked of its replies
 pub record IsListable (journal : JournalView) : Type 0 where
   pub opening : IsEmptyOrReadable journal.opening
   pub calls : HaveReadableCalls journal.entries
@@ -28,8 +28,8 @@ pub record IsListable (journal : JournalView) : Type 0 where
   pub sound : is_sound journal.opening ≡ true
   pub numbers : next_entry journal ≤ 2 ^ 64
 
--- The entries of a legal journal can be read, each with its reply, exactly where its calls can be:
--- its opening has to be sound and readable.
+-- The entries of a legal journal can be read, each with its reply, exactly if its calls can be: its
+-- opening has to be sound and readable.
 abbrev pub JournalsAreReadable : Type 0
 JournalsAreReadable =
     (journal : JournalView) → Legal journal.opening journal.entries
@@ -52,8 +52,8 @@ CheckpointsLeaveListable =
 abbrev pub EndsInFeed : List ℕ → Type 0
 EndsInFeed text = (lines : List ℕ) × (text ≡ lines ++ 10 ∷ [])
 
--- Where the next line is at fault, no listing is longer than what was taken: no legal journal's
--- listing is what was taken and then a front of what is left that ends in a line feed.
+-- If the next line is at fault, no listing is longer than what was taken: no legal journal's
+-- listing is what was taken and then a prefix of what is left that ends in a line feed.
 abbrev pub NoLongerFrontIsAListing : Type 0
 NoLongerFrontIsAListing =
     (taken : JournalView) (left : List ℕ) (fault : LineFault) → IsReadableJournal taken
@@ -61,17 +61,17 @@ NoLongerFrontIsAListing =
     → (other : JournalView) → IsListable other
     → journal_text other ≡ journal_text taken ++ front → ⊥
 
--- A listing is taken whole, and gives its journal: where what was taken and what is left is the
--- listing of a legal journal, nothing is left, and that journal was taken; unless memory is
--- wanting.
+-- A listing is taken whole, and gives its journal: if what was taken and what is left is the
+-- listing of a legal journal, nothing is left, and that journal was taken; unless there is no
+-- memory.
 abbrev pub ListingsAreTakenBack : Type 0
 ListingsAreTakenBack =
     (taken : JournalView) (left : List ℕ) (end : TakenEnd) → IsReadableJournal taken
     → EndsTaking end taken left → end ≢ OutOfMemory → (other : JournalView) → IsListable other
     → journal_text other ≡ journal_text taken ++ left → (end ≡ Whole) × (taken ≡ other)
 
--- A listing that a reader has is resumed whole, and the guardian has its journal: unless memory is
--- wanting or a read fails.
+-- A listing that a reader has is resumed whole, and the guardian has its journal: unless there is
+-- no memory or a read fails.
 abbrev pub ListingsAreResumed : Type 0
 ListingsAreResumed =
     (has : Option (List ℕ)) (failed : Bool) (resumed : Resumed) (listed : JournalView)

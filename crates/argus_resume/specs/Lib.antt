@@ -8,4 +8,5 @@ pub mod Taking
 pub mod Stage
 pub mod Resumed
 pub mod ReadableCalls
+pub mod WellFormed
 pub mod Laws

@@ -1,4 +1,4 @@
--- What a line may be behind a journal's listing, and what a fault says of one that isn't the next.
+-- What a line may be after a journal's listing, and what a fault says of one that isn't the next.
 use Rattle.std.specs.Prelude.{List, [], codes, false, length, true, ℕ, ◌++◌, ◌<◌, ◌^◌, ◌∷◌, ◌≡◌}
 use Rattle.std.specs.Prelude.{◌≢◌, ◌≤◌, ◌⊎◌}
 use Rattle.std.specs.Str.{IsUtf8, IsValidUpTo}
@@ -74,7 +74,7 @@ pub record IsBehindUnsound (journal : JournalView) (line : List ℕ) : Type 0 wh
   pub of : IsLineOf (next_entry journal) entry line
   pub unsound : is_sound journal.opening ≡ false
 
--- the line is that of the next entry, whose reply isn't this one, which the journal gives
+-- the line is that of the next entry, whose reply isn't this one, which follows from the journal
 pub record HasOtherReply (journal : JournalView) (line : List ℕ) (given : PlainReply) : Type 0 where
   pub entry : PlainEntry
   pub of : IsLineOf (next_entry journal) entry line
@@ -82,7 +82,7 @@ pub record HasOtherReply (journal : JournalView) (line : List ℕ) (given : Plai
   pub gives : given ≡ reply_to journal entry.call
   pub other : entry.reply ≢ given
 
--- what a fault says of a line behind a journal's listing
+-- what a fault says of a line after a journal's listing
 abbrev pub IsLineFault : LineFault → JournalView → List ℕ → Type 0
 IsLineFault (fault.NoText at) journal line = (IsUtf8 line → ⊥) × IsValidUpTo line at
 IsLineFault fault.NotAnOpening journal line = IsOfOpening line × (IsNextOfOpening journal line → ⊥)
@@ -92,7 +92,7 @@ IsLineFault fault.NotNext journal line = HasOtherNumber journal line
 IsLineFault fault.NotSound journal line = IsBehindUnsound journal line
 IsLineFault (fault.NotTheReply reply) journal line = HasOtherReply journal line (plain_reply reply)
 
--- what an error says of a line; want of memory says nothing
+-- what an error says of a line; out of memory says nothing
 abbrev pub IsLineError : LineError → JournalView → List ℕ → Type 0
 IsLineError (error.Fault fault) journal line = IsLineFault fault journal line
 IsLineError error.OutOfMemory journal line = Unit {0}

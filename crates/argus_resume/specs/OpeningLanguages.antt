@@ -1,4 +1,4 @@
--- The languages of an opening's lines, behind their first word.
+-- The languages of an opening's lines, after their first word.
 use Rattle.std.specs.Prelude.{List, Option, codes, ℕ, ◌≡◌}
 use Rattle.argus_contents.specs.Content.{PlainContent}
 use Rattle.argus_contents.specs.declared.limits.TheConstants.{MAX_ACTIONS}

@@ -8,18 +8,18 @@ use Rattle.argus_entries.specs.Reply.{refused}
 use Rattle.argus_entries.specs.declared.refusal.Refusal.{Refusal}
 use Rattle.argus_reading.specs.Calls.{DeclaresShape}
 
--- a call such as a program can hold: its numbers are in range, its texts in UTF-8, and a shape that
--- it declares can be made; its values are of some depth, whatever it is
+-- a call that a program can hold: its numbers are in range, its texts in UTF-8, and a shape that it
+-- declares can be made; its values may have any depth
 abbrev pub IsWellFormed : PlainCall → Type 0
 IsWellFormed c = ((depth : ℕ) × CallWithin depth c) × DeclaresShape c
 
--- an entry with a call such as a program can hold, and if it was refused, for whatever reason, its
+-- an entry with a call that a program can hold; and if it was refused, for whatever reason, its
 -- values have a depth of at most 16
 pub record HasReadableCall (e : PlainEntry) : Type 0 where
   pub well_formed : IsWellFormed e.call
   pub depth : (why : Refusal) → e.reply ≡ refused why → CallWithin MAX_VALUE_DEPTH e.call
 
--- each of the entries is such
+-- each of the entries is such an entry
 abbrev pub HaveReadableCalls : List PlainEntry → Type 0
 HaveReadableCalls [] = Unit {0}
 HaveReadableCalls (e ∷ older) = HasReadableCall e × HaveReadableCalls older

@@ -1,4 +1,4 @@
--- What a guardian is that was made from what a reader had.
+-- What a guardian is that was made from what a reader returned.
 use Rattle.std.specs.Prelude.{Bool, List, Option, length, ℕ, ◌+◌, ◌≡◌}
 use Rattle.argus_journal.specs.JournalView.{JournalView}
 use Rattle.argus_resume.specs.JournalText.{IsReadableJournal, journal_text, no_journal}
@@ -12,8 +12,8 @@ abbrev pub taken_in : Resumed → TakenFrom
 taken_in resumed =
     record { bytes = resumed.bytes; lines = resumed.lines; end = resumed.end }
 
--- The bytes that were taken are the listing of a journal, and the guardian's is that journal: all
--- of it where it has an entry, and else with as many objects as make a sound opening.
+-- The bytes that were taken are the listing of a journal, and the guardian has that journal: all of
+-- it if it has an entry, and otherwise with as many objects as make a sound opening.
 pub record IsResumed (had has : Option (List ℕ)) (failed : Bool) (resumed : Resumed) : Type 0 where
   pub journal : JournalView
   pub readable : IsReadableJournal journal

@@ -1,9 +1,9 @@
--- The longest front of an opening that is sound.
+-- The longest prefix of an opening that is sound.
 use Rattle.std.specs.Prelude.{if◌then◌else◌, length, take, ℕ, suc, zero}
 use Rattle.argus_journal.specs.JournalView.{JournalView}
 use Rattle.argus_journal.specs.Opening.{Opening, is_sound, opening_at}
 
--- the opening with its first objects alone
+-- the opening with its first objects only
 abbrev pub opening_front : Opening → ℕ → Opening
 opening_front s n = opening_at (take n s.objects) s.first_action s.first_entry
 

@@ -34,11 +34,11 @@ opening_read lines =
 abbrev pub lines_of : Opening → List ℕ
 lines_of s = folded_line s.first_entry s.first_action ++ each_from opened_line 0 s.objects
 
--- the journal of an opening alone
+-- the journal with an opening only
 abbrev pub opened_alone : Opening → JournalView
 opened_alone s = record { opening = s; entries = [] }
 
--- a line of an opening, with its end, from what stands behind its first word
+-- a line of an opening, with its end, from what comes after its first word
 abbrev pub opening_line : List ℕ → List ℕ
 opening_line rest = codes "opening " ++ rest ++ 10 ∷ []
 
@@ -60,12 +60,12 @@ abbrev pub taken_by : EntryLines → JournalView
 taken_by entries =
     if entries.is_ahead then without_newest entries.guardian else entries.guardian
 
--- a journal that is no opening alone: of no line, or with an entry
+-- a journal that isn't just an opening: with no line, or with an entry
 abbrev pub HasEntries : JournalView → Type 0
 HasEntries journal = 0 < journal.opening.first_entry → journal.entries ≢ []
 
--- the journal that was taken is readable, and is no opening alone; a guardian that is ahead has an
--- entry
+-- the journal that was taken is readable, and isn't just an opening; a guardian that is ahead has
+-- an entry
 pub record AreEntries (entries : EntryLines) : Type 0 where
   pub readable : IsReadableJournal (taken_by entries)
   pub no_opening : HasEntries (taken_by entries)
@@ -86,7 +86,7 @@ abbrev pub IsLevel : Stage → Type 0
 IsLevel (stage.Opening lines) = Unit {0}
 IsLevel (stage.Entries entries) = entries.is_ahead ≡ false
 
--- an error says of each line of the entry what is wrong with it
+-- an error says what is wrong with each line of the entry
 abbrev pub SaysOf : LineError → JournalView → PlainEntry → Type 0
 SaysOf e journal entry =
     (line : List ℕ) → IsLineOf (next_entry journal) entry line → IsLineError e journal line

@@ -21,7 +21,7 @@ HasNoFeed (b ∷ bytes) = (b ≢ 10) × HasNoFeed bytes
 abbrev pub line_count : List ℕ → ℕ
 line_count text = count_by (λ b. b == 10) text
 
--- the first line of the text has so many bytes, with its line feed
+-- the first line of the text has this many bytes, with its line feed
 pub record IsFirstLine (count : ℕ) (text : List ℕ) : Type 0 where
   pub some : 0 < count
   pub within : count ≤ length text
@@ -31,7 +31,7 @@ pub record IsFirstLine (count : ℕ) (text : List ℕ) : Type 0 where
 abbrev pub IsTorn : List ℕ → Type 0
 IsTorn text = (text ≢ []) × HasNoFeed text
 
--- the first line of the text is at fault behind the journal's listing
+-- the first line of the text is at fault after the journal's listing
 pub record IsFaulty (journal : JournalView) (text : List ℕ) (fault : LineFault) : Type 0 where
   pub line : List ℕ
   pub more : List ℕ
@@ -39,7 +39,7 @@ pub record IsFaulty (journal : JournalView) (text : List ℕ) (fault : LineFault
   pub whole : HasNoFeed line
   pub says : IsLineFault fault journal line
 
--- what an end says of the bytes that are left behind the journal's listing; want of memory says
+-- what an end says of the bytes that are left after the journal's listing; out of memory says
 -- nothing
 abbrev pub EndsTaking : TakenEnd → JournalView → List ℕ → Type 0
 EndsTaking taken.Whole journal left = left ≡ []
@@ -48,7 +48,7 @@ EndsTaking (taken.Fault fault) journal left = IsFaulty journal left fault
 EndsTaking taken.OutOfMemory journal left = Unit {0}
 
 -- what an end says of the bytes that were read and are left, of what the reader then has, and of
--- whether it has failed; want of memory says nothing
+-- whether it has failed; out of memory says nothing
 abbrev pub EndsReading : ReadEnd → JournalView → List ℕ → Option (List ℕ) → Bool → Type 0
 EndsReading read.Whole journal left has failed = (left ≡ []) × IsAtEnd has × (failed ≡ false)
 EndsReading read.Torn journal left has failed = IsTorn left × IsAtEnd has × (failed ≡ false)
@@ -67,19 +67,19 @@ pub record TakesFrom (old new : JournalView) (had has : Option (List ℕ)) (fail
   pub end : EndsReading taken.end new (drop taken.bytes read) has failed
 
 -- what an end says of a chunk: the bytes that are left are pending, and no line ends in them, or
--- the next line is at fault; want of memory says nothing
+-- the next line is at fault; out of memory says nothing
 abbrev pub EndsChunk : TakenEnd → JournalView → List ℕ → List ℕ → Type 0
 EndsChunk taken.Whole journal pending left = (pending ≡ left) × HasNoFeed left
 EndsChunk taken.Torn journal pending left = (pending ≡ left) × HasNoFeed left
 EndsChunk (taken.Fault fault) journal pending left = IsFaulty journal left fault
 EndsChunk taken.OutOfMemory journal pending left = Unit {0}
 
--- the end where the reader has no more, and these bytes are pending
+-- the end if the reader has no more, and these bytes are pending
 abbrev pub end_behind : List ℕ → ReadEnd
 end_behind [] = read.Whole
 end_behind (b ∷ bytes) = read.Torn
 
--- the end of a text as one of a reader, where it comes before the reader's
+-- the end of a text as one of a reader, if it comes before the reader's
 abbrev pub early_end : TakenEnd → Option ReadEnd
 early_end taken.Whole = None
 early_end taken.Torn = None

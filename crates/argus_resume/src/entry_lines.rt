@@ -14,8 +14,9 @@ use argus_entries::{Call, Entry, Reply};
 use argus_memory::{Heap, OutOfMemory};
 use std::mem::replace;
 
-/// The guardian whose journal was taken, or one that is ahead of that by one entry. No call can be
-/// undone, so one that turned out to have another reply than its line stays until the next line.
+/// The guardian whose journal was taken, or one that is ahead of it by one entry. No call can be
+/// undone, so a call whose reply turned out to be another than its line's stays until the next
+/// line.
 #[derive(Drop)]
 pub(crate) struct EntryLines {
     pub(crate) guardian: Guardian,
@@ -26,7 +27,7 @@ pub(crate) struct EntryLines {
 impl EntryLines {
     ghost use Rattle.argus_resume.specs.Stage.{AreEntries, taken_by};
 
-    /// Lets an entry go that wasn't taken.
+    /// Drops an entry that wasn't taken.
     pub(crate) fn come_back(&mut self, heap: Heap) -> Result<(), OutOfMemory>
         requires { AreEntries self.old }
         ensures kept { AreEntries self.new }
@@ -39,7 +40,7 @@ impl EntryLines {
         self.let_newest_go(heap)
     }
 
-    // Out of line, since it is rare and has wide locals, which are zeroed where it begins.
+    // Not inlined, since it is rare and has large locals, which are zeroed at its start.
     #[cold]
     #[inline(never)]
     fn let_newest_go(&mut self, heap: Heap) -> Result<(), OutOfMemory>
@@ -64,7 +65,7 @@ impl EntryLines {
     }
 }
 
-/// Makes the entry's call; the reply, where it is another than the entry's.
+/// Makes the entry's call, and returns the reply if it differs from the entry's.
 pub(crate) fn make(guardian: &mut Guardian, mut entry: Entry) -> Result<Option<Reply>, OutOfMemory>
     ensures made { IfOk result (λ other. MatchOption other
         (guardian.new ≡ with_entry guardian.old (plain_entry entry))
@@ -81,7 +82,7 @@ pub(crate) fn make(guardian: &mut Guardian, mut entry: Entry) -> Result<Option<R
     make_call(guardian, call, &entry.reply)
 }
 
-/// Makes the call; the reply, where it is another than the expected one.
+/// Makes the call, and returns the reply if it differs from the expected one.
 pub(crate) fn make_call(
     guardian: &mut Guardian,
     call: Call,

@@ -14,16 +14,16 @@ use argus_actions::ActionId;
 use argus_contents::{Answer, Change, ObjId, Query, Value};
 use argus_entries::{Call, Reply};
 
-// Beyond it another digit might not fit.
+// Above it another digit might not fit.
 const MOST_BEFORE_A_DIGIT: u64 = 1_000_000_000_000_000_000;
 
 /// The call and the reply of the line at the front, if it is that of a frequent entry with this
-/// number, and what is behind its line feed. None says nothing of the text: `read_entry` reads all
-/// lines, and says where one stops.
+/// number, and what comes after its line feed. `None` says nothing about the text: `read_entry`
+/// reads all lines, and says where one stops.
 ///
 /// Most entries of a journal begin or end an action, read a field or set one to a number. Their
-/// lines are words and numbers, which are taken byte by byte: neither is the line's end looked for
-/// nor UTF-8 tested first.
+/// lines are words and numbers, which are taken byte by byte, without first looking for the line's
+/// end or testing for UTF-8.
 pub(crate) fn frequent_line(text: &[u8], next: u64) -> Option<(Call, Reply, &[u8])>
     ensures { IfSome result (λ r. HasFrontLine next
         (entry_with (plain_call r.0) (plain_reply r.1)) text.now r.2.now) }
@@ -38,7 +38,7 @@ pub(crate) fn frequent_line(text: &[u8], next: u64) -> Option<(Call, Reply, &[u8
     Some((call, reply, rest))
 }
 
-/// A frequent call at the front, and what is behind it.
+/// A frequent call at the front, and what comes after it.
 #[inline(always)]
 fn call(text: &[u8]) -> Option<(Call, &[u8])>
     ensures read { IfSome result (λ r. text.now ≡ call_spelling (plain_call r.0) ++ r.1.now) }
@@ -78,7 +78,7 @@ fn access(text: &[u8]) -> Option<(Call, &[u8])>
     Some((Call::Abort(ActionId(a)), rest))
 }
 
-/// A frequent reply at the front, and what is behind it.
+/// A frequent reply at the front, and what comes after it.
 #[inline(always)]
 fn reply(text: &[u8]) -> Option<(Reply, &[u8])>
     ensures read { IfSome result (λ r. text.now ≡ reply_spelling (plain_reply r.0) ++ r.1.now) }
@@ -95,7 +95,7 @@ fn reply(text: &[u8]) -> Option<(Reply, &[u8])>
     Some((Reply::Answered(Answer::Val(Value::Int(n))), rest))
 }
 
-/// The action behind the word and the object behind the action.
+/// The action after the word and the object after the action.
 #[inline(always)]
 fn place<'a>(text: &'a [u8], word: &[u8]) -> Option<(ActionId, ObjId, &'a [u8])>
     ensures { IfSome result (λ r. text.now ≡ place_spelling word.now r.0.0 r.1.0 ++ r.2.now) }
@@ -139,7 +139,7 @@ fn int(text: &[u8]) -> Option<(i64, &[u8])>
     Some((number as i64, rest))
 }
 
-/// The number at the front, and what is behind its digits.
+/// The number at the front, and what comes after its digits.
 fn number(text: &[u8]) -> Option<(u64, &[u8])>
     ensures { IfSome result (λ r. text.now ≡ decimal r.0 ++ r.1.now) }
 {
@@ -159,7 +159,7 @@ fn number(text: &[u8]) -> Option<(u64, &[u8])>
     Some((number, rest))
 }
 
-/// The digit at the front, and what is behind it.
+/// The digit at the front, and what comes after it.
 #[inline(always)]
 fn digit(text: &[u8]) -> Option<(u8, &[u8])>
     ensures digit { IfSome result (λ r. r.0 ≤ 9) }
@@ -172,7 +172,7 @@ fn digit(text: &[u8]) -> Option<(u8, &[u8])>
     Some((*first - b'0', others))
 }
 
-/// What is behind the word.
+/// What comes after the word.
 #[inline(always)]
 fn behind<'a>(text: &'a [u8], word: &[u8]) -> Option<&'a [u8]>
     ensures { IfSome result (λ rest. text.now ≡ word.now ++ rest.now) }

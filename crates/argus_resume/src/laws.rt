@@ -1,23 +1,37 @@
-//! The laws of what is taken. Each function does nothing: its contract is the law.
+//! The laws of what is taken. Each function changes nothing: its contract is the law.
 
 ghost use Rattle.argus_resume.specs.JournalText.{IsEmptyOrReadable, no_journal};
 ghost use Rattle.argus_resume.specs.Laws.{CallsLeaveListable, CheckpointsLeaveListable};
 ghost use Rattle.argus_resume.specs.Laws.{IsListable, JournalsAreReadable, ListingsAreResumed};
 ghost use Rattle.argus_resume.specs.Laws.{ListingsAreTakenBack, NoLongerFrontIsAListing};
-ghost use Rattle.argus_resume.specs.ReadableCalls.{HaveReadableCalls};
+ghost use Rattle.argus_entries.specs.Call.{plain_call};
+ghost use Rattle.argus_resume.specs.ReadableCalls.{HaveReadableCalls, IsWellFormed};
 
+use crate::well_formed_calls::call_is_well_formed;
 use argus_core::Guardian;
+use argus_entries::Call;
 
-/// Each entry of a legal journal can be read, with its reply, exactly where its call can be: what a
-/// reply hands out came in through a call or the opening, and keeps the limits of its shape. The
-/// opening has to be sound and readable.
+/// Each entry of a legal journal can be read, with its reply, exactly if its call can be: what a
+/// reply has came in through a call or the opening, and keeps the limits of its shape. The opening
+/// has to be sound and readable.
 ///
-/// Of the calls that a program can hold, those can't be read that were refused and have a value
-/// more than 16 deep, as a Rust program can make one. A call that wasn't refused has no value
-/// deeper than its object's shape.
+/// Of the calls that a program can hold, those can't be read that were refused and have a value of
+/// depth more than 16; a Rust program can make one. A call that wasn't refused has no value deeper
+/// than its object's shape.
 pub fn journals_are_readable()
     ensures { JournalsAreReadable }
 {}
+
+/// Each call is well formed, whoever made it: its numbers are in the range of their types, its texts
+/// in UTF-8, a shape that it declares can be made, and its values have some depth. So whether a
+/// call can be read asks nothing but the depth of a refused call's values.
+///
+/// It reads the whole call to show it, and changes nothing: no program has to run it.
+pub fn calls_are_well_formed(call: &Call)
+    ensures { IsWellFormed (plain_call call.now) }
+{
+    call_is_well_formed(call);
+}
 
 /// The journal of a new guardian is listable. It stays so with each call that can be read, and with
 /// each checkpoint.
@@ -27,8 +41,8 @@ pub fn journals_stay_listable()
     ensures checkpoints { CheckpointsLeaveListable }
 {}
 
-/// A guardian's journal is listable where its opening and its calls can be read: whatever else is
-/// asked of a listable journal, a guardian keeps.
+/// A guardian's journal is listable if its opening and its calls can be read: everything else that
+/// a listable journal needs holds of a guardian's.
 pub fn guardians_are_listable(guardian: &Guardian)
     requires opening { IsEmptyOrReadable guardian.now.opening }
     requires calls { HaveReadableCalls guardian.now.entries }
@@ -38,21 +52,21 @@ pub fn guardians_are_listable(guardian: &Guardian)
     let _next = guardian.journal().journal().len();
 }
 
-/// Where a line was at fault, no listing is longer than what was taken: behind it, no front of the
-/// text that ends in a line feed makes it the listing of a legal journal.
+/// If a line was at fault, no listing is longer than what was taken: no prefix of the rest that
+/// ends in a line feed makes it the listing of a legal journal.
 pub fn no_longer_front_is_a_listing()
     ensures { NoLongerFrontIsAListing }
 {}
 
 /// A listing is taken whole, and gives its journal: so what `write_listing` of `argus_listings`
-/// wrote is taken back, where memory is there. The journal's opening and its calls have to be
-/// readable: a value handed in by a Rust program may be too deep, and its call refused.
+/// wrote is taken back, given memory. The journal's opening and its calls have to be readable: a
+/// value that a Rust program passed in may be too deep, and its call refused.
 pub fn listings_are_taken_back()
     ensures { ListingsAreTakenBack }
 {}
 
-/// The same of a reader: [`resume`](crate::resume) of a listing gives a guardian with its journal,
-/// where memory is there and no read fails.
+/// The same for a reader: [`resume`](crate::resume) makes a guardian with a listing's journal from
+/// the listing, given memory and if no read fails.
 pub fn listings_are_resumed()
     ensures { ListingsAreResumed }
 {}

@@ -22,6 +22,8 @@ mod staging;
 mod taken;
 mod taken_end;
 mod taken_from;
+mod well_formed_calls;
+mod well_formed_values;
 
 pub use line_error::LineError;
 pub use line_fault::LineFault;

@@ -5,7 +5,7 @@ use argus_memory::OutOfMemory;
 use std::alloc::AllocFailed;
 use thiserror::Error;
 
-/// Why a line wasn't taken. All is as before then, and the line may be handed in again.
+/// Why a line wasn't taken. Nothing has changed, and the line may be passed in again.
 ///
 /// ```text
 /// match resuming.take_line(line) {
@@ -19,7 +19,7 @@ pub enum LineError {
     /// It isn't the next line of the listing.
     #[error("{0}")]
     Fault(LineFault),
-    /// Memory is wanting.
+    /// There is no memory.
     #[error("out of memory")]
     OutOfMemory,
 }

@@ -3,7 +3,8 @@
 use argus_entries::Reply;
 use thiserror::Error;
 
-/// Why a line is not the next one of a journal's listing. Of several the first in this order comes.
+/// Why a line isn't the next one of a journal's listing. If several apply, the first in this order
+/// is returned.
 ///
 /// ```text
 /// match resuming.take_line(b"0 begin_top -> a1") {
@@ -16,13 +17,14 @@ pub enum LineFault {
     /// The line isn't UTF-8: `at` is the length in bytes of its longest prefix that is.
     #[error("no text from byte {at} on")]
     NoText { at: usize },
-    /// The line begins as one of an opening, and can't be its next one: entries came before it, its
-    /// number isn't the next one, a number is above its limit, no entry went before the opening,
-    /// a shape can't be made, or a content wouldn't fit its shape however many objects there were.
+    /// The line begins like one of an opening, and can't be its next one. Entries came before it,
+    /// its number isn't the next one, a number is above its limit, no entry went before the
+    /// opening, a shape can't be made, or a content wouldn't fit its shape however many objects
+    /// there were.
     #[error("not a line of the opening")]
     NotAnOpening,
-    /// The line is that of no entry. `at` is the length in bytes of its longest prefix that begins
-    /// one, or, in a declaration, of what stands before a shape that can't be made.
+    /// The line isn't that of an entry. `at` is the length in bytes of its longest prefix that
+    /// begins one, or, in a declaration, of what comes before a shape that can't be made.
     #[error("no entry from byte {at} on")]
     NoLine { at: usize },
     /// It is the line of an entry, but with another number than the next one.
@@ -32,7 +34,8 @@ pub enum LineFault {
     /// isn't there.
     #[error("the opening refers to objects that aren't there")]
     NotSound,
-    /// It is the next entry's line, but the journal before it gives this other reply to its call.
+    /// It is the next entry's line, but this other reply to its call follows from the journal
+    /// before it.
     #[error("not the reply of the journal before it")]
     NotTheReply(Reply),
 }

@@ -11,12 +11,12 @@ use argus_contents::{Content, Shape, fits};
 pub(crate) struct OpenedObject {
     pub(crate) shape: Shape,
     pub(crate) content: Option<Content>,
-    // How many bytes the lines have up to its own, with it.
+    // How many bytes the lines have up to and with its own.
     pub(crate) end: u64,
 }
 
 impl OpenedObject {
-    /// Whether the content fits the shape where there are so many objects.
+    /// Whether the content fits the shape if there are this many objects.
     pub(crate) fn fits(&self, count: u32) -> bool
         ensures { result
             ≡ fits_shape (Some self.now.shape) count (plain_option self.now.content) }

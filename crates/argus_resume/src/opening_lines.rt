@@ -12,8 +12,8 @@ use argus_contents::{Content, Shape};
 use argus_core::Guardian;
 use argus_memory::{Heap, OutOfMemory, Room};
 
-/// The lines of an opening that were read. Each content fits its shape with as many objects as
-/// there may be; whether these objects suffice is asked once no further one can come.
+/// The lines of an opening that were read. Each content would fit its shape if there were enough
+/// objects. Whether these objects are enough is tested when no more can come.
 #[derive(Drop)]
 pub(crate) struct OpeningLines {
     pub(crate) objects: Vec<OpenedObject, Room>,
@@ -37,7 +37,7 @@ impl OpeningLines {
         }
     }
 
-    /// How many bytes the lines have up to so many objects.
+    /// How many bytes the lines have up to this many objects.
     pub(crate) fn end_of(&self, count: usize) -> u64
         requires counted { IsCounted self.now }
         requires within { count ≤ length self.now.objects.items }
@@ -49,10 +49,10 @@ impl OpeningLines {
         self.objects[count - 1].end
     }
 
-    /// How many objects the longest front has whose contents refer to objects of that front alone.
+    /// How many objects the longest prefix has whose contents refer only to its own objects.
     ///
-    /// From the last object down: one that refers to an object past the front is in no shorter
-    /// front either, so the front ends before it.
+    /// From the last object down: one that refers to an object past the prefix can't be in a
+    /// shorter prefix either, so the prefix ends before it.
     pub(crate) fn sound_count(&self) -> usize
         requires { length self.now.objects.items ≤ MAX_OBJECTS }
         ensures { result ≡ sound_count (opening_read self.now) (length self.now.objects.items) }
@@ -68,7 +68,7 @@ impl OpeningLines {
         count
     }
 
-    /// A guardian that begins with this opening, of its first objects, with which it is sound.
+    /// A guardian that begins with this opening, cut to its first objects, with which it is sound.
     pub(crate) fn guardian(&self, heap: Heap, count: usize) -> Result<Guardian, OutOfMemory>
         requires counted { IsCounted self.now }
         requires within { count ≤ length self.now.objects.items }

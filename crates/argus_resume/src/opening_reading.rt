@@ -1,4 +1,4 @@
-//! What the lines of an opening say, behind their first word.
+//! What the lines of an opening say, after their first word.
 
 ghost use Rattle.std.specs.List.{list_all};
 ghost use Rattle.std.specs.Prelude.{IfErr, IfOk, nat_lt, true, ◌<◌, ◌^◌, ◌≡◌, ◌≤◌};
@@ -16,7 +16,7 @@ use argus_journal::limits::MAX_FIRST_ENTRY;
 use argus_memory::Heap;
 use argus_texts::front::{Stop, Unread, expect, number, one_content, one_shape, word};
 
-// As many actions as there may be, as a number of the texts' reader.
+// The greatest number of actions, as a number of the texts' reader.
 const MOST_ACTIONS: u64 = MAX_ACTIONS as u64;
 
 /// How many entries and how many actions went before.
@@ -47,7 +47,7 @@ pub(crate) fn object_line(heap: Heap, text: &str) -> Result<(u64, Shape, Option<
     Ok((o, shape, content))
 }
 
-/// The number behind the word, and what is behind it.
+/// The number after the word, and what comes after it.
 fn number_behind<'a>(
     text: &'a str,
     before: &str,
@@ -66,7 +66,7 @@ fn number_behind<'a>(
     Ok((number, rest))
 }
 
-/// The shape at the front, and what is behind it.
+/// The shape at the front, and what comes after it.
 fn shape_at(heap: Heap, text: &str) -> Result<(Shape, &str), Stop>
     ensures read { IfOk result (λ r. Reads Shapes text.now r.0 r.1.now) }
     ensures stops { IfErr result (λ e. OnLeft e (λ left. BeginsNo Shapes text.now)) }
@@ -78,7 +78,7 @@ fn shape_at(heap: Heap, text: &str) -> Result<(Shape, &str), Stop>
     }
 }
 
-/// The content that the text is, or none.
+/// The content that the text spells, or none.
 fn content_line(heap: Heap, text: &str) -> Result<Option<Content>, Stop>
     ensures read { IfOk result (λ c. IsForm OptionContents (plain_option c) text.now) }
     ensures stops { IfErr result (λ e. OnLeft e (λ left. FormOf OptionContents text.now → ⊥)) }

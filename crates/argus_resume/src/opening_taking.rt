@@ -19,10 +19,10 @@ use argus_contents::limits::MAX_OBJECTS;
 use argus_memory::Heap;
 use argus_texts::front::Stop;
 
-// How many bytes a line has beside what stands behind its first word: that word and a line feed.
+// How many bytes a line has besides what comes after its first word: that word and a line feed.
 const FRAME: u64 = 9;
 
-/// The opening that its first line begins, from the word behind `opening` on.
+/// The opening that its first line begins, from the word after `opening` on.
 pub(crate) fn first_line(heap: Heap, rest: &str) -> Result<OpeningLines, LineError>
     ensures counted { IfOk result (λ lines. IsCounted lines) }
     ensures text { IfOk result (λ lines. lines_of (opening_read lines) ≡ opening_line rest.now) }
@@ -41,7 +41,7 @@ pub(crate) fn first_line(heap: Heap, rest: &str) -> Result<OpeningLines, LineErr
     }
 }
 
-/// Takes the line of the next object, from the word behind `opening` on.
+/// Takes the line of the next object, from the word after `opening` on.
 pub(crate) fn next_line(heap: Heap, lines: &mut OpeningLines, rest: &str) -> Result<(), LineError>
     requires { IsCounted lines.old }
     ensures counted { IsCounted lines.new }
@@ -72,7 +72,8 @@ pub(crate) fn next_line(heap: Heap, lines: &mut OpeningLines, rest: &str) -> Res
     }
 }
 
-/// Whether this number is the next object's, there may be one more, and it may fit.
+/// Whether this number is the next object's, another object is within the limits, and its content
+/// may fit.
 fn may_add(lines: &OpeningLines, o: u64, object: &OpenedObject) -> bool
     ensures { IsTrue result ↔ ((o ≡ length lines.now.objects.items) × (o < MAX_OBJECTS)
         × (fits_shape (Some object.now.shape) MAX_OBJECTS (plain_option object.now.content)
@@ -81,7 +82,7 @@ fn may_add(lines: &OpeningLines, o: u64, object: &OpenedObject) -> bool
     o == lines.objects.len() as u64 && o < u64::from(MAX_OBJECTS) && object.fits(MAX_OBJECTS)
 }
 
-/// Where a line ends of which so many bytes stand behind its first word.
+/// Where a line ends that has this many bytes after its first word.
 fn end_behind(before: u64, bytes: u64) -> Option<u64>
     ensures { IfSome result (λ end. end ≡ before + 9 + bytes) }
 {

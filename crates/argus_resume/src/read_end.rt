@@ -17,11 +17,11 @@ use crate::line_fault::LineFault;
 pub enum ReadEnd {
     /// All that the reader had was taken.
     Whole,
-    /// All whole lines that the reader had were taken, and bytes behind them have no line feed.
+    /// All whole lines that the reader had were taken, and bytes after them have no line feed.
     Torn,
     /// The next line is at fault.
     Fault(LineFault),
-    /// Memory is wanting, for the bytes of a line or for what it says; or 2^63 bytes were read.
+    /// There is no memory, for the bytes of a line or for what it says; or 2^63 bytes were read.
     OutOfMemory,
     /// A read failed.
     Read,

@@ -1,4 +1,4 @@
-//! How a guardian is made from what a reader has.
+//! How a guardian is made from what a reader returns.
 
 ghost use Rattle.std.specs.Prelude.{IfErr, IfOk, drop, false, length, take, ◌+◌, ◌++◌, ◌≡◌, ◌≤◌};
 ghost use Rattle.argus_resume.specs.JournalText.{journal_text};
@@ -21,15 +21,15 @@ use std::io::Read;
 // How much is read at once.
 const CHUNK: usize = 16_384;
 
-// How often is read at most: so the bytes are counted in 64 bits.
+// At most this many reads, so that the bytes can be counted in 64 bits.
 const MOST_READS: u64 = 562_949_953_421_312;
 
-/// The guardian of the longest front of whole lines that the reader has of which it is the journal:
+/// The guardian of the longest prefix of the reader's whole lines that is the listing of a journal:
 /// each entry's call was made, and its reply is the line's. It says how many bytes and lines that
-/// was, and why no more.
+/// was, and why it took no more.
 ///
-/// What is read is at most a line and 16 KiB beside the guardian. `OutOfMemory`: there was no
-/// memory for the guardian; who wants to try again uses `Resuming`.
+/// Besides the guardian it holds at most a line and 16 KiB. `OutOfMemory`: there was no memory for
+/// the guardian; to be able to try again, use `Resuming`.
 ///
 /// ```text
 /// let mut reader = FailStop::new(file);
@@ -56,10 +56,10 @@ pub fn resume<R: Read + Drop>(heap: Heap, reader: &mut FailStop<R>) -> Result<Re
 
 impl Resuming {
     /// Takes whole lines of what the reader has, up to the first that isn't the next one of the
-    /// listing: the listing of the journal is longer by these bytes then. It says how many bytes
-    /// and lines these are, and why no more. What was read and not taken is let go.
+    /// listing. The listing of the journal then grows by these bytes. It says how many bytes and
+    /// lines these are, and why it took no more. What was read and not taken is dropped.
     ///
-    /// It holds what is read of a line, and 16 KiB.
+    /// It holds what was read of a line, and 16 KiB.
     ///
     /// ```text
     /// let taken = resuming.take_from(&mut reader);
@@ -124,7 +124,7 @@ impl Resuming {
     }
 }
 
-/// The end, where it comes before the reader's.
+/// The end, if it comes before the reader's.
 fn early_end(end: TakenEnd) -> Option<ReadEnd>
     ensures { result ≡ early_end end }
 {
@@ -135,7 +135,7 @@ fn early_end(end: TakenEnd) -> Option<ReadEnd>
     }
 }
 
-/// Why no more was taken where the reader has no more.
+/// Why no more was taken if the reader has no more.
 fn end_behind(pending: &[u8]) -> ReadEnd
     ensures { result ≡ end_behind pending.now }
 {
@@ -146,7 +146,7 @@ fn end_behind(pending: &[u8]) -> ReadEnd
     }
 }
 
-/// Lets the first bytes go.
+/// Drops the first bytes.
 fn remove_front(bytes: &mut Vec<u8, Room>, count: usize)
     requires { count ≤ length bytes.old.items }
     ensures { bytes.new.items ≡ drop count bytes.old.items }

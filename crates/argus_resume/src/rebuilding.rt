@@ -1,4 +1,4 @@
-//! A guardian that is made again from a journal, without its newest entry.
+//! A guardian made again from a journal, without its newest entry.
 
 ghost use Rattle.std.specs.Prelude.{IfOk, [], ◌≡◌, ◌≢◌};
 ghost use Rattle.argus_journal.specs.Journal.{opening_of};
@@ -9,7 +9,7 @@ use argus_core::Guardian;
 use argus_journal::Journal;
 use argus_memory::{Heap, OutOfMemory};
 
-/// A guardian with the journal of this one but for its newest entry.
+/// A guardian with the journal of this one, except for its newest entry.
 pub(crate) fn without_newest(heap: Heap, guardian: &Guardian) -> Result<Guardian, OutOfMemory>
     requires { guardian.now.entries ≢ [] }
     ensures { IfOk result (λ again. again ≡ without_newest guardian.now) }

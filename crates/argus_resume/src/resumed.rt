@@ -16,11 +16,11 @@ use argus_core::Guardian;
 #[derive(Drop)]
 pub struct Resumed {
     pub guardian: Guardian,
-    /// How many bytes were taken, from the first one on.
+    /// How many bytes were taken, from the first on.
     pub bytes: u64,
-    /// How many lines these are. So a line at fault is the one after so many.
+    /// How many lines these are. So a line at fault is the next one after these.
     pub lines: u64,
-    /// How many of the bytes are not of the guardian's listing: the last lines of an opening whose
+    /// How many of the bytes aren't in the guardian's listing: the last lines of an opening whose
     /// contents refer to objects that didn't come.
     pub dropped: u64,
     pub end: ReadEnd,

@@ -26,12 +26,12 @@ use std::marker::Model;
 use std::str;
 
 /// A guardian that is being made from the lines of its journal's listing, a piece of text at a
-/// time: opening lines where entries went before it, then the line of each entry. Each entry's call
-/// is made, and its reply compared with the line's. So the journal is legal, and its listing is
-/// what was taken.
+/// time: opening lines if entries went before it, then the line of each entry. Each entry's call is
+/// made, and its reply compared with the line's. So the journal is legal, and its listing is what
+/// was taken.
 ///
 /// Contracts see the journal that was taken: its opening, and its entries, the newest first. The
-/// objects of an opening come one by one, and may refer to later ones; the opening is sound once
+/// objects of an opening come one by one, and may refer to later ones; the opening is sound when
 /// all that it refers to are there.
 ///
 /// ```text
@@ -59,7 +59,7 @@ impl Model for Resuming {
 }
 
 impl Resuming {
-    /// Of no line so far. It takes no memory.
+    /// With no line so far. It takes no memory.
     pub fn new(heap: Heap) -> Resuming
         ensures { result ≡ no_journal }
     {
@@ -72,15 +72,14 @@ impl Resuming {
         }
     }
 
-    /// A law for proofs; it does nothing. The journal that was taken is one that lines stand for.
+    /// A law for proofs; it does nothing. The journal that was taken is one that lines can spell.
     pub fn journal_is_readable(&self)
         ensures { IsReadableJournal self.now }
     {
         let _ = &self.stage;
     }
 
-    /// The number of the entry that comes next: where the line of another one comes, `NotNext` is
-    /// its fault.
+    /// The number of the entry that comes next: the line of another entry has the fault `NotNext`.
     ///
     /// ```text
     /// resuming.take_line(b"0 begin_top -> a0")?;
@@ -96,11 +95,11 @@ impl Resuming {
         self.heap
     }
 
-    /// Takes one line, without its line feed: the listing of the journal is longer by it then.
+    /// Takes one line, without its line feed. The listing of the journal then grows by it.
     ///
-    /// `Fault`: it isn't the next line of the listing, for the reason that `LineFault` tells.
-    /// `OutOfMemory` may come in place of any answer, after 2^64 bytes of an opening, too. After
-    /// both all is as before.
+    /// `Fault`: it isn't the next line of the listing, for the reason in `LineFault`. `OutOfMemory`
+    /// may come in place of any result, and comes after 2^64 bytes of an opening. After either
+    /// nothing has changed.
     ///
     /// ```text
     /// resuming.take_line(b"0 begin_top -> a0")?;
@@ -120,8 +119,8 @@ impl Resuming {
     }
 
     /// Takes whole lines from the front of the text, up to the first that isn't the next one of the
-    /// listing: the listing of the journal is longer by these bytes then. What is left may be
-    /// handed in again, with more behind it.
+    /// listing. The listing of the journal then grows by these bytes. What is left may be passed in
+    /// again, with more after it.
     ///
     /// ```text
     /// resuming.take(b"0 begin_top -> a0\n1 com");     // 18 bytes, 1 line, Torn
@@ -152,7 +151,7 @@ impl Resuming {
         }
     }
 
-    /// Takes the first line of the text; how many bytes it has, with its line feed.
+    /// Takes the first line of the text, and returns how many bytes it has, with its line feed.
     fn take_next(&mut self, text: &[u8]) -> Result<usize, TakenEnd>
         requires { text.now ≢ [] }
         ensures some { IfOk result (λ count. IsFirstLine count text.now) }
@@ -168,8 +167,8 @@ impl Resuming {
         }
     }
 
-    /// Takes the first line of the text, whichever it is. Out of line, so that the way of frequent
-    /// lines has no locals of this one.
+    /// Takes the first line of the text, whichever it is. Not inlined, so that the path of frequent
+    /// lines doesn't have its locals.
     #[inline(never)]
     fn take_any(&mut self, text: &[u8]) -> Result<usize, TakenEnd>
         requires { text.now ≢ [] }
@@ -188,10 +187,11 @@ impl Resuming {
         }
     }
 
-    /// The guardian of what was taken: of an opening without entries with as many of its objects as
-    /// make a sound one, and how many bytes were let go with the others.
+    /// The guardian of what was taken. An opening without entries gives a guardian with as many of
+    /// its objects as make a sound opening, and the number of bytes that were dropped with the
+    /// others.
     ///
-    /// `OutOfMemory` is told by what was handed in, as it was.
+    /// `Err` is out of memory: it has what was passed in, unchanged.
     ///
     /// ```text
     /// let Ok(Opened { guardian, dropped: 0 }) = resuming.into_guardian() else { .. };

@@ -1,4 +1,4 @@
-//! How a line brings a guardian that is being made further.
+//! How a guardian that is being made takes one more line.
 
 ghost use Rattle.std.specs.Prelude.{IfErr, IfOk, MatchOption, OnErr, OnOk, [], codes, false, take};
 ghost use Rattle.std.specs.Prelude.{⊤, ◌++◌, ◌∷◌, ◌≡◌};
@@ -57,7 +57,7 @@ fn come_back(heap: Heap, stage: &mut Stage) -> Result<(), OutOfMemory>
     }
 }
 
-/// Takes a line of an opening, from the word behind `opening` on.
+/// Takes a line of an opening, from the word after `opening` on.
 fn take_opening_line(heap: Heap, stage: &mut Stage, rest: &str) -> Result<(), LineError>
     requires stage { StageInvariant stage.old }
     requires level { IsLevel stage.old }
@@ -81,8 +81,8 @@ fn take_opening_line(heap: Heap, stage: &mut Stage, rest: &str) -> Result<(), Li
     }
 }
 
-/// Takes the line at the front, with its line feed, if it is that of a frequent entry: how many
-/// bytes it has. None: nothing was taken.
+/// Takes the line at the front, with its line feed, if it is that of a frequent entry, and returns
+/// how many bytes it has. `None`: nothing was taken.
 pub(crate) fn take_frequent(stage: &mut Stage, text: &[u8]) -> Result<Option<usize>, LineError>
     requires { StageInvariant stage.old }
     ensures kept { StageInvariant stage.new }

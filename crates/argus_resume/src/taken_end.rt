@@ -20,6 +20,6 @@ pub enum TakenEnd {
     Torn,
     /// The next line is at fault.
     Fault(LineFault),
-    /// Memory is wanting for the next line.
+    /// There is no memory for the next line.
     OutOfMemory,
 }

@@ -10,7 +10,7 @@ use crate::read_end::ReadEnd;
 /// ```
 #[derive(Debug, Drop)]
 pub struct TakenFrom {
-    /// How many bytes, from the first one on.
+    /// How many bytes, from the first on.
     pub bytes: u64,
     /// How many lines these are.
     pub lines: u64,

@@ -1,0 +1,24 @@
+-- What is true of each value that a program can hold, and of contents and changes.
+use Rattle.std.specs.Prelude.{ℕ}
+use Rattle.argus_contents.specs.Change.{PlainChange}
+use Rattle.argus_contents.specs.Content.{PlainContent}
+use Rattle.argus_contents.specs.Value.{PlainValue, PlainValues}
+use Rattle.argus_texts.specs.ContentSpelling.{PartsWithin}
+use Rattle.argus_texts.specs.Spelling.{AllWithin, Within}
+use Rattle.argus_entries.specs.Laws.{ChangeWithin}
+
+-- a value of some depth: its numbers are in range, and its texts in UTF-8
+abbrev pub IsWellFormedValue : PlainValue → Type 0
+IsWellFormedValue v = (depth : ℕ) × Within depth v
+
+-- the same of each of the values
+abbrev pub AreWellFormedValues : PlainValues → Type 0
+AreWellFormedValues vs = (depth : ℕ) × AllWithin depth vs
+
+-- the same of each value of the content
+abbrev pub IsWellFormedContent : PlainContent → Type 0
+IsWellFormedContent c = (depth : ℕ) × PartsWithin depth c
+
+-- the same of each value of the change, whose numbers are in range, too
+abbrev pub IsWellFormedChange : PlainChange → Type 0
+IsWellFormedChange c = (depth : ℕ) × ChangeWithin depth c
