@@ -68,7 +68,26 @@ mentions() {
     done
 }
 
-# What both programs do: in_common PROGRAM NAME
+# Counts whether there is a limit of memory within which the program starts, and finds none for its
+# words, of which each has 100,000 letters: finds_no_memory PROGRAM
+finds_no_memory() {
+    local kilobytes word status
+    printf -v word '%0100000d' 0
+    for ((kilobytes = 1024; kilobytes <= 65536; kilobytes += 256)); do
+        status=0
+        { prlimit --as=$((kilobytes * 1024)) "$1" "$word" "$word" "$word" "$word" "$word" "$word" "$word" "$word" \
+            < / > "$room/output" 2> "$room/errors" || status=$?; } 2> /dev/null
+        if [ "$status" = 2 ] || [ "$status" = 4 ]; then break; fi
+    done
+    if [ "$status" = 4 ] && begins_with "$room/output" '' && begins_with "$room/errors" 'out of memory'; then
+        passed=$((passed + 1))
+    else
+        failed=$((failed + 1))
+        echo "command lines: FAILED: $1 finds no memory for its words: status $status, where 4 is wanted"
+    fi
+}
+
+# What all programs do: in_common PROGRAM NAME
 in_common() {
     shows "$2 $version" "$1" --version
     shows "$2 $version" "$1" -V
@@ -78,6 +97,7 @@ in_common() {
     refuses "error: unexpected argument '' found" "$1" ''
     refuses "error: unexpected argument '--version --help' found" "$1" '--version --help'
     refuses "error: unexpected argument 'ä' found" "$1" 'ä'
+    finds_no_memory "$1"
     mentions "$1" 'Exit status:' '  0  ' '  2  ' '  3  ' '  4  ' '  5  ' 'from standard input' 'to standard output'
 }
 
@@ -110,6 +130,31 @@ of_picture() {
     tried "$room/torn" 3 '' 'line 2: Torn' "$picture"
     refuses "error: unexpected argument 'run.svg' found" "$picture" run.svg
     refuses "error: unexpected argument '--list' found" "$picture" --list journal
+    with_names
+}
+
+# A picture with the names of a script, which is a file.
+with_names() {
+    local journal=$top/crates/picture/stdin script=$room/names
+    mentions "$picture" '--script <FILE>' 'script: line N: KIND' 'NotDeclared' 'OtherShape' 'script: read fault'
+    printf 'declare seat atomic_array[int]\n' > "$script"
+    printf '0 declare atomic_array[int] -> o0\n' > "$room/seat"
+    "$picture" < "$room/seat" | sed 's,>o0</text>,>seat</text>,' > "$room/named"
+    grep -q '>seat</text>' "$room/named" || echo "command lines: no object in the picture of $room/seat"
+    tried "$room/seat" 0 "$(cat "$room/named")" '' "$picture" --script "$script"
+    tried "$room/seat" 0 "$(cat "$room/named")" '' "$picture" "--script=$script"
+    tried /dev/null 3 '' 'script: o0: NotDeclared' "$picture" --script "$script"
+    printf 'declare seat atomic_array[text]\n' > "$script"
+    tried "$room/seat" 3 '' 'script: o0: OtherShape' "$picture" --script "$script"
+    printf 'declare seat atomic_array[int]\ndeclare seat atomic_array[int]\n' > "$script"
+    tried "$room/seat" 3 '' 'script: line 2: NameTwice' "$picture" --script "$script"
+    : > "$script"
+    tried "$journal" 0 "$(cat "$top/crates/picture/stdout")" '' "$picture" --script "$script"
+    tried "$room/torn" 3 '' 'line 2: Torn' "$picture" --script "$script"
+    tried "$journal" 5 '' 'script: read fault' "$picture" --script "$room/nothing"
+    tried "$journal" 5 '' 'script: read fault' "$picture" --script "$room"
+    refuses "error: a value is required for '--script <FILE>' but none was supplied" "$picture" --script
+    refuses "error: the argument '--script <FILE>' cannot be used multiple times" "$picture" --script "$script" --script "$script"
 }
 
 # A replay has its kinds of faults from the rows of scripts_tests; here is what goes where.

@@ -3,18 +3,18 @@
 use argus_journal::{Call, Entry, Reply};
 use argus_values::{Answer, ObjId};
 
-/// An entry by which an action took a lock: an operation that was answered, if by a signal, and a
-/// test that was answered yes.
+/// An entry by which an action took a lock: an operation that returned an answer, even a signal,
+/// and a test that returned yes.
 #[derive(Clone, Copy)]
 pub(crate) struct Access {
     pub(crate) action: u32,
     pub(crate) object: ObjId,
-    /// The lock is that for writing.
+    /// The lock is a write lock.
     pub(crate) writes: bool,
 }
 
 impl Access {
-    /// None where the entry is no access.
+    /// `None` if the entry isn't an access.
     pub(crate) fn of(entry: &Entry) -> Option<Access> {
         let is_answered = matches!(&entry.reply, Reply::Answered(_));
         let is_yes = matches!(&entry.reply, Reply::Answered(Answer::Flag(true)));

@@ -1,4 +1,4 @@
-//! What a call is answered after a journal, worked out anew from all of its entries.
+//! The reply to a call after a journal, computed anew from all of its entries.
 
 use crate::difference::Difference;
 use crate::family::Family;
@@ -10,7 +10,7 @@ use argus_values::{
     Answer, Change, Heap, ObjId, Query, ask, change_answer, change_fits, query_fits,
 };
 
-/// The first refusal that applies, or else what the call asks for.
+/// The first refusal that applies, or otherwise what the call asks for.
 pub(crate) fn answer_to(
     heap: Heap,
     journal: &Journal,
@@ -143,7 +143,7 @@ fn test(journal: &Journal, family: &Family, a: ActionId, o: ObjId, writes: bool)
     Reply::Answered(Answer::Flag(may_have(journal, family, a.0, o, writes)))
 }
 
-// What the query answers of what the action sees.
+// The answer to the query, from what the action sees.
 fn asked(
     heap: Heap,
     journal: &Journal,
@@ -160,7 +160,7 @@ fn asked(
     }
 }
 
-// What the change answers at what the action sees.
+// The answer to the change, from what the action sees.
 fn changed(
     heap: Heap,
     journal: &Journal,

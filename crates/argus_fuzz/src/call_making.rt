@@ -1,4 +1,4 @@
-//! Calls as if by chance: most of them may be granted, some of each kind may not.
+//! Pseudo-random calls: most of them may be granted, some of each kind may not.
 
 use crate::chance::Chance;
 use crate::family::Family;
@@ -8,7 +8,7 @@ use argus_values::{ObjId, OutOfMemory, Room, Shape, ShapeView};
 use std::fmt::Write;
 use test_rows::first_word;
 
-/// From so many actions on, each is begun below the last one.
+/// From this many actions on, each is begun below the last one.
 pub(crate) const DEEP: u32 = 100;
 
 const SHAPES: [&str; 3] = [
@@ -89,8 +89,8 @@ const VARIANT: [&str; 15] = [
     "alter touch",
 ];
 
-/// Adds a next call behind this journal, as a journal's line spells it; so many actions are live
-/// beside each other at most.
+/// Adds a next call after this journal, as a journal's line spells it; at most this many actions
+/// are live at once.
 pub(crate) fn add_call(
     chance: &mut Chance,
     journal: &Journal,
@@ -121,7 +121,7 @@ pub(crate) fn add_call(
     add_verb(verb, a, out)
 }
 
-// What begins or ends actions; nothing more is begun where there are enough.
+// Calls that begin or end actions; nothing more is begun if there are enough.
 fn any_verb(chance: &mut Chance, is_crowded: bool) -> &'static str {
     match chance.below(10) {
         0 => "abort",
@@ -142,7 +142,7 @@ fn add_verb(verb: &str, a: u32, out: &mut String<Room>) -> Result<(), OutOfMemor
     Ok(())
 }
 
-// A live one, without live children if that is asked for; seldom one that is over or was never
+// A live one, without live children if that is asked for; rarely one that is over or was never
 // begun, or has live children all the same.
 fn any_action(chance: &mut Chance, family: &Family, alone: bool) -> u32 {
     let next = family.next();
@@ -172,7 +172,7 @@ fn add_access(
     Ok(())
 }
 
-// The shape's, seldom another.
+// The shape's, rarely another's.
 fn any_kind(chance: &mut Chance, shape: Option<&Shape>) -> u32 {
     match shape {
         Some(shape) if !chance.once_in(20) => match shape.view() {

@@ -10,7 +10,7 @@ use argus_journal::{Call, Reply};
 use argus_values::{Budget, Heap, OutOfMemory};
 use test_rows::call_of;
 
-/// A guardian of which each call is checked against the definitions, worked out anew from its
+/// A guardian of which each call is checked against the definitions, computed anew from its
 /// journal.
 ///
 /// ```text
@@ -19,7 +19,7 @@ use test_rows::call_of;
 /// ```
 #[derive(Drop)]
 pub(crate) struct Checked {
-    // Always has memory: for what is worked out.
+    // Always has memory, for the computed values.
     heap: Heap,
     // That of the guardian's heap.
     budget: Budget,
@@ -41,7 +41,7 @@ impl Checked {
     }
 
     /// Makes the call, which is spelled as in a journal's line. The reply has to be the one that
-    /// the journal before it gives, and the objects have to be as the journal behind it tells.
+    /// follows from the journal before it, and the objects have to be as the journal after it says.
     pub(crate) fn call(&mut self, text: &str) -> Result<ReplyKind, Difference> {
         match self.call_within(u64::MAX, text)? {
             ReplyKind::Nothing => Err(Difference::Memory),
@@ -49,8 +49,8 @@ impl Checked {
         }
     }
 
-    /// The same with so many allocations; `Nothing` where these aren't enough, and all is as
-    /// before.
+    /// The same with this many allocations; `Nothing` if these aren't enough, and nothing has
+    /// changed.
     pub(crate) fn call_within(
         &mut self,
         allowed: u64,
@@ -97,7 +97,7 @@ impl Checked {
         compare_objects(self.heap, &self.guardian, &self.family()?)
     }
 
-    /// Makes a checkpoint where no action is live.
+    /// Makes a checkpoint if no action is live.
     pub(crate) fn checkpoint(&mut self) -> Result<(), Difference> {
         let (is_quiet, next_action) = self.actions()?;
         let next_entry = self.length();
@@ -131,7 +131,7 @@ impl Checked {
     }
 }
 
-// What is told by the answer, where it is the one that is wanted.
+// What the answer says, if it is the one that is wanted.
 fn told_as(answer: Result<Reply, OutOfMemory>, wanted: &Reply) -> ReplyKind {
     match answer {
         Ok(reply) => if reply == *wanted {

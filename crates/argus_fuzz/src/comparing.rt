@@ -1,4 +1,4 @@
-//! What a guardian tells of its objects, checked against its journal.
+//! What a guardian says of its objects, checked against its journal.
 
 use crate::difference::{Difference, must};
 use crate::family::Family;
@@ -9,7 +9,7 @@ use argus_journal::{Journal, owner_of, replay_base, replay_for};
 use argus_objects::Version;
 use argus_values::{Content, Heap, ObjId, Shape, fits};
 
-/// Each object has the shape, the holders, the versions and the base that the entries tell.
+/// Each object has the shape, the holders, the versions and the base that follow from the entries.
 pub(crate) fn compare_objects(
     heap: Heap,
     guardian: &Guardian,
@@ -105,7 +105,7 @@ fn compare_versions(
     Ok(())
 }
 
-// This is what the reader sees, or with no reader what is there for good.
+// This is what the reader sees, or without a reader the base.
 fn compare_seen(
     heap: Heap,
     journal: &Journal,
@@ -133,8 +133,8 @@ fn are_readers(journal: &Journal, family: &Family, told: &[ActionId], o: ObjId) 
     place == told.len()
 }
 
-// Those that hold the object for writing, in increasing number: so ancestors stand before those
-// below them.
+// Those that hold the object for writing, in increasing number, so that ancestors come before
+// descendants.
 fn are_writers(journal: &Journal, family: &Family, told: &[Version], o: ObjId) -> bool {
     let mut place = 0usize;
     for a in journal.first_action()..family.next() {
@@ -148,7 +148,7 @@ fn are_writers(journal: &Journal, family: &Family, told: &[Version], o: ObjId) -
     place == told.len()
 }
 
-// It is absent, or fits where so many objects are declared.
+// It is absent, or fits with this many objects declared.
 fn is_of_shape(shape: &Shape, objects: u32, content: &Option<Content>) -> bool {
     match content {
         Some(content) => fits(shape, objects, content),
@@ -156,7 +156,7 @@ fn is_of_shape(shape: &Shape, objects: u32, content: &Option<Content>) -> bool {
     }
 }
 
-/// Whether a lock could be had is told without an entry.
+/// Whether a lock could be had is answered without an entry.
 pub(crate) fn compare_tests(
     guardian: &Guardian,
     family: &Family,
@@ -172,8 +172,8 @@ pub(crate) fn compare_tests(
     must(guardian.can_write(a, o) == may_write, Difference::Free)
 }
 
-/// What the journal's own audits tell: who answers for each action, and what is in each object, for
-/// good and for each action.
+/// What the journal's own audits return: each action's owner, and what is in each object, for good
+/// and for each action.
 pub(crate) fn compare_audits(
     heap: Heap,
     guardian: &Guardian,
@@ -228,7 +228,7 @@ fn compare_replay(
     )
 }
 
-/// Both guardians have the same last entry, and the same in their objects for good.
+/// Both guardians have the same last entry, and the same bases.
 pub(crate) fn compare_guardians(one: &Guardian, other: &Guardian) -> Result<(), Difference> {
     compare_last_entries(one.journal().journal(), other.journal().journal())?;
     must(one.objects() == other.objects(), Difference::Checkpoint)?;

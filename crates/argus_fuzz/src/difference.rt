@@ -1,4 +1,4 @@
-//! `Difference`: what is another than the definitions say.
+//! `Difference`: what isn't as the definitions say.
 
 use argus_cli::CliFault;
 use argus_commands::{ParseError, RunFault};
@@ -6,13 +6,13 @@ use argus_values::OutOfMemory;
 use std::alloc::{AllocError, AllocFailed};
 use test_rows::RowFault;
 
-/// What is another than the definitions say.
+/// What isn't as the definitions say.
 #[derive(Clone, Copy)]
 pub(crate) enum Difference {
     /// Of a call: its reply, or the entries that it adds.
     Reply,
     Entries,
-    /// Of an object: what it was declared as, what is there for good, who holds it, their versions.
+    /// Of an object: its shape, its base, its holders, their versions.
     Shape,
     Base,
     Readers,
@@ -22,12 +22,12 @@ pub(crate) enum Difference {
     Unfit,
     /// Whether a lock could be had.
     Free,
-    /// What the journal's audits tell.
+    /// What the journal's audits return.
     Owner,
     Replay,
     /// Whether a checkpoint is made, and what it leaves.
     Checkpoint,
-    /// A call without memory has changed something, or one with memory hasn't got it.
+    /// A call without memory has changed something, or one with memory didn't get it.
     Memory,
     /// A call or a script isn't read as it was made, or its run makes other calls.
     Script,
@@ -35,6 +35,8 @@ pub(crate) enum Difference {
     Lines,
     /// What workers did isn't a run of the script.
     Workers,
+    /// What comes of a journal's listing that is resumed.
+    Resumed,
 }
 
 impl Difference {
@@ -56,11 +58,12 @@ impl Difference {
             Difference::Script => "another script",
             Difference::Lines => "other lines",
             Difference::Workers => "no run of the script",
+            Difference::Resumed => "another guardian is resumed",
         }
     }
 }
 
-/// Nothing, where it holds.
+/// Nothing, if it holds.
 pub(crate) fn must(holds: bool, difference: Difference) -> Result<(), Difference> {
     if holds { Ok(()) } else { Err(difference) }
 }

@@ -1,21 +1,21 @@
-//! `Draft`: a script as if by chance, line by line.
+//! `Draft`: a pseudo-random script, line by line.
 
 use crate::chance::Chance;
 use crate::line::{ACCESSES, Kind, Line, OBJECTS};
 use argus_values::{Heap, OutOfMemory, Room};
 
-// Where the next line of a draft stands.
+// Where the next line of a draft is.
 #[derive(Clone, Copy)]
 enum Place {
     Enter,
     If,
-    // Directly in a coenter and before its first arm, and in an arm; whether the coenter stands in
-    // an action.
+    // Directly in a coenter and before its first arm, and in an arm; whether the coenter is in an
+    // action.
     Coenter(bool),
     Arm(bool),
 }
 
-/// A script as if by chance, line by line; each line may stand where it does.
+/// A pseudo-random script, line by line; each line is allowed where it is.
 #[derive(Drop)]
 pub(crate) struct Draft {
     places: Vec<Place, Room>,
@@ -65,7 +65,7 @@ impl Draft {
         self.put(line)
     }
 
-    // An arm, seldom of the other kind; outside actions all are topactions.
+    // An arm, rarely of the other kind; outside actions all are topactions.
     fn add_arm(&mut self, chance: &mut Chance, inside: bool) -> Result<(), OutOfMemory> {
         let kind = if inside && !chance.once_in(4) {
             Kind::Sub
@@ -97,7 +97,7 @@ impl Draft {
         Ok(())
     }
 
-    // Ends a block. Behind an arm comes another, or its coenter ends.
+    // Ends a block. After an arm comes another, or its coenter ends.
     fn end(&mut self, chance: &mut Chance, place: Place) -> Result<(), OutOfMemory> {
         let _ended = self.places.pop();
         match place {
@@ -110,7 +110,7 @@ impl Draft {
         }
     }
 
-    // Only `if` blocks stand between here and an arm of a coenter that stands in an action.
+    // Only `if` blocks are between here and an arm of a coenter that is in an action.
     fn may_leave_all(&self) -> bool {
         for place in self.places.iter().rev() {
             match place {

@@ -1,4 +1,4 @@
-//! `Family`: which actions a journal's entries began and ended, worked out anew.
+//! `Family`: which actions a journal's entries began and ended, computed anew.
 
 use argus_actions::ActionId;
 use argus_journal::{Call, Entry, Journal, Owner, Reply};
@@ -12,11 +12,11 @@ struct Member {
     creator: Option<u32>,
 }
 
-/// Which actions a journal's entries began and ended, worked out anew from all of them: plain lists
-/// in the order of the entries, and each question goes through them.
+/// Which actions a journal's entries began and ended, computed anew from all of them: plain lists
+/// in the order of the entries, which each question scans.
 ///
-/// Sources: actions of the Argus Reference Manual (MIT/LCS/TR-400, 1987); ancestors and who
-/// inherits locks, Moss, Nested Transactions (MIT/LCS/TR-260, 1981).
+/// Sources: actions of the Argus Reference Manual (MIT/LCS/TR-400, 1987); ancestors and the
+/// inheritance of locks, Moss, Nested Transactions (MIT/LCS/TR-260, 1981).
 ///
 /// ```text
 /// let family = Family::of(heap, journal)?;
@@ -28,9 +28,9 @@ pub(crate) struct Family {
     first: u32,
     members: Vec<Member, Room>,
     committed: Vec<u32, Room>,
-    // What was named by an abort, and what was a live sibling of one that ended all others.
+    // What an abort named, and what was a live sibling of one that ended all others.
     ended: Vec<u32, Room>,
-    // Of each member, once all entries are taken.
+    // Of each member, after all entries are read.
     owners: Vec<Option<Owner>, Room>,
 }
 
@@ -112,7 +112,7 @@ impl Family {
         self.member(a)?.parent
     }
 
-    // Others with the same parent or the same creator, of whichever kind.
+    // Others with the same parent or the same creator, of either kind.
     fn are_siblings(&self, a: u32, x: u32) -> bool {
         a != x && self.beginner(a).is_some() && self.beginner(a) == self.beginner(x)
     }
@@ -162,7 +162,7 @@ impl Family {
         self.member(a).is_some() && !self.committed.contains(&a) && !self.is_undone(a)
     }
 
-    /// Whether it was begun, and neither committed nor undone: then it answers for itself.
+    /// Whether it was begun, and neither committed nor undone, so that it is its own owner.
     pub(crate) fn is_live(&self, a: u32) -> bool {
         self.owner(a) == Some(Owner::Held(ActionId(a)))
     }
@@ -191,8 +191,8 @@ impl Family {
         count
     }
 
-    /// The live one that has so many live ones before it; the next action to be begun where there
-    /// is none.
+    /// The live one that has this many live ones before it; the next action to be begun if there is
+    /// none.
     pub(crate) fn live_at(&self, place: u32, alone: bool) -> u32 {
         let mut left = place;
         for a in self.first..self.next() {
@@ -206,7 +206,7 @@ impl Family {
         self.next()
     }
 
-    // Nobody where it is undone, else the nearest of its ancestors that hasn't committed.
+    // Nobody if it is undone, otherwise the nearest of its ancestors that hasn't committed.
     fn heir_of(&self, a: u32) -> Option<Owner> {
         if self.is_undone(a) {
             return Some(Owner::Gone);
@@ -224,7 +224,7 @@ impl Family {
         None
     }
 
-    /// Who answers for what the action did; none where it isn't begun.
+    /// The owner of what the action did; none if it isn't begun.
     pub(crate) fn owner(&self, a: u32) -> Option<Owner> {
         match a.checked_sub(self.first) {
             Some(place) => self.owners.get(place as usize).copied().unwrap_or(None),

@@ -8,7 +8,7 @@ use argus_actions::ActionId;
 use argus_values::{Heap, Room};
 use test_rows::first_word;
 
-// What a block is: one that its own action ends with, an arm, a coenter, or an `if`.
+// What a block is: one that ends its own action, an arm, a coenter, or an `if`.
 #[derive(Clone, Copy)]
 enum Block {
     Enter,
@@ -17,7 +17,7 @@ enum Block {
     If,
 }
 
-// A block that is open: its action, or that around it, and whether its lines are run.
+// An open block: its action, or the one around it, and whether its lines are run.
 #[derive(Clone, Copy)]
 struct Open {
     block: Block,
@@ -25,8 +25,8 @@ struct Open {
     runs: bool,
 }
 
-/// Makes the calls of a script, line by line, each as the replies before it have it; no line is
-/// gone back to. The arms of a coenter are begun at its line, and each runs at its own.
+/// Makes the calls of a script, line by line, each as the replies before it require; it never goes
+/// back to a line. The arms of a coenter are begun at its line, and each runs at its own.
 ///
 /// ```text
 /// let mut follower = Follower::new(heap, checked);
@@ -37,7 +37,7 @@ pub(crate) struct Follower {
     heap: Heap,
     pub(crate) checked: Checked,
     open: Vec<Open, Room>,
-    // The arms that were begun and haven't come yet, the next one last; none where its begin was
+    // The arms that were begun and haven't run yet, the next one last; none if its begin was
     // refused.
     waiting: Vec<Option<ActionId>, Room>,
 }
@@ -96,7 +96,7 @@ impl Follower {
         }
     }
 
-    // The action of the innermost block, where its lines are run.
+    // The action of the innermost block, if its lines are run.
     fn running(&self) -> Option<ActionId> {
         if self.runs() { self.action() } else { None }
     }
@@ -115,7 +115,7 @@ impl Follower {
         Ok(())
     }
 
-    // Makes the call of this action; `rest` is what stands behind it.
+    // Makes the call of this action; `rest` is what comes after it.
     fn call(&mut self, verb: &str, a: ActionId, rest: &str) -> Result<ReplyKind, Difference> {
         let gap = if rest.is_empty() { "" } else { " " };
         let text = format!(in self.heap.room(); "{verb} a{}{gap}{rest}", a.0)?;
@@ -142,7 +142,7 @@ impl Follower {
         self.push(Block::Enter, begun, begun.is_some())
     }
 
-    // Begins the arms of the coenter that this line opens, in order, where its line is run.
+    // Begins the arms of the coenter that this line opens, in order, if its line is run.
     fn begin_arms(&mut self, lines: &[Line], number: usize) -> Result<(), Difference> {
         let (action, runs) = (self.action(), self.runs());
         let place = self.waiting.len();
@@ -206,7 +206,7 @@ impl Follower {
         Ok(())
     }
 
-    // Ends the innermost `enter` block or arm by this call. Where a commit is refused it aborts.
+    // Ends the innermost `enter` block or arm by this call. If a commit is refused it aborts.
     fn leave(&mut self, verb: &str) -> Result<(), Difference> {
         if let Some(a) = self.running() {
             let told = self.call(verb, a, "")?;
@@ -245,7 +245,7 @@ impl Follower {
         Ok(())
     }
 
-    // What is refused ends the block, by an abort unless its action is over or was never begun.
+    // A refused call ends the block, by an abort unless its action is over or was never begun.
     fn heed(&mut self, a: ActionId, told: ReplyKind) -> Result<(), Difference> {
         match told {
             ReplyKind::Refused => {

@@ -6,7 +6,7 @@ use std::fmt::Write;
 /// How many objects a script declares.
 pub(crate) const OBJECTS: u32 = 2;
 
-/// The accesses of scripts, as their lines say them and as calls do; each object is a record with
+/// The accesses of scripts, as their lines and as calls spell them; each object is a record with
 /// the one field `n`.
 pub(crate) const ACCESSES: [(&str, &str); 14] = [
     ("create x0 {1}", "alter o0 create {1}"),
@@ -40,7 +40,7 @@ pub(crate) enum Line {
     Enter(Kind),
     Coenter,
     Arm(Kind),
-    /// Whether it is the lock for writing that is tested, and of which object.
+    /// Whether the write lock is tested, and of which object.
     If(bool, u32),
     /// One of the accesses, by its place.
     Access(u32),
@@ -69,7 +69,7 @@ fn say(line: Line, out: &mut String<Room>) -> Result<(), OutOfMemory> {
     Ok(())
 }
 
-// The words of the line; with the object that they name, and what stands behind its name.
+// The words of the line; with the object that they name, and what comes after its name.
 fn words_of(line: Line) -> (&'static str, Option<u32>, &'static str) {
     match line {
         Line::Declare(o) => ("declare", Some(o), " atomic_record[n:int]"),

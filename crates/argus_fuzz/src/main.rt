@@ -1,9 +1,9 @@
-//! Calls and scripts as if by chance: `argus_fuzz SEQUENCES SCRIPTS SEED`.
+//! Pseudo-random calls and scripts: `argus_fuzz SEQUENCES SCRIPTS SEED`.
 //!
 //! Each sequence of calls and each script has a seed of its own, from the one given on. What a
-//! guardian answers and tells is checked against the definitions, worked out anew from its journal.
-//! A
-//! seed that shows a difference is told, and the status is then 1.
+//! guardian returns is checked against the definitions, computed anew from its journal; and a
+//! sequence's guardians are made again from their listings. A seed that shows a difference is
+//! printed, and the status is then 1.
 #![tactic(auto)]
 
 mod access;
@@ -19,6 +19,7 @@ mod follower;
 mod line;
 mod object_history;
 mod reply_kind;
+mod resuming;
 mod script_trial;
 mod sequence;
 mod team_trial;
@@ -34,7 +35,7 @@ use std::thread::Threads;
 use std::{env, io};
 use team_trial::run_by_team;
 
-// How many are tried where nothing else is said.
+// How many are tried by default.
 const SEQUENCES: u64 = 500;
 
 const SCRIPTS: u64 = 500;
@@ -55,7 +56,7 @@ struct Numbers {
     seed: u64,
 }
 
-// Who runs a script.
+// What runs a script.
 #[derive(Clone, Copy)]
 enum Runner {
     One,
@@ -84,7 +85,7 @@ fn main(rt: HostRuntime) -> Result<()> {
         budget,
     };
     let calls = try_sequences(&rt, heaps, sequences, seed)?;
-    println!(rt; "call sequences: {sequences}, {calls} with a difference")?;
+    println!(rt; "call sequences, then resumed: {sequences}, {calls} with a difference")?;
     let runs = try_scripts(&rt, heaps, Runner::One, scripts, seed)?;
     println!(rt; "scripts: {scripts}, {runs} with a difference")?;
     let shared = try_scripts(&rt, heaps, Runner::Workers, scripts, seed)?;
@@ -106,7 +107,7 @@ fn read_numbers(rt: HostRuntime) -> Result<Numbers> {
     })
 }
 
-// The number that the word is; `otherwise` where there is none.
+// The number that the word is; `otherwise` if there is none.
 fn number_in(word: Option<String>, otherwise: u64) -> Result<u64> {
     match word {
         Some(word) => Ok(word.as_str().parse::<u64>()?),
@@ -114,7 +115,7 @@ fn number_in(word: Option<String>, otherwise: u64) -> Result<u64> {
     }
 }
 
-// Tries so many, and tells each that shows a difference. Answers how many do.
+// Tries this many, and prints each that shows a difference. Returns how many do.
 fn try_sequences(rt: &impl Print, heaps: Heaps, count: u64, first: u64) -> io::Result<u64> {
     let mut wrong = 0u64;
     for number in 0..count {
@@ -139,7 +140,7 @@ fn difference_in(heaps: Heaps, seed: u64) -> Option<(u32, Difference)> {
     }
 }
 
-// Tries so many, and tells each that shows a difference. Answers how many do.
+// Tries this many, and prints each that shows a difference. Returns how many do.
 fn try_scripts<R: Threads + Wait + Print + Copy + Drop + Send + Sync>(
     rt: &R,
     heaps: Heaps,

@@ -1,4 +1,4 @@
-//! What a journal says of its objects, worked out anew from all of its entries.
+//! What a journal says of its objects, computed anew from all of its entries.
 
 ghost use Rattle.std.specs.Prelude.{true, ◌≡◌};
 ghost use Rattle.argus_values.specs.Content.{KeepsLimits, plain_option};
@@ -11,7 +11,7 @@ use argus_journal::{Call, Journal, Owner, Reply};
 use argus_values::limits::MAX_OBJECTS;
 use argus_values::{Change, Content, Heap, ObjId, OutOfMemory, Shape, alter, fits};
 
-/// The shape with which the object was declared; none where it wasn't.
+/// The shape with which the object was declared; none if it wasn't.
 pub(crate) fn shape_of(journal: &Journal, o: ObjId) -> Option<&Shape> {
     if let Some((shape, _)) = journal.opening(o) {
         return Some(shape);
@@ -37,7 +37,7 @@ pub(crate) fn declared(journal: &Journal) -> u32 {
     MAX_OBJECTS
 }
 
-// Who holds the object by this entry, if anybody does.
+// The holder of the object by this entry, if there is one.
 fn holder_by(
     journal: &Journal,
     family: &Family,
@@ -71,8 +71,8 @@ pub(crate) fn is_holder(
     false
 }
 
-/// Whether the lock rule gives the action this lock: for reading where all that hold the object for
-/// writing are its ancestors, for writing where all that hold it are.
+/// Whether the lock rule grants the action this lock: for reading if all write holders of the
+/// object are its ancestors, for writing if all its holders are.
 pub(crate) fn may_have(journal: &Journal, family: &Family, a: u32, o: ObjId, writes: bool) -> bool {
     for at in journal.first_entry()..journal.len() {
         let writer = holder_by(journal, family, at, o, true);
@@ -91,8 +91,8 @@ fn stands_against(family: &Family, holder: Option<ActionId>, a: u32) -> bool {
     }
 }
 
-/// What the action sees in the object, or with no action what is there for good: the changes since
-/// the opening whose owner is the base, the action or an ancestor of it, one after another.
+/// What the action sees in the object, or without an action its base: the changes since the opening
+/// whose owner is the base, the action or an ancestor of it, one after another.
 pub(crate) fn seen(
     heap: Heap,
     journal: &Journal,
@@ -149,8 +149,8 @@ pub(crate) fn is_fit(journal: &Journal, o: ObjId, content: &Option<Content>) -> 
     }
 }
 
-// The change of the object that the entry made, where it counts for the reader. A test that was
-// answered yes leaves all as it is.
+// The change of the object that the entry made, if it counts for the reader. A test that returned
+// yes changes nothing.
 fn kept_by<'a>(
     journal: &'a Journal,
     family: &Family,

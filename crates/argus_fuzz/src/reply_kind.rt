@@ -1,22 +1,22 @@
-//! `ReplyKind`: what a caller goes by in a reply.
+//! `ReplyKind`: what a caller needs to know of a reply.
 
 use argus_actions::ActionId;
 use argus_journal::{Refusal, Reply};
 use argus_values::Answer;
 
-/// What a caller goes by in a reply.
+/// What a caller needs to know of a reply.
 #[derive(Clone, Copy)]
 pub(crate) enum ReplyKind {
     Begun(ActionId),
-    /// A test's lock was got.
+    /// A test got its lock.
     Yes,
-    /// Granted otherwise.
+    /// Granted in another way.
     Done,
     /// Refused, and the action is over or was never begun.
     Over,
-    /// Refused otherwise.
+    /// Refused for another reason.
     Refused,
-    /// Another reply than the definitions say.
+    /// A reply that isn't the one that the definitions say.
     Another,
     /// There was no memory.
     Nothing,

@@ -1,4 +1,4 @@
-//! A script as if by chance, run, and checked against its own calls made one by one.
+//! A pseudo-random script, run, and checked against its own calls made one by one.
 
 use crate::chance::Chance;
 use crate::checked::Checked;
@@ -34,7 +34,7 @@ fn compare_run(heap: Heap, lines: &[Line], checked: Checked) -> Result<(), Diffe
     compare_calls(heap, lines, checked, journal, written.as_slice())
 }
 
-// Runs the script that has these lines. Answers what that writes.
+// Runs the script that has these lines. Returns what it writes.
 fn run_lines(
     heap: Heap,
     lines: &[Line],
@@ -54,7 +54,7 @@ fn parsed(heap: Heap, lines: &[Line]) -> Result<Script, Difference> {
     Ok(parse(heap, text.as_bytes())?)
 }
 
-// Makes the calls one by one, and holds the run's journal, and what it wrote, against them.
+// Makes the calls one by one, and checks the run's journal and what it wrote against them.
 fn compare_calls(
     heap: Heap,
     lines: &[Line],

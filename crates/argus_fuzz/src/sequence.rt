@@ -1,4 +1,4 @@
-//! `Sequence`: calls as if by chance, made to two guardians.
+//! `Sequence`: pseudo-random calls, made to two guardians.
 
 use crate::call_making::{DEEP, add_call};
 use crate::chance::Chance;
@@ -7,13 +7,14 @@ use crate::comparing::{compare_guardians, compare_tests};
 use crate::difference::Difference;
 use crate::family::Family;
 use crate::reply_kind::ReplyKind;
+use crate::resuming::compare_resumed;
 use argus_actions::ActionId;
 use argus_values::{Budget, Heap, ObjId, Room};
 
-/// Calls as if by chance, made to two guardians that are checked against the definitions. One of
-/// them
-/// is never checkpointed; of the other the journal is folded now and then, and allocations are
-/// refused. Their replies and bases have to be the same.
+/// Pseudo-random calls, made to two guardians that are checked against the definitions. One of them
+/// is never checkpointed; the other's journal is folded now and then, and allocations are refused.
+/// Their replies and bases have to be the same. In the end both are made again from their journals'
+/// listings.
 ///
 /// ```text
 /// let mut sequence = Sequence::new(heap, tight, budget, 1);
@@ -41,7 +42,7 @@ impl Sequence {
         }
     }
 
-    /// Makes some ten calls; seldom a hundred, most of which begin an action below the last one.
+    /// Makes some ten calls; rarely a hundred, most of which begin an action below the last one.
     pub(crate) fn run(&mut self) -> Result<(), Difference> {
         let (length, crowd) = if self.chance.once_in(50) {
             (100, DEEP)
@@ -52,7 +53,9 @@ impl Sequence {
             self.step(crowd)?;
         }
         self.whole.audit()?;
-        self.folded.audit()
+        self.folded.audit()?;
+        compare_resumed(self.heap, &mut self.chance, &self.whole.guardian)?;
+        compare_resumed(self.heap, &mut self.chance, &self.folded.guardian)
     }
 
     fn step(&mut self, crowd: u32) -> Result<(), Difference> {
@@ -64,7 +67,7 @@ impl Sequence {
         self.make_call(crowd, &mut text)
     }
 
-    // The text is empty before.
+    // The text is empty at first.
     fn make_call(&mut self, crowd: u32, text: &mut String<Room>) -> Result<(), Difference> {
         self.add_call(crowd, text)?;
         let _told = self.whole.call(text.as_str())?;

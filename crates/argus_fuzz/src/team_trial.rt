@@ -1,4 +1,4 @@
-//! A script as if by chance, run by workers, and checked against the journal that they leave.
+//! A pseudo-random script, run by workers, and checked against the journal that they leave.
 
 ghost use Rattle.std.specs.Prelude.{◌≤◌};
 
@@ -16,11 +16,10 @@ use std::sync::Wait;
 use std::thread::Threads;
 use test_rows::first_word;
 
-/// Runs the script of this seed by two to eight workers, none of whom waits for a lock. That what
-/// they did is a run of the script is tested by the run itself; the calls of the journal that it
-/// leaves are made once more, one by one, on a guardian that is checked against the definitions:
-/// they
-/// have to have the same replies.
+/// Runs the script of this seed by two to eight workers, none of which waits for a lock. The run
+/// itself tests that what they did is a run of the script. The calls of the journal that it leaves
+/// are made again, one by one, on a guardian that is checked against the definitions: they have to
+/// get the same replies.
 pub(crate) fn run_by_team<T: Threads + Wait + Copy + Drop + Send + Sync>(
     rt: &T,
     heap: Heap,
@@ -42,7 +41,7 @@ pub(crate) fn run_by_team<T: Threads + Wait + Copy + Drop + Send + Sync>(
     )
 }
 
-// The journal that so many workers leave, as it is listed.
+// The journal that this many workers leave, as it is listed.
 fn listed_by<T: Threads + Wait + Copy + Drop + Send + Sync>(
     rt: &T,
     heap: Heap,

@@ -1,4 +1,4 @@
-//! What a guardian of one thread answers the rows that are told to it.
+//! What a guardian of one thread answers to its rows.
 
 use crate::answering::tell_answer;
 use crate::listing::{names_in, tell_listing};
@@ -10,7 +10,7 @@ use argus_journal::{Call, Entry, Journal, Reply, write_entry};
 use argus_values::{OutOfMemory, Room};
 use test_rows::{RowFault, Setting, tell_word};
 
-/// What the row is answered, where no allocation is refused.
+/// The answer to the row, if no allocation is refused.
 pub(crate) fn answer_alone(
     guardian: &mut Guardian,
     setting: Setting,
@@ -22,7 +22,7 @@ pub(crate) fn answer_alone(
     Ok(out)
 }
 
-/// Adds what the row is answered. Texts always have memory.
+/// Adds the answer to the row. Texts always have memory.
 pub(crate) fn tell_row(
     guardian: &mut Guardian,
     setting: Setting,

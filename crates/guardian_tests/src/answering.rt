@@ -1,4 +1,4 @@
-//! What questions are answered, as text.
+//! The answers to questions, as text.
 
 use crate::object_telling::{tell_base, tell_readers, tell_shape, tell_versions};
 use crate::question::Question;
@@ -73,7 +73,7 @@ fn tell_contents(
     Ok(())
 }
 
-// An action is live where it answers for itself.
+// An action is live if it is its own owner.
 fn status_in(guardian: &Guardian, a: ActionId) -> &'static str {
     match owner_of(guardian.journal().journal(), a) {
         None => "unbegun",

@@ -5,7 +5,7 @@ use argus_actions::ActionId;
 use argus_values::ObjId;
 use test_rows::{RowFault, action, object, pair};
 
-/// The question that begins with this word and goes on so; None where none begins with it.
+/// The question that begins with this word and goes on like this; `None` if none begins with it.
 pub(crate) fn question_of(word: &str, rest: &str) -> Result<Option<Question>, RowFault> {
     match word {
         "objects" => Ok(Some(Question::Objects)),

@@ -13,7 +13,7 @@ pub(crate) const ACCOUNTS: u32 = 8;
 // The last account.
 const LAST: u32 = ACCOUNTS - 1;
 
-// More wake-ups than come.
+// More wake-ups than there will be.
 const PATIENCE: u32 = 1_000_000;
 
 /// A seat of a shared guardian, with the receipts of its calls, and the object in which it counts
@@ -99,7 +99,7 @@ impl<'a, N: Sharing, R: Wait + Drop> Caller<'a, N, R> {
         self.make(Call::Alter(a, o, Change::SetField(0, Value::Int(number))))
     }
 
-    // A topaction; None where that is refused.
+    // A topaction; `None` if that is refused.
     fn begin(&mut self) -> Result<Option<ActionId>, OutOfMemory> {
         self.make(Call::BeginTop)?;
         Ok(self.receipts.last().and_then(begun_in))
@@ -118,7 +118,7 @@ impl<'a, N: Sharing, R: Wait + Drop> Caller<'a, N, R> {
     }
 }
 
-/// Makes the call, and keeps its receipt. With a patience it waits while it would be refused
+/// Makes the call, and keeps its receipt. With a patience it waits while it would be refused with
 /// `Conflict`.
 pub(crate) fn make_call<N: Sharing, R: Wait + Drop>(
     rt: &R,
@@ -134,8 +134,8 @@ pub(crate) fn make_call<N: Sharing, R: Wait + Drop>(
     }
 }
 
-/// Makes the call, and keeps its receipt at once: what no one holds over a later call costs no
-/// proof there.
+/// Makes the call, and keeps its receipt at once: a value that isn't held over a later call costs
+/// no proof there.
 pub(crate) fn make_kept<N: Sharing, R: Wait + Drop>(
     rt: &R,
     shared: &Shared<N, R>,
@@ -147,7 +147,7 @@ pub(crate) fn make_kept<N: Sharing, R: Wait + Drop>(
     Ok(())
 }
 
-// Makes the call, which waits while it would be refused `Conflict`, and keeps its receipt.
+// Makes the call, which waits while it would be refused with `Conflict`, and keeps its receipt.
 fn make_waiting<N: Sharing, R: Wait + Drop>(
     rt: &R,
     shared: &Shared<N, R>,
@@ -175,7 +175,7 @@ pub(crate) fn begun_in(receipt: &Receipt) -> Option<ActionId> {
     }
 }
 
-// Which number the call was answered.
+// Which number the call returned.
 fn number_in(receipt: &Receipt) -> Option<i64> {
     match &receipt.reply {
         Reply::Answered(Answer::Val(Value::Int(number))) => Some(*number),

@@ -1,5 +1,5 @@
-//! Calls that a seat makes together, under one lock: a list that is made whole, with each allocation
-//! refused in turn, and lists that end with a reply that isn't as demanded.
+//! Calls that a seat makes together, under one lock of the mutex: a list that is made whole, with
+//! each allocation refused in turn, and lists that end with a reply that isn't as demanded.
 
 use crate::making::{declare, make};
 use crate::sharing::{budgets, share};
@@ -229,8 +229,8 @@ fn demand_of(heap: Heap, text: &str) -> Result<Demand, RowFault> {
     }
 }
 
-// Whether so many calls are left of the list: all that weren't made, but for one that found no
-// memory, which is spent; where there was none for the receipts, all are left.
+// Whether this many calls are left of the list: all that weren't made, except for one that found no
+// memory, which is consumed; if there was none for the receipts, all are left.
 fn is_left(run: &ListRun<'_>, left: usize) -> bool {
     let all = run.list.len();
     let count = run.made.count;

@@ -153,7 +153,7 @@ fn gathered<N: Sharing>(
     Ok((seats, receipts))
 }
 
-// Each looker has seen what agrees, and sees all once it is briefed.
+// What each looker has seen agrees, and it sees all after it is briefed.
 fn see<N: Sharing, R: Wait + Drop>(
     rt: &R,
     heap: Heap,

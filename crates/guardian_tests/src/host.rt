@@ -1,4 +1,4 @@
-//! `Host`: who calls an embedded guardian, as the rows say.
+//! `Host`: calls an embedded guardian, as the rows say.
 
 use crate::request_reading::{has_outcome, lines_of, listed_of, question_of, request_of};
 use argus_embed::{EmbedError, Embedded, ListEnd, ListedCall, Outcome, Question, TextEnd};
@@ -7,11 +7,11 @@ use std::fmt::Write;
 use std::str::from_utf8;
 use test_rows::{RowFault, Setting, Subject, first_word, tell_word};
 
-// No text in the rows is so long.
+// No text in the rows is this long.
 const ROOM: usize = 1_024;
 
-/// Who calls an embedded guardian, as the rows say. After an error the same text has to be kept, and
-/// as much has to be declared, begun and journalled as before.
+/// Calls an embedded guardian, as the rows say. After an error the same text has to be kept, and as
+/// much has to be declared, begun and journalled as before.
 ///
 /// ```text
 /// let mut host = Host::new(setting);
@@ -20,7 +20,8 @@ const ROOM: usize = 1_024;
 #[derive(Drop)]
 pub(crate) struct Host {
     pub(crate) bank: Embedded,
-    // How many bytes and lines of a row were taken before memory was refused: it is told again.
+    // How many bytes and lines of a row were taken before memory was refused: the row is tried
+    // again.
     bytes: usize,
     lines: usize,
 }
@@ -85,7 +86,7 @@ impl Subject for Host {
 }
 
 impl Host {
-    // The two numbers, and the text that is kept where a call was made.
+    // The two numbers, and the text that is kept if a call was made.
     fn told(
         &self,
         texts: Heap,
@@ -107,7 +108,7 @@ impl Host {
         }
     }
 
-    // How many objects, actions and entries there are, and where the journal begins: nothing of it
+    // How many objects, actions and entries there are, and where the journal begins; none of these
     // takes memory.
     pub(crate) fn counts(&mut self) -> [i64; 4] {
         [
@@ -125,8 +126,8 @@ impl Host {
         }
     }
 
-    // Of how many entries a room so large has lines, from an entry on, of what size, and the room, with
-    // a `?` for each byte that isn't written. What is kept stays.
+    // Of how many entries a room of this size has lines, from an entry on, how long they are, and
+    // the room, with a `?` for each byte that isn't written. What is kept stays.
     fn lines(&self, setting: Setting, row: &str) -> Result<String<Room>, RowFault> {
         let (from, size) = first_word(row);
         let (from, size) = (from.parse::<u64>()?, size.parse::<usize>()?);
@@ -151,9 +152,9 @@ impl Host {
         Ok(out)
     }
 
-    // How many calls of a list were made, and why no more; then the two numbers of each, `-` for one
-    // that has none, and the lines that are kept. None of its allocations is refused here:
-    // what was made before would stay.
+    // How many calls of a list were made, and why no more; then the two numbers of each, `-` for
+    // one that has none, and the lines that are kept. None of its allocations is refused here: what
+    // was made before would stay.
     fn called_each(&mut self, setting: Setting, row: &str) -> Result<String<Room>, RowFault> {
         let mut calls = listed_of(setting, row)?;
         let made = self.bank.call_each(calls.as_mut_slice());
@@ -167,8 +168,8 @@ impl Host {
         Ok(out)
     }
 
-    // How many bytes and lines of these were taken, and the two numbers of why no more. The guardian
-    // that is held stays.
+    // How many bytes and lines of these were taken, and the two numbers of why no more. The
+    // guardian that is held stays.
     fn resume(&mut self, setting: Setting, row: &str) -> Result<String<Room>, RowFault> {
         let text = lines_of(setting.texts, row)?;
         let Some(left) = text.as_bytes().get(self.bytes..) else {
@@ -194,7 +195,7 @@ impl Host {
         Ok(out)
     }
 
-    // How many bytes were let go.
+    // How many bytes were dropped.
     fn resumed(&mut self, setting: Setting) -> Result<String<Room>, RowFault> {
         let before = self.kept(setting.texts)?;
         let counts = self.counts();
@@ -215,7 +216,7 @@ impl Host {
         }
     }
 
-    // The size that is told for so much room, with the text or `too small`; or `none`.
+    // The size that is returned for this much room, with the text or `too small`; or `none`.
     fn copied(&self, setting: Setting, room: &str) -> Result<String<Room>, RowFault> {
         let size = room.parse::<usize>()?;
         let mut buffer = Vec::from_elem(setting.texts.room(), b'?', size)?;
@@ -237,7 +238,7 @@ impl Host {
         Ok(out)
     }
 
-    // The text that is kept, or `none`; `nothing` where it is empty.
+    // The text that is kept, or `none`; `nothing` if it is empty.
     pub(crate) fn kept(&self, texts: Heap) -> Result<String<Room>, OutOfMemory> {
         let mut room = Vec::from_elem(texts.room(), 0u8, ROOM)?;
         let mut out = String::new(texts.room());

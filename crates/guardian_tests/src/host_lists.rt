@@ -1,5 +1,5 @@
-//! Lists of calls of a guardian that a host holds: each allocation of one is refused in turn, and one
-//! has a text that isn't UTF-8.
+//! Lists of calls of a guardian that a host holds: each allocation of one is refused in turn, and
+//! one has a text that isn't UTF-8.
 
 use anyhow::{Result, bail, ensure};
 use argus_embed::{CallsMade, EmbedError, Embedded, ListEnd, ListedCall, Outcome, Question};
@@ -9,8 +9,8 @@ use test_rows::Setting;
 // More allocations than the list makes.
 const BUDGETS: u64 = 100;
 
-// A topaction creates a record and commits, and a second one reads it and sets it: each call's kind,
-// by which call its action was begun, its text, and the two numbers of its outcome.
+// A topaction creates a record and commits, and a second one reads it and sets it: each call's
+// kind, which call began its action, its text, and the two numbers of its outcome.
 const LIST: [(u32, u32, &str, (u32, i64)); 9] = [
     (0, 0, "atomic_record[t:text]", (1, 0)),
     (1, 0, "", (2, 0)),
@@ -23,7 +23,7 @@ const LIST: [(u32, u32, &str, (u32, i64)); 9] = [
     (4, 5, "", (0, 0)),
 ];
 
-// What is kept of it, after so many calls, where any was made.
+// What is kept of it, after this many calls, if any was made.
 const LINES: [&str; 10] = [
     "",
     "",
@@ -37,8 +37,8 @@ const LINES: [&str; 10] = [
     "{\"a\"}\n\"b\\n\"\n",
 ];
 
-/// A list is refused each of its allocations in turn, until none is: what was made before stays, and
-/// the call that found no memory changes nothing.
+/// A list is refused each of its allocations in turn, until none is: what was made before stays,
+/// and the call that found no memory changes nothing.
 pub(crate) fn call_within_budgets(setting: Setting) -> Result<()> {
     for allowed in 0..BUDGETS {
         let made = call_list(setting.allowing(allowed))?;
@@ -57,8 +57,8 @@ fn be_whole(made: CallsMade, allowed: u64) -> Result<()> {
     Ok(())
 }
 
-// How far the list came on a new guardian, with so many allocations. It has the outcomes so far, and
-// so has the call that failed; the journal and the text that is kept have as much.
+// How far the list came on a new guardian, with this many allocations. It has the outcomes so far,
+// and so has the call that failed; the journal and the text that is kept have as much.
 fn call_list(setting: Setting) -> Result<CallsMade> {
     let mut bank = Embedded::new(setting.heap);
     let mut calls = listed(setting)?;
@@ -80,7 +80,7 @@ fn call_list(setting: Setting) -> Result<CallsMade> {
     Ok(made)
 }
 
-// Whether what is kept is the texts of so many calls; before the first one nothing is.
+// Whether what is kept is the texts of this many calls; before the first one nothing is.
 fn is_kept(bank: &Embedded, setting: Setting, count: usize) -> Result<bool> {
     let mut room = Vec::from_elem(setting.texts.room(), 0u8, 64)?;
     let size = bank.reply(room.as_mut_slice())?;
@@ -132,8 +132,8 @@ fn listed(setting: Setting) -> Result<Vec<ListedCall<'static>, Room>> {
     Ok(calls)
 }
 
-// Whether the first so many have their outcomes, the next one has want of memory, and the others
-// nothing.
+// Whether this many at the front have their outcomes, the next one has `OutOfMemory`, and the
+// others nothing.
 fn are_reported(calls: &[ListedCall<'_>], count: usize) -> bool {
     let mut are_right = true;
     for (at, (call, listed)) in calls.iter().zip(&LIST).enumerate() {

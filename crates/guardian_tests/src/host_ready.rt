@@ -1,5 +1,5 @@
 //! How a host commits in two steps: the line that can be logged in between, and then the commit, or
-//! none.
+//! no commit.
 
 use crate::host::{Host, codes_text, push_lines};
 use argus_embed::ReadyEmbedded;
@@ -9,7 +9,7 @@ use std::mem::replace;
 use test_rows::{RowFault, Setting, first_word};
 
 impl Host {
-    // The size of the line, the room with so much of it, and the two numbers of the commit.
+    // The size of the line, the room with as much of it as fits, and the two numbers of the commit.
     pub(crate) fn made_ready(
         &mut self,
         setting: Setting,
@@ -23,7 +23,7 @@ impl Host {
         Ok(out)
     }
 
-    // The size of the line, and the room with so much of it. All is as before.
+    // The size of the line, and the room with as much of it as fits. Nothing has changed.
     pub(crate) fn cancelled(
         &mut self,
         setting: Setting,
@@ -40,7 +40,7 @@ impl Host {
     }
 
     // A commit that is ready, and its line in a room, as the row says them. Without memory there is
-    // none, and all is as before.
+    // none, and nothing has changed.
     fn readied(
         &mut self,
         setting: Setting,

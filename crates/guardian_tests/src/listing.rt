@@ -16,7 +16,7 @@ pub(crate) fn listing_of(text: &str) -> Result<Listing, RowFault> {
     }
 }
 
-/// The names that stand in a row behind `list` and the listing's word.
+/// The names in a row after `list` and the listing's word.
 pub(crate) fn names_in(texts: Heap, asked: &str) -> Result<Vec<Name, Room>, OutOfMemory> {
     let mut names = Vec::new(texts.room());
     for word in asked.split(' ').skip(2) {
@@ -54,8 +54,8 @@ pub(crate) fn tell_listing(
     tell_lines(written, out)
 }
 
-// Whether a writer that has room for this front, and then fails or takes nothing, gets just that, and
-// is not tried again.
+// Whether a writer that has room for this prefix, and then fails or accepts nothing, gets just
+// that, and is not tried again.
 fn is_cut_at(
     guardian: &Guardian,
     texts: Heap,

@@ -1,6 +1,7 @@
-//! Guardians worked out: tells the rows in data/ to a guardian by itself, to one that threads share
-//! and to one that a host of another language holds, and has threads work at once. A row that isn't
-//! answered as it says is told, and the status is then 1, once all parts are through.
+//! Tests of guardians: passes the rows in data/ to a guardian by itself, to one that threads share
+//! and to one that a host in another language holds, and lets threads work at once. A row that
+//! doesn't get the answer that it says is printed, and the status is then 1, after all parts have
+//! run.
 #![tactic(auto)]
 
 mod alone;
@@ -90,7 +91,7 @@ fn main(rt: HostRuntime) -> Result<()> {
     Ok(())
 }
 
-// Answers whether all rows are answered as they say, as the next two do.
+// Returns whether all rows get the answers that they say, as the next two do.
 fn test_alone<R: Threads + Wait + Files + Print + AllocGlobal + Copy + Drop + Send + Sync>(
     rt: R,
     setting: Setting,

@@ -3,6 +3,7 @@
 use anyhow::bail;
 use argus_actions::ActionId;
 use argus_guardian::Guardian;
+use argus_guardian::resume_laws::calls_are_well_formed;
 use argus_values::Heap;
 use test_rows::{RowFault, call_of};
 
@@ -14,7 +15,7 @@ pub(crate) fn make(guardian: &mut Guardian, heap: Heap, text: &str) -> anyhow::R
     }
 }
 
-/// Declares so many records of a number.
+/// Declares this many records of a number.
 pub(crate) fn declare(guardian: &mut Guardian, heap: Heap, count: u32) -> anyhow::Result<()> {
     for _ in 0..count {
         make(guardian, heap, "declare atomic_record[n:int]")?;
@@ -22,7 +23,7 @@ pub(crate) fn declare(guardian: &mut Guardian, heap: Heap, count: u32) -> anyhow
     Ok(())
 }
 
-/// The action creates so many records, from object 0 on, with a 0 in each.
+/// The action creates this many records, from object 0 on, with a 0 in each.
 pub(crate) fn create(
     guardian: &mut Guardian,
     heap: Heap,
@@ -37,6 +38,8 @@ pub(crate) fn create(
 }
 
 fn make_unheard(guardian: &mut Guardian, heap: Heap, text: &str) -> Result<(), RowFault> {
-    guardian.call(call_of(heap, text)?)?;
+    let call = call_of(heap, text)?;
+    calls_are_well_formed(&call);
+    guardian.call(call)?;
     Ok(())
 }

@@ -18,7 +18,7 @@ const OBJECTS: u32 = 100;
 
 /// A subaction that has created 100 objects commits, and then its parent, a topaction. Each of the
 /// two commits is refused each of its allocations in turn, through a guardian that is shared anew
-/// for each try and settled after it: until it is made, all is as before.
+/// for each try and settled after it. Until a commit is made, nothing has changed.
 pub(crate) fn commit_within_budgets<R: Threads + Wait + Print + Copy + Drop + Send + Sync>(
     rt: R,
     setting: Setting,
@@ -77,7 +77,7 @@ fn commit_at_last<R: Threads + Wait + Print + Copy + Drop + Send + Sync>(
     bail!("a commit is never made")
 }
 
-/// A commit by one seat, with a settlement by its receipt, or by none where it was refused memory.
+/// A commit by one seat, with a settlement by its receipt, or by none if it was refused memory.
 #[derive(Drop)]
 pub(crate) struct OneCommit {
     setting: Setting,
@@ -118,7 +118,7 @@ fn are_done(receipts: Vec<Receipt, Room>) -> bool {
     done
 }
 
-// The receipt of the commit, or none where it was refused memory.
+// The receipt of the commit, or none if it was refused memory.
 fn commit_by<N: Sharing, R: Wait + Drop>(
     rt: &R,
     shared: &Shared<N, R>,

@@ -1,4 +1,4 @@
-//! What a guardian tells of its objects, as text: each item with a space before it.
+//! What a guardian says of its objects, as text: each item with a space before it.
 
 use argus_actions::ActionId;
 use argus_guardian::Guardian;

@@ -1,4 +1,4 @@
-//! All that a guardian tells, as one text.
+//! All that a guardian says, as one text.
 
 use crate::answering::tell_entry;
 use crate::object_telling::{tell_base, tell_readers, tell_shape, tell_versions};
@@ -6,7 +6,7 @@ use argus_guardian::Guardian;
 use argus_values::{Heap, ObjId, OutOfMemory, Room};
 use test_rows::tell_number;
 
-/// What the guardian tells of its journal and of each object. Two that are the same stand for the
+/// What the guardian says of its journal and of each object. Two texts that are the same mean the
 /// same entries, objects, locks and versions.
 pub(crate) fn picture(guardian: &Guardian, texts: Heap) -> Result<String<Room>, OutOfMemory> {
     let mut out = String::new(texts.room());

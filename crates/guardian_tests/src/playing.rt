@@ -15,8 +15,7 @@ use std::thread::Threads;
 use test_rows::{RowFault, Setting};
 
 /// The rows between a sharing and its settlement, which the last one has to be; or up to its drop,
-/// and
-/// the looks behind that. Each allocation of each row is refused in turn, where that is asked for.
+/// and the looks after that. Each allocation of each row is refused in turn, if that is asked for.
 ///
 /// ```text
 /// let play = Play { setting, is_tight: false, rows: "settle -> done", tally };
@@ -30,9 +29,8 @@ pub(crate) struct Play<'a> {
     pub(crate) tally: Tally,
 }
 
-/// Tells the rows to the shared guardian, the last of which has to be a settlement. Where it is
-/// dropped
-/// in place of that, a new guardian is given back.
+/// Passes the rows to the shared guardian; the last one has to be a settlement. If the guardian is
+/// dropped instead, a new one is returned.
 pub(crate) fn play_rows<
     N: Sharing + Send + Sync,
     R: Threads + Wait + Print + Copy + Drop + Send + Sync,
@@ -53,7 +51,7 @@ pub(crate) fn play_rows<
     }
 }
 
-// The guardian once a row settles, or the session behind all rows.
+// The guardian when a row settles, or the session after all rows.
 fn tell_rows<N: Sharing + Send + Sync, R: Threads + Wait + Print + Copy + Drop + Send + Sync>(
     rt: R,
     session: Session<N, R>,
@@ -94,7 +92,7 @@ fn look_on<N: Sharing>(
     Ok(())
 }
 
-// Nothing is copied out of a board that has ended, so no allocation is allowed where they are
+// Nothing is copied out of a board that has ended, so no allocation is allowed when they are
 // refused.
 fn look<N: Sharing>(
     setting: Setting,
@@ -118,7 +116,7 @@ fn look<N: Sharing>(
     Ok(out)
 }
 
-// The guardian, or the session where the row is answered otherwise.
+// The guardian, or the session if the row gets another answer.
 fn settle<N: Sharing + Send + Sync, R: Threads + Wait + Print + Copy + Drop + Send + Sync>(
     rt: R,
     session: Session<N, R>,

@@ -15,11 +15,11 @@ use std::thread::Threads;
 use test_rows::{Block, RowFault, Setting, block_of, spelled_row};
 
 /// Makes the calls of each test of the text once more, all by one seat of a new guardian that is
-/// shared, and then by calls that may wait, of no patience. Settled with all receipts, the guardian
-/// has to tell what one of one thread tells after the test: the same entries, objects, locks and
-/// versions. Answers how many tests there are.
+/// shared, and then by calls that may wait, without patience. Settled with all receipts, the
+/// guardian has to say what one of one thread says after the test: the same entries, objects, locks
+/// and versions. Returns how many tests there are.
 ///
-/// No row of the text counts, and none is a checkpoint.
+/// No row of the text stands for many, and none is a checkpoint.
 pub(crate) fn repeat_tests<R: Threads + Wait + Print + Copy + Drop + Send + Sync>(
     rt: R,
     setting: Setting,
@@ -75,7 +75,7 @@ fn tell_rows(guardian: &mut Guardian, setting: Setting, rows: &str) -> Result<()
     Ok(())
 }
 
-// Makes the calls in this guardian's journal once more, of this patience if they may wait.
+// Makes the calls in this guardian's journal again, with this patience if they may wait.
 fn repeat_calls<R: Threads + Wait + Print + Copy + Drop + Send + Sync>(
     rt: R,
     setting: Setting,

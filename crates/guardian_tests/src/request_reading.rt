@@ -4,7 +4,7 @@ use argus_embed::{ListedCall, Question, Request};
 use argus_values::{Heap, Room};
 use test_rows::{RowFault, Setting, first_word, place};
 
-/// A request's five numbers, and the text behind them.
+/// A request's five numbers, and the text after them.
 pub(crate) fn request_of<'a>(row: &'a str) -> Result<(Request, &'a str), RowFault> {
     let (kind, rest) = first_word(row);
     let (action, rest) = first_word(rest);
@@ -34,14 +34,14 @@ pub(crate) fn question_of(row: &str) -> Result<Option<Question>, RowFault> {
     ))
 }
 
-/// The lines of a listing, of which a bar stands for each one's end. An arrow is `=>` there, since
-/// behind `->` comes what the row gets.
+/// The lines of a listing; a bar stands for each line's end. An arrow is `=>` there, since after
+/// `->` comes what the row gets.
 pub(crate) fn lines_of(texts: Heap, row: &str) -> Result<String<Room>, RowFault> {
     let lines = row.replace(texts.room(), " => ", " -> ")?;
     Ok(lines.replace(texts.room(), "|", "\n")?)
 }
 
-// What stands in a listed call's status and number until it has an outcome.
+// What is in a listed call's status and number until it has an outcome.
 const UNTOLD: u32 = 99;
 
 /// The calls of a list, with a semicolon between two of them.

@@ -1,5 +1,5 @@
-//! Listings of journals, made into guardians again: whole, each front of them, with each byte changed,
-//! with each allocation refused in turn, and by readers that fail.
+//! Listings of journals, made into guardians again: whole, each prefix of them, with each byte
+//! changed, with each allocation refused in turn, and by readers that fail.
 
 use crate::making::make;
 use crate::starting::later;
@@ -45,8 +45,8 @@ const CALLS_BEHIND: [&str; 5] = [
     "declare atomic_record[n:int]",
 ];
 
-/// All of these, of listings of entries alone, of an opening with entries behind it, and of an
-/// opening alone.
+/// All of these, for listings of only entries, of an opening with entries after it, and of only an
+/// opening.
 pub(crate) fn resume_listings(setting: Setting) -> Result<()> {
     call_laws();
     let mut guardian = Guardian::new(setting.heap);
@@ -107,7 +107,7 @@ fn listed(heap: Heap, guardian: &Guardian) -> Result<Vec<u8, Room>> {
     }
 }
 
-// Whether the guardian's listing is this front of the text.
+// Whether the guardian's listing is this prefix of the text.
 fn is_listed(
     heap: Heap,
     guardian: &Guardian,
@@ -136,7 +136,7 @@ fn comes_back(setting: Setting, text: &[u8]) -> Result<()> {
     Ok(())
 }
 
-// A front of a listing gives its whole lines, and goes on to the whole listing.
+// A prefix of a listing gives its whole lines, and goes on to the whole listing.
 fn front_comes_back(heap: Heap, text: &[u8], size: usize) -> Result<()> {
     let front = text.get(..size).unwrap_or(text);
     let mut resuming = Resuming::new(heap);
@@ -182,7 +182,7 @@ fn is_opened(heap: Heap, resuming: Resuming, text: &[u8], bytes: u64) -> Result<
     Ok(())
 }
 
-// Each bit of this byte is changed. Where no line is at fault, what was taken is another listing.
+// Each bit of this byte is changed. If no line is at fault, what was taken is another listing.
 fn bytes_are_changed(heap: Heap, text: &[u8], at: usize) -> Result<()> {
     let mut changed = Vec::new(heap.room());
     changed.extend_from_slice(text)?;
@@ -227,8 +227,8 @@ fn goes_on_at_last(setting: Setting, text: &[u8]) -> Result<()> {
     bail!("a listing is never taken")
 }
 
-// The guardian is made with each allocation refused in turn: until it is, nothing is lost. Before it
-// comes a line with another reply, of which nothing stays.
+// The guardian is made with each allocation refused in turn: until it is made, nothing is lost.
+// Before that comes a line with another reply, of which nothing stays.
 fn opens_at_last(setting: Setting, text: &[u8], next: u64) -> Result<()> {
     let mut resuming = Resuming::new(setting.heap);
     let taken = resuming.take(text);
@@ -264,7 +264,7 @@ fn opens_at_last(setting: Setting, text: &[u8], next: u64) -> Result<()> {
     bail!("a guardian is never opened")
 }
 
-// Of a reader, with each allocation refused in turn: what was taken is there.
+// From a reader, with each allocation refused in turn: what was taken is there.
 fn resumes_at_last(setting: Setting, text: &[u8]) -> Result<()> {
     for allowed in 0..BUDGETS {
         let allowing = setting.allowing(allowed);

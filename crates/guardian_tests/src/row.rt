@@ -15,12 +15,12 @@ pub(crate) enum Row {
     Call(Call),
     /// A checkpoint.
     Checkpoint,
-    /// All that is live is aborted.
+    /// All live actions are aborted.
     AbortLive,
-    /// From here on it's another guardian, which goes on where one ended.
+    /// From here on it's another guardian, which goes on where this one ended.
     Later,
-    /// A question, after which all is as before.
+    /// A question, after which nothing has changed.
     Question(Question),
-    /// A listing, after which all is as before; the names stand in the row.
+    /// A listing, after which nothing has changed; the names are in the row.
     List(Listing),
 }

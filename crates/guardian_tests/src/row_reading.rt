@@ -1,4 +1,5 @@
-//! What a row spells before its arrow. A call that is read wrongly is seen: its line is compared.
+//! What a row spells before its arrow. A call that is read wrongly is noticed: its line is
+//! compared.
 
 use crate::asking::question_of;
 use crate::listing::listing_of;

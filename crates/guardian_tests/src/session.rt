@@ -1,4 +1,4 @@
-//! `Session`: a shared guardian that rows are told to.
+//! `Session`: a shared guardian that answers rows.
 
 use crate::alone::tell_checkpoint;
 use crate::caller::make_call;
@@ -48,7 +48,7 @@ impl<N: Sharing + Send + Sync, R: Threads + Wait + Copy + Drop + Send + Sync> Se
         }
     }
 
-    /// What the row is answered, as text.
+    /// The answer to the row, as text.
     pub(crate) fn answer(
         &mut self,
         rt: R,
@@ -163,7 +163,7 @@ impl<N: Sharing + Send + Sync, R: Threads + Wait + Copy + Drop + Send + Sync> Se
         tell_last(receipts.as_slice(), out)
     }
 
-    /// Drops the guardian with its seats, and gives the lookers.
+    /// Drops the guardian with its seats, and returns the lookers.
     pub(crate) fn dropped(self) -> Vec<Looker<N>, Room> {
         let Session {
             shared,
@@ -197,7 +197,7 @@ impl<N: Sharing + Send + Sync, R: Threads + Wait + Copy + Drop + Send + Sync> Se
     }
 
     /// Settles as `settle all`, `settle 0 0` or `settle_short all` say: with these receipts, and
-    /// with all seats or without the last. Each allocation is refused in turn, where that is asked
+    /// with all seats or without the last. Each allocation is refused in turn, if that is asked
     /// for.
     pub(crate) fn settle(
         self,

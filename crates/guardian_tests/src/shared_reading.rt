@@ -59,7 +59,7 @@ fn forgery_of(texts: Heap, text: &str) -> Result<SharedRow, RowFault> {
     })
 }
 
-// `wait 3 commit a0`, or a call alone.
+// `wait 3 commit a0`, or just a call.
 fn call_row_of(heap: Heap, seat: usize, text: &str) -> Result<SharedRow, RowFault> {
     let (patience, call) = waiting_call_of(heap, text)?;
     Ok(SharedRow::Call {

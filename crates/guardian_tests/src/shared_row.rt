@@ -11,7 +11,7 @@ use argus_values::{ObjId, Room};
 /// ```
 #[derive(Drop)]
 pub(crate) enum SharedRow {
-    /// A call by a seat. With a patience it waits while it would be refused `Conflict`.
+    /// A call by a seat. With a patience it waits while it would be refused with `Conflict`.
     Call {
         seat: usize,
         patience: Option<u32>,
@@ -31,7 +31,7 @@ pub(crate) enum SharedRow {
     Made {
         seat: usize,
     },
-    /// Puts a reply in the place of the receipt's own.
+    /// Replaces the receipt's own reply by another.
     Forge {
         receipt: usize,
         reply: Reply,

@@ -1,4 +1,4 @@
-//! What a shared guardian answers, as text.
+//! What a shared guardian returns, as text.
 
 use argus_guardian::{Board, LookFault, Looker, Receipt, SettleFault};
 use argus_journal::{Entry, write_entry};
@@ -53,7 +53,7 @@ fn tell_contents(contents: &[Option<Content>], out: &mut String<Room>) -> Result
     Ok(())
 }
 
-/// Adds `true`. False would be want of memory.
+/// Adds `true`. False would mean `OutOfMemory`.
 pub(crate) fn tell_shown(is_shown: bool, out: &mut String<Room>) -> Result<(), RowFault> {
     if is_shown {
         Ok(tell_word("true", out)?)

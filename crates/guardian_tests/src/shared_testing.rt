@@ -12,7 +12,7 @@ use std::sync::Wait;
 use std::thread::Threads;
 use test_rows::{Block, Setting, block_of};
 
-/// Runs each test of the text: with ample memory, and, but for large tests, once more with each
+/// Runs each test of the text: with ample memory, and, except for large tests, once more with each
 /// allocation refused in turn. The rows under the text's first heading come first in each test.
 pub(crate) fn run_text<R: Threads + Wait + Print + Copy + Drop + Send + Sync>(
     rt: R,
@@ -76,7 +76,7 @@ fn run_test<R: Threads + Wait + Print + Copy + Drop + Send + Sync>(
     Ok(())
 }
 
-// The rows of a sharing, and those that are told to the guardian after it.
+// The rows of a sharing, and those that the guardian answers after it.
 fn run_section<R: Threads + Wait + Print + Copy + Drop + Send + Sync>(
     rt: R,
     setting: Setting,

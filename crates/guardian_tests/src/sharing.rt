@@ -17,7 +17,7 @@ use std::sync::ledger::Blank;
 use std::thread::Threads;
 use test_rows::Setting;
 
-// Nothing here takes so many allocations.
+// Nothing here takes this many allocations.
 const MOST: u64 = 10_000;
 
 /// How many allocations are allowed, one after another, until there are enough: any number at once,
@@ -30,8 +30,8 @@ pub(crate) fn budgets(is_tight: bool) -> Range<u64> {
     }
 }
 
-/// Shares the guardian among so many seats and lookers for the task. Each allocation of the sharing
-/// is refused in turn, where that is asked for.
+/// Shares the guardian among this many seats and lookers for the task. Each allocation of the
+/// sharing is refused in turn, if that is asked for.
 pub(crate) fn share<R: Threads + Wait + Print + Copy + Drop + Send + Sync>(
     rt: R,
     setting: Setting,

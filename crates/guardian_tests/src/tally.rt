@@ -29,13 +29,13 @@ impl Tally {
         }
     }
 
-    /// A further test begins.
+    /// Another test begins.
     pub(crate) fn begin(&mut self) {
         self.tests = self.tests.saturating_add(1);
         self.rows = 0;
     }
 
-    /// Tells where the row's answer is none of those that stand behind its arrow.
+    /// Reports if the row's answer is none of those after its arrow.
     pub(crate) fn compare(
         &mut self,
         rt: &impl Print,
@@ -56,12 +56,12 @@ impl Tally {
         println!(rt; "row {}: {told}; wanted: {row}", self.rows)
     }
 
-    /// Tells how many rows the test has.
+    /// Reports how many rows the test has.
     pub(crate) fn tell_rows(&self, rt: &impl Print, name: &str) -> io::Result<()> {
         println!(rt; "{name}: {} rows", self.rows)
     }
 
-    /// Tells how many tests there were, and how many wrong answers.
+    /// Reports how many tests there were, and how many wrong answers.
     pub(crate) fn tell(&self, rt: &impl Print) -> io::Result<()> {
         println!(rt;
             "{} tests of rows, {} wrong answers",
@@ -69,13 +69,13 @@ impl Tally {
         )
     }
 
-    /// Whether every row was answered as it says.
+    /// Whether every row got the answer that it says.
     pub(crate) fn is_content(&self) -> bool {
         self.wrong == 0
     }
 }
 
-// Whether the text is one of those that `or` parts.
+// Whether the text is one of those that `or` separates.
 fn is_among(wanted: &str, told: &str) -> bool {
     let mut is_there = false;
     for one in wanted.split(" or ") {

@@ -20,9 +20,9 @@ use std::thread::Threads;
 /// ```
 #[derive(Drop)]
 pub(crate) enum Task<'a> {
-    /// Rows are told to it.
+    /// It answers rows.
     Play(Play<'a>),
-    /// An action commits, within so many allocations.
+    /// An action commits, within this many allocations.
     Commit(OneCommit),
     /// A seat makes the calls of a list.
     CallEach(ListRun<'a>),
@@ -34,7 +34,7 @@ pub(crate) enum Task<'a> {
     Repeat(Repetition<'a>),
 }
 
-/// Does it, and gives the guardian back once it is settled; a new one where it is dropped.
+/// Does it, and returns the guardian after the settlement; a new one if it was dropped.
 pub(crate) fn perform<
     N: Sharing + Send + Sync,
     R: Threads + Wait + Print + Copy + Drop + Send + Sync,

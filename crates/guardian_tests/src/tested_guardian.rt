@@ -1,4 +1,4 @@
-//! `TestedGuardian`: a guardian that rows are told to.
+//! `TestedGuardian`: a guardian that answers rows.
 
 use crate::alone::tell_row;
 use crate::picture::picture;
@@ -7,7 +7,7 @@ use argus_guardian::Guardian;
 use argus_values::{Heap, OutOfMemory, Room};
 use test_rows::{RowFault, Setting, Subject};
 
-/// A guardian that rows are told to.
+/// A guardian that answers rows.
 ///
 /// ```text
 /// let mut tested = TestedGuardian::new(setting);
@@ -16,7 +16,7 @@ use test_rows::{RowFault, Setting, Subject};
 #[derive(Drop)]
 pub(crate) struct TestedGuardian {
     pub(crate) guardian: Guardian,
-    // What it was before the row, where allocations are refused.
+    // What it was before the row, if allocations are refused.
     before: String<Room>,
 }
 
@@ -58,7 +58,7 @@ impl TestedGuardian {
         }
     }
 
-    // After a refusal all has to be as before the row.
+    // After a refusal everything has to be as it was before the row.
     fn compare(&self, texts: Heap) -> Result<(), RowFault> {
         let now = picture(&self.guardian, texts)?;
         if now.as_str() == self.before.as_str() {
@@ -69,8 +69,8 @@ impl TestedGuardian {
     }
 }
 
-// Whether no allocation is allowed: so it is when a row is told for the first time, where each
-// allocation is refused in turn.
+// Whether no allocation is allowed: so it is the first time that a row is tried, if each allocation
+// is refused in turn.
 fn is_first_try(setting: Setting) -> bool {
     let mut probe: Vec<u8, Room> = Vec::new(setting.heap.room());
     setting.limit();

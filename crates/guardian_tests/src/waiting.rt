@@ -10,19 +10,19 @@ use std::sync::Wait;
 use std::sync::atomic::{AtomicU64, Ordering};
 use std::thread::{Threads, join, yield_now};
 
-// How often the first thread yields, so that the second one may begin to wait.
+// How often the first thread yields, so that the second one may begin to wait, or wake up.
 const YIELDS: u32 = 1000;
 
 /// The call that waits.
 pub(crate) const WAITING: &str = "alter a2 o0 set_field 0 1";
 
-// How far the thread has come that waits: a word, 0 at first.
+// How far the waiting thread has come: a word, 0 at first.
 const BEGUN: u64 = 1;
 
 const ANSWERED: u64 = 2;
 
 /// What the first seat makes while a call of the second one waits: these calls, one by one or
-/// together; or, where there are none, topactions that it aborts until that call is answered.
+/// together; or, if there are none, topactions that it aborts until that call returns.
 #[derive(Drop)]
 pub(crate) struct Others {
     pub(crate) calls: Vec<Call, Room>,
@@ -38,7 +38,7 @@ pub(crate) struct Meanwhile<N: Sharing> {
     pub(crate) second: Seat<N>,
 }
 
-/// Makes the waiting call by the second seat in a thread of its own. Once that has begun, the first
+/// Makes the waiting call by the second seat in a thread of its own. When that has begun, the first
 /// seat makes the others.
 pub(crate) fn wait_meanwhile<N: Sharing + Send + Sync, R: Threads + Wait + Drop + Send + Sync>(
     rt: &R,
@@ -89,6 +89,11 @@ fn wait_for(rt: &impl Wait, state: &AtomicU64) {
         }
         yield_now();
     }
+    give_way();
+}
+
+// Yields for some time.
+fn give_way() {
     for _ in 0..YIELDS {
         yield_now();
     }
@@ -135,6 +140,7 @@ fn make_together<N: Sharing, R: Wait + Drop>(
     Ok(made.receipts)
 }
 
+// After each call the second thread has time to wake up.
 fn make_all<N: Sharing, R: Wait + Drop>(
     rt: &R,
     shared: &Shared<N, R>,
@@ -144,11 +150,12 @@ fn make_all<N: Sharing, R: Wait + Drop>(
 ) -> Result<(), OutOfMemory> {
     for call in calls {
         make_kept(rt, shared, seat, call, receipts)?;
+        give_way();
     }
     Ok(())
 }
 
-// Begins topactions and aborts them until the other thread is answered.
+// Begins topactions and aborts them until the other thread's call returns.
 fn stir<N: Sharing, R: Wait + Drop>(
     rt: &R,
     shared: &Shared<N, R>,

@@ -57,7 +57,7 @@ pub(crate) fn look_often<N: Sharing>(
     Watched { looker, agrees }
 }
 
-/// How many transfers a look shows; None where the accounts that it shows don't come to 0.
+/// How many transfers a look shows; `None` if the accounts that it shows don't come to 0.
 pub(crate) fn count_seen<N: Sharing>(looker: &mut Looker<N>, heap: Heap) -> Option<i64> {
     let found = looker.look(heap, &LOOKED_AT).ok()?;
     let (mut sum, mut count) = (0i64, 0i64);
@@ -71,7 +71,7 @@ pub(crate) fn count_seen<N: Sharing>(looker: &mut Looker<N>, heap: Heap) -> Opti
     if sum == 0 { Some(count) } else { None }
 }
 
-// The number of a record; 0 where there is none.
+// The number of a record; 0 if there is none.
 fn number_in(content: &Option<Content>) -> i64 {
     match content {
         Some(Content::Rec(values)) => match values.first() {
