@@ -1,4 +1,4 @@
--- What is so of an action that no refusal names.
+-- What holds of an action that no refusal names.
 use Rattle.std.proofs.Common.{◌≡◌, ℕ, ◌<◌, ◌≤◌, Bool, true, false, cond, Option, Some, None, refl, sym, ◌∙◌, ap, inl}
 use Rattle.std.proofs.Common.{inr}
 use Rattle.std.specs.Option.{option_or, option_map, option_map_or}

@@ -1,4 +1,4 @@
--- A tree may cross to another thread, and be looked at from there: as a set for `search`, `crosses`.
+-- A tree may go to another thread, and be looked at from there: as a set for `search`, `crosses`.
 use denote.Param.Send.{IsSend, IsSync}
 use Rattle.argus_memory.proofs.Crossing as memory
 use Rattle.argus_actions.specs.contracts.action_tree.ActionTree.{the_row}

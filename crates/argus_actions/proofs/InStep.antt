@@ -1,4 +1,4 @@
--- That each subaction and its parent are over in their order, after each change of the rows.
+-- That each subaction is over no later than its parent, after each change of the rows.
 use Rattle.std.proofs.Common.{◌≡◌, ℕ, ◌+◌, ◌<◌, ◌≤◌, Bool, true, false, cond, eqb, not, ◌||◌, ◌&&◌, List, [], ◌∷◌}
 use Rattle.std.proofs.Common.{length, Option, Some, None, subst, refl, sym, ◌∙◌, ap, arith, inl, inr}
 use Rattle.std.specs.Option.{option_map_or}

@@ -1,4 +1,4 @@
--- The newest action below a bound that passes a test: what is so of it, and that none between passes.
+-- The newest action below a bound that passes a test: what holds of it, and that none between passes.
 use Rattle.std.proofs.Common.{◌≡◌, ℕ, ◌+◌, ◌<◌, ◌≤◌, Bool, true, false, ltb, ◌&&◌, List, [], ◌∷◌, length, Option, Some}
 use Rattle.std.proofs.Common.{None, refl, sym, ◌∙◌, ap, arith, inl, inr}
 use Rattle.std.specs.Option.{option_map_or}

@@ -1,4 +1,4 @@
--- The nodes in the midst of an abort: which rows are Aborted so far, and which subaction comes next.
+-- The nodes in the middle of an abort: which rows are Aborted so far, and which subaction comes next.
 use Rattle.std.proofs.Common.{◌≡◌, ◌≢◌, ℕ, ◌+◌, ◌<◌, ◌≤◌, eqb, ◌||◌, List, length, get_or, Some, None, sym, ◌∙◌, ap}
 use Rattle.std.proofs.Common.{arith}
 use Rattle.std.proofs.Math.Bool.{or-false, or_assoc}

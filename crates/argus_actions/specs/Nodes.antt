@@ -1,4 +1,4 @@
--- What a tree keeps of its actions, oldest first, and what its nodes say beside their rows.
+-- What a tree keeps of its actions, oldest first, and what its nodes say besides their rows.
 use Rattle.std.specs.Prelude.{◌≡◌, ℕ, ◌+◌, ◌<◌, ◌≤◌, ◌==◌, if◌then◌else◌, List, [], ◌∷◌}
 use Rattle.std.specs.Prelude.{length, reverse, map, get_or, Option, Some, None, IfSome}
 use Rattle.std.specs.Option.{option_and_then}
@@ -41,7 +41,7 @@ link_to (Some a) = a
 abbrev pub link_end : ℕ → Option ActionId
 link_end link = if link == NONE then None else Some (record { 0 = link })
 
--- what the node of this number says beside its row
+-- what the node of this number says besides its row
 pub record IsNode (folded : ℕ) (rows : List Row) (a : ℕ) (node : Node) : Type 0 where
   pub newest : node.newest_sub ≡ link_to (newest_below folded rows a (folded + length rows))
   pub older : node.older_sub ≡ link_to (at_parent None node.origin
@@ -54,7 +54,7 @@ pub record IsNode (folded : ℕ) (rows : List Row) (a : ℕ) (node : Node) : Typ
   pub depth : node.depth ≡ depth_at folded rows a
   pub shallow : node.depth ≤ MAX_ACTION_DEPTH
 
--- what is so of the nodes of every tree
+-- what holds of the nodes of every tree
 pub record AreNodes (folded : ℕ) (nodes : List Node) : Type 0 where
   pub few : folded + length nodes ≤ MAX_ACTIONS
   pub linked : AreLinked folded (rows_of nodes)

@@ -23,7 +23,7 @@ unless_live (Some Committed) = Some Over
 unless_live (Some Aborted) = Some Over
 unless_live (Some Folded) = Some Over
 
--- this refusal, where the test holds
+-- this refusal, if the test holds
 abbrev pub refused_if : Bool → ActionRefusal → Option ActionRefusal
 refused_if test refusal = if test then Some refusal else None
 
@@ -57,7 +57,7 @@ abbrev pub abort_others_refusal : Tree → ℕ → Option ActionRefusal
 abort_others_refusal tree a = option_or (commit_refusal tree a)
     (refused_if (is_none (under_at tree.folded tree.rows a)) NoSiblings)
 
--- the refusal, where there is one; otherwise the call succeeds, or finds no memory
+-- the refusal, if there is one; otherwise the call succeeds, or finds no memory
 abbrev pub IsRefusedBy : {T : Type 0} → Option ActionRefusal → Result T ActionError → Type 0
 IsRefusedBy (Some refusal) result = result ≡ Err (Refused refusal)
 IsRefusedBy None result = IfErr result (λ e. e ≡ OutOfMemory)

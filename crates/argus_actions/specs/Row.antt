@@ -11,7 +11,7 @@ pub record Row : Type 0 where
   pub origin : Origin
   pub status : Status
 
--- what is so of a subaction's parent; a topaction, nested or not, has no parent (Argus Reference
+-- what holds of a subaction's parent; a topaction, nested or not, has no parent (Argus Reference
 -- Manual, 1987, on nested topactions)
 abbrev pub at_parent : {X : Type 0} → X → Origin → (ℕ → X) → X
 at_parent none Top up = none
@@ -39,8 +39,7 @@ is_live Committed = false
 is_live Aborted = false
 is_live Folded = false
 
--- what may have become of a subaction, by what has become of its parent: it ends no later, and is
--- aborted with it
+-- what a subaction's status may be, by its parent's: it ends no later, and is aborted with it
 abbrev pub may_follow : Status → Status → Bool
 may_follow Live sub = true
 may_follow Committed sub = not (is_live sub)

@@ -24,7 +24,7 @@ is_above folded (row ∷ older) x y =
     if y == folded + length older then (x == y || at_parent false row.origin
     (is_above folded older x)) else is_above folded older x y
 
--- how many ancestors an action has, itself among them
+-- how many ancestors an action has, itself included
 abbrev pub depth_at : ℕ → List Row → ℕ → ℕ
 depth_at folded [] a = 0
 depth_at folded (row ∷ older) a =
@@ -101,7 +101,7 @@ has_ancestor test folded (row ∷ older) y =
     if y == folded + length older then (test y || at_parent false row.origin
     (has_ancestor test folded older)) else has_ancestor test folded older y
 
--- each subaction and its parent are over in their order
+-- each subaction is over no later than its parent
 abbrev pub AreInStep : ℕ → List Row → Type 0
 AreInStep folded rows = (a p : ℕ) (row above : Row)
     → numbered folded rows a ≡ Some row → row.origin ≡ Sub p → numbered folded rows p ≡ Some above

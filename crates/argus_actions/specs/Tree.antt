@@ -1,4 +1,4 @@
--- What contracts see of an `ActionTree`, and the words that they cite of it.
+-- What contracts see of an `ActionTree`, and the definitions that they cite of it.
 use Rattle.std.specs.Prelude.{◌≡◌, ℕ, ◌<◌, ◌≤◌, ◌+◌, ◌-◌, Bool, true, ◌==◌, nat_lt, if◌then◌else◌}
 use Rattle.std.specs.Prelude.{List, ◌∷◌, length, Option, Some, None}
 use Rattle.std.specs.Option.{option_map, option_and_then}
@@ -12,8 +12,8 @@ use Rattle.argus_actions.specs.Rows.{numbered, is_above, depth_at, is_live_under
 use Rattle.argus_actions.specs.Rows.{is_live_sibling_of, has_ancestor, mark, newest_below}
 use Rattle.argus_actions.specs.Rows.{newest_child_below}
 
--- the rows, newest first; how many actions came before the first of them; and for how many more
--- there is room
+-- the rows, newest first; how many actions came before the first of them; and room for how many
+-- more there is
 pub record Tree : Type 0 where
   pub folded : ℕ
   pub rows : List Row
@@ -23,11 +23,11 @@ pub record Tree : Type 0 where
 abbrev pub next : Tree → ℕ
 next tree = tree.folded + length tree.rows
 
--- the row of the action with this number, where it has one
+-- the row of the action with this number, if it has one
 abbrev pub row_of : Tree → ℕ → Option Row
 row_of tree a = numbered tree.folded tree.rows a
 
--- what has become of an action; a folded one is over, and no more is known of it
+-- what became of an action; a folded one is over, and nothing else is known of it
 abbrev pub status_of : Tree → ℕ → Option Status
 status_of tree a =
     if nat_lt a tree.folded then Some Folded else option_map (λ row. row.status) (row_of tree a)
@@ -108,7 +108,7 @@ pub record SameActions (old new : Tree) : Type 0 where
   pub folded : new.folded ≡ old.folded
   pub rows : new.rows ≡ old.rows
 
--- one live action more, in the room that was there
+-- one more live action, in the room that was reserved
 abbrev pub after_begin : Tree → Origin → Tree
 after_begin tree origin = record tree {
   rows = record { origin = origin; status = Live } ∷ tree.rows;

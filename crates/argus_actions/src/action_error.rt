@@ -6,8 +6,8 @@ ghost use Rattle.argus_actions.specs.declared.action_error.ActionError.TheVarian
 use crate::action_refusal::ActionRefusal;
 use thiserror::Error;
 
-/// Why no action was begun; the tree is as before. `OutOfMemory` comes only where nothing refuses
-/// the call.
+/// Why no action was begun; the tree is unchanged. `OutOfMemory` comes only if nothing refuses the
+/// call.
 ///
 /// ```text
 /// assert_eq!(rt; tree.begin_sub(ActionId(70)),

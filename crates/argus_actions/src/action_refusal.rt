@@ -2,8 +2,8 @@
 
 use thiserror::Error;
 
-/// Why a call was refused. The first that applies is answered, in this order; the tree is as
-/// before.
+/// Why a call was refused. The first that applies is returned, in this order; the tree is
+/// unchanged.
 ///
 /// | Refusal | When | Calls |
 /// |---|---|---|

@@ -32,8 +32,8 @@ use std::marker::Model;
 
 /// The actions that were begun, numbered from 0.
 ///
-/// Contracts see it as the list of its rows: how each action was begun, and what has become of it.
-/// Only the `begin_` calls and `reserve` take memory.
+/// Contracts see it as the list of its rows: how each action was begun, and what became of it. Only
+/// the `begin_` calls and `reserve` take memory.
 ///
 /// ```text
 /// let mut tree = ActionTree::new(heap);
@@ -102,14 +102,14 @@ impl ActionTree {
         }
     }
 
-    /// How many actions were begun, folded ones among them, which is the number of the next one.
+    /// How many actions were begun, folded ones included: the number of the next one.
     pub fn len(&self) -> u32
         ensures { result ≡ next self.now }
     {
         self.first + self.nodes.len() as u32
     }
 
-    /// What has become of an action; None where it was not begun.
+    /// What became of an action; `None` if it was not begun.
     pub fn status(&self, a: ActionId) -> Option<Status>
         ensures { result ≡ status_of self.now a.0 }
     {
@@ -119,7 +119,7 @@ impl ActionTree {
         self.node(a).map(|node| node.status)
     }
 
-    /// The parent of a subaction; None for all others, and for a folded one.
+    /// The parent of a subaction; `None` for all others, and for a folded one.
     pub fn parent(&self, a: ActionId) -> Option<ActionId>
         ensures { result ≡ parent_of self.now a.0 }
     {
@@ -129,7 +129,7 @@ impl ActionTree {
         }
     }
 
-    /// The creator of a nested topaction; None for all others, and for a folded one.
+    /// The creator of a nested topaction; `None` for all others, and for a folded one.
     pub fn creator(&self, a: ActionId) -> Option<ActionId>
         ensures { result ≡ creator_of self.now a.0 }
     {
@@ -139,19 +139,19 @@ impl ActionTree {
         }
     }
 
-    /// The subaction that was begun last under the action, whatever has become of it; None where it
-    /// has none.
+    /// The subaction that was begun last under the action, whatever became of it; `None` if there
+    /// is none.
     ///
-    /// With `older_sub` it leads to every subaction of this one, and to no other; over theirs, and
-    /// so on, to every action that an abort of this one ends beside itself.
+    /// From there `older_sub` leads to every subaction of this one, and to no other. Followed
+    /// through their subactions too, it leads to every action that an abort of this one also ends.
     pub fn newest_sub(&self, a: ActionId) -> Option<ActionId>
         ensures { result ≡ newest_sub_of self.now a.0 }
     {
         linked(self.node(a)?.newest_sub)
     }
 
-    /// The subaction of the same parent that was begun next before this one; None where it is the
-    /// first, and for topactions.
+    /// The subaction of the same parent that was begun next before this one; `None` for the first,
+    /// and for topactions.
     pub fn older_sub(&self, a: ActionId) -> Option<ActionId>
         ensures { result ≡ older_sub_of self.now a.0 }
     {
@@ -159,26 +159,26 @@ impl ActionTree {
     }
 
     /// The action that was begun last under this one, as its subaction or as its nested topaction;
-    /// None where there is none.
+    /// `None` if there is none.
     ///
-    /// With `older_sibling` it leads to every action that was begun under this one, and so from
-    /// the parent or creator of an action to all its siblings.
+    /// From there `older_sibling` leads to every action that was begun under this one. So from an
+    /// action's parent or creator it leads to all its siblings.
     pub fn newest_child(&self, a: ActionId) -> Option<ActionId>
         ensures { result ≡ newest_child_of self.now a.0 }
     {
         linked(self.node(a)?.newest_child)
     }
 
-    /// The action of the same parent or creator that was begun next before this one; None where it
-    /// is the first, and for a topaction that isn't nested.
+    /// The action of the same parent or creator that was begun next before this one; `None` for the
+    /// first, and for a topaction that isn't nested.
     pub fn older_sibling(&self, a: ActionId) -> Option<ActionId>
         ensures { result ≡ older_sibling_of self.now a.0 }
     {
         linked(self.node(a)?.older_child)
     }
 
-    /// The number of the action's ancestors, itself among them: 1 to 64. None where it was not
-    /// begun, or is folded.
+    /// The number of the action's ancestors, itself included: 1 to 64. `None` if it was not begun,
+    /// or is folded.
     pub fn depth(&self, a: ActionId) -> Option<u32>
         ensures value { result ≡ depth_of self.now a.0 }
         ensures least { IfSome result (λ depth. 1 ≤ depth) }
@@ -187,8 +187,8 @@ impl ActionTree {
         self.node(a).map(|node| u32::from(node.depth))
     }
 
-    /// How many live subactions and live nested topactions the action has; 0 where it was not begun
-    /// or is folded.
+    /// How many live subactions and live nested topactions the action has; 0 if it was not begun or
+    /// is folded.
     pub fn live_children(&self, a: ActionId) -> u32
         ensures value { result ≡ live_children self.now a.0 }
         ensures folded { a.0 < self.now.folded → result ≡ 0 }
@@ -201,7 +201,7 @@ impl ActionTree {
     }
 
     /// Whether a live subaction has the action as its parent, or a live nested topaction as its
-    /// creator; false where it was not begun or is folded.
+    /// creator; false if it was not begun or is folded.
     pub fn has_live_child(&self, a: ActionId) -> bool
         ensures value { result ≡ has_live_child self.now a.0 }
         ensures folded { a.0 < self.now.folded → result ≡ false }
@@ -210,7 +210,7 @@ impl ActionTree {
         self.live_children(a) > 0
     }
 
-    /// Whether `x` is an ancestor of `y`; false where either was not begun or is folded.
+    /// Whether `x` is an ancestor of `y`; false if either was not begun or is folded.
     ///
     /// An action is its own ancestor; the other ancestors of a subaction are those of its parent.
     pub fn is_ancestor(&self, x: ActionId, y: ActionId) -> bool
@@ -273,8 +273,8 @@ impl ActionTree {
         let _ = self.nodes.len();
     }
 
-    /// Makes room for one more action, so that the next begin can't want memory. After
-    /// `OutOfMemory` the tree is as before.
+    /// Makes room for one more action, so that the next begin can't run out of memory. After
+    /// `OutOfMemory` the tree is unchanged.
     #[inline(always)]
     pub fn reserve(&mut self) -> Result<(), OutOfMemory>
         ensures same { SameActions self.old self.new }
@@ -287,7 +287,7 @@ impl ActionTree {
         self.grow()
     }
 
-    // The same where there is no room: seldom, so it stands out of line.
+    // The same if there is no room; it is rare, so it isn't inlined.
     #[inline(never)]
     fn grow(&mut self) -> Result<(), OutOfMemory>
         ensures same { SameActions self.old self.new }
@@ -347,7 +347,7 @@ impl ActionTree {
         }
     }
 
-    /// Commits an action that is live and has no live child, with no further test.
+    /// Commits an action that is live and has no live child, without testing that again.
     pub fn commit_ready(&mut self, a: ActionId)
         requires { commit_refusal self.old a.0 ≡ None }
         ensures { self.new ≡ after_commit self.old a.0 }
@@ -378,7 +378,7 @@ impl ActionTree {
         }
     }
 
-    /// Aborts an action that is live, as `abort` does, with no further test.
+    /// Aborts a live action, as `abort` does, without testing that again.
     pub fn abort_live(&mut self, a: ActionId)
         requires { abort_refusal self.old a.0 ≡ None }
         ensures { self.new ≡ after_abort self.old a.0 }
@@ -406,7 +406,7 @@ impl ActionTree {
         }
     }
 
-    /// Aborts all live siblings of an action, as `abort_others` does where nothing refuses it.
+    /// Aborts all live siblings of an action, as `abort_others` does if nothing refuses it.
     pub fn abort_others_ready(&mut self, a: ActionId)
         requires { abort_others_refusal self.old a.0 ≡ None }
         ensures { self.new ≡ after_abort_others self.old a.0 }
@@ -423,7 +423,7 @@ impl ActionTree {
         self.node(a)?.origin.under()
     }
 
-    // The node of an action; None where it was not begun, or is folded.
+    // The node of an action; `None` if it was not begun, or is folded.
     fn node(&self, a: ActionId) -> Option<Node>
         ensures node { IsNodeOf self.now a.0 result }
         ensures newest { option_and_then (λ node. link_end node.newest_sub) result
@@ -446,7 +446,7 @@ impl ActionTree {
         }
     }
 
-    // Begins an action of this origin in the room that is there.
+    // Begins an action of this origin in the room that is reserved.
     fn begin(&mut self, origin: Origin) -> ActionId
         requires room { 0 < self.old.room }
         requires few { next self.old < MAX_ACTIONS }

@@ -1,4 +1,4 @@
-//! How an action is begun: what refuses it is asked first, and then there is room for it, or not.
+//! How an action is begun: the refusals come first, then room is made for it.
 
 ghost use Rattle.std.specs.Prelude.{◌≡◌, IfOk, OnErr, OnOk};
 ghost use Rattle.argus_actions.specs.declared.origin.Origin.TheVariants.{Nested, Sub, Top};
@@ -12,7 +12,7 @@ use crate::action_tree::ActionTree;
 use argus_memory::OutOfMemory;
 
 impl ActionTree {
-    /// Begins a topaction, and gives its number. Refusals: `TooMany`, then `OutOfMemory`.
+    /// Begins a topaction, and returns its number. Refusals: `TooMany`, then `OutOfMemory`.
     pub fn begin_top(&mut self) -> Result<ActionId, ActionError>
         ensures refused { IsRefusedBy (begin_top_refusal self.old) result }
         ensures number { IfOk result (λ a. a.0 ≡ next self.old) }
@@ -28,8 +28,8 @@ impl ActionTree {
         }
     }
 
-    /// Begins a subaction of a live parent, and gives its number. Refusals: `NoAction`, `Over`,
-    /// `TooDeep` where the parent has 64 ancestors, `TooMany`, then `OutOfMemory`.
+    /// Begins a subaction of a live parent, and returns its number. Refusals: `NoAction`, `Over`,
+    /// `TooDeep` if the parent has 64 ancestors, `TooMany`, then `OutOfMemory`.
     pub fn begin_sub(&mut self, parent: ActionId) -> Result<ActionId, ActionError>
         ensures refused { IsRefusedBy (begin_sub_refusal self.old parent.0) result }
         ensures number { IfOk result (λ a. a.0 ≡ next self.old) }
@@ -45,7 +45,7 @@ impl ActionTree {
         }
     }
 
-    /// Begins a nested topaction of a live creator, and gives its number. It has no ancestor but
+    /// Begins a nested topaction of a live creator, and returns its number. It has no ancestor but
     /// itself. Refusals: `NoAction`, `Over`, `TooMany`, then `OutOfMemory`.
     pub fn begin_nested(&mut self, creator: ActionId) -> Result<ActionId, ActionError>
         ensures refused { IsRefusedBy (begin_nested_refusal self.old creator.0) result }

@@ -1,4 +1,4 @@
-//! The tree of actions: who was begun under whom, and what has become of each.
+//! The tree of actions: who was begun under whom, and what became of each.
 //!
 //! An action is a topaction, a subaction of a parent, or a nested topaction of a creator (Argus
 //! Reference Manual, MIT/LCS/TR-400, 1987). It is its own ancestor; the other ancestors of a

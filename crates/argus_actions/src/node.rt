@@ -3,10 +3,10 @@
 use crate::origin::Origin;
 use crate::status::Status;
 
-/// Stands for no action in a link.
+/// The link to no action.
 pub(crate) const NONE: u32 = u32::MAX;
 
-/// One action: its row, and what spares a walk over all actions.
+/// One action: its row, and links and counts that save a walk over all actions.
 #[derive(Clone, Copy)]
 pub(crate) struct Node {
     pub(crate) origin: Origin,

@@ -12,7 +12,7 @@ use crate::status::Status;
 use argus_contents::limits::{MAX_ACTION_DEPTH, MAX_ACTIONS};
 
 impl ActionTree {
-    /// Why a topaction can't be begun now: `TooMany`. Want of memory is not foreseen.
+    /// Why a topaction can't be begun now: `TooMany`. It can't foresee that memory runs out.
     pub fn begin_top_refusal(&self) -> Option<ActionRefusal>
         ensures { result ≡ begin_top_refusal self.now }
     {

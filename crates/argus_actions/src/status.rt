@@ -10,7 +10,7 @@ ghost use Rattle.argus_actions.specs.Row.{is_live};
 /// | `Live` | it was begun |
 /// | `Committed` | it committed, and none of its ancestors has aborted |
 /// | `Aborted` | it or an ancestor of it aborted, whether it had committed or not |
-/// | `Folded` | the tree was made, in which the numbers begin above its own |
+/// | `Folded` | the tree was made: its numbers begin above this action's |
 ///
 /// ```text
 /// let a = tree.begin_top()?;

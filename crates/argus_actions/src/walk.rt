@@ -18,7 +18,8 @@ use crate::status::Status;
 use argus_contents::limits::{MAX_ACTION_DEPTH, MAX_ACTIONS};
 use argus_memory::Room;
 
-/// Whether `x` is `y`, or above it. A parent is older than its subactions, so it ends below `x`.
+/// Whether `x` is `y`, or an ancestor of it. A parent is older than its subactions, so the climb
+/// stops below `x`.
 pub(crate) fn climbs(nodes: &[Node], first: u32, x: u32, y: u32) -> bool
     requires linked { AreLinked first (rows_of nodes.now) }
     requires held { first ≤ y }
@@ -64,7 +65,7 @@ pub(crate) fn begun_node(nodes: &[Node], first: u32, origin: Origin) -> Node
     }
 }
 
-/// Notes the action that is begun next with the one that it is begun under.
+/// Enters the action that is begun next in the links and the count of its parent or creator.
 pub(crate) fn adopt(nodes: &mut [Node], first: u32, origin: Origin, number: u32)
     requires nodes { AreNodes first nodes.old }
     requires between { IsBegunBetween first (first + length nodes.old) origin }
@@ -87,7 +88,7 @@ pub(crate) fn adopt(nodes: &mut [Node], first: u32, origin: Origin, number: u32)
     }
 }
 
-/// Begins an action of this origin in the room that is there, and gives its number.
+/// Begins an action of this origin in the room that is reserved, and returns its number.
 pub(crate) fn push_begun(nodes: &mut Vec<Node, Room>, first: u32, origin: Origin) -> u32
     requires nodes { AreNodes first nodes.old.items }
     requires few { first + vec_len nodes.old < MAX_ACTIONS }
@@ -109,7 +110,7 @@ pub(crate) fn push_begun(nodes: &mut Vec<Node, Room>, first: u32, origin: Origin
     number
 }
 
-/// Ends one action: gives it the status, and one live child less to the action that it came from.
+/// Ends one action: sets its status, and takes one from the live children of its parent or creator.
 pub(crate) fn finish(nodes: &mut [Node], first: u32, a: u32, status: Status)
     requires nodes { AreNodes first nodes.old }
     requires held { first ≤ a }
@@ -147,8 +148,8 @@ pub(crate) fn abort_under(nodes: &mut [Node], first: u32, a: u32)
 }
 
 /// Aborts the live siblings of a live action that was begun under this one, each with its
-/// subactions, theirs, and so on; of the others it visits those alone that are newer than the
-/// oldest live sibling.
+/// subactions, theirs, and so on. Of the other siblings it visits only those that are newer than
+/// the oldest live one.
 pub(crate) fn abort_siblings(nodes: &mut [Node], first: u32, a: u32, under: u32)
     requires nodes { AreNodes first nodes.old }
     requires live { is_live_at first (rows_of nodes.old) a ≡ true }

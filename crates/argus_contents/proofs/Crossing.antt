@@ -1,5 +1,5 @@
--- Names, types, shapes, values, contents, changes, queries and answers, small ones too, may cross to another thread,
--- and be looked at from there: as a set for `search`, `crosses`.
+-- Names, types, shapes, values, contents, changes, queries and answers, small ones too, may go to another thread, and
+-- be looked at from there: as a set for `search`, `crosses`.
 use denote.Param.Send.{IsSend, IsSync, recorded_send, recorded_sync, sendable, struct_send, struct_sync}
 use denote.RattleType.{RattleType}
 use denote.Struct.Declared.{shape}

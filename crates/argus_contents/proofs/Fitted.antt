@@ -1,4 +1,4 @@
--- A content that fits keeps the limits, and so does one that a change creates that suits.
+-- A content that fits keeps the limits, and so does one that a suitable change creates.
 use Rattle.std.proofs.Common.{◌≡◌, ℕ, ◌≤◌, ℤ, ◌≤ℤ◌, Bool, true, false, not, nat_le, length, Some, refl, arith}
 use Rattle.std.specs.Prelude.{int_lt, ◌&&◌}
 use Rattle.std.proofs.lemmas.Bool.{and_from}

@@ -1,4 +1,4 @@
--- Lists that aren't as long don't say the same, and values that do so one by one do.
+-- Lists of different length don't say the same, and lists whose values say the same one by one do.
 use lib.Pointwise.{pointwise}
 use Rattle.std.proofs.Common.{List, [], ap, false, length, refl, suc, ◌≡◌, ◌≢◌, ◌∷◌}
 use Rattle.std.specs.Prelude.{nat_eq, ◌&&◌}

@@ -24,7 +24,7 @@ plain_answer (answer.Flag b) = flag b
 plain_answer (answer.Body c) = body (plain_content c.value)
 plain_answer (answer.Signal s) = signal s
 
--- the value, or the signal where there is none
+-- the value, or the signal if there is none
 abbrev pub value_or : Signal → Option PlainValue → PlainAnswer
 value_or s (Some v) = val v
 value_or s None = signal s

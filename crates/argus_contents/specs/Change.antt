@@ -47,7 +47,7 @@ plain_change (change.Trim from count) = trim from count
 plain_change (change.ChangeTag t v) = change_tag t (plain_value v)
 plain_change change.Touch = touch
 
--- a change may answer a value: one that removes an item
+-- a change may return a value: one that removes an item
 abbrev pub gives_value : PlainChange → Bool
 gives_value (create c) = false
 gives_value (set_field i v) = false
@@ -74,7 +74,7 @@ abbrev pub set_in : ℕ → PlainValue → List PlainValue → Outcome
 set_in i v vs =
     if nat_lt i (length vs) then (Some (rec (slice_set vs i v)), done) else signals Absent (rec vs)
 
--- what a store at a place does; None is out of bounds
+-- what a store at a place does; `None` is out of bounds
 abbrev pub stored_at : Option ℕ → PlainValue → ℤ → List PlainValue → Outcome
 stored_at None v low vs = signals Bounds (arr low vs)
 stored_at (Some place) v low vs = (Some (arr low (slice_set vs place v)), done)
@@ -94,19 +94,19 @@ removed_low low (v ∷ vs) =
     if int_eq low MAX_BOUND then signals Limits (arr low (v ∷ vs))
     else (Some (arr (low +ℤ pos 1) vs), val v)
 
--- no array of so many items may begin at i
+-- no array of this many items may begin at i
 abbrev pub is_out_of_limits : ℤ → ℕ → Bool
 is_out_of_limits i size =
     int_lt i MIN_BOUND || int_lt MAX_BOUND i || int_lt MAX_BOUND (high_of i size)
 
--- why an array of this low bound and size isn't trimmed to an index and a count, if it isn't
+-- why an array of this low bound and size can't be trimmed to an index and a count, if it can't
 abbrev pub trim_refusal : ℤ → ℤ → ℤ → ℕ → Option Signal
 trim_refusal from count low size =
     if int_lt count (pos 0) then Some NegativeSize else
     (if int_lt from low || int_lt (low +ℤ pos size) from then Some Bounds else
     (if int_lt MAX_BOUND from then Some Limits else None))
 
--- unless that is refused, the items from the index on are kept, at most so many of them
+-- unless that is refused, the items from the index on are kept, at most this many of them
 abbrev pub trimmed : Option Signal → ℤ → ℤ → ℤ → List PlainValue → Outcome
 trimmed (Some why) from count low vs = signals why (arr low vs)
 trimmed None from count low vs =
@@ -133,13 +133,13 @@ array_outcome (trim from count) low vs =
 array_outcome (set_field field v) low vs = signals Absent (arr low vs)
 array_outcome (change_tag tag v) low vs = signals Absent (arr low vs)
 
--- the change of an array answers so, and leaves this low bound and these items of those
+-- the change of an array returns this answer, and leaves this low bound and these items of those
 abbrev pub Leaves : PlainChange → ℤ → List Value → ℤ → List Value → Answer → Type 0
 Leaves c low vs left_low left answer =
     (Some (arr left_low (plain_list left)), plain_answer answer)
     ≡ array_outcome c low (plain_list vs)
 
--- the same, of a change that answers done or a signal
+-- the same, for a change that returns done or a signal
 abbrev pub LeavesOr : PlainChange → ℤ → List Value → ℤ → List Value → Option Signal → Type 0
 LeavesOr c low vs left_low left refusal =
     (Some (arr left_low (plain_list left)), done_or refusal) ≡ array_outcome c low (plain_list vs)
@@ -172,7 +172,7 @@ variant_outcome reml t v = signals Absent (var t v)
 variant_outcome (set_low i) t v = signals Absent (var t v)
 variant_outcome (trim from count) t v = signals Absent (var t v)
 
--- what a change does where there is no content
+-- what a change does if there is no content
 abbrev pub absent_outcome : PlainChange → Outcome
 absent_outcome (create c) = (Some c, done)
 absent_outcome touch = (None, done)
@@ -193,7 +193,7 @@ outcome c (Some (rec vs)) = record_outcome c vs
 outcome c (Some (arr low vs)) = array_outcome c low vs
 outcome c (Some (var t v)) = variant_outcome c t v
 
--- a content that the change makes keeps the limits, if it makes one
+-- the content that the change creates keeps the limits, if it creates one
 abbrev pub CreatesWithin : PlainChange → Type 0
 CreatesWithin (create c) = KeepsLimits (Some c)
 CreatesWithin (set_field i v) = Unit {0}

@@ -20,7 +20,7 @@ plain_content (Rec fields) = rec (plain_list fields.items)
 plain_content (Arr low items) = arr low (plain_list items.items)
 plain_content (Var tag value) = var tag (plain_value value)
 
--- what a content says that may be absent
+-- what a content says, which may be absent
 abbrev pub plain_option : Option Content → Option PlainContent
 plain_option None = None
 plain_option (Some c) = Some (plain_content c)
@@ -31,7 +31,7 @@ with_low bound (rec vs) = rec vs
 with_low bound (arr low vs) = arr bound vs
 with_low bound (var tag v) = var tag v
 
--- an array with this low bound and so many items keeps the limits
+-- an array with this low bound and this many items keeps the limits
 pub record KeepsBounds (low : ℤ) (size : ℕ) : Type 0 where
   pub from : MIN_BOUND ≤ℤ low
   pub to : low ≤ℤ MAX_BOUND

@@ -1,4 +1,4 @@
--- The code of a plain content: a tree of numbers that gives it back.
+-- The code of a plain content: a tree of numbers from which it can be read again.
 use Rattle.std.specs.Prelude.{◌≡◌, ℕ, ℤ, pos, negsuc, Bool, true, false, List, [], ◌∷◌, ◌==◌}
 use Rattle.std.specs.Prelude.{if◌then◌else◌, refl}
 use Rattle.std.proofs.Common.{ap, sym, ◌∙◌}
@@ -15,7 +15,7 @@ abbrev pub bool_code : Bool → Gv
 bool_code false = gnum 0
 bool_code true = gnum 1
 
--- the truth value that is stored so
+-- the truth value that is stored like this
 abbrev pub bool_at : Gv → Bool
 bool_at g = if num g == 0 then false else true
 
@@ -29,7 +29,7 @@ abbrev pub int_code : ℤ → Gv
 int_code (pos n) = gcons (gnum 0) (gnum n)
 int_code (negsuc n) = gcons (gnum 1) (gnum n)
 
--- the integer that is stored so
+-- the integer that is stored like this
 abbrev pub int_at : Gv → ℤ
 int_at g = if num (first g) == 0 then pos (num (second g)) else negsuc (num (second g))
 
@@ -96,7 +96,7 @@ abbrev pub list_code : List PlainValue → Gv
 list_code [] = gnil
 list_code (v ∷ vs) = gcons (value_code v) (list_code vs)
 
--- the list of values that is stored so
+-- the list of values that is stored like this
 abbrev pub list_at : Gv → List PlainValue
 list_at gnil = []
 list_at (gnum n) = []
@@ -114,7 +114,7 @@ content_code (content.rec vs) = gcons (gnum 0) (list_code vs)
 content_code (content.arr low vs) = gcons (gnum 1) (gcons (int_code low) (list_code vs))
 content_code (content.var t v) = gcons (gnum 2) (gcons (gnum t) (value_code v))
 
--- the content that is stored so
+-- the content that is stored like this
 abbrev pub content_at : Gv → PlainContent
 content_at g =
     if num (first g) == 0 then content.rec (list_at (second g)) else

@@ -1,4 +1,4 @@
--- The tests of what is said tell exactly where it is the same.
+-- The tests of what is said say exactly whether it is the same.
 use lib.Pointwise.{bytes_decides, pointwise}
 use Rattle.std.proofs.Common.{Bool, List, [], ap, refl, subst, sym, true, ◌∙◌, ◌∷◌, ◌≡◌}
 use Rattle.std.specs.Bool.{Decides, one_answer}
@@ -251,56 +251,55 @@ pub decided : {P : Type 0} (E : P → P → Bool) → ((a b : P) → E a b ≡ t
     → (a b : P) → Decides (E a b) (a ≡ b)
 decided E told itself a b = (told a b, λ e. subst (λ x. E a x ≡ true) e (itself a))
 
--- the test by cases tells exactly which values are equal
+-- the test by cases says exactly which values are equal
 pub value_decided : (a b : PlainValue) → Decides (same_value a b) (a ≡ b)
 value_decided = decided same_value value_told value_itself
 
--- what tells which values are equal answers as the test by cases
+-- any test of which values are equal agrees with the test by cases
 pub value_answered : (r : Bool) (a b : PlainValue) → (r ≡ true) ↔ (a ≡ b) → r ≡ same_value a b
 value_answered r a b d = one_answer r (same_value a b) d (value_decided a b)
 
--- the test by cases tells exactly which types are equal
+-- the test by cases says exactly which types are equal
 pub ty_decided : (a b : PlainTy) → Decides (same_ty a b) (a ≡ b)
 ty_decided = decided same_ty ty_told ty_itself
 
--- what tells which types are equal answers as the test by cases
+-- any test of which types are equal agrees with the test by cases
 pub ty_answered : (r : Bool) (a b : PlainTy) → (r ≡ true) ↔ (a ≡ b) → r ≡ same_ty a b
 ty_answered r a b d = one_answer r (same_ty a b) d (ty_decided a b)
 
--- the test by cases tells exactly which shapes are equal
+-- the test by cases says exactly which shapes are equal
 pub shape_decided : (a b : PlainShape) → Decides (same_shape a b) (a ≡ b)
 shape_decided = decided same_shape shape_told shape_itself
 
--- what tells which shapes are equal answers as the test by cases
+-- any test of which shapes are equal agrees with the test by cases
 pub shape_answered : (r : Bool) (a b : PlainShape) → (r ≡ true) ↔ (a ≡ b) → r ≡ same_shape a b
 shape_answered r a b d = one_answer r (same_shape a b) d (shape_decided a b)
 
--- the test by cases tells exactly which contents are equal
+-- the test by cases says exactly which contents are equal
 pub content_decided : (a b : PlainContent) → Decides (same_content a b) (a ≡ b)
 content_decided = decided same_content content_told content_itself
 
--- what tells which contents are equal answers as the test by cases
+-- any test of which contents are equal agrees with the test by cases
 pub content_answered : (r : Bool) (a b : PlainContent) → (r ≡ true) ↔ (a ≡ b) → r ≡ same_content a b
 content_answered r a b d = one_answer r (same_content a b) d (content_decided a b)
 
--- the test by cases tells exactly which changes are equal
+-- the test by cases says exactly which changes are equal
 pub change_decided : (a b : PlainChange) → Decides (same_change a b) (a ≡ b)
 change_decided = decided same_change change_told change_itself
 
--- what tells which changes are equal answers as the test by cases
+-- any test of which changes are equal agrees with the test by cases
 pub change_answered : (r : Bool) (a b : PlainChange) → (r ≡ true) ↔ (a ≡ b) → r ≡ same_change a b
 change_answered r a b d = one_answer r (same_change a b) d (change_decided a b)
 
--- the test by cases tells exactly which answers are equal
+-- the test by cases says exactly which answers are equal
 pub answer_decided : (a b : PlainAnswer) → Decides (same_answer a b) (a ≡ b)
 answer_decided = decided same_answer answer_told answer_itself
 
--- what tells which answers are equal answers as the test by cases
+-- any test of which answers are equal agrees with the test by cases
 pub answer_answered : (r : Bool) (a b : PlainAnswer) → (r ≡ true) ↔ (a ≡ b) → r ≡ same_answer a b
 answer_answered r a b d = one_answer r (same_answer a b) d (answer_decided a b)
 
--- a test that tells what is the same tells it of what is said, too, whichever way round and from
--- one to the next
+-- a test of what is the same is reflexive, symmetric and transitive on what is said
 pub said_equivalence : {K P : Type 0} (said : K → P) (E : P → P → Bool)
     → ((a b : P) → Decides (E a b) (a ≡ b))
     → IsPartialEquivalence (λ a b. E (said a) (said b))

@@ -2,7 +2,7 @@
 use Rattle.std.specs.Prelude.{ℕ, ℤ, ◌+ℤ◌, pos, nat_lt, if◌then◌else◌, Option, Some, None}
 use Rattle.std.specs.Prelude.{◌-ℤ◌, int_lt, unsigned_abs}
 
--- the place of index i, from 0, in an array with this low bound and so many items; None out of
+-- the place of index i, from 0, in an array with this low bound and this many items; `None` out of
 -- bounds
 abbrev pub place_of : ℤ → ℕ → ℤ → Option ℕ
 place_of low size i =

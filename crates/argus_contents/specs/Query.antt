@@ -1,4 +1,4 @@
--- What a query answers, by cases of the operation and the content.
+-- The answer to a query, by cases of the operation and the content.
 use Rattle.std.specs.Prelude.{ℕ, ℤ, pos, ◌-◌, ◌==◌, if◌then◌else◌, List, length, slice_get, Option}
 use Rattle.std.specs.Prelude.{Some, None}
 use Rattle.std.specs.Option.{option_and_then}
@@ -12,7 +12,7 @@ use Rattle.argus_contents.specs.declared.query.Query.TheVariants.{Whole, Field, 
 use Rattle.argus_contents.specs.declared.query.Query.TheVariants.{Fetch, Bottom, Top}
 use Rattle.argus_contents.specs.declared.query.Query.TheVariants.{IsTag, TagValue}
 
--- what a query answers of a record
+-- the answer to a query of a record
 abbrev pub record_reply : Query → List PlainValue → PlainAnswer
 record_reply Whole vs = body (rec vs)
 record_reply (Field i) vs = value_or Absent (slice_get vs i)
@@ -25,7 +25,7 @@ record_reply Top vs = signal Absent
 record_reply (IsTag t) vs = signal Absent
 record_reply (TagValue t) vs = signal Absent
 
--- what a query answers of an array
+-- the answer to a query of an array
 abbrev pub array_reply : Query → ℤ → List PlainValue → PlainAnswer
 array_reply Low low vs = num low
 array_reply High low vs = num (high_of low (length vs))
@@ -39,7 +39,7 @@ array_reply (Field i) low vs = signal Absent
 array_reply (IsTag t) low vs = signal Absent
 array_reply (TagValue t) low vs = signal Absent
 
--- what a query answers of a variant
+-- the answer to a query of a variant
 abbrev pub variant_reply : Query → ℕ → PlainValue → PlainAnswer
 variant_reply (IsTag t) tag v = flag (t == tag)
 variant_reply (TagValue t) tag v = if t == tag then val v else signal WrongTag
@@ -52,7 +52,7 @@ variant_reply (Fetch i) tag v = signal Absent
 variant_reply Bottom tag v = signal Absent
 variant_reply Top tag v = signal Absent
 
--- what a query answers; an absent content and an operation of another kind signal absent
+-- the answer to a query; an absent content and an operation of another kind signal absent
 abbrev pub reply : Query → Option PlainContent → PlainAnswer
 reply q None = signal Absent
 reply q (Some (rec vs)) = record_reply q vs

@@ -32,7 +32,7 @@ abbrev mutual
   same_value (value.choice t a) (value.choice u b) = t == u && same_value a b
   same_value _ _ = false
 
-  -- as many values, and each says the same as the other list's
+  -- as many values, and each says the same as its counterpart
   pub same_values : PlainValues → PlainValues → Bool
   same_values value.none value.none = true
   same_values (value.more a rest) (value.more b others) = same_value a b && same_values rest others
@@ -51,7 +51,7 @@ abbrev mutual
   same_ty (ty.choice a) (ty.choice b) = same_fields a b
   same_ty _ _ = false
 
-  -- as many names with types, and each says the same as the other list's
+  -- as many names with types, and each says the same as its counterpart
   pub same_fields : PlainFields → PlainFields → Bool
   same_fields ty.none ty.none = true
   same_fields (ty.more m a rest) (ty.more n b others) =

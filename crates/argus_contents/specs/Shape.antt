@@ -46,7 +46,7 @@ anywhere test (rec fs) = test (names_of fs) || in_fields test fs
 anywhere test (arr x) = in_ty test x
 anywhere test (var fs) = test (names_of fs) || in_fields test fs
 
--- a name stands in the list twice
+-- a name comes twice in the list
 abbrev pub has_twice : List (List ℕ) → Bool
 has_twice [] = false
 has_twice (name ∷ names) = list_any (λ other. pointwise nat_eq other name) names || has_twice names
@@ -83,7 +83,7 @@ depth_in (rec fs) = deepest_of fs
 depth_in (arr x) = depth_of x
 depth_in (var fs) = deepest_of fs
 
--- why no shape can be made so: the first that applies anywhere in it
+-- why such a shape can't be made: the first fault that applies anywhere in it
 abbrev pub fault_of : PlainShape → Option ShapeFault
 fault_of s =
     if anywhere has_twice s then Some NameTwice else
@@ -92,7 +92,7 @@ fault_of s =
     (if nat_lt MAX_VALUE_DEPTH (depth_in s) then Some TooDeep else None)))
 
 abbrev mutual
-  -- each name in the type has a name's form
+  -- each name in the type has the form of a name
   pub IsNamed : PlainTy → Type 0
   IsNamed (ty.sequence x) = IsNamed x
   IsNamed (ty.fields fs) = AreNamed fs
@@ -103,18 +103,18 @@ abbrev mutual
   IsNamed ty.text = Unit {0}
   IsNamed ty.atomic = Unit {0}
 
-  -- each name of the list, and in its types, has a name's form
+  -- each name of the list, and in its types, has the form of a name
   pub AreNamed : PlainFields → Type 0
   AreNamed ty.none = Unit {0}
   AreNamed (ty.more name x fs) = (is_name name ≡ true) × IsNamed x × AreNamed fs
 
--- each name in the shape has a name's form
+-- each name in the shape has the form of a name
 abbrev pub HasNames : PlainShape → Type 0
 HasNames (rec fs) = AreNamed fs
 HasNames (arr x) = IsNamed x
 HasNames (var fs) = AreNamed fs
 
--- a shape that can be made: no fault applies, and each name has a name's form
+-- a shape that can be made: no fault applies, and each name has the form of a name
 pub record IsMakeable (shape : PlainShape) : Type 0 where
   pub no_fault : fault_of shape ≡ None
   pub named : HasNames shape

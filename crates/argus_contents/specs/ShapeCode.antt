@@ -1,4 +1,4 @@
--- The code of a plain shape: a tree of numbers that gives it back.
+-- The code of a plain shape: a tree of numbers from which it can be read again.
 use Rattle.std.specs.Prelude.{◌≡◌, ℕ, List, [], ◌∷◌, ◌==◌, if◌then◌else◌, refl}
 use Rattle.std.proofs.Common.{ap, sym, ◌∙◌}
 use Rattle.std.specs.Coded.{Coded}
@@ -24,7 +24,7 @@ abbrev pub bytes_code : List ℕ → Gv
 bytes_code [] = gnil
 bytes_code (b ∷ bs) = gcons (gnum b) (bytes_code bs)
 
--- the bytes that are stored so
+-- the bytes that are stored like this
 abbrev pub bytes_at : Gv → List ℕ
 bytes_at gnil = []
 bytes_at (gnum n) = []
@@ -96,7 +96,7 @@ shape_code (rec fs) = gcons (gnum 0) (fields_code fs)
 shape_code (arr t) = gcons (gnum 1) (ty_code t)
 shape_code (var fs) = gcons (gnum 2) (fields_code fs)
 
--- the shape that is stored so
+-- the shape that is stored like this
 abbrev pub shape_at : Gv → PlainShape
 shape_at g =
     if num (first g) == 0 then rec (seen (second g)).2 else

@@ -1,4 +1,4 @@
--- What an answer says that takes no memory, and which answers take memory.
+-- What an answer that takes no memory says, and which answers take memory.
 use Rattle.std.specs.Prelude.{Bool, true, false}
 use Rattle.argus_contents.specs.Value.{PlainValue}
 use Rattle.argus_contents.specs.Value as value
@@ -7,7 +7,7 @@ use Rattle.argus_contents.specs.Answer as answer
 use Rattle.argus_contents.specs.declared.small_answer.SmallAnswer.{SmallAnswer}
 use Rattle.argus_contents.specs.declared.small_answer.SmallAnswer.TheVariants as small
 
--- what an answer says that takes no memory
+-- what an answer that takes no memory says
 abbrev pub plain_small : SmallAnswer → PlainAnswer
 plain_small small.Null = answer.val value.null
 plain_small (small.Bool b) = answer.val (value.bool b)
@@ -28,7 +28,7 @@ has_parts (value.sequence vs) = true
 has_parts (value.fields vs) = true
 has_parts (value.choice t v) = true
 
--- an answer takes memory: a whole content, or a value that has parts; done is no query's answer
+-- an answer takes memory: a whole content, or a value that has parts; no query returns done
 abbrev pub takes_memory : PlainAnswer → Bool
 takes_memory answer.done = false
 takes_memory (answer.val v) = has_parts v

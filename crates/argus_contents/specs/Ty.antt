@@ -1,4 +1,4 @@
--- What a type says, without where it lies in memory.
+-- What a type says, apart from where it is in memory.
 use Rattle.std.specs.Prelude.{ℕ, List, [], ◌∷◌, map}
 use Rattle.argus_contents.specs.declared.name.Name.{Name}
 use Rattle.argus_contents.specs.declared.ty.Ty.{Ty, fold-Ty}
@@ -26,7 +26,7 @@ abbrev pub named : List (List ℕ × PlainTy) → PlainFields
 named [] = none
 named (f ∷ fs) = more f.0 f.1 (named fs)
 
--- one level of a type, where each part is plain already
+-- one level of a type, whose parts are already plain
 abbrev pub plain_level : Ty-F PlainTy → PlainTy
 plain_level Ty-F.Null = null
 plain_level Ty-F.Bool = bool

@@ -1,4 +1,4 @@
--- What a value says, without where it lies in memory.
+-- What a value says, apart from where it is in memory.
 use Rattle.std.specs.Prelude.{ℕ, ℤ, Bool, List, [], ◌∷◌, map, string_bytes, Option, Some, None}
 use Rattle.std.specs.Borrow.{Bor}
 use Rattle.argus_contents.specs.declared.value.Value.{Value, fold-Value}
@@ -26,7 +26,7 @@ abbrev pub listed : List PlainValue → PlainValues
 listed [] = none
 listed (v ∷ vs) = more v (listed vs)
 
--- one level of a value, where each part is plain already
+-- one level of a value, whose parts are already plain
 abbrev pub plain_level : Value-F PlainValue → PlainValue
 plain_level Value-F.Null = null
 plain_level (Value-F.Bool b) = bool b
@@ -45,7 +45,7 @@ plain_value = fold-Value PlainValue plain_level
 abbrev pub plain_list : List Value → List PlainValue
 plain_list vs = map plain_value vs
 
--- what a value says that was looked for
+-- what a value says, if there is one
 abbrev pub plain_found : Option (Bor Value) → Option PlainValue
 plain_found None = None
 plain_found (Some v) = Some (plain_value v.now)

@@ -17,7 +17,7 @@ use std::collections::VecDeque;
 
 /// The content that the change leaves, and its answer; [`Change`] has the table.
 ///
-/// A present array has to keep the limits, as `fits` tests; what comes back keeps them where the
+/// An array that is present has to keep the limits, as `fits` tests; the result keeps them if the
 /// change's own content does. Nothing is changed. `OutOfMemory`: there was no memory for a copy.
 pub fn alter(
     heap: Heap,
@@ -33,7 +33,7 @@ pub fn alter(
     alter_copy(heap, content, change.duplicate(heap)?)
 }
 
-/// What [`alter`] answers, by a change that is handed in: its value moves in, and isn't copied.
+/// As [`alter`], for a change that is passed by value: its value is moved, not copied.
 ///
 /// Nothing is changed. `OutOfMemory`: there was no memory for a copy, or for a longer array.
 pub fn alter_copy(
@@ -52,11 +52,11 @@ pub fn alter_copy(
     Ok((copy, answer))
 }
 
-/// Makes the change where the content lies, with the meaning of [`alter`]. The change's value moves
-/// in, and nothing is copied. After `OutOfMemory` the content is as before.
+/// Makes the change in place, with the meaning of [`alter`]. The change's value is moved, and
+/// nothing is copied. After `OutOfMemory` the content is unchanged.
 ///
-/// No change costs more for a longer array, but for `Trim`, which drops what it doesn't keep, and
-/// for an `Addh` or `Addl` that finds no room left and grows the queue to twice its size.
+/// The time of a change doesn't depend on the array's length, except for `Trim`, which drops what
+/// it doesn't keep, and for an `Addh` or `Addl` that finds no room left and doubles the queue.
 pub fn alter_in_place(content: &mut Option<Content>, change: Change) -> Result<Answer, OutOfMemory>
     requires { KeepsLimits (plain_option content.old) }
     ensures ok { IfOk result (λ answer. (plain_option content.new, plain_answer answer)

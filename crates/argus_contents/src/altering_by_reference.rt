@@ -1,4 +1,4 @@
-//! `alter_by_reference`: a change that stays where it is, made where the content lies.
+//! `alter_by_reference`: a change by reference, made in place.
 
 ghost use Rattle.std.specs.Prelude.{◌≡◌, false, IfOk, length, None, OnErr, OnOk, Some};
 ghost use Rattle.argus_contents.specs.Answer.{done_or};
@@ -19,13 +19,14 @@ use crate::value::Value;
 use argus_memory::{Heap, OutOfMemory, Room};
 use std::collections::VecDeque;
 
-/// Makes a change that gives no value where the content lies, with the meaning of
-/// [`alter`](crate::alter): None where that answers `Done`, else the signal. The change stays, so
-/// that it can be moved to where it is kept; only the value that it leaves is copied, and an
-/// integer in the place of another is one store.
+/// Makes a change that returns no value in place, with the meaning of [`alter`](crate::alter):
+/// `None` if the answer is `Done`, else the signal. The caller keeps the change, so it can be moved
+/// to where it is stored. Only the value that it leaves is copied, and an integer over another is
+/// one store.
 ///
-/// The change has to be another than `Remh` and `Reml`, as [`Change::gives_value`] tests. A present
-/// array has to keep the limits, as `fits` tests. After `OutOfMemory` the content is as before.
+/// The change has to be neither `Remh` nor `Reml`, as [`Change::gives_value`] tests. An array that
+/// is present has to keep the limits, as `fits` tests. After `OutOfMemory` the content is
+/// unchanged.
 ///
 /// ```text
 /// if let Some(signal) = alter_by_reference(heap, &mut content, &Change::SetLow(1))? { .. }
@@ -77,7 +78,7 @@ fn alter_present(
     }
 }
 
-// A pattern doesn't borrow both the low bound and the items: the bound is put back by itself.
+// A pattern can't borrow both the low bound and the items, so the bound is put back separately.
 #[inline(always)]
 fn put_low(content: &mut Content, bound: i64)
     ensures { plain_content content.new ≡ with_low bound (plain_content content.old) }
@@ -88,7 +89,7 @@ fn put_low(content: &mut Content, bound: i64)
     }
 }
 
-// An object is made once, and changed often.
+// An object is created once, and changed often.
 #[cold]
 #[inline(never)]
 fn alter_absent(
@@ -181,7 +182,7 @@ fn alter_array(
         Change::Create(_) => Ok(Some(Signal::Exists)),
         Change::Addh(value) => add_high(heap, *low, items, value),
         Change::Addl(value) => add_low(heap, low, items, value),
-        // Not reached, since these give a value.
+        // Not reached, since these return a value.
         Change::Remh | Change::Reml => Ok(None),
         Change::SetLow(bound) => Ok(move_low(low, items, *bound)),
         Change::Trim(from, count) => Ok(trim(low, items, *from, *count)),
@@ -260,7 +261,7 @@ fn move_low(low: &mut i64, items: &VecDeque<Value, Room>, bound: i64) -> Option<
     None
 }
 
-// A trim is rare, and its refusal is looked for twice, so that what it leaves is told once.
+// A trim is rare. Its refusal is computed twice, so that what it leaves is written down once.
 #[cold]
 #[inline(never)]
 fn trim(low: &mut i64, items: &mut VecDeque<Value, Room>, from: i64, count: i64) -> Option<Signal>
@@ -307,8 +308,8 @@ fn alter_variant(
     }
 }
 
-// A copy of the value takes the place of another. An integer for an integer is one store: no call,
-// nothing dropped.
+// Replaces a value by a copy of another. An integer over an integer is one store: no call, nothing
+// dropped.
 #[inline(always)]
 fn put(heap: Heap, place: &mut Value, value: &Value) -> Result<(), OutOfMemory>
     ensures ok { OnOk result (plain_value place.new ≡ plain_value value.now) }

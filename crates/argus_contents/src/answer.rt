@@ -1,4 +1,4 @@
-//! `Answer`: what an operation answers.
+//! `Answer`: what an operation returns.
 
 ghost use Rattle.std.specs.Prelude.{◌≡◌, ◌↔◌, true, IfOk};
 ghost use Rattle.argus_contents.specs.Answer.{body, plain_answer};
@@ -11,7 +11,7 @@ use crate::signal::Signal;
 use crate::value::Value;
 use argus_memory::{Heap, OutOfMemory, Room};
 
-/// What an operation answers.
+/// What an operation returns.
 ///
 /// ```text
 /// match ask(heap, &content, &Query::Size)? {
@@ -36,8 +36,8 @@ pub enum Answer {
     Signal(Signal),
 }
 
-// By hand, so that each place where an answer ends is short: most answers hold nothing, and what a
-// value or a content holds goes by one call.
+// Written by hand, so that dropping an answer is short: most answers hold nothing, and a value or a
+// content is dropped by one call.
 impl Drop for Answer {
     #[inline(always)]
     fn drop(self) {
@@ -50,7 +50,7 @@ impl Drop for Answer {
 }
 
 impl Answer {
-    /// The whole content as an answer. `OutOfMemory`: nothing is made, and the content is spent.
+    /// The whole content as an answer. `OutOfMemory`: nothing is made, and the content is consumed.
     ///
     /// ```text
     /// let answer = Answer::body(heap, content.duplicate(heap)?)?;

@@ -1,4 +1,4 @@
-//! `change_answer`: what a change answers, without making it.
+//! `change_answer`: the answer to a change, without making it.
 
 ghost use Rattle.std.specs.Prelude.{◌≡◌, if◌then◌else◌, length, IfOk};
 ghost use Rattle.argus_contents.specs.Answer.{done, plain_answer, signal};
@@ -19,12 +19,12 @@ use crate::value::Value;
 use argus_memory::{Heap, OutOfMemory, Room};
 use std::collections::VecDeque;
 
-/// What [`alter`](crate::alter) answers, without the content that it leaves; [`Change`] has the
-/// table. So an answer can be had before the change is made.
+/// The answer of [`alter`](crate::alter), without the content that it leaves; [`Change`] has the
+/// table. So the answer can be had before the change is made.
 ///
-/// A present array has to keep the limits, as `fits` tests. Nothing is changed. The answer owns
-/// what it holds: it's a copy, which only `Remh` and `Reml` make. `OutOfMemory`: there was no
-/// memory for it.
+/// An array that is present has to keep the limits, as `fits` tests. Nothing is changed. The answer
+/// owns its parts: they are copied, for `Remh` and `Reml` only. `OutOfMemory`: there was no memory
+/// for it.
 pub fn change_answer(
     heap: Heap,
     content: &Option<Content>,

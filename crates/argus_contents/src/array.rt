@@ -33,7 +33,7 @@ pub(crate) fn is_full_low(low: i64, size: usize) -> bool
     size >= MAX_ITEMS || low == MIN_BOUND
 }
 
-/// Whether no array of so many items may begin at this bound.
+/// Whether no array of this many items may begin at this bound.
 pub(crate) fn is_out_of_limits(bound: i64, size: usize) -> bool
     requires { size ≤ MAX_ITEMS }
     ensures { result ≡ is_out_of_limits bound size }
@@ -41,7 +41,7 @@ pub(crate) fn is_out_of_limits(bound: i64, size: usize) -> bool
     bound < MIN_BOUND || bound > MAX_BOUND || bound + size as i64 - 1 > MAX_BOUND
 }
 
-/// Why an array isn't trimmed so, if it isn't.
+/// Why such a trim is refused, if it is.
 pub(crate) fn trim_refusal(low: i64, size: usize, from: i64, count: i64) -> Option<Signal>
     requires { KeepsBounds low size }
     ensures { result ≡ trim_refusal from count low size }

@@ -1,4 +1,4 @@
-//! `ask`: what a query answers.
+//! `ask`: the answer to a query.
 
 ghost use Rattle.std.specs.Prelude.{◌≡◌, length, slice_get, Option, Some, None};
 ghost use Rattle.std.specs.Prelude.{IfOk};
@@ -17,11 +17,11 @@ use crate::value::{Value, duplicate_all};
 use argus_memory::{Heap, OutOfMemory, Room};
 use std::collections::VecDeque;
 
-/// What the query answers of the content; [`Query`] has the table.
+/// The answer to the query of the content; [`Query`] has the table.
 ///
-/// A present array has to keep the limits, as `fits` tests; a content that `alter` or
-/// `alter_in_place` left does. The answer owns what it holds: it's a copy.
-/// `OutOfMemory`: there was no memory for it.
+/// An array that is present has to keep the limits, as `fits` tests; a content that `alter` or
+/// `alter_in_place` left does. The answer is a copy, which owns its parts. `OutOfMemory`: there was
+/// no memory for it.
 pub fn ask(heap: Heap, content: &Option<Content>, query: &Query) -> Result<Answer, OutOfMemory>
     requires { KeepsLimits (plain_option content.now) }
     ensures { IfOk result (λ answer. plain_answer answer
@@ -136,7 +136,7 @@ pub(crate) fn item_at(items: &VecDeque<Value, Room>, place: usize) -> Option<&Va
     items.get(place)
 }
 
-/// The place of an index in an array, counted from 0; None where it is out of bounds.
+/// The place of an index in an array, counted from 0; `None` if it is out of bounds.
 pub(crate) fn place_in(low: i64, size: usize, index: i64) -> Option<usize>
     ensures { result ≡ place_of low size index }
 {
@@ -151,7 +151,7 @@ pub(crate) fn place_in(low: i64, size: usize, index: i64) -> Option<usize>
     }
 }
 
-/// A copy of the value, or the signal where there is none.
+/// A copy of the value, or the signal if there is none.
 pub(crate) fn value_or_signal(
     heap: Heap,
     value: Option<&Value>,

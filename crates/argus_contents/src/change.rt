@@ -22,9 +22,9 @@ use std::collections::VecDeque;
 /// An operation that changes a content. It needs a write lock.
 ///
 /// Fields and tags are numbers from 0, in the order of the shape's names. Below, `high` is
-/// `low + size - 1`. A signal leaves the content unchanged; where several are named, the first that
-/// applies is answered. Every change but `Create` and `Touch` signals `Absent` on an absent content
-/// and on a content of another kind than its own.
+/// `low + size - 1`. A signal leaves the content unchanged; if several are named, the first that
+/// applies is returned. Every change except `Create` and `Touch` signals `Absent` on an absent
+/// content, and on a content of another kind than its own.
 ///
 /// | Change | Of | Effect | Answer |
 /// |---|---|---|---|
@@ -33,8 +33,8 @@ use std::collections::VecDeque;
 /// | `Store(i, v)` | an array | the item becomes `v` | `Done` |
 /// | `Addh(v)` | an array | `v` becomes the last | `Done` |
 /// | `Addl(v)` | an array | `v` becomes the first and `low` falls by 1 | `Done` |
-/// | `Remh` | an array | the last leaves | `Val` of it |
-/// | `Reml` | an array | the first leaves and `low` rises by 1 | `Val` of it |
+/// | `Remh` | an array | the last is removed | `Val` of it |
+/// | `Reml` | an array | the first is removed and `low` rises by 1 | `Val` of it |
 /// | `SetLow(i)` | an array | `low` becomes `i` | `Done` |
 /// | `Trim(i, n)` | an array | what is from `i` on is kept, at most `n`; `low` becomes `i` | `Done`
 /// |
@@ -50,13 +50,12 @@ use std::collections::VecDeque;
 /// | `Addl(v)` | `Limits` if there are 65,535 items or `low` is the least bound |
 /// | `Remh` | `Bounds` if it is empty |
 /// | `Reml` | `Bounds` if it is empty; `Limits` if `low` is the greatest bound |
-/// | `SetLow(i)` | `Limits` if `i` or `i + size - 1` is no bound |
+/// | `SetLow(i)` | `Limits` if `i` or `i + size - 1` isn't a bound |
 /// | `Trim(i, n)` | `NegativeSize` if `n < 0` |
 /// | | `Bounds` if `i < low` or `i > high + 1` |
 /// | | `Limits` if `i` is past the greatest bound |
 ///
-/// It isn't taken apart by a pattern outside this crate: a part is taken out by `&mut`, with an
-/// empty one in its place.
+/// It can't be destructured outside this crate: take a part out by `&mut`, and leave an empty one.
 ///
 /// Source: in the manner of the built-in atomic types of the Argus Reference Manual
 /// (MIT/LCS/TR-400, 1987); the signals and their order are this project's own.
@@ -79,7 +78,8 @@ pub enum Change {
     Touch,
 }
 
-// By hand, so that each place where a change ends is one call; a derived one is written out there.
+// Written by hand, so that dropping a change is one call; a derived `Drop` is expanded at each
+// place.
 impl Drop for Change {
     fn drop(self) {
         match self {
@@ -94,7 +94,8 @@ impl Drop for Change {
 }
 
 impl Change {
-    /// The change that makes this content. `OutOfMemory`: nothing is made, and the content is spent.
+    /// The change that makes this content. `OutOfMemory`: nothing is made, and the content is
+    /// consumed.
     ///
     /// ```text
     /// let create = Change::create(heap, Content::Rec(vec![in heap.room(); Value::Int(5)]?))?;
@@ -124,8 +125,8 @@ impl Change {
         }
     }
 
-    /// Whether the change may answer a value: `Remh` and `Reml` alone. Every other answers `Done`
-    /// or a signal, and [`alter_by_reference`](crate::alter_by_reference) makes it.
+    /// Whether the change may return a value: only `Remh` and `Reml` may. Every other returns
+    /// `Done` or a signal, and [`alter_by_reference`](crate::alter_by_reference) makes it.
     ///
     /// ```text
     /// assert_eq!(rt; Change::Remh.gives_value(), true);
@@ -148,9 +149,9 @@ impl Change {
         }
     }
 
-    // Who takes a change apart stands beside its type, since it has a `drop` of its own.
+    // Code that takes a change apart is in this file, since the type has a `drop` of its own.
 
-    /// What the change does where nothing is.
+    /// What the change does to an absent content.
     pub(crate) fn alter_absent(self, content: &mut Option<Content>) -> Answer
         requires { plain_option content.old ≡ None }
         ensures { (plain_option content.new, plain_answer result)

@@ -18,12 +18,11 @@ use std::collections::VecDeque;
 
 /// What an atomic object holds: the fields of a record, an array or a variant.
 ///
-/// The items of an array lie in a queue with two ends, so that adding and removing at either end
-/// costs the same however long it is. A queue is made from a `Vec`, and gives one back, without
-/// taking memory.
+/// The items of an array are in a double-ended queue, so that adding and removing at either end
+/// takes constant time. A queue is made from a `Vec`, and turned back into one, without taking
+/// memory.
 ///
-/// It isn't taken apart by a pattern outside this crate: a part is taken out by `&mut`, with an
-/// empty one in its place.
+/// It can't be destructured outside this crate: take a part out by `&mut`, and leave an empty one.
 ///
 /// Source: the built-in atomic types of the Argus Reference Manual (MIT/LCS/TR-400, 1987).
 ///
@@ -50,7 +49,8 @@ pub enum Content {
 // A tag, the low bound and the queue.
 const _: () = prove!(size_of::<Content>() == 64);
 
-// By hand, so that each place where a content ends is one call; a derived one is written out there.
+// Written by hand, so that dropping a content is one call; a derived `Drop` is expanded at each
+// place.
 impl Drop for Content {
     fn drop(self) {
         match self {
@@ -79,8 +79,8 @@ impl Content {
         }
     }
 
-    /// The content that the change leaves in place of this one, and its answer; after `OutOfMemory`
-    /// this one.
+    /// Replaces this content by the one that the change leaves, and returns its answer; after
+    /// `OutOfMemory` it is unchanged.
     pub(crate) fn altered(self, change: Change) -> (Content, Result<Answer, OutOfMemory>)
         requires { KeepsLimits (Some (plain_content self)) }
         ensures ok { IfOk result.1 (λ answer. (Some (plain_content result.0), plain_answer answer)
@@ -102,7 +102,7 @@ impl Content {
         }
     }
 
-    /// A content equal to this one, or none where there is none. `OutOfMemory`: nothing was copied.
+    /// A content equal to this one; none if there is none. `OutOfMemory`: nothing was copied.
     pub fn duplicate_option(
         heap: Heap,
         content: &Option<Content>,
@@ -115,10 +115,11 @@ impl Content {
         }
     }
 
-    /// Appends a content equal to this one to the copies, or none where there is none. `OutOfMemory`:
-    /// the copies are as they were.
+    /// Appends a content equal to this one to the copies, or none if there is none. `OutOfMemory`:
+    /// the copies are unchanged.
     ///
-    /// The copy of a record is made in its place of the list: moved there, it would take twice as long.
+    /// The copy of a record is made in its place in the list: moving it there would take twice as
+    /// long.
     ///
     /// ```text
     /// Content::append_copy(heap, &base, &mut copies)?;
@@ -162,7 +163,7 @@ impl PartialEq for Content {
     }
 }
 
-/// Whether both say the same, for what holds a content in a box.
+/// Whether both say the same, for code that has a content in a box.
 pub(crate) fn is_same(a: &Content, b: &Content) -> bool
     ensures { result ≡ same_content (plain_content a.now) (plain_content b.now) }
 {

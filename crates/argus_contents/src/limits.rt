@@ -10,7 +10,7 @@
 //! deepest part |
 //! | names of a record, variant, struct or oneof | 1 to `MAX_NAMES`, all distinct |
 //! | bytes of a name | 1 to `MAX_NAME_BYTES`, of `[a-z0-9_]` |
-//! | ancestors of an action, itself among them | `MAX_ACTION_DEPTH` |
+//! | ancestors of an action, itself included | `MAX_ACTION_DEPTH` |
 //! | actions ever begun | `MAX_ACTIONS`, with the numbers 0 to 999,999 |
 //! | objects ever declared | `MAX_OBJECTS`, with the numbers 0 to 65,534 |
 

@@ -14,7 +14,7 @@ use std::marker::Model;
 
 /// A name of a field of a record or of a tag of a variant: 1 to 32 bytes of `[a-z0-9_]`.
 ///
-/// Names stand in types alone. Values go by position.
+/// Only types have names; values go by position.
 ///
 /// ```text
 /// let balance = Name::new(heap, "balance")?;
@@ -37,7 +37,7 @@ impl Model for Name {
 }
 
 impl Name {
-    /// Whether the text has a name's form: 1 to 32 bytes of `[a-z0-9_]`.
+    /// Whether the text has the form of a name: 1 to 32 bytes of `[a-z0-9_]`.
     pub fn is_name(text: &str) -> bool
         ensures { result ≡ is_name text.now }
     {
@@ -49,8 +49,8 @@ impl Name {
 
     /// The name with this text.
     ///
-    /// `BadName` comes exactly where the text has no name's form, `OutOfMemory` where there is no
-    /// memory for the copy.
+    /// `BadName` comes exactly if the text doesn't have the form of a name, `OutOfMemory` if there
+    /// is no memory for the copy.
     pub fn new(heap: Heap, text: &str) -> Result<Name, NameError>
         ensures ok { IfOk result (λ name. name ≡ text.now) }
         ensures bad { IsErrOf result NameError.BadName ↔ (is_name text.now ≡ false) }
@@ -70,7 +70,7 @@ impl Name {
         self.text.as_str()
     }
 
-    /// A law for proofs; it does nothing. The text has a name's form.
+    /// A law for proofs; it does nothing. The text has the form of a name.
     pub fn form_is_kept(&self)
         ensures { is_name self.now ≡ true }
     {

@@ -1,10 +1,10 @@
-//! `NameError`: why a text makes no name.
+//! `NameError`: why a text isn't a name.
 
 use argus_memory::OutOfMemory;
 use std::alloc::AllocError;
 use thiserror::Error;
 
-/// Why a text makes no [`Name`](crate::Name).
+/// Why a text isn't a [`Name`](crate::Name).
 ///
 /// ```text
 /// match Name::new(heap, "Balance") {

@@ -3,8 +3,8 @@
 /// An operation that looks at a content. It needs a read lock.
 ///
 /// Fields and tags are numbers from 0, in the order of the shape's names. Below, `high` is
-/// `low + size - 1`. On an absent content each signals `Absent`, and so does each on a content of
-/// another kind than its own.
+/// `low + size - 1`. On an absent content, and on a content of another kind than its own, each
+/// signals `Absent`.
 ///
 /// | Query | Of | Answer |
 /// |---|---|---|

@@ -89,7 +89,7 @@ impl Shape {
         }
     }
 
-    /// The parts that were handed in.
+    /// The parts that were passed in.
     pub fn view(&self) -> ShapeView<'_>
         ensures { plain_view result ≡ self.now }
     {
@@ -100,8 +100,8 @@ impl Shape {
         }
     }
 
-    /// A law for proofs; it does nothing. No fault applies to a shape, and each name in it has a
-    /// name's form, whoever made it.
+    /// A law for proofs; it does nothing. No fault applies to any shape, and each name in it has
+    /// the form of a name.
     pub fn limits_are_kept(&self)
         ensures { IsMakeable self.now }
     {

@@ -1,9 +1,9 @@
-//! `ShapeFault`: why no shape can be made.
+//! `ShapeFault`: why a shape can't be made.
 
 use thiserror::Error;
 
-/// Why no [`Shape`](crate::Shape) can be made. Where several apply, anywhere in the shape, the
-/// first of this list is answered.
+/// Why a [`Shape`](crate::Shape) can't be made. If several apply, anywhere in the shape, the first
+/// of this list is returned.
 ///
 /// ```text
 /// match Shape::rec(Vec::new(heap.room())) {
@@ -13,7 +13,7 @@ use thiserror::Error;
 /// ```
 #[derive(Clone, Copy, Debug, PartialEq, Eq, Error)]
 pub enum ShapeFault {
-    /// A name stands twice in one list of names.
+    /// A name comes twice in one list of names.
     #[error("a name stands twice in one list of names")]
     NameTwice,
     /// A list of names is empty.

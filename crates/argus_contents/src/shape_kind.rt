@@ -4,7 +4,7 @@ use crate::name::Name;
 use crate::ty::Ty;
 use argus_memory::Room;
 
-/// The parts of a [`Shape`](crate::Shape), of which it isn't known yet whether they make one.
+/// The parts of a [`Shape`](crate::Shape), before it is known whether they make one.
 #[derive(Debug)]
 pub(crate) enum ShapeKind {
     Rec(Vec<(Name, Ty), Room>),
@@ -12,7 +12,8 @@ pub(crate) enum ShapeKind {
     Var(Vec<(Name, Ty), Room>),
 }
 
-// By hand, so that each place where a shape ends is one call; a derived one is written out there.
+// Written by hand, so that dropping a shape is one call; a derived `Drop` is expanded at each
+// place.
 impl Drop for ShapeKind {
     fn drop(self) {
         match self {

@@ -3,7 +3,7 @@
 use crate::name::Name;
 use crate::ty::Ty;
 
-/// The parts of a [`Shape`](crate::Shape), as they were handed in.
+/// The parts of a [`Shape`](crate::Shape), as they were passed in.
 ///
 /// ```text
 /// match shape.view() {

@@ -1,4 +1,4 @@
-//! Why no shape can be made of its parts.
+//! Why parts don't make a shape.
 
 ghost use lib.Pointwise.{pointwise};
 ghost use Rattle.std.specs.Prelude.{◌≡◌, ◌||◌, nat_eq, nat_le, true, IfNone};
@@ -23,8 +23,8 @@ pub(crate) enum NameTest {
     TooMany,
 }
 
-/// The first fault that applies anywhere in the shape. Where there is none, the whole shape was gone
-/// through, so each name in it is known to have a name's form.
+/// The first fault that applies anywhere in the shape. If there is none, the whole shape was
+/// visited, so each name in it has the form of a name.
 pub(crate) fn fault_in(kind: &ShapeKind) -> Option<ShapeFault>
     ensures fault { result ≡ fault_of (plain_kind kind.now) }
     ensures makeable { IfNone result (IsMakeable (plain_kind kind.now)) }

@@ -1,4 +1,4 @@
-//! `SmallAnswer`: an answer that takes no memory, and `ask_small`, which gives it.
+//! `SmallAnswer`: an answer that takes no memory, and `ask_small`, which returns it.
 
 ghost use Rattle.std.specs.Prelude.{◌≡◌, false, IfNone, IfSome, length, true};
 ghost use Rattle.argus_contents.specs.Answer.{plain_answer, val, value_or};
@@ -17,8 +17,8 @@ use crate::value::Value;
 use argus_memory::Room;
 use std::collections::VecDeque;
 
-/// An answer that takes no memory: most answers of queries are such. It is small and is copied,
-/// where an [`Answer`] is moved in pieces.
+/// An answer that takes no memory, as most answers of queries. It is small and is copied, while an
+/// [`Answer`] is moved in pieces.
 ///
 /// | Variant | The answer |
 /// |---|---|
@@ -67,11 +67,12 @@ impl SmallAnswer {
     }
 }
 
-/// What [`ask`](crate::ask) answers, if that takes no memory, without a heap; [`Query`] has the
-/// table. None: the answer is the whole content, or a text, a sequence, fields or a choice, and
-/// `ask` gives it.
+/// What [`ask`](crate::ask) returns, if that takes no memory, without a heap; [`Query`] has the
+/// table. `None`: the answer is the whole content, or a text, a sequence, fields or a choice; use
+/// `ask`.
 ///
-/// A present array has to keep the limits, as `fits` tests. Nothing is changed, and nothing fails.
+/// An array that is present has to keep the limits, as `fits` tests. Nothing is changed, and
+/// nothing fails.
 ///
 /// ```text
 /// let size = ask_small(&content, &Query::Size);
@@ -175,7 +176,7 @@ fn ask_variant(tag: u8, value: &Value, query: &Query) -> Option<SmallAnswer>
     }
 }
 
-// The value, or the signal where there is none; None where the value takes memory.
+// The value, or the signal if there is none; `None` if the value takes memory.
 #[inline(always)]
 fn small_or_signal(value: Option<&Value>, signal: Signal) -> Option<SmallAnswer>
     ensures value { IfSome result (λ small. plain_small small

@@ -10,8 +10,8 @@ use argus_memory::{Heap, OutOfMemory, Room};
 
 /// The type of a value.
 ///
-/// A struct or a oneof has 1 to 64 distinct names, and a type has depth at most 16, wherever it
-/// stands in a [`Shape`](crate::Shape); the makers of shapes test it.
+/// A struct or a oneof has 1 to 64 distinct names, and a type has depth at most 16, wherever it is
+/// in a [`Shape`](crate::Shape); the constructors of shapes test it.
 ///
 /// Source: the built-in immutable types of the Argus Reference Manual (MIT/LCS/TR-400, 1987).
 ///
@@ -24,7 +24,7 @@ pub enum Ty {
     Bool,
     Int,
     Text,
-    /// A reference to an object, of whatever shape.
+    /// A reference to an object of any shape.
     Atomic,
     Sequence(Box<Ty, Room>),
     /// `struct[..]`: a name and a type for each part.
@@ -33,7 +33,7 @@ pub enum Ty {
     Choice(Vec<(Name, Ty), Room>),
 }
 
-// By hand, so that each place where a type ends is one call; a derived one is written out there.
+// Written by hand, so that dropping a type is one call; a derived `Drop` is expanded at each place.
 impl Drop for Ty {
     fn drop(self) {
         match self {

@@ -22,8 +22,8 @@ use crate::value::Value;
 use argus_memory::Room;
 use std::collections::VecDeque;
 
-/// Whether the value is of the type, where so many objects are declared: the constructors agree,
-/// each part is of the part's type, and each reference names a declared object.
+/// Whether the value is of the type, with this many objects declared: the constructors agree, each
+/// part is of the part's type, and each reference names a declared object.
 pub fn typed(ty: &Ty, declared: u32, value: &Value) -> bool
     ensures { result ≡ is_typed (plain_ty ty.now) declared (plain_value value.now) }
 {
@@ -99,9 +99,8 @@ fn has_type_at(value: &Value, number: u8, names: &[(Name, Ty)], declared: u32) -
     }
 }
 
-/// Whether the content fits the shape, where so many objects are declared: the kinds agree, each
-/// part is of its type, and an array keeps the limits. A content that fits may be asked and
-/// altered.
+/// Whether the content fits the shape, with this many objects declared: the kinds agree, each part
+/// is of its type, and an array keeps the limits. A content that fits may be asked and altered.
 pub fn fits(shape: &Shape, declared: u32, content: &Content) -> bool
     ensures exact { result ≡ is_fitting shape.now declared (plain_content content.now) }
     ensures keeps { result ≡ true → KeepsLimits (Some (plain_content content.now)) }
@@ -184,9 +183,9 @@ fn have_number(names: &[(Name, Ty)], number: u8) -> bool
     (number as usize) < names.len()
 }
 
-/// Whether the change suits the shape, where so many objects are declared: it is one of the shape's
+/// Whether the change suits the shape, with this many objects declared: it is one of the shape's
 /// kind, there is a field or a tag with its number, and its value is of the type or its content
-/// fits. `Touch` suits every shape. After a change that suits, an array keeps the limits still.
+/// fits. `Touch` suits every shape. After a change that suits, an array still keeps the limits.
 #[inline(always)]
 pub fn change_fits(shape: &Shape, declared: u32, change: &Change) -> bool
     ensures exact { result ≡ change_suits shape.now declared (plain_change change.now) }

@@ -1,4 +1,4 @@
-//! `Value`: an immutable value, as it stands in a record, an array or a variant.
+//! `Value`: an immutable value in a record, an array or a variant.
 
 ghost use Rattle.std.specs.Prelude.{◌≡◌, ◌↔◌, true, ◌++◌, IfOk, OnOk};
 ghost use Rattle.argus_contents.specs.Same.{same_value, same_values};
@@ -23,12 +23,11 @@ use argus_memory::{Heap, OutOfMemory, Room};
 /// | `Fields` | `struct[..]` | a value for each name of the type, in order |
 /// | `Choice` | `oneof[..]` | the number of a tag from 0, and a value of the tag's type |
 ///
-/// A text, a list and the value of a choice lie in a box, so that a value has 24 bytes. They are
-/// made by [`text`](Value::text), [`sequence`](Value::sequence), [`fields`](Value::fields) and
+/// A text, a list and the value of a choice are boxed, so that a value has 24 bytes. They are made
+/// by [`text`](Value::text), [`sequence`](Value::sequence), [`fields`](Value::fields) and
 /// [`choice`](Value::choice).
 ///
-/// It isn't taken apart by a pattern outside this crate: a part is taken out by `&mut`, with an
-/// empty one in its place.
+/// It can't be destructured outside this crate: take a part out by `&mut`, and leave an empty one.
 ///
 /// Source: the built-in immutable types of the Argus Reference Manual (MIT/LCS/TR-400, 1987).
 ///
@@ -50,11 +49,12 @@ pub enum Value {
     Choice(u8, Box<Value, Room>),
 }
 
-// A tag with what is small behind it, and a box: texts and lists lie in one, so that an integer in a
-// list takes no more room for their sake.
+// A tag, then what is small inline, and a box for the rest: texts and lists are boxed, so that an
+// integer in a list takes no extra room for them.
 const _: () = prove!(size_of::<Value>() == 24);
 
-// By hand, so that each place where a value ends is one call; a derived one is written out there.
+// Written by hand, so that dropping a value is one call; a derived `Drop` is expanded at each
+// place.
 impl Drop for Value {
     fn drop(self) {
         match self {
@@ -67,7 +67,7 @@ impl Drop for Value {
 }
 
 impl Value {
-    /// The text as a value. `OutOfMemory`: nothing is made, and the text is spent.
+    /// The text as a value. `OutOfMemory`: nothing is made, and the text is consumed.
     ///
     /// ```text
     /// let five = Value::text(heap, String::from_str(heap.room(), "five")?)?;
@@ -79,7 +79,7 @@ impl Value {
     }
 
     /// The sequence of these values, in their order. `OutOfMemory`: nothing is made, and the values
-    /// are spent.
+    /// are consumed.
     ///
     /// ```text
     /// let digits = Value::sequence(heap, vec![in heap.room(); Value::Int(1), Value::Int(2)]?)?;
@@ -92,7 +92,7 @@ impl Value {
     }
 
     /// The struct of these values, one for each name of its type, in order. `OutOfMemory`: nothing
-    /// is made, and the values are spent.
+    /// is made, and the values are consumed.
     ///
     /// ```text
     /// let point = Value::fields(heap, vec![in heap.room(); Value::Int(3), Value::Int(4)]?)?;
@@ -104,8 +104,8 @@ impl Value {
         Ok(Value::Fields(Box::new(heap.room(), fields)?))
     }
 
-    /// The choice of the tag with this number, and its value. `OutOfMemory`: nothing is made, and the
-    /// value is spent.
+    /// The choice of the tag with this number, and its value. `OutOfMemory`: nothing is made, and
+    /// the value is consumed.
     ///
     /// ```text
     /// let second = Value::choice(heap, 1, Value::Int(5))?;

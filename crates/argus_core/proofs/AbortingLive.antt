@@ -1,4 +1,4 @@
--- Live topactions, and what is left of them after one more abort.
+-- Live topactions, and which are left after one more abort.
 use Rattle.std.proofs.Common.{Bool, List, None, [], ap, arith, cond, false, inl, inr, refl, subst, sym, true, ℕ}
 use Rattle.std.proofs.Common.{⊎_elim, ◌+◌, ◌-◌, ◌<◌, ◌∙◌, ◌∷◌, ◌≡◌, ◌≢◌, ◌≤◌, ◌++◌}
 use Rattle.std.specs.List.{list_any}

@@ -1,6 +1,6 @@
 -- Objects on a list are changed one after another.
 use Rattle.std.proofs.Common.{Bool, List, [], ap, arith, false, inl, inr, length, refl, subst, sym, true, suc, take}
-use Rattle.std.proofs.Common.{get_or, set, zero, ℕ, ◌+◌, ◌<◌, ◌≤◌, ◌∙◌, ◌∷◌, ◌≡◌, eqb, ◌||◌}
+use Rattle.std.proofs.Common.{get_or, set, zero, ℕ, ◌+◌, ◌<◌, ◌≤◌, ◌∙◌, ◌∷◌, ◌≡◌, ◌≢◌, eqb, ◌||◌}
 use Rattle.std.specs.List.{IsDistinct}
 use Rattle.std.specs.Prelude.{slice_index_or}
 use Rattle.std.proofs.lemmas.Bool.{cases_eq, eq-eqb, eqb-true, ne_eqb, or_from, or_right}
@@ -10,29 +10,36 @@ use Rattle.std.proofs.lemmas.List.Folds.{list_any_at, list_any_more}
 use Rattle.std.proofs.lemmas.Map.Keys.{IsDistinct-from_apart, apart_from_distinct}
 use Rattle.argus_objects.proofs.InOrder.{any_default}
 use Rattle.argus_contents.specs.declared.obj_id.ObjId.{ObjId}
-use Rattle.argus_core.specs.Moving.{is_listed}
-use Rattle.argus_core.specs.Moving.{AreChanged, AreThere, ChangedIf}
+use Rattle.argus_actions.specs.Tree.{Tree}
+use Rattle.argus_core.specs.Moving.{AreChanged, AreLawful, AreThere, ChangedIf, IsChanged, is_listed}
 use Rattle.argus_core.specs.declared.engine.atomic_object.AtomicObject.{AtomicObject}
 use Rattle.argus_objects.specs.Object.{Object}
+use Rattle.argus_objects.specs.Rules.{is_lawful}
 
+-- with nothing on the list nothing is changed
 pub start_changed : (R : Object → Object → Type 0) (objects : List AtomicObject) → AreChanged R [] objects objects
-start_changed R objects = record { count = refl; each = λ o d lt. record { shape = refl; cell = refl } }
+start_changed R objects = record { count = refl; each = λ o default low. record { shape = refl; cell = refl } }
 
 -- the item of this place is on the list
-pub listed_at : (list : List ObjId) (i : ℕ) (d : ObjId) → i < length list → is_listed list (get_or list i d).0 ≡ true
-listed_at list i d lt =
-    list_any_at (λ x. eqb x.0 (get_or list i d).0) list i d lt (eq-eqb (get_or list i d).0 (get_or list i d).0 refl)
+pub listed_at : (list : List ObjId) (place : ℕ) (default : ObjId) → place < length list
+    → is_listed list (get_or list place default).0 ≡ true
+listed_at list place default comes =
+    let number = (get_or list place default).0 in
+    list_any_at (λ x. eqb x.0 number) list place default comes (eq-eqb number number refl)
 
-pub not_before : (list : List ObjId) (i : ℕ) (d : ObjId) → IsDistinct (λ x y. eqb x.0 y.0) list → i < length list
-    → (j : ℕ) → j ≤ i → is_listed (take j list) (get_or list i d).0 ≡ false
-not_before list i d once lt zero le = refl
-not_before list i d once lt (suc j) le =
-    let k : ℕ = (get_or list i d).0 in
-    let up : j + 1 ≡ suc j = omega arith in
-    subst (λ n. is_listed (take n list) k ≡ false) up
-    (list_any_more (λ x. eqb x.0 k) list j d (omega arith)
-    ∙ or_from (is_listed (take j list) k) (eqb (get_or list j d).0 k) (not_before list i d once lt j (omega arith))
-    (apart_from_distinct (λ x y. eqb x.0 y.0) list j i d once (omega arith) lt))
+-- where none is listed twice, the item of this place doesn't stand before it
+pub not_before : (list : List ObjId) (place : ℕ) (default : ObjId) → IsDistinct (λ x y. eqb x.0 y.0) list
+    → place < length list → (before : ℕ) → before ≤ place
+    → is_listed (take before list) (get_or list place default).0 ≡ false
+not_before list place default once comes zero low = refl
+not_before list place default once comes (suc before) low =
+    let number : ℕ = (get_or list place default).0 in
+    let next : before + 1 ≡ suc before = omega arith in
+    let earlier = not_before list place default once comes before (omega arith) in
+    let apart = apart_from_distinct (λ x y. eqb x.0 y.0) list before place default once (omega arith) comes in
+    subst (λ n. is_listed (take n list) number ≡ false) next
+    (list_any_more (λ x. eqb x.0 number) list before default (omega arith)
+    ∙ or_from (is_listed (take before list) number) (eqb (get_or list before default).0 number) earlier apart)
 
 or_false : (b : Bool) → (b || false) ≡ b
 or_false true = refl
@@ -40,80 +47,112 @@ or_false false = refl
 
 changed_here : (R : Object → Object → Type 0) (b : Bool) (old new : Object) → b ≡ true → R old new
     → ChangedIf b R old new
-changed_here R b old new e r = subst (λ b. ChangedIf b R old new) (sym e) r
+changed_here R b old new is changed = subst (λ b. ChangedIf b R old new) (sym is) changed
 
 unchanged : (R : Object → Object → Type 0) (b : Bool) (old new : Object) → b ≡ false → ChangedIf b R old new → new ≡ old
-unchanged R b old new e r = subst (λ b. ChangedIf b R old new) e r
+unchanged R b old new is changed = subst (λ b. ChangedIf b R old new) is changed
 
-pub is_within : (R : Object → Object → Type 0) (list : List ObjId) (i : ℕ) (d : ObjId) (old now : List AtomicObject)
-    → i < length list → AreThere list (length old) → AreChanged R (take i list) old now
-    → (get_or list i d).0 < length now
-is_within R list i d old now lt there k =
-    subst (λ n. (get_or list i d).0 < n) (sym k.count) (there (get_or list i d).0 (listed_at list i d lt))
+-- the next object of the list is there
+pub is_within : (R : Object → Object → Type 0) (list : List ObjId) (place : ℕ) (default : ObjId)
+    (old now : List AtomicObject) → place < length list → AreThere list (length old)
+    → AreChanged R (take place list) old now → (get_or list place default).0 < length now
+is_within R list place default old now comes there so_far =
+    let number = (get_or list place default).0 in
+    subst (λ n. number < n) (sym so_far.count) (there number (listed_at list place default comes))
 
-module _ (R : Object → Object → Type 0) (list : List ObjId) (i : ℕ) (d : ObjId) (old now : List AtomicObject)
-    (e : AtomicObject) (once : IsDistinct (λ x y. eqb x.0 y.0) list) (lt : i < length list)
-    (there : AreThere list (length old)) (k : AreChanged R (take i list) old now) where
-  abbrev at : ℕ
-  at = (get_or list i d).0
+-- In the midst of a loop over the list: those before this place are changed so far, and the next object is `object`.
+module _ (R : Object → Object → Type 0) (list : List ObjId) (place : ℕ) (default : ObjId)
+    (old now : List AtomicObject) (object : AtomicObject) (once : IsDistinct (λ x y. eqb x.0 y.0) list)
+    (comes : place < length list) (there : AreThere list (length old))
+    (so_far : AreChanged R (take place list) old now) where
+  abbrev number : ℕ
+  number = (get_or list place default).0
 
-  within : at < length now
-  within = subst (λ n. at < n) (sym k.count) (there at (listed_at list i d lt))
+  was_there : number < length old
+  was_there = there number (listed_at list place default comes)
 
-  -- it hasn't been changed yet
-  pub same_yet : (get_or now at e).cell ≡ (get_or old at e).cell
-  same_yet = unchanged R (is_listed (take i list) at) (get_or old at e).cell (get_or now at e).cell
-      (not_before list i d once lt i (omega arith)) (k.each at e (there at (listed_at list i d lt))).cell
+  within : number < length now
+  within = is_within R list place default old now comes there so_far
 
-  pub more_changed : (new : Object) → R (get_or now at e).cell new
-      → AreChanged R (take (i + 1) list) old (set now at (record { shape = (get_or now at e).shape; cell = new }))
-  more_changed new r =
-      let v : AtomicObject = record { shape = (get_or now at e).shape; cell = new } in
-      let low : at < length old = there at (listed_at list i d lt) in
-      record {
-        count = length-set now at v ∙ k.count;
-        each = λ o f less.
-            let more : is_listed (take (i + 1) list) o ≡ (is_listed (take i list) o || eqb at o) =
-            list_any_more (λ x. eqb x.0 o) list i d lt in
-            elim (cases_eq at o) [
-              | inl same ↦
-                  let here : slice_index_or (set now at v) o f ≡ v = get_or-set_at now at o v f (sym same) within in
-                  let was : slice_index_or old o f ≡ get_or old at e =
-                  ap (λ n. get_or old n f) (sym same) ∙ any_default old at f e low in
-                  record {
-                    shape = ap (λ (x : AtomicObject). x.shape) here ∙ (k.each at e low).shape
-                        ∙ sym (ap (λ (x : AtomicObject). x.shape) was);
-                    cell =
-                        changed_here R (is_listed (take (i + 1) list) o) (slice_index_or old o f).cell
-                        (slice_index_or (set now at v) o f).cell
-                        (more ∙ or_right (is_listed (take i list) o) (eqb at o) (eq-eqb at o same))
-                        (subst (λ (x : AtomicObject). R (slice_index_or old o f).cell x.cell) (sym here)
-                        (subst (λ c. R c new) (same_yet ∙ sym (ap (λ (x : AtomicObject). x.cell) was)) r));
-                  }
-              | inr other ↦
-                  let there' : slice_index_or (set now at v) o f ≡ slice_index_or now o f =
-                  get_or-set_other now at o v f (λ q. other (sym q)) in
-                  let was = k.each o f less in
-                  record {
-                    shape = ap (λ (x : AtomicObject). x.shape) there' ∙ was.shape;
-                    cell =
-                        subst (λ (x : AtomicObject). ChangedIf (is_listed (take (i + 1) list) o) R
-                        (slice_index_or old o f).cell x.cell) (sym there')
-                        (subst (λ b. ChangedIf b R (slice_index_or old o f).cell (slice_index_or now o f).cell)
-                        (sym (more ∙ ap (λ b. is_listed (take i list) o || b) (ne_eqb at o other)
-                        ∙ or_false (is_listed (take i list) o))) was.cell);
-                  }
-            ];
-      }
+  -- the next object hasn't been changed yet
+  pub same_yet : (get_or now number object).cell ≡ (get_or old number object).cell
+  same_yet =
+      unchanged R (is_listed (take place list) number) (get_or old number object).cell
+      (get_or now number object).cell (not_before list place default once comes place (omega arith))
+      (so_far.each number object was_there).cell
+
+  -- so it is lawful, as all were at first
+  pub lawful_yet : (t : Tree) → AreLawful t old → is_lawful t (get_or now number object).cell ≡ true
+  lawful_yet t lawful = ap (is_lawful t) same_yet ∙ lawful number object was_there
+
+  module _ (new : Object) (changed : R (get_or now number object).cell new) where
+    abbrev put : AtomicObject
+    put = record { shape = (get_or now number object).shape; cell = new }
+
+    abbrev after : List AtomicObject
+    after = set now number put
+
+    listed_now : (o : ℕ) → is_listed (take (place + 1) list) o ≡ (is_listed (take place list) o || eqb number o)
+    listed_now o = list_any_more (λ x. eqb x.0 o) list place default comes
+
+    changed_there : (o : ℕ) (other : AtomicObject) → number ≡ o
+        → IsChanged R (take (place + 1) list) old after o other
+    changed_there o other same =
+        let is_put : slice_index_or after o other ≡ put = get_or-set_at now number o put other (sym same) within in
+        let was : slice_index_or old o other ≡ get_or old number object =
+        ap (λ n. get_or old n other) (sym same) ∙ any_default old number other object was_there in
+        let cell_was = same_yet ∙ sym (ap (λ (x : AtomicObject). x.cell) was) in
+        let is_listed_now : is_listed (take (place + 1) list) o ≡ true =
+        listed_now o ∙ or_right (is_listed (take place list) o) (eqb number o) (eq-eqb number o same) in
+        record {
+          shape = ap (λ (x : AtomicObject). x.shape) is_put ∙ (so_far.each number object was_there).shape
+              ∙ sym (ap (λ (x : AtomicObject). x.shape) was);
+          cell =
+              changed_here R (is_listed (take (place + 1) list) o) (slice_index_or old o other).cell
+              (slice_index_or after o other).cell is_listed_now
+              (subst (λ (x : AtomicObject). R (slice_index_or old o other).cell x.cell) (sym is_put)
+              (subst (λ c. R c new) cell_was changed));
+        }
+
+    as_before : (o : ℕ) (other : AtomicObject) → o < length old → number ≢ o
+        → IsChanged R (take (place + 1) list) old after o other
+    as_before o other low another =
+        let is_left : slice_index_or after o other ≡ slice_index_or now o other =
+        get_or-set_other now number o put other (λ same. another (sym same)) in
+        let was = so_far.each o other low in
+        let as_listed : is_listed (take (place + 1) list) o ≡ is_listed (take place list) o =
+        listed_now o ∙ ap (λ b. is_listed (take place list) o || b) (ne_eqb number o another)
+        ∙ or_false (is_listed (take place list) o) in
+        record {
+          shape = ap (λ (x : AtomicObject). x.shape) is_left ∙ was.shape;
+          cell =
+              subst (λ (x : AtomicObject). ChangedIf (is_listed (take (place + 1) list) o) R
+              (slice_index_or old o other).cell x.cell) (sym is_left)
+              (subst (λ b. ChangedIf b R (slice_index_or old o other).cell (slice_index_or now o other).cell)
+              (sym as_listed) was.cell);
+        }
+
+    -- once the next object is changed, those up to it are
+    pub more_changed : AreChanged R (take (place + 1) list) old
+        (set now number (record { shape = (get_or now number object).shape; cell = new }))
+    more_changed = record {
+      count = length-set now number put ∙ so_far.count;
+      each = λ o other low. elim (cases_eq number o) [
+        | inl same ↦ changed_there o other same
+        | inr another ↦ as_before o other low another
+      ];
+    }
 
 -- one object alone
-pub set_changed : (R : Object → Object → Type 0) (o : ObjId) (old : List AtomicObject) (e : AtomicObject) (new : Object)
-    → o.0 < length old → R (get_or old o.0 e).cell new → AreChanged R (o ∷ []) old
-    (set old o.0 (record { shape = (get_or old o.0 e).shape; cell = new }))
-set_changed R o old e new lt r =
-    more_changed R (o ∷ []) 0 o old old e (IsDistinct-from_apart (λ x y. eqb x.0 y.0) (o ∷ [])
-    (λ i j d ij jl. absurd (omega (arith, ij, jl)))) (omega arith)
-    (λ n i. subst (λ k. k < length old) (only n i) lt) (start_changed R old) new r
+pub set_changed : (R : Object → Object → Type 0) (o : ObjId) (old : List AtomicObject) (object : AtomicObject)
+    (new : Object) → o.0 < length old → R (get_or old o.0 object).cell new → AreChanged R (o ∷ []) old
+    (set old o.0 (record { shape = (get_or old o.0 object).shape; cell = new }))
+set_changed R o old object new low changed =
+    more_changed R (o ∷ []) 0 o old old object once (omega arith)
+    (λ number listed. subst (λ n. n < length old) (only number listed) low) (start_changed R old) new changed
   where
-    only : (n : ℕ) → (eqb o.0 n || false) ≡ true → o.0 ≡ n
-    only n i = eqb-true o.0 n (sym (or_false (eqb o.0 n)) ∙ i)
+    once : IsDistinct (λ (x y : ObjId). eqb x.0 y.0) (o ∷ [])
+    once = IsDistinct-from_apart (λ x y. eqb x.0 y.0) (o ∷ []) (λ i j d ij jl. absurd (omega (arith, ij, jl)))
+
+    only : (number : ℕ) → (eqb o.0 number || false) ≡ true → o.0 ≡ number
+    only number listed = eqb-true o.0 number (sym (or_false (eqb o.0 number)) ∙ listed)

@@ -1,4 +1,4 @@
--- What is left of a journal's live actions when all of them are aborted.
+-- The journal after all live actions are aborted.
 use Rattle.std.specs.Prelude.{List, [], filter, ℕ, ◌&&◌, ◌++◌, ◌==◌, ◌∷◌, ◌≡◌}
 use Rattle.argus_entries.specs.Call.{abort}
 use Rattle.argus_journal.specs.Events.{history}
@@ -17,12 +17,12 @@ abbrev pub live_topactions : JournalView → List ℕ
 live_topactions journal =
     all_in_program (live_without_parent (history journal.opening journal.entries))
 
--- the journal with a call more for each of these actions, which aborts it, each with its reply
+-- the journal with one more call for each of these actions, which aborts it, each with its reply
 abbrev pub after_aborts : JournalView → List ℕ → JournalView
 after_aborts journal [] = journal
 after_aborts journal (a ∷ actions) = after_aborts (after journal (abort a)) actions
 
--- of the topactions that were live, the first ones were aborted; the others are those still live
+-- the first of the live topactions were aborted; the others are still live
 pub record IsPartlyAborted (old new : JournalView) : Type 0 where
   pub ended : List ℕ
   pub in_turn : live_topactions old ≡ ended ++ live_topactions new

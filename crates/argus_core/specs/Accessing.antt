@@ -1,4 +1,4 @@
--- Why an access is refused, as the state says it, what a granted one needs, and what it does.
+-- Why an access is refused, from the state; what a granted one needs, and what it does.
 use Rattle.std.specs.Option.{option_or}
 use Rattle.std.specs.Prelude.{Bool, List, None, Option, Some, [], length, not, slice_get}
 use Rattle.std.specs.Prelude.{slice_index_or, true, ℕ, ◌+◌, ◌<◌, ◌||◌, ◌∷◌, ◌≡◌}
@@ -28,8 +28,7 @@ use Rattle.argus_objects.specs.Object.{Object, SameLocks}
 use Rattle.argus_objects.specs.Rules.{visible_content}
 use Rattle.argus_objects.specs.declared.holdings.Holdings.{Holdings}
 
--- why an access is refused at the object that was found: its shape doesn't suit, or the lock isn't
--- free
+-- why the object that was found refuses an access: its shape doesn't suit, or the lock isn't free
 abbrev pub refused_at : Option AtomicObject → (PlainShape → Bool) → (Object → Bool) → Option Refusal
 refused_at None suits free = Some NoObject
 refused_at (Some object) suits free =
@@ -42,7 +41,7 @@ access_refusal t objects a o suits free =
     option_or (journal_refusal_if_any (commit_refusal t a)) (refused_at
     (slice_get objects o) suits free)
 
--- the object is new on the action's list, which has room for it, or it stands there
+-- the object is new to the action's list, which has room for it, or it is on the list
 pub record HasListRoom (holdings : Holdings) (a : ActionId) (o : ObjId)
     (is_new : Bool) : Type 0 where
   pub listed : is_listed (objects_held_by holdings a) o.0 ≡ not is_new
@@ -86,13 +85,13 @@ seen_at t a objects o d =
 abbrev pub IsAltered : Tree → ActionId → PlainChange → Object → Object → Type 0
 IsAltered t a change old new = IsWritten t a (changed t a change old).0 old new
 
--- the object has changed by R, and is on a's list now
+-- the object has changed as R says, and is on a's list now
 pub record IsAccessed (R : Object → Object → Type 0) (a : ActionId) (o : ObjId)
     (old new : List AtomicObject) (held held' : Holdings) : Type 0 where
   pub objects : AreChanged R (o ∷ []) old new
   pub lists : Lists held a (noted o (objects_held_by held a)) held'
 
--- but for room, all is as before
+-- nothing has changed, except for room
 pub record IsAsBefore (o : ObjId) (old new : List AtomicObject)
     (held held' : Holdings) : Type 0 where
   pub objects : AreChanged SameLocks (o ∷ []) old new

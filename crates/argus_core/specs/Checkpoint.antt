@@ -10,7 +10,7 @@ use Rattle.argus_journal.specs.Folding.{fold}
 use Rattle.argus_model.specs.History.{begun_actions}
 use Rattle.argus_model.specs.Status.{is_live}
 
--- no action that began is live
+-- no action is live
 abbrev pub is_quiet : JournalView → Bool
 is_quiet journal =
     not (list_any (is_live (history journal.opening journal.entries))
@@ -20,7 +20,7 @@ is_quiet journal =
 abbrev pub after_checkpoint : JournalView → JournalView
 after_checkpoint journal = record { opening = fold journal.opening journal.entries; entries = [] }
 
--- an object as an opening has it: its shape, and what is in it for good
+-- an object as an opening has it: its shape and its base
 abbrev pub opened_object : AtomicObject → PlainShape × Option PlainContent
 opened_object object = (object.shape, object.cell.base)
 

@@ -1,4 +1,4 @@
--- What has to be at hand for each step of a commit.
+-- What each step of a commit needs beforehand.
 use Rattle.std.specs.Prelude.{None, Some, length, ◌<◌, ◌≡◌, ◌≤◌}
 use Rattle.argus_actions.specs.Refusals.{commit_refusal}
 use Rattle.argus_actions.specs.Tree.{parent_of}

@@ -3,8 +3,7 @@ use Rattle.std.specs.Option.{unwrap_or}
 use Rattle.std.specs.Prelude.{List, None, Option, Some, if◌then◌else◌, map, slice_index_or, ℕ, ◌∷◌}
 use Rattle.std.specs.Prelude.{[]}
 use Rattle.argus_actions.specs.declared.action_id.ActionId.{ActionId}
-use Rattle.argus_contents.specs.Content.{PlainContent, plain_option}
-use Rattle.argus_contents.specs.declared.content.Content.{Content}
+use Rattle.argus_contents.specs.Content.{PlainContent}
 use Rattle.argus_contents.specs.declared.obj_id.ObjId.{ObjId}
 use Rattle.argus_journal.specs.JournalView.{JournalView}
 use Rattle.argus_core.specs.declared.engine.atomic_object.AtomicObject.{AtomicObject}
@@ -18,7 +17,7 @@ effect_of journal a =
     map (λ o. (o, visible_to journal.opening journal.entries a o))
     (written_by journal.opening journal.entries a)
 
--- the same of a live action, and none of others
+-- the same for a live action; none for others
 abbrev pub effect_if_live : JournalView → ℕ → Option (List (ℕ × Option PlainContent))
 effect_if_live journal a =
     if is_live_in journal.opening journal.entries a then Some (effect_of journal a) else None
@@ -31,6 +30,6 @@ written_in a objects d (o ∷ list) =
     ∷ written_in a objects d list
     else written_in a objects d list
 
--- the content of the action's version of an object, absent where it has none
+-- the content of the action's version of an object, absent if it has none
 abbrev pub version_in : ActionId → List AtomicObject → AtomicObject → ℕ → Option PlainContent
 version_in a objects d o = unwrap_or (version_of a (slice_index_or objects o d).cell.versions) None

@@ -4,7 +4,7 @@ use Rattle.argus_journal.specs.JournalView.{JournalView}
 use Rattle.argus_core.specs.declared.engine.guardian_state.GuardianState.{GuardianState}
 use Rattle.argus_journal.specs.LegalJournal.{entries_in, opening_in}
 
--- the state is what its journal says
+-- the state agrees with its journal
 abbrev pub StateInvariant : GuardianState → Type 0
 StateInvariant state =
     StateRefinesJournal state.tree state.objects.items state.holdings

@@ -54,7 +54,7 @@ pub record IsWritten (t : Tree) (a : ActionId) (content : Option PlainContent)
   pub versions : new.versions ≡ with_version a content old.versions
   pub lawful : is_lawful t new ≡ true
 
--- R, or the same as before
+-- R, or unchanged
 abbrev pub ChangedIf : Bool → (Object → Object → Type 0) → Object → Object → Type 0
 ChangedIf true R old new = R old new
 ChangedIf false R old new = new ≡ old

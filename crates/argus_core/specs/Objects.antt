@@ -1,4 +1,4 @@
--- What a guardian tells of its objects, as contracts see it.
+-- What a guardian returns about its objects, as contracts see it.
 use Rattle.std.specs.Borrow.{Bor}
 use Rattle.std.specs.Prelude.{List, None, Option, Some, if◌then◌else◌, map, nat_lt, ℕ}
 use Rattle.argus_actions.specs.declared.action_id.ActionId.{ActionId}
@@ -13,22 +13,22 @@ use Rattle.argus_journal.specs.JournalView.{JournalView, refusal_to}
 use Rattle.argus_journal.specs.Objects.{declared}
 use Rattle.argus_objects.specs.declared.version.Version.{Version}
 
--- the fact of the object, where it is declared
+-- the fact about the object, if it is declared
 abbrev pub where_declared : {A : Type 0} → JournalView → ℕ → A → Option A
 where_declared journal o fact =
     if nat_lt o (declared journal.opening journal.entries) then Some fact else None
 
--- the shape that is told, if any
+-- the shape that is returned, if any
 abbrev pub plain_shape_found : Option (Bor Shape) → Option PlainShape
 plain_shape_found None = None
 plain_shape_found (Some shape) = Some shape.now
 
--- the content that is told, which may be absent, if any is
+-- the content that is returned, if any, which may be absent
 abbrev pub plain_content_found : Option (Bor (Option Content)) → Option (Option PlainContent)
 plain_content_found None = None
 plain_content_found (Some content) = Some (plain_option content.now)
 
--- the numbers of the actions that are told, in their order
+-- the numbers of the actions that are returned, in their order
 abbrev pub action_numbers_found : Option (Bor (List ActionId)) → Option (List ℕ)
 action_numbers_found None = None
 action_numbers_found (Some actions) = Some (map (λ a. a.0) actions.now)
@@ -37,13 +37,13 @@ action_numbers_found (Some actions) = Some (map (λ a. a.0) actions.now)
 abbrev pub version_pair : Version → ℕ × Option PlainContent
 version_pair v = (v.holder.0, plain_option v.content)
 
--- the stack of versions that is told, in its order
+-- the stack of versions that is returned, in its order
 abbrev pub version_pairs_found : Option (Bor (List Version)) → Option (List (ℕ
     × Option PlainContent))
 version_pairs_found None = None
 version_pairs_found (Some versions) = Some (map version_pair versions.now)
 
--- why a query or a change would be refused; none of every other call
+-- why a query or a change would be refused; none for every other call
 abbrev pub refusal_of_access : JournalView → PlainCall → Option Refusal
 refusal_of_access journal (ask a o query) = refusal_to journal (ask a o query)
 refusal_of_access journal (alter a o change) = refusal_to journal (alter a o change)

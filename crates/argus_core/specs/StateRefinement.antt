@@ -1,4 +1,4 @@
--- How the guardian's state stands to its journal.
+-- How the guardian's state agrees with its journal.
 use Rattle.std.specs.Prelude.{Bool, List, length, map, slice_index_or, true, ℕ, ◌+◌, ◌<◌, ◌≡◌, ◌||◌}
 use Rattle.std.specs.Prelude.{◌≤◌}
 use Rattle.argus_actions.specs.Tree.{Tree}
@@ -24,8 +24,8 @@ use Rattle.argus_objects.specs.declared.holdings.Holdings.{Holdings}
 abbrev pub holds : History PlainEntry → ℕ → ℕ → Bool
 holds h a o = contains (readers entries h o) a || contains (writers entries h o) a
 
--- The state stands to a history: the tree has its rows, each cell its base, readers and versions,
--- and the list of each action has just the objects that it holds.
+-- The state agrees with a history: the tree has its rows, each cell its base, readers and versions,
+-- and the list of each action has exactly the objects that it holds.
 pub record StateRefinesHistory (tree : Tree) (objects : List AtomicObject) (holdings : Holdings)
     (s : Opening)
     (h : History PlainEntry) : Type 0 where
@@ -36,8 +36,8 @@ pub record StateRefinesHistory (tree : Tree) (objects : List AtomicObject) (hold
   pub there : (a : ActionId) (o : ℕ) → is_listed (objects_held_by holdings a) o ≡ true
       → o < length objects
 
--- The guardian is what its journal says: that is legal, its opening is sound and within the limits,
--- and the objects are those declared.
+-- The guardian agrees with its journal: the journal is legal, its opening is sound and within the
+-- limits, and the objects are those declared.
 pub record StateRefinesJournal (tree : Tree) (objects : List AtomicObject) (holdings : Holdings)
     (s : Opening)
     (j : List PlainEntry) : Type 0 where

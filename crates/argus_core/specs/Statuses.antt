@@ -1,4 +1,4 @@
--- What has become of actions, as contracts see it.
+-- What became of actions, as contracts see it.
 use Rattle.std.specs.Prelude.{None, Option, Some, false, if◌then◌else◌, nat_lt, ℕ, ◌<◌, ◌≡◌, ◌≤◌}
 use Rattle.argus_actions.specs.declared.status.Status.{Status}
 use Rattle.argus_actions.specs.declared.status.Status.TheVariants.{Aborted, Committed, Folded, Live}
@@ -10,20 +10,20 @@ use Rattle.argus_model.specs.History.{next_action}
 use Rattle.argus_model.specs.Status as model
 use Rattle.argus_model.specs.Status.{IsAborted, IsCommitted, IsFolded, IsLive, status}
 
--- what has become of an action, in the program's words
+-- an action's status, in the program's words
 abbrev pub program_status : model.Status → Status
 program_status IsLive = Live
 program_status IsCommitted = Committed
 program_status IsAborted = Aborted
 program_status IsFolded = Folded
 
--- what the journal says has become of the action; none where it hasn't begun
+-- the action's status by the journal; none if it wasn't begun
 abbrev pub status_in : JournalView → ℕ → Option Status
 status_in journal a =
     if nat_lt (in_history a) (next_action (history journal.opening journal.entries)) then Some
     (program_status (status (history journal.opening journal.entries) (in_history a))) else None
 
--- no action from this number on, and below that one, is live
+-- no action from the first number up to the second is live
 abbrev pub NoneLiveBetween : JournalView → ℕ → ℕ → Type 0
 NoneLiveBetween journal from bound =
     (a : ℕ) → from ≤ a → a < bound → is_live_in journal.opening journal.entries a ≡ false

@@ -1,4 +1,4 @@
--- What becomes of objects and lists when actions are ended.
+-- What happens to objects and lists when actions are ended.
 use Rattle.std.specs.Prelude.{Bool, List, [], false, if◌then◌else◌, length, slice_index_or, true, ℕ}
 use Rattle.std.specs.Prelude.{◌<◌, ◌||◌, ◌≡◌, ◌⊎◌}
 use Rattle.argus_actions.specs.Tree.{Tree, is_ancestor}
@@ -19,8 +19,7 @@ abbrev pub IsUntouched : (ℕ → Bool) → Holdings → ℕ → Type 0
 IsUntouched handled held o =
     (x : ActionId) → handled x.0 ≡ true → is_listed (objects_held_by held x) o ≡ false
 
--- the cell without the holders under top, or as it was where none of those that were handled lists
--- it
+-- the cell without the holders under top; or unchanged, if none of those that were handled lists it
 abbrev pub IsSweptCell : Tree → ℕ → (ℕ → Bool) → Holdings → ℕ → Object → Object → Type 0
 IsSweptCell t top handled held o old new =
     IsEnded t (is_ancestor t top) old new ⊎ ((new ≡ old) × IsUntouched handled held o)
@@ -30,7 +29,7 @@ abbrev pub AreCleared : (ℕ → Bool) → Holdings → Holdings → Type 0
 AreCleared ended held held' =
     (x : ActionId) → objects_held_by held' x ≡ (if ended x.0 then [] else objects_held_by held x)
 
--- in the midst of the walk: these actions were handled
+-- in the middle of the walk: these actions were handled
 pub record AreSwept (t : Tree) (top : ℕ) (handled : ℕ → Bool) (old new : List AtomicObject)
     (held held' : Holdings) : Type 0 where
   pub count : length new ≡ length old
@@ -50,7 +49,7 @@ pub record AreEnded (t : Tree) (ended : ℕ → Bool) (old new : List AtomicObje
       → IsEnded t ended (slice_index_or old o d).cell (slice_index_or new o d).cell
   pub lists : AreCleared ended held held'
 
--- who holds an object has it on its list
+-- each holder of an object has it on its list
 abbrev pub AreCovered : List AtomicObject → Holdings → Type 0
 AreCovered objects held =
     (x : ActionId) (o : ℕ) (d : AtomicObject) → o < length objects

@@ -1,4 +1,4 @@
-//! How all that is live is aborted.
+//! Aborting all live actions.
 
 ghost use Rattle.std.specs.Prelude.{OnErr, OnOk, true, ◌≡◌};
 ghost use Rattle.argus_core.specs.AbortingLive.{IsPartlyAborted, after_aborts, live_topactions};
@@ -13,7 +13,7 @@ use argus_actions::ActionId;
 use argus_memory::OutOfMemory;
 
 /// Aborts the live topactions of this state, as `Guardian::abort_live` does. A subaction has a
-/// greater number than its parent, so it is over before its turn comes.
+/// greater number than its parent, so it is over before its turn would come.
 fn abort_each(state: &mut GuardianState) -> Result<(), OutOfMemory>
     requires { StateInvariant state.old }
     ensures kept { StateInvariant state.new }
@@ -33,12 +33,12 @@ fn abort_each(state: &mut GuardianState) -> Result<(), OutOfMemory>
 }
 
 impl Guardian {
-    /// Aborts all that is live: makes the call `abort` for each live topaction, nested ones too, in
+    /// Aborts all live actions: makes the call `abort` for each live topaction, nested ones too, in
     /// increasing number, so that their subactions are aborted with them. Each call makes its
     /// entry. A guardian of Argus does so when it comes back after a crash.
     ///
-    /// `OutOfMemory`: some of them were aborted, from the first one on, and the others are live as
-    /// before; a further call aborts the others.
+    /// `OutOfMemory`: the first ones were aborted, and the others are still live; another call
+    /// aborts these.
     ///
     /// Source: actions that are active at a crash are aborted, Argus Reference Manual
     /// (MIT/LCS/TR-400, 1987).

@@ -15,11 +15,11 @@ use argus_entries::Reply;
 use argus_memory::OutOfMemory;
 
 impl Guardian {
-    /// Answers a query of the object at what the action sees there, and makes it a reader.
+    /// Answers a query of the object, at what the action sees there, and makes the action a reader.
     ///
-    /// Refusals: `NoAction`, `Over`, `Suspended` where the action has a live child, `NoObject`,
-    /// `IllTyped` where the query doesn't suit the object's shape, `Conflict` where an action that
-    /// isn't its ancestor holds the object for writing. After `OutOfMemory` all is as before.
+    /// Refusals: `NoAction`, `Over`, `Suspended` if the action has a live child, `NoObject`,
+    /// `IllTyped` if the query doesn't suit the object's shape, `Conflict` if an action that isn't
+    /// its ancestor holds the object for writing. After `OutOfMemory` nothing has changed.
     pub fn ask(&mut self, a: ActionId, o: ObjId, query: Query) -> Result<Reply, OutOfMemory>
         ensures reply { IfOk result (λ reply. plain_reply reply
             ≡ reply_to self.old (ask a.0 o.0 query)) }
@@ -29,12 +29,13 @@ impl Guardian {
         ask(&mut self.state, a, o, query)
     }
 
-    /// Changes the object for the action, and makes it a writer; the answer may be a signal, which
-    /// takes the lock, too. A change after an action's first one of an object is made in place.
+    /// Changes the object for the action, and makes the action a writer. The answer may be a
+    /// signal; the lock is taken all the same. A change after an action's first one of an object is
+    /// made in place.
     ///
-    /// Refusals: `NoAction`, `Over`, `Suspended` where the action has a live child, `NoObject`,
-    /// `IllTyped` where the change doesn't suit the object's shape, `Conflict` where an action that
-    /// isn't its ancestor holds the object. After `OutOfMemory` all is as before.
+    /// Refusals: `NoAction`, `Over`, `Suspended` if the action has a live child, `NoObject`,
+    /// `IllTyped` if the change doesn't suit the object's shape, `Conflict` if an action that isn't
+    /// its ancestor holds the object. After `OutOfMemory` nothing has changed.
     pub fn alter(&mut self, a: ActionId, o: ObjId, change: Change) -> Result<Reply, OutOfMemory>
         ensures reply { IfOk result (λ reply. plain_reply reply
             ≡ reply_to self.old (alter a.0 o.0 (plain_change change))) }

@@ -12,9 +12,9 @@ use argus_entries::Reply;
 use argus_memory::OutOfMemory;
 
 impl Guardian {
-    /// Begins a topaction, and answers its number.
+    /// Begins a topaction, and returns its number.
     ///
-    /// Refusal: `TooMany`. After `OutOfMemory` all is as before.
+    /// Refusal: `TooMany`. After `OutOfMemory` nothing has changed.
     pub fn begin_top(&mut self) -> Result<Reply, OutOfMemory>
         ensures reply { IfOk result (λ reply. plain_reply reply ≡ reply_to self.old begin_top) }
         ensures ok { OnOk result (self.new ≡ after self.old begin_top) }
@@ -23,10 +23,10 @@ impl Guardian {
         begin_top(&mut self.state)
     }
 
-    /// Begins a subaction of this parent, and answers its number.
+    /// Begins a subaction of this parent, and returns its number.
     ///
-    /// Refusals: `NoAction`, `Over`, `TooDeep` where the parent has 64 ancestors, `TooMany`. After
-    /// `OutOfMemory` all is as before.
+    /// Refusals: `NoAction`, `Over`, `TooDeep` if the parent has 64 ancestors, `TooMany`. After
+    /// `OutOfMemory` nothing has changed.
     pub fn begin_sub(&mut self, parent: ActionId) -> Result<Reply, OutOfMemory>
         ensures reply { IfOk result (λ reply. plain_reply reply
             ≡ reply_to self.old (begin_sub parent.0)) }
@@ -36,10 +36,10 @@ impl Guardian {
         begin_sub(&mut self.state, parent)
     }
 
-    /// Begins a nested topaction that this action creates, and answers its number. It has no
+    /// Begins a nested topaction that this action creates, and returns its number. It has no
     /// privilege from its creator.
     ///
-    /// Refusals: `NoAction`, `Over`, `TooMany`. After `OutOfMemory` all is as before.
+    /// Refusals: `NoAction`, `Over`, `TooMany`. After `OutOfMemory` nothing has changed.
     pub fn begin_nested(&mut self, creator: ActionId) -> Result<Reply, OutOfMemory>
         ensures reply { IfOk result (λ reply. plain_reply reply
             ≡ reply_to self.old (begin_nested creator.0)) }

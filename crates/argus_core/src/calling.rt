@@ -1,4 +1,4 @@
-//! Calls as values: how each goes to its method.
+//! Calls as values: each goes to its method.
 
 ghost use Rattle.std.specs.Prelude.{◌≡◌, IfOk, OnErr, OnOk};
 ghost use Rattle.argus_entries.specs.Call.{plain_call};
@@ -10,10 +10,10 @@ use argus_entries::{Call, Reply};
 use argus_memory::OutOfMemory;
 
 impl Guardian {
-    /// Makes a call. The reply is the one that the journal before it gives: the first refusal that
-    /// applies, or else what the call asked for; the journal is longer by the call with this reply.
-    /// After `OutOfMemory`, which may come in place of any reply, all is as before; the call that
-    /// was handed in is spent.
+    /// Makes a call. The reply follows from the journal before it: the first refusal that applies,
+    /// or else what the call asked for. The journal grows by one entry: the call with this reply.
+    /// `OutOfMemory` may come in place of any reply: then nothing has changed, and the call that
+    /// was passed in is consumed.
     ///
     /// | Call | Its method |
     /// |---|---|

@@ -2,7 +2,8 @@
 
 use thiserror::Error;
 
-/// Why no checkpoint was made; the guardian is as before. Of several the first in this order comes.
+/// Why no checkpoint was made; the guardian is unchanged. If several apply, the first in this order
+/// is returned.
 ///
 /// ```text
 /// assert_eq!(rt; guardian.begin_top()?, Reply::Begun(ActionId(0)));
@@ -16,7 +17,7 @@ pub enum CheckpointError {
     /// The next entry's number is past the greatest that a journal's first entry may have.
     #[error("the journal is full")]
     Full,
-    /// The copies of shapes and contents were refused memory.
+    /// There was no memory for the copies of shapes and contents.
     #[error("out of memory")]
     Memory,
 }

@@ -27,7 +27,7 @@ use argus_journal::limits::MAX_FIRST_ENTRY;
 use argus_memory::{Heap, OutOfMemory, Room};
 use argus_objects::Holdings;
 
-/// Whether an action is live, of those from this number on.
+/// Whether any action from this number on is live.
 fn is_busy(tree: &ActionTree, first: u32) -> bool
     ensures live { IsTrue result
         → (a : ℕ) × (is_live_at tree.now.folded tree.now.rows a ≡ true) }
@@ -42,7 +42,7 @@ fn is_busy(tree: &ActionTree, first: u32) -> bool
     false
 }
 
-/// Copies of the shapes and of what is in the objects for good.
+/// Copies of the objects' shapes and bases.
 fn copies_of(
     heap: Heap,
     objects: &[AtomicObject],
@@ -95,13 +95,13 @@ fn fold_past(state: &mut GuardianState) -> Result<(), CheckpointError>
 }
 
 impl Guardian {
-    /// Folds the journal's past into its opening: the objects with their shapes and what is in them
-    /// for good, the number of the next action and that of the next entry. All actions so far are
-    /// over and forgotten, and the entries are let go with the room of their list. Objects, shapes
-    /// and what is in them for good stay. It makes no entry.
+    /// Folds the journal's past into its opening: the objects with their shapes and bases, the
+    /// number of the next action and that of the next entry. All actions so far are over and
+    /// forgotten, and the entries are dropped with the room of their list. Objects, shapes and
+    /// bases stay. It makes no entry.
     ///
-    /// Errors, in this order: `Busy` where an action is live, `Full` where the next entry's number
-    /// is above `MAX_FIRST_ENTRY`, `OutOfMemory`. After an error all is as before.
+    /// Errors, in this order: `Busy` if an action is live, `Full` if the next entry's number is
+    /// above `MAX_FIRST_ENTRY`, `OutOfMemory`. After an error nothing has changed.
     ///
     /// Source: the stable state that a guardian is restored from, Argus Reference Manual
     /// (MIT/LCS/TR-400, 1987).

@@ -12,10 +12,10 @@ use argus_entries::Reply;
 use argus_memory::OutOfMemory;
 
 impl Guardian {
-    /// Declares an object of this shape, and answers its number. The object belongs to no action
-    /// and stays; it has no content until an action creates one.
+    /// Declares an object of this shape, and returns its number. The object belongs to no action,
+    /// and is never removed; it has no content until an action creates one.
     ///
-    /// Refusal: `TooMany` where 65,535 objects are declared. After `OutOfMemory` all is as before.
+    /// Refusal: `TooMany` if 65,535 objects are declared. After `OutOfMemory` nothing has changed.
     pub fn declare(&mut self, shape: Shape) -> Result<Reply, OutOfMemory>
         ensures reply { IfOk result (λ reply. plain_reply reply
             ≡ reply_to self.old (declare shape)) }

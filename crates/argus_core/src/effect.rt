@@ -22,10 +22,10 @@ use argus_memory::{Heap, OutOfMemory, Room};
 use argus_objects::Version;
 
 impl Guardian {
-    /// What a live action would leave for good if it committed now, as a topaction or by all its
-    /// ancestors: each object that it or a committed subaction has written, in increasing number,
-    /// with what it sees there. None where the action isn't live. Nothing changes. `OutOfMemory`:
-    /// there was no memory for the list or for the copies in it.
+    /// What a live action would leave for good if it and all its ancestors committed now: each
+    /// object that it or a committed subaction has written, in increasing number, with what it sees
+    /// there. `None` if the action isn't live. Nothing changes. `OutOfMemory`: there was no memory
+    /// for the list or for the copies in it.
     ///
     /// Source: at a topaction's commit its versions become the bases (Argus Reference Manual,
     /// MIT/LCS/TR-400, 1987).
@@ -78,7 +78,7 @@ fn written_numbers(
     Ok(numbers)
 }
 
-/// Adds the object's number where the action has a version of it.
+/// Adds the object's number if the action has a version of it.
 fn add_if_written(
     numbers: &mut Vec<u32, Room>,
     object: &AtomicObject,
@@ -138,7 +138,7 @@ fn contents_of(
     Ok(contents)
 }
 
-/// A copy of the content of the action's version, absent where it has none.
+/// A copy of the content of the action's version, absent if it has none.
 fn version_content(
     heap: Heap,
     versions: &[Version],

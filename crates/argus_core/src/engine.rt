@@ -1,5 +1,5 @@
-//! The engine: one call over what a guardian keeps. First comes all that can fail, and changes
-//! nothing that contracts see; then the step, and its entry in the journal, which can't.
+//! The engine: one call over what a guardian keeps. First comes what can fail, which changes
+//! nothing that contracts see; then the step and its entry in the journal, which can't fail.
 
 pub(crate) mod accessing;
 pub(crate) mod answering;

@@ -13,9 +13,9 @@ use std::marker::Model;
 
 /// A guardian: atomic objects, the actions that use them, and the journal of all calls.
 ///
-/// Contracts see it as its journal: the opening, and the entries, the newest first. Each call is
-/// answered as the journal before it says, and adds one entry; or it answers `OutOfMemory`, and all
-/// is as before.
+/// Contracts see it as its journal: the opening, and the entries, the newest first. The reply to
+/// each call follows from the journal before it, and each call adds one entry. Or it returns
+/// `OutOfMemory`, and nothing has changed.
 ///
 /// Source: guardians, atomic objects and actions of the Argus Reference Manual (MIT/LCS/TR-400,
 /// 1987); nested actions and their locks of Moss, Nested Transactions (MIT/LCS/TR-260, 1981).
@@ -29,8 +29,8 @@ pub struct Guardian {
     pub(crate) state: GuardianState,
 }
 
-// By hand, so that each place where a guardian ends is one call; a derived one is written out
-// there.
+// Written by hand, so that dropping a guardian is one call; a derived `Drop` is expanded at each
+// place.
 impl Drop for Guardian {
     fn drop(self) {
         let Guardian { state: _ } = self;
@@ -53,7 +53,7 @@ impl Model for Guardian {
 impl Guardian {
     ghost use Rattle.argus_core.specs.GuardianState.{StateInvariant, journal_view_of};
 
-    /// A guardian with no object, no action and no entry. It takes no memory.
+    /// A guardian without objects, actions or entries. It takes no memory.
     pub fn new(heap: Heap) -> Guardian
         ensures opening { result.opening ≡ empty }
         ensures entries { result.entries ≡ [] }
@@ -69,7 +69,7 @@ impl Guardian {
         }
     }
 
-    /// What the guardian keeps, to be put together again.
+    /// The guardian's state, for the caller to put together again.
     pub(crate) fn into_parts(self) -> GuardianState
         ensures keeps { StateInvariant result }
         ensures journal { journal_view_of result ≡ self }
@@ -78,7 +78,7 @@ impl Guardian {
         state
     }
 
-    /// The journal, to be read: all calls since the opening, in order, each with its reply.
+    /// The journal, for reading: all calls since the opening, in order, each with its reply.
     pub fn journal(&self) -> &LegalJournal
         ensures opening { opening_in result.now ≡ self.now.opening }
         ensures entries { entries_in result.now ≡ self.now.entries }

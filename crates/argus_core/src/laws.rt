@@ -1,4 +1,5 @@
-//! What holds of a guardian at every moment, since its type keeps that its journal is legal.
+//! What holds of a guardian at every moment, since its type's invariant says that its journal is
+//! legal.
 
 ghost use Rattle.std.specs.Prelude.{◌≡◌, ◌<◌, ◌∷◌, ◌++◌, ◌||◌, List, reverse, true, ℕ};
 ghost use Rattle.argus_entries.specs.Entry.{PlainEntry};
@@ -20,7 +21,7 @@ use argus_journal::laws;
 impl Guardian {
     /// A law for proofs; it does nothing. Each reply of the journal is the answer of the entries
     /// before it, each content of the opening fits its shape, and the opening is within the limits
-    /// of objects, actions and entries. So every law of a legal journal holds of the guardian's.
+    /// of objects, actions and entries. So every law of a legal journal holds of this one.
     pub fn journal_is_legal(&self)
         ensures legal { Legal self.now.opening self.now.entries }
         ensures sound { is_sound self.now.opening ≡ true }
@@ -29,9 +30,9 @@ impl Guardian {
         let _ = self.state.objects.len();
     }
 
-    /// A law for proofs; it does nothing. Of one who holds an object for writing and any other
-    /// holder of it, one is an ancestor of the other, and all holders are live. So the writers,
-    /// which are listed in increasing number, are listed from ancestor to descendant.
+    /// A law for proofs; it does nothing. Of an object's write holder and any other holder, one is
+    /// an ancestor of the other, and all holders are live. So the writers, listed in increasing
+    /// number, go from ancestor to descendant.
     ///
     /// Source: the locking rules of Moss, Nested Transactions (MIT/LCS/TR-260, 1981).
     pub fn exclusion(&self)
@@ -50,9 +51,8 @@ impl Guardian {
         laws::exclusion();
     }
 
-    /// A law for proofs; it does nothing. What is in an object for good, which `base` tells, is
-    /// what the serial run leaves in it: the work of the committed topactions, one after another
-    /// in the order of their commits.
+    /// A law for proofs; it does nothing. An object's base is what the serial run leaves in it: the
+    /// work of the committed topactions, one after another in the order of their commits.
     ///
     /// Source: atomicity of actions, Argus Reference Manual (MIT/LCS/TR-400, 1987).
     pub fn base_is_serial(&self)
@@ -66,8 +66,8 @@ impl Guardian {
 
     /// A law for proofs; it does nothing. The committed topactions, run one after another in the
     /// order of their commits from the contents of the opening, and within each action its
-    /// committed subactions likewise, give each reply again: every access is answered by what its
-    /// object holds just before it. They leave in each object what is there for good.
+    /// committed subactions likewise, give each reply again: every access gets its answer from what
+    /// its object holds just before it. They leave each object's base in it.
     ///
     /// Source: serializability, Moss, Nested Transactions (MIT/LCS/TR-260, 1981); atomicity of
     /// actions, Argus Reference Manual (MIT/LCS/TR-400, 1987).
@@ -86,9 +86,9 @@ impl Guardian {
         laws::committed_work_runs_again();
     }
 
-    /// A law for proofs; it does nothing. So does that run followed by the work of a live action's
-    /// ancestors, the topmost first, and its own; it leaves in each object what the action sees. So
-    /// an action that is aborted later had serial answers while it was live.
+    /// A law for proofs; it does nothing. The same holds of that run followed by the work of a live
+    /// action's ancestors, the topmost first, and its own. It leaves in each object what the action
+    /// sees. So an action that is aborted later had serial answers while it was live.
     ///
     /// Source: as of `committed_work_runs_again`.
     pub fn live_work_runs_again(&self)
@@ -112,8 +112,8 @@ impl Guardian {
         laws::live_work_runs_again();
     }
 
-    /// A law for proofs; it does nothing. What is in an object for good, and what an action sees in
-    /// it, is absent or fits the object's shape with the objects declared so far.
+    /// A law for proofs; it does nothing. An object's base, and what an action sees in it, is
+    /// absent or fits the object's shape with the objects declared so far.
     ///
     /// Source: the built-in atomic types of the Argus Reference Manual (MIT/LCS/TR-400, 1987).
     pub fn contents_fit(&self)

@@ -1,4 +1,5 @@
-//! What a guardian tells of its objects, with no entry in the journal and without memory.
+//! What a guardian says of its objects. These calls make no entry in the journal, and take no
+//! memory.
 
 ghost use Rattle.std.specs.Prelude.{◌≡◌, ◌↔◌, true, IsTrue};
 ghost use Rattle.argus_contents.specs.Answer.{flag};
@@ -30,7 +31,7 @@ impl Guardian {
         self.state.objects.len() as u32
     }
 
-    /// The shape with which the object was declared; None where it isn't.
+    /// The shape with which the object was declared; `None` if it isn't declared.
     pub fn shape(&self, o: ObjId) -> Option<&Shape>
         ensures { plain_shape_found result ≡ shape_of self.now.opening self.now.entries o.0 }
     {
@@ -40,8 +41,8 @@ impl Guardian {
         }
     }
 
-    /// What is in the object for good: what the committed topactions have left there. It is absent
-    /// or fits the object's shape; None where the object isn't declared.
+    /// The object's base: the content that the committed topactions have left in it. It is absent
+    /// or fits the object's shape; `None` if the object isn't declared.
     ///
     /// Source: base versions of atomic objects, Argus Reference Manual (MIT/LCS/TR-400, 1987).
     pub fn base(&self, o: ObjId) -> Option<&Option<Content>>
@@ -56,7 +57,7 @@ impl Guardian {
         }
     }
 
-    /// The actions that hold the object for reading, in increasing number; None where it isn't
+    /// The actions that hold the object for reading, in increasing number; `None` if it isn't
     /// declared.
     ///
     /// Source: holders of read locks, Moss, Nested Transactions (MIT/LCS/TR-260, 1981).
@@ -72,7 +73,7 @@ impl Guardian {
     }
 
     /// The actions that hold the object for writing, from ancestor to descendant, each with its
-    /// version, which is what it sees there; None where the object isn't declared.
+    /// version, which is what it sees there; `None` if the object isn't declared.
     ///
     /// Source: the version stack of the Argus Reference Manual (MIT/LCS/TR-400, 1987).
     pub fn versions(&self, o: ObjId) -> Option<&[Version]>
@@ -86,9 +87,9 @@ impl Guardian {
         }
     }
 
-    /// Whether `test_read` would answer that the action may have the object's read lock. False also
-    /// where it would be refused: the action wasn't begun, is over or has a live child, or the
-    /// object isn't declared.
+    /// Whether `test_read` would say that the action may have the object's read lock. Also false if
+    /// it would be refused: the action wasn't begun, is over or has a live child, or the object
+    /// isn't declared.
     pub fn can_read(&self, a: ActionId, o: ObjId) -> bool
         ensures { IsTrue result ↔ (reply_to self.now (test_read a.0 o.0) ≡ answered (flag true)) }
     {
@@ -98,9 +99,9 @@ impl Guardian {
         }
     }
 
-    /// Whether `test_write` would answer that the action may have the object's write lock. False
-    /// also where it would be refused: the action wasn't begun, is over or has a live child, or the
-    /// object isn't declared.
+    /// Whether `test_write` would say that the action may have the object's write lock. Also false
+    /// if it would be refused: the action wasn't begun, is over or has a live child, or the object
+    /// isn't declared.
     pub fn can_write(&self, a: ActionId, o: ObjId) -> bool
         ensures { IsTrue result ↔ (reply_to self.now (test_write a.0 o.0) ≡ answered (flag true)) }
     {
@@ -110,7 +111,7 @@ impl Guardian {
         }
     }
 
-    /// Why a query or a change would be refused now; None where it would not be, and of every other
+    /// Why a query or a change would be refused now; `None` if it wouldn't be, and for every other
     /// call.
     pub fn access_refusal(&self, call: &Call) -> Option<Refusal>
         ensures { result ≡ refusal_of_access self.now (plain_call call.now) }

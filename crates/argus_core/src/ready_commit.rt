@@ -1,4 +1,4 @@
-//! `ReadyCommit`: a guardian with a commit for which all is at hand.
+//! `ReadyCommit`: a guardian with a prepared commit.
 
 ghost use Rattle.std.specs.Option.{option_map, option_to_list};
 ghost use Rattle.std.specs.Prelude.{IfErr, IfOk, ◌≡◌};
@@ -20,9 +20,9 @@ use argus_entries::{Call, Entry, Reply};
 use argus_memory::{OutOfMemory, Room};
 use std::marker::Model;
 
-/// A guardian with a commit for which all is at hand, so that it can't fail: for a caller that has
-/// work of his own to do in between, which may. Contracts see the journal as it is before the
-/// commit, and the action.
+/// A guardian with a prepared commit, which can't fail any more: for a caller that has its own work
+/// to do before the commit, which may fail. Contracts see the journal as it is before the commit,
+/// and the action.
 ///
 /// ```text
 /// let ready = guardian.ready_commit(a)?;
@@ -52,8 +52,8 @@ impl Model for ReadyCommit {
 }
 
 impl Guardian {
-    /// Makes all ready for the commit of an action, as `commit` does it, but for the commit itself.
-    /// At `Err` there was no memory, and the guardian is as it was.
+    /// Does all that `commit` does for an action, up to the commit itself. `Err`: out of memory,
+    /// and the guardian is unchanged.
     pub fn ready_commit(self, a: ActionId) -> Result<ReadyCommit, Guardian>
         ensures journal { IfOk result (λ ready. ready.journal ≡ self) }
         ensures action { IfOk result (λ ready. ready.action ≡ a.0) }
@@ -72,8 +72,8 @@ impl Guardian {
 }
 
 impl ReadyCommit {
-    /// What the commit leaves for good: of a topaction each object that it has written, in
-    /// increasing number, with its content; None of a subaction, and where the commit is refused.
+    /// What the commit will leave for good: for a topaction each object that it has written, in
+    /// increasing number, with its content; `None` for a subaction, and if the commit is refused.
     /// `OutOfMemory`: there was no memory for the list or for the copies in it.
     pub fn effect(&self) -> Result<Option<Vec<(ObjId, Option<Content>), Room>>, OutOfMemory>
         ensures { IfOk result (λ effect. option_to_list (option_map (λ pairs.
@@ -90,8 +90,8 @@ impl ReadyCommit {
         }
     }
 
-    /// The journal's entry that the commit is going to be, with its number: so that it can be in a
-    /// log before anybody sees what the commit leaves. It takes no memory.
+    /// The journal's entry that the commit will make, with its number, so that a log can have it
+    /// before anybody sees what the commit leaves. It takes no memory.
     ///
     /// ```text
     /// let (at, entry) = ready.entry();
@@ -124,7 +124,7 @@ impl ReadyCommit {
         (Guardian { state }, reply)
     }
 
-    /// Gives the guardian back, as it was.
+    /// Returns the guardian, unchanged.
     pub fn cancel(self) -> Guardian
         ensures { result ≡ self.journal }
     {

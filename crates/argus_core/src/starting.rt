@@ -39,14 +39,14 @@ fn objects_of(
 }
 
 impl Guardian {
-    /// A guardian with no entry that goes on where another ended: with these objects, in the order
-    /// of their numbers, each with its shape and what is in it for good, and so many actions and
-    /// entries before it. No action is live. It keeps a second copy of the objects, so that what is
-    /// in them now stands beside the opening.
+    /// A guardian without entries that goes on where another ended: with these objects, in the
+    /// order of their numbers, each with its shape and its base, and with this many actions and
+    /// entries before it. No action is live. It keeps a second copy of the objects: one is the
+    /// opening, the other is what is in them now.
     ///
     /// At most `MAX_OBJECTS` objects, at most `MAX_ACTIONS` actions, at most `MAX_FIRST_ENTRY`
-    /// entries; each content fits its shape, where all these objects are declared. `OutOfMemory`:
-    /// there was no memory for the copies, and the objects that were handed in are let go.
+    /// entries; each content fits its shape, with all these objects declared. `OutOfMemory`: there
+    /// was no memory for the copies, and the objects that were passed in are dropped.
     ///
     /// Source: the stable state that a guardian is restored from, Argus Reference Manual
     /// (MIT/LCS/TR-400, 1987).

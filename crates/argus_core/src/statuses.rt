@@ -1,4 +1,4 @@
-//! What has become of actions, told with no entry in the journal and without memory.
+//! What became of actions. These calls make no entry in the journal, and take no memory.
 
 ghost use Rattle.std.specs.Prelude.{IfSome, false, true, ℕ, ◌<◌, ◌≡◌, ◌≤◌};
 ghost use Rattle.std.specs.Option.{IfNone};
@@ -11,7 +11,7 @@ use crate::engine::discarding::is_live;
 use crate::guardian::Guardian;
 use argus_actions::{ActionId, ActionTree, Status};
 
-/// The first live action, of those from this number on.
+/// The first live action from this number on.
 fn first_live(tree: &ActionTree, from: u32) -> Option<ActionId>
     ensures live { IfSome result (λ a. is_live_at tree.now.folded tree.now.rows a.0 ≡ true) }
     ensures from { IfSome result (λ a. from ≤ a.0) }
@@ -29,9 +29,9 @@ fn first_live(tree: &ActionTree, from: u32) -> Option<ActionId>
 }
 
 impl Guardian {
-    /// What has become of an action: `Live`, `Committed`, `Aborted` where it or an ancestor of it
-    /// was aborted, whether it had committed or not, or `Folded` where a checkpoint has forgotten
-    /// it. None where it hasn't begun.
+    /// What became of an action: `Live`; `Committed`; `Aborted` if it or an ancestor of it was
+    /// aborted, whether it had committed or not; `Folded` if a checkpoint has forgotten it. `None`
+    /// if it wasn't begun.
     ///
     /// ```text
     /// let a = ActionId(0);
@@ -46,8 +46,8 @@ impl Guardian {
         self.state.tree.status(a)
     }
 
-    /// The first live action, of those from this number on; None where none of them is live. So
-    /// with the number after the one that was found it leads to all live actions.
+    /// The first live action from this number on; `None` if there is none. Called again with the
+    /// number after the one that it found, it leads to all live actions.
     ///
     /// ```text
     /// guardian.begin_top()?;                                      // Begun(ActionId(0))

@@ -14,10 +14,10 @@ use argus_entries::Reply;
 use argus_memory::OutOfMemory;
 
 impl Guardian {
-    /// Whether the action may have the object's read lock; where it may, it has it then.
+    /// Whether the action may have the object's read lock; if so, it then has it.
     ///
-    /// Refusals: `NoAction`, `Over`, `Suspended` where the action has a live child, `NoObject`.
-    /// After `OutOfMemory` all is as before.
+    /// Refusals: `NoAction`, `Over`, `Suspended` if the action has a live child, `NoObject`. After
+    /// `OutOfMemory` nothing has changed.
     pub fn test_read(&mut self, a: ActionId, o: ObjId) -> Result<Reply, OutOfMemory>
         ensures reply { IfOk result (λ reply. plain_reply reply
             ≡ reply_to self.old (test_read a.0 o.0)) }
@@ -27,11 +27,11 @@ impl Guardian {
         test_read(&mut self.state, a, o)
     }
 
-    /// Whether the action may have the object's write lock; where it may, it has it then, and a
-    /// version with what it sees.
+    /// Whether the action may have the object's write lock; if so, it then has it, and a version
+    /// with what it sees.
     ///
-    /// Refusals: `NoAction`, `Over`, `Suspended` where the action has a live child, `NoObject`.
-    /// After `OutOfMemory` all is as before.
+    /// Refusals: `NoAction`, `Over`, `Suspended` if the action has a live child, `NoObject`. After
+    /// `OutOfMemory` nothing has changed.
     pub fn test_write(&mut self, a: ActionId, o: ObjId) -> Result<Reply, OutOfMemory>
         ensures reply { IfOk result (λ reply. plain_reply reply
             ≡ reply_to self.old (test_write a.0 o.0)) }

@@ -1,14 +1,11 @@
 -- A line tells its number, its call and its reply.
-use Rattle.std.proofs.Common.{Bool, List, [], ap, append_assoc, arith, false, get_or, inl, refl, sym, true, ℕ, ◌+◌}
+use Rattle.std.proofs.Common.{List, [], ap, append_assoc, arith, inl, refl, sym, true, ℕ}
 use Rattle.std.proofs.Common.{◌++◌, ◌<◌, ◌^◌, ◌∙◌, ◌∷◌, ◌≡◌}
 use Rattle.std.specs.Fmt.{decimal, signed_decimal}
-use Rattle.std.specs.Prelude.{codes, if◌then◌else◌, ◌==◌}
-use Rattle.std.proofs.lemmas.Bool.{eq-eqb, false≢true}
+use Rattle.std.specs.Prelude.{codes, ◌==◌}
+use Rattle.std.proofs.lemmas.Bool.{false≢true}
 use Rattle.argus_contents.specs.Answer.{PlainAnswer}
 use Rattle.argus_contents.specs.Answer as answer
-use Rattle.argus_contents.specs.declared.signal.Signal.{Signal}
-use Rattle.argus_contents.specs.declared.signal.Signal.TheVariants.{Absent, Bounds, Exists, Limits, NegativeSize}
-use Rattle.argus_contents.specs.declared.signal.Signal.TheVariants.{WrongTag}
 use Rattle.argus_texts.specs.ContentSpelling.{content_spelling}
 use Rattle.argus_texts.specs.Languages.{NotDigit}
 use Rattle.argus_texts.specs.Spelling.{spelling}
@@ -25,9 +22,9 @@ use Rattle.argus_entries.specs.Laws.{AnswerWithin, CallWithin, EntryWithin, Repl
 use Rattle.argus_entries.specs.OperationSpelling.{change_spelling, query_spelling}
 use Rattle.argus_entries.specs.Reply.{PlainReply}
 use Rattle.argus_entries.specs.Reply as reply
-use Rattle.argus_entries.specs.declared.refusal.Refusal.{Refusal}
-use Rattle.argus_entries.specs.declared.refusal.Refusal.TheVariants.{Conflict, IllTyped, NoAction, NoObject, NoSiblings}
-use Rattle.argus_entries.specs.declared.refusal.Refusal.TheVariants.{Over, Suspended, TooDeep, TooMany}
+use Rattle.argus_entries.proofs.FirstWords.{answer_kind, call_kind, flag_at, flag_back, one_answer_kind}
+use Rattle.argus_entries.proofs.FirstWords.{one_call_kind, one_reply_kind, refusal_at, refusal_back, reply_kind}
+use Rattle.argus_entries.proofs.FirstWords.{signal_at, signal_back}
 use Rattle.argus_entries.proofs.Operations.{behind_word, four_pieces, one_change, one_int, one_query, one_value, wide}
 
 -- an action and an object behind a word
@@ -50,38 +47,6 @@ one_number : (w : List ℕ) (m n : ℕ) (x y : List ℕ) → m < 2 ^ 32 → n < 
     → (w ++ decimal m) ++ x ≡ (w ++ decimal n) ++ y → (m ≡ n) × (x ≡ y)
 one_number w m n x y a b nx ny e =
     one_decimal m n x y (wide m a) (wide n b) nx ny (behind_word w (decimal m) (decimal n) x y e)
-
--- what tells the words of calls apart
-abbrev call_key : List ℕ → ℕ
-call_key t =
-    if get_or t 0 0 == 98 then 256 + get_or t 6 0 else if get_or t 0 0 == 116 then 512 + get_or t 5 0 else
-    if get_or t 0 0 == 97 then (if get_or t 1 0 == 98 then 768 + get_or t 5 0 else get_or t 1 0) else get_or t 0 0
-
-abbrev call_kind : PlainCall → ℕ
-call_kind (call.declare s) = 100
-call_kind call.begin_top = 372
-call_kind (call.begin_sub a) = 371
-call_kind (call.begin_nested a) = 366
-call_kind (call.commit a) = 99
-call_kind (call.abort a) = 800
-call_kind (call.abort_others a) = 863
-call_kind (call.ask a o q) = 115
-call_kind (call.alter a o c) = 108
-call_kind (call.test_read a o) = 626
-call_kind (call.test_write a o) = 631
-
-call_key_is : (c : PlainCall) (x : List ℕ) → call_key (call_spelling c ++ x) ≡ call_kind c
-call_key_is (call.declare s) x = refl
-call_key_is call.begin_top x = refl
-call_key_is (call.begin_sub a) x = refl
-call_key_is (call.begin_nested a) x = refl
-call_key_is (call.commit a) x = refl
-call_key_is (call.abort a) x = refl
-call_key_is (call.abort_others a) x = refl
-call_key_is (call.ask a o q) x = refl
-call_key_is (call.alter a o c) x = refl
-call_key_is (call.test_read a o) x = refl
-call_key_is (call.test_write a o) x = refl
 
 call_told : (k : ℕ) (c d : PlainCall) (x y : List ℕ) → CallWithin k c → CallWithin k d → NotDigit x → NotDigit y
     → (call_kind c == call_kind d) ≡ true → call_spelling c ++ x ≡ call_spelling d ++ y → (c ≡ d) × (x ≡ y)
@@ -125,76 +90,7 @@ call_told k _ _ x y a b nx ny q e = absurd (false≢true q)
 one_call : (k : ℕ) (c d : PlainCall) (x y : List ℕ) → CallWithin k c → CallWithin k d → NotDigit x → NotDigit y
     → call_spelling c ++ x ≡ call_spelling d ++ y → (c ≡ d) × (x ≡ y)
 one_call k c d x y a b nx ny e = call_told k c d x y a b nx ny
-    (eq-eqb (call_kind c) (call_kind d) (sym (call_key_is c x) ∙ ap call_key e ∙ call_key_is d y)) e
-
--- a signal, back from its words
-abbrev signal_at : List ℕ → Signal
-signal_at t =
-    if get_or t 7 0 == 97 then Absent else if get_or t 7 0 == 101 then Exists else
-    if get_or t 7 0 == 98 then Bounds else
-    if get_or t 7 0 == 119 then WrongTag else if get_or t 7 0 == 110 then NegativeSize else Limits
-
-signal_back : (s : Signal) → signal_at (signal_spelling s) ≡ s
-signal_back Absent = refl
-signal_back Exists = refl
-signal_back Bounds = refl
-signal_back WrongTag = refl
-signal_back NegativeSize = refl
-signal_back Limits = refl
-
--- a refusal, back from its name
-abbrev refusal_at : List ℕ → Refusal
-refusal_at t =
-    if get_or t 0 0 == 79 then Over else if get_or t 0 0 == 83 then Suspended else
-    if get_or t 0 0 == 73 then IllTyped else
-    if get_or t 0 0 == 67 then Conflict else if get_or t 0 0 ==
-    84 then (if get_or t 3 0 == 68 then TooDeep else TooMany) else
-    if get_or t 2 0 == 65 then NoAction else if get_or t 2 0 == 79 then NoObject else NoSiblings
-
-refusal_back : (r : Refusal) → refusal_at (refusal_name r) ≡ r
-refusal_back NoAction = refl
-refusal_back Over = refl
-refusal_back Suspended = refl
-refusal_back NoObject = refl
-refusal_back IllTyped = refl
-refusal_back Conflict = refl
-refusal_back TooDeep = refl
-refusal_back TooMany = refl
-refusal_back NoSiblings = refl
-
--- what tells the words of answers apart
-abbrev answer_key : List ℕ → ℕ
-answer_key t = get_or t 0 0
-
-abbrev answer_kind : PlainAnswer → ℕ
-answer_kind answer.done = 100
-answer_kind (answer.val v) = 118
-answer_kind (answer.num n) = 110
-answer_kind (answer.flag b) = 102
-answer_kind (answer.body c) = 98
-answer_kind (answer.signal s) = 115
-
-answer_key_is : (a : PlainAnswer) → answer_key (answer_spelling a) ≡ answer_kind a
-answer_key_is answer.done = refl
-answer_key_is (answer.val v) = refl
-answer_key_is (answer.num n) = refl
-answer_key_is (answer.flag true) = refl
-answer_key_is (answer.flag false) = refl
-answer_key_is (answer.body c) = refl
-answer_key_is (answer.signal Absent) = refl
-answer_key_is (answer.signal Exists) = refl
-answer_key_is (answer.signal Bounds) = refl
-answer_key_is (answer.signal WrongTag) = refl
-answer_key_is (answer.signal NegativeSize) = refl
-answer_key_is (answer.signal Limits) = refl
-
--- a truth, back from its word
-abbrev flag_at : List ℕ → Bool
-flag_at t = get_or t 5 0 == 116
-
-flag_back : (b : Bool) → flag_at (answer_spelling (answer.flag b)) ≡ b
-flag_back true = refl
-flag_back false = refl
+    (one_call_kind c d x y e) e
 
 -- the same texts, with nothing behind them
 ended : (s t : List ℕ) → s ≡ t → s ++ [] ≡ t ++ []
@@ -209,45 +105,21 @@ answer_told k (answer.val v) (answer.val w) s t q e =
 answer_told k (answer.num m) (answer.num n) s t q e =
     ap answer.num (one_int m n [] [] s t tt tt (ended (signed_decimal m) (signed_decimal n)
     (cancel (codes "num ") (signed_decimal m) (signed_decimal n) e))).0
-answer_told k (answer.flag p) (answer.flag r) s t q e = ap answer.flag (sym (flag_back p) ∙ ap flag_at e ∙ flag_back r)
+answer_told k (answer.flag p) (answer.flag r) s t q e =
+    ap answer.flag (sym (flag_back p []) ∙ ap flag_at (ended (answer_spelling (answer.flag p))
+    (answer_spelling (answer.flag r)) e) ∙ flag_back r [])
 answer_told k (answer.body c) (answer.body d) s t q e =
     ap answer.body (one_content k c d [] [] s t (ended (content_spelling c) (content_spelling d)
     (cancel (codes "body ") (content_spelling c) (content_spelling d) e))).0
 answer_told k (answer.signal r) (answer.signal u) s t q e =
-    ap answer.signal (sym (signal_back r) ∙ ap signal_at e ∙ signal_back u)
+    ap answer.signal (sym (signal_back r []) ∙ ap signal_at (ended (signal_spelling r) (signal_spelling u) e)
+    ∙ signal_back u [])
 answer_told k _ _ s t q e = absurd (false≢true q)
 
 one_answer : (k : ℕ) (a b : PlainAnswer) → AnswerWithin k a → AnswerWithin k b → answer_spelling a ≡ answer_spelling b
     → a ≡ b
-one_answer k a b s t e = answer_told k a b s t (eq-eqb (answer_kind a) (answer_kind b)
-    (sym (answer_key_is a) ∙ ap answer_key e ∙ answer_key_is b)) e
-
--- what tells the kinds of replies apart
-abbrev reply_key : List ℕ → ℕ
-reply_key t = if get_or t 0 0 == 111 then 1 else if get_or t 0 0 == 97 then 2 else if get_or t 0 0 == 114 then 3 else 4
-
-abbrev reply_kind : PlainReply → ℕ
-reply_kind (reply.object o) = 1
-reply_kind (reply.begun a) = 2
-reply_kind (reply.answered a) = 4
-reply_kind (reply.refused r) = 3
-
-reply_key_is : (r : PlainReply) → reply_key (reply_spelling r) ≡ reply_kind r
-reply_key_is (reply.object o) = refl
-reply_key_is (reply.begun a) = refl
-reply_key_is (reply.answered answer.done) = refl
-reply_key_is (reply.answered (answer.val v)) = refl
-reply_key_is (reply.answered (answer.num n)) = refl
-reply_key_is (reply.answered (answer.flag true)) = refl
-reply_key_is (reply.answered (answer.flag false)) = refl
-reply_key_is (reply.answered (answer.body c)) = refl
-reply_key_is (reply.answered (answer.signal Absent)) = refl
-reply_key_is (reply.answered (answer.signal Exists)) = refl
-reply_key_is (reply.answered (answer.signal Bounds)) = refl
-reply_key_is (reply.answered (answer.signal WrongTag)) = refl
-reply_key_is (reply.answered (answer.signal NegativeSize)) = refl
-reply_key_is (reply.answered (answer.signal Limits)) = refl
-reply_key_is (reply.refused r) = refl
+one_answer k a b s t e = answer_told k a b s t
+    (one_answer_kind a b [] [] (ended (answer_spelling a) (answer_spelling b) e)) e
 
 reply_told : (k : ℕ) (r s : PlainReply) → ReplyWithin k r → ReplyWithin k s → (reply_kind r == reply_kind s) ≡ true
     → reply_spelling r ≡ reply_spelling s → r ≡ s
@@ -258,13 +130,14 @@ reply_told k (reply.begun m) (reply.begun n) a b q e = ap reply.begun
     (one_number (codes "a") m n [] [] a b tt tt (ended (codes "a" ++ decimal m) (codes "a" ++ decimal n) e)).0
 reply_told k (reply.answered m) (reply.answered n) a b q e = ap reply.answered (one_answer k m n a b e)
 reply_told k (reply.refused m) (reply.refused n) a b q e =
-    ap reply.refused (sym (refusal_back m) ∙ ap refusal_at
-    (cancel (codes "refused ") (refusal_name m) (refusal_name n) e) ∙ refusal_back n)
+    let same = cancel (codes "refused ") (refusal_name m) (refusal_name n) e in
+    ap reply.refused (sym (refusal_back m []) ∙ ap refusal_at (ended (refusal_name m) (refusal_name n) same)
+    ∙ refusal_back n [])
 reply_told k _ _ a b q e = absurd (false≢true q)
 
 one_reply : (k : ℕ) (r s : PlainReply) → ReplyWithin k r → ReplyWithin k s → reply_spelling r ≡ reply_spelling s → r ≡ s
-one_reply k r s a b e = reply_told k r s a b (eq-eqb (reply_kind r) (reply_kind s)
-    (sym (reply_key_is r) ∙ ap reply_key e ∙ reply_key_is s)) e
+one_reply k r s a b e = reply_told k r s a b
+    (one_reply_kind r s [] [] (ended (reply_spelling r) (reply_spelling s) e)) e
 
 pub one_line : (k m n : ℕ) (d e : PlainEntry) → m < 2 ^ 64 → n < 2 ^ 64 → EntryWithin k d → EntryWithin k e
     → entry_spelling m d ≡ entry_spelling n e → (m ≡ n) × (d ≡ e)

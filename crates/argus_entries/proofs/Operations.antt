@@ -1,9 +1,9 @@
 -- The written forms of queries and changes tell them apart, whatever stands behind them.
-use Rattle.std.proofs.Common.{List, ap, append_assoc, arith, get_or, inl, refl, sym, true, ℕ, ℤ, ◌+◌, ◌++◌, ◌<◌, ◌^◌}
+use Rattle.std.proofs.Common.{List, ap, append_assoc, arith, inl, refl, sym, true, ℕ, ℤ, ◌++◌, ◌<◌, ◌^◌}
 use Rattle.std.proofs.Common.{◌∙◌, ◌∷◌, ◌≡◌}
 use Rattle.std.specs.Fmt.{decimal, signed_decimal}
-use Rattle.std.specs.Prelude.{codes, if◌then◌else◌, ◌==◌}
-use Rattle.std.proofs.lemmas.Bool.{eq-eqb, false≢true}
+use Rattle.std.specs.Prelude.{codes, ◌==◌}
+use Rattle.std.proofs.lemmas.Bool.{false≢true}
 use Rattle.argus_contents.specs.Change.{PlainChange}
 use Rattle.argus_contents.specs.Change as change
 use Rattle.argus_contents.specs.Value.{PlainValue}
@@ -18,6 +18,7 @@ use Rattle.argus_texts.proofs.Forms.{one_form, value_ends}
 use Rattle.argus_texts.proofs.Lists.{cancel, tail_of}
 use Rattle.argus_entries.specs.Laws.{ChangeWithin, QueryWithin}
 use Rattle.argus_entries.specs.OperationSpelling.{change_spelling, query_spelling}
+use Rattle.argus_entries.proofs.FirstWords.{change_kind, one_change_kind, one_query_kind, query_kind}
 
 pub wide : (n : ℕ) → n < 2 ^ 32 → n < 2 ^ 64
 wide n l = omega arith
@@ -53,35 +54,6 @@ spaced : (w m n s t x y : List ℕ) → (w ++ m ++ codes " " ++ s) ++ x ≡ (w +
 spaced w m n s t x y e = cancel w (m ++ 32 ∷ (s ++ x)) (n ++ 32 ∷ (t ++ y))
     (sym (four_pieces w m (codes " ") s x) ∙ e ∙ four_pieces w n (codes " ") t y)
 
--- what tells the words of queries apart
-abbrev query_key : List ℕ → ℕ
-query_key t =
-    if get_or t 0 0 == 102 then 256 + get_or t 1 0 else if get_or t 0 0 == 116 then 512 + get_or t 1 0 else get_or t 0 0
-
-abbrev query_kind : Query → ℕ
-query_kind query.Whole = 119
-query_kind (query.Field i) = 361
-query_kind query.Low = 108
-query_kind query.High = 104
-query_kind query.Size = 115
-query_kind (query.Fetch i) = 357
-query_kind query.Bottom = 98
-query_kind query.Top = 623
-query_kind (query.IsTag t) = 105
-query_kind (query.TagValue t) = 609
-
-query_key_is : (q : Query) (x : List ℕ) → query_key (query_spelling q ++ x) ≡ query_kind q
-query_key_is query.Whole x = refl
-query_key_is (query.Field i) x = refl
-query_key_is query.Low x = refl
-query_key_is query.High x = refl
-query_key_is query.Size x = refl
-query_key_is (query.Fetch i) x = refl
-query_key_is query.Bottom x = refl
-query_key_is query.Top x = refl
-query_key_is (query.IsTag t) x = refl
-query_key_is (query.TagValue t) x = refl
-
 query_told : (q r : Query) (x y : List ℕ) → QueryWithin q → QueryWithin r → NotDigit x → NotDigit y
     → (query_kind q == query_kind r) ≡ true → query_spelling q ++ x ≡ query_spelling r ++ y → (q ≡ r) × (x ≡ y)
 query_told query.Whole query.Whole x y a b nx ny k e = (refl, cancel (codes "whole") x y e)
@@ -107,40 +79,7 @@ query_told _ _ x y a b nx ny k e = absurd (false≢true k)
 pub one_query : (q r : Query) (x y : List ℕ) → QueryWithin q → QueryWithin r → NotDigit x → NotDigit y
     → query_spelling q ++ x ≡ query_spelling r ++ y → (q ≡ r) × (x ≡ y)
 one_query q r x y a b nx ny e = query_told q r x y a b nx ny
-    (eq-eqb (query_kind q) (query_kind r) (sym (query_key_is q x) ∙ ap query_key e ∙ query_key_is r y)) e
-
--- what tells the words of changes apart
-abbrev change_key : List ℕ → ℕ
-change_key t =
-    if get_or t 0 0 == 99 then 256 + get_or t 1 0 else if get_or t 0 0 == 97 then 512 + get_or t 3 0 else
-    if get_or t 0 0 == 114 then 768 + get_or t 3 0 else if get_or t 0 0 == 116 then 1024 + get_or t 1 0 else
-    if get_or t 1 0 == 116 then 1 else get_or t 4 0
-
-abbrev change_kind : PlainChange → ℕ
-change_kind (change.create c) = 370
-change_kind (change.set_field i v) = 102
-change_kind (change.store i v) = 1
-change_kind (change.addh v) = 616
-change_kind (change.addl v) = 620
-change_kind change.remh = 872
-change_kind change.reml = 876
-change_kind (change.set_low i) = 108
-change_kind (change.trim i n) = 1138
-change_kind (change.change_tag t v) = 360
-change_kind change.touch = 1135
-
-change_key_is : (c : PlainChange) (x : List ℕ) → change_key (change_spelling c ++ x) ≡ change_kind c
-change_key_is (change.create c) x = refl
-change_key_is (change.set_field i v) x = refl
-change_key_is (change.store i v) x = refl
-change_key_is (change.addh v) x = refl
-change_key_is (change.addl v) x = refl
-change_key_is change.remh x = refl
-change_key_is change.reml x = refl
-change_key_is (change.set_low i) x = refl
-change_key_is (change.trim i n) x = refl
-change_key_is (change.change_tag t v) x = refl
-change_key_is change.touch x = refl
+    (one_query_kind q r x y e) e
 
 change_told : (k : ℕ) (c d : PlainChange) (x y : List ℕ) → ChangeWithin k c → ChangeWithin k d → NotDigit x → NotDigit y
     → (change_kind c == change_kind d) ≡ true → change_spelling c ++ x ≡ change_spelling d ++ y → (c ≡ d) × (x ≡ y)
@@ -184,4 +123,4 @@ change_told k _ _ x y a b nx ny q e = absurd (false≢true q)
 pub one_change : (k : ℕ) (c d : PlainChange) (x y : List ℕ) → ChangeWithin k c → ChangeWithin k d → NotDigit x
     → NotDigit y → change_spelling c ++ x ≡ change_spelling d ++ y → (c ≡ d) × (x ≡ y)
 one_change k c d x y a b nx ny e = change_told k c d x y a b nx ny
-    (eq-eqb (change_kind c) (change_kind d) (sym (change_key_is c x) ∙ ap change_key e ∙ change_key_is d y)) e
+    (one_change_kind c d x y e) e

@@ -1,4 +1,4 @@
--- The tests of what is said tell exactly where it is the same.
+-- The tests of what is said say exactly whether it is the same.
 use Rattle.std.proofs.Common.{Bool, ap, refl, true, ◌∙◌, ◌≡◌}
 use Rattle.std.specs.Bool.{Decides, one_answer}
 use Rattle.std.specs.Cmp.{signed_Decides}
@@ -141,34 +141,34 @@ entry_itself : (a : PlainEntry) → same_entry a a ≡ true
 entry_itself a = and_from (same_call a.call a.call) (same_reply a.reply a.reply)
     (call_itself a.call) (reply_itself a.reply)
 
--- the test by cases tells exactly which queries are equal
+-- the test by cases says exactly which queries are equal
 pub query_decided : (a b : Query) → Decides (same_query a b) (a ≡ b)
 query_decided = decided same_query query_told query_itself
 
--- the test by cases tells exactly which calls are equal
+-- the test by cases says exactly which calls are equal
 pub call_decided : (a b : PlainCall) → Decides (same_call a b) (a ≡ b)
 call_decided = decided same_call call_told call_itself
 
--- what tells which calls are equal answers as the test by cases
+-- any test of which calls are equal agrees with the test by cases
 pub call_answered : (r : Bool) (a b : PlainCall) → (r ≡ true) ↔ (a ≡ b) → r ≡ same_call a b
 call_answered r a b d = one_answer r (same_call a b) d (call_decided a b)
 
--- the test by cases tells exactly which refusals are equal
+-- the test by cases says exactly which refusals are equal
 pub refusal_decided : (a b : Refusal) → Decides (same_refusal a b) (a ≡ b)
 refusal_decided = decided same_refusal refusal_told refusal_itself
 
--- the test by cases tells exactly which replies are equal
+-- the test by cases says exactly which replies are equal
 pub reply_decided : (a b : PlainReply) → Decides (same_reply a b) (a ≡ b)
 reply_decided = decided same_reply reply_told reply_itself
 
--- what tells which replies are equal answers as the test by cases
+-- any test of which replies are equal agrees with the test by cases
 pub reply_answered : (r : Bool) (a b : PlainReply) → (r ≡ true) ↔ (a ≡ b) → r ≡ same_reply a b
 reply_answered r a b d = one_answer r (same_reply a b) d (reply_decided a b)
 
--- the test by cases tells exactly which entries are equal
+-- the test by cases says exactly which entries are equal
 pub entry_decided : (a b : PlainEntry) → Decides (same_entry a b) (a ≡ b)
 entry_decided = decided same_entry entry_told entry_itself
 
--- what tells which entries are equal answers as the test by cases
+-- any test of which entries are equal agrees with the test by cases
 pub entry_answered : (r : Bool) (a b : PlainEntry) → (r ≡ true) ↔ (a ≡ b) → r ≡ same_entry a b
 entry_answered r a b d = one_answer r (same_entry a b) d (entry_decided a b)

@@ -1,4 +1,4 @@
--- The code of a plain entry: what a model needs whose value holds entries.
+-- The code of a plain entry, which a model whose value holds entries needs.
 use Rattle.std.specs.Coded.{Coded, code_by, coded_option, coded_ℕ, coded×}
 use Rattle.std.specs.Prelude.{None, Option, Some, if◌then◌else◌, refl, ℕ, ◌==◌, ◌≡◌}
 use Rattle.argus_contents.specs.Answer.{PlainAnswer, done}
@@ -29,7 +29,7 @@ refusal_number TooDeep = 7
 refusal_number TooMany = 8
 refusal_number NoSiblings = 9
 
--- the refusal that is stored so
+-- the refusal that is stored like this
 abbrev pub refusal_from : ℕ → Refusal
 refusal_from n =
     if n == 1 then NoAction else (if n == 2 then Over else
@@ -64,7 +64,7 @@ reply_parts (begun a) = (1, (a, (done, NoAction)))
 reply_parts (answered a) = (2, (0, (a, NoAction)))
 reply_parts (refused r) = (3, (0, (done, r)))
 
--- the reply that is stored so
+-- the reply that is stored like this
 abbrev pub reply_from : ReplyParts → PlainReply
 reply_from p = if p.0 == 0 then object p.1.0 else
     (if p.0 == 1 then begun p.1.0 else (if p.0 == 2 then answered p.1.1.0 else refused p.1.1.1))
@@ -99,12 +99,12 @@ call_parts (alter a o c) = (8, ((a, o), (None, (Whole, c))))
 call_parts (test_read a o) = (9, ((a, o), (None, (Whole, touch))))
 call_parts (test_write a o) = (10, ((a, o), (None, (Whole, touch))))
 
--- the declaration that is stored so
+-- the declaration that is stored like this
 abbrev pub declare_from : Option PlainShape → PlainCall
 declare_from None = begin_top
 declare_from (Some s) = declare s
 
--- the call that is stored so
+-- the call that is stored like this
 abbrev pub call_from : CallParts → PlainCall
 call_from p =
     if p.0 == 0 then declare_from p.1.1.0 else (if p.0 == 1 then begin_top else

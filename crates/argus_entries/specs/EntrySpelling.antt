@@ -23,7 +23,7 @@ use Rattle.argus_entries.specs.declared.refusal.Refusal.TheVariants.{Suspended, 
 abbrev pub place_spelling : List ℕ → ℕ → ℕ → List ℕ
 place_spelling word a o = word ++ decimal a ++ codes " o" ++ decimal o
 
--- a call: its word, and what it hands in
+-- a call: its word, and its arguments
 abbrev pub call_spelling : PlainCall → List ℕ
 call_spelling (declare shape) = codes "declare " ++ shape_spelling shape
 call_spelling begin_top = codes "begin_top"
@@ -48,7 +48,7 @@ signal_spelling WrongTag = codes "signal wrong_tag"
 signal_spelling NegativeSize = codes "signal negative_size"
 signal_spelling Limits = codes "signal limits"
 
--- what an operation answers
+-- what an operation returns
 abbrev pub answer_spelling : PlainAnswer → List ℕ
 answer_spelling done = codes "done"
 answer_spelling (val v) = codes "val " ++ spelling v

@@ -1,4 +1,4 @@
--- The laws of lines, and the entries that they speak of: those such as a program can hold.
+-- The laws of lines, and the entries that they are about: those that a program can hold.
 use Rattle.std.specs.Prelude.{ℕ, ◌<◌, ◌^◌, ◌≡◌, true}
 use Rattle.argus_contents.specs.Answer.{PlainAnswer}
 use Rattle.argus_contents.specs.Answer as answer
@@ -46,8 +46,8 @@ ChangeWithin k change.remh = Unit {0}
 ChangeWithin k change.reml = Unit {0}
 ChangeWithin k change.touch = Unit {0}
 
--- a call whose numbers are in range, with values of depth at most k; in a shape each name has a
--- name's form
+-- a call whose numbers are in range, with values of depth at most k; in a shape each name has the
+-- form of a name
 abbrev pub CallWithin : ℕ → PlainCall → Type 0
 CallWithin k (call.declare s) = HasNames s
 CallWithin k call.begin_top = Unit {0}
@@ -81,15 +81,15 @@ ReplyWithin k (reply.refused r) = Unit {0}
 abbrev pub EntryWithin : ℕ → PlainEntry → Type 0
 EntryWithin k e = CallWithin k e.call × ReplyWithin k e.reply
 
--- numbered entries, with values of whatever depth, with one line are the same, and have the same
--- number
+-- numbered entries with the same line are the same and have the same number, whatever the depth of
+-- their values
 abbrev pub EntryLinesAreUnambiguous : Type 0
 EntryLinesAreUnambiguous =
     (k m n : ℕ) (d e : PlainEntry) → m < 2 ^ 64 → n < 2 ^ 64 → EntryWithin k d → EntryWithin k e
     → entry_spelling m d ≡ entry_spelling n e → (m ≡ n) × (d ≡ e)
 
--- a change such as a program can hold that suits a shape that can be made has values of depth at
--- most 16, whatever depth was known of them
+-- a change that a program can hold that suits a shape that can be made has values of depth at most
+-- 16, whatever depth was known of them
 abbrev pub SuitingChangesKeepTheDepth : Type 0
 SuitingChangesKeepTheDepth =
     (s : PlainShape) (declared k : ℕ) (c : PlainChange) → IsMakeable s

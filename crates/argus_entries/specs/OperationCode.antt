@@ -1,4 +1,5 @@
--- Codes of queries, changes and answers: numbers, values and contents that give them back.
+-- Codes of queries, changes and answers: numbers, values and contents from which they can be read
+-- again.
 use Rattle.std.proofs.Common.{ap, sym, ◌∙◌}
 use Rattle.std.specs.Coded.{Coded, code_by, coded_bool, coded_option, coded_ℕ, coded_ℤ, coded×}
 use Rattle.std.specs.Prelude.{Bool, None, Option, Some, false, if◌then◌else◌, pos, refl, ℕ, ℤ, ◌==◌}
@@ -37,7 +38,7 @@ query_parts Top = (7, (0, pos 0))
 query_parts (IsTag t) = (8, (t, pos 0))
 query_parts (TagValue t) = (9, (t, pos 0))
 
--- the query that is stored so
+-- the query that is stored like this
 abbrev pub query_from : ℕ × (ℕ × ℤ) → Query
 query_from p =
     if p.0 == 0 then Whole else (if p.0 == 1 then Field p.1.0 else
@@ -82,12 +83,12 @@ change_parts (trim i n) = (8, (0, ((i, n), (None, null))))
 change_parts (change_tag t v) = (9, (t, ((pos 0, pos 0), (None, v))))
 change_parts touch = (10, (0, ((pos 0, pos 0), (None, null))))
 
--- the creation that is stored so
+-- the creation that is stored like this
 abbrev pub create_from : Option PlainContent → PlainChange
 create_from None = touch
 create_from (Some c) = create c
 
--- the change that is stored so
+-- the change that is stored like this
 abbrev pub change_from : ChangeParts → PlainChange
 change_from p =
     if p.0 == 0 then create_from p.1.1.1.0 else (if p.0 == 1 then set_field p.1.0 p.1.1.1.1 else
@@ -127,7 +128,7 @@ signal_number WrongTag = 3
 signal_number NegativeSize = 4
 signal_number Limits = 5
 
--- the signal that is stored so
+-- the signal that is stored like this
 abbrev pub signal_from : ℕ → Signal
 signal_from n =
     if n == 0 then Absent else (if n == 1 then Exists else
@@ -160,12 +161,12 @@ answer_parts (flag b) = (3, (pos 0, (b, (null, (None, Absent)))))
 answer_parts (body c) = (4, (pos 0, (false, (null, (Some c, Absent)))))
 answer_parts (signal s) = (5, (pos 0, (false, (null, (None, s)))))
 
--- the whole content that is stored so, as an answer
+-- the whole content that is stored like this, as an answer
 abbrev pub body_from : Option PlainContent → PlainAnswer
 body_from None = done
 body_from (Some c) = body c
 
--- the answer that is stored so
+-- the answer that is stored like this
 abbrev pub answer_from : AnswerParts → PlainAnswer
 answer_from p =
     if p.0 == 0 then done else (if p.0 == 1 then val p.1.1.1.0 else (if p.0 == 2 then num p.1.0 else

@@ -1,5 +1,5 @@
-//! Pieces of a line, each appended to a text. After want of memory the text is as before, with a
-//! part of the piece behind it.
+//! Pieces of a line, each appended to a text. If memory runs out, the text has a part of the piece
+//! at its end.
 
 ghost use Rattle.std.specs.Fmt.{decimal, signed_decimal};
 ghost use Rattle.std.specs.Prelude.{◌≡◌, ◌++◌, OnOk, string_bytes};

@@ -22,10 +22,10 @@ use argus_memory::{Heap, OutOfMemory};
 /// | `AbortOthers` | an end of all live siblings of this action: other actions with the same parent
 /// or creator |
 /// | `Ask`, `Alter` | a query, a change of this object by this action |
-/// | `TestRead`, `TestWrite` | whether the action may have the lock, and the lock where it may |
+/// | `TestRead`, `TestWrite` | whether the action may have the lock, and the lock if it may |
 ///
-/// It lies in line but for what is behind a box: texts, lists, the value of a choice and the content
-/// of a `Create`. A call of none of these is made without memory.
+/// It is stored inline except for what is in a box: texts, lists, the value of a choice and the
+/// content of a `Create`. A call without any of these takes no memory.
 ///
 /// Source: actions, `enter` and the tests of locks of the Argus Reference Manual (MIT/LCS/TR-400,
 /// 1987).
@@ -49,7 +49,7 @@ pub enum Call {
     TestWrite(ActionId, ObjId),
 }
 
-// A tag, an action, an object and the widest rest: a change.
+// A tag, an action, an object and the widest of the rest: a change.
 const _: () = prove!(size_of::<Call>() == 56);
 
 impl Call {

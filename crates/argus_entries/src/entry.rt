@@ -21,14 +21,15 @@ pub struct Entry {
     pub reply: Reply,
 }
 
-// By hand, so that each place where an entry ends is one call; a derived one is written out there.
+// Written by hand, so that dropping an entry is one call; a derived `Drop` is expanded at each
+// place.
 impl Drop for Entry {
     fn drop(self) {
         let Entry { call: _, reply: _ } = self;
     }
 }
 
-// Fresh memory costs some nanoseconds a word: so texts, lists and whole contents lie in boxes.
+// Fresh memory costs some nanoseconds a word, so texts, lists and whole contents are boxed.
 const _: () = prove!(size_of::<Entry>() == 96);
 
 impl Entry {

@@ -41,8 +41,8 @@ pub fn write_entry(at: u64, entry: &Entry, out: &mut String<Room>) -> Result<(),
     result
 }
 
-/// Appends the reply as it stands behind the arrow of an entry's line. At `OutOfMemory` the text is
-/// cut back to what it was.
+/// Appends the reply as it is written after the arrow of an entry's line. At `OutOfMemory` the text
+/// is cut back to what it was.
 ///
 /// ```text
 /// write_reply(&Reply::Refused(Refusal::Conflict), &mut out)?;      // refused Conflict

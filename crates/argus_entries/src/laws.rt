@@ -2,14 +2,14 @@
 
 ghost use Rattle.argus_entries.specs.Laws.{EntryLinesAreUnambiguous, SuitingChangesKeepTheDepth};
 
-/// Two lines that [`write_entry`](crate::write_entry) wrote are the same only where the numbers are
-/// the same, and the entries.
+/// Two lines that [`write_entry`](crate::write_entry) wrote are the same only if both the numbers
+/// and the entries are the same.
 pub fn entry_lines_are_unambiguous()
     ensures { EntryLinesAreUnambiguous }
 {}
 
 /// A change that suits a shape is no deeper than the shape's types, and so no deeper than what is
-/// read back of a line. That a shape can be made, its type says
+/// read back from a line. That a shape can be made follows from its type
 /// ([`limits_are_kept`](argus_contents::Shape::limits_are_kept)).
 pub fn suiting_changes_keep_the_depth()
     ensures { SuitingChangesKeepTheDepth }

@@ -1,4 +1,4 @@
-//! Calls of a guardian, what they are answered, and the entries that a journal keeps of both.
+//! Calls of a guardian, their replies, and the entries of both that a journal keeps.
 #![tactic(auto)]
 
 mod appending;

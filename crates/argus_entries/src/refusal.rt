@@ -2,12 +2,12 @@
 
 use thiserror::Error;
 
-/// Why a call is refused. Where several apply, the first of this list is answered. A refused call
-/// changes nothing: it takes no lock.
+/// Why a call is refused. If several apply, the first of this list is returned. A refused call
+/// changes nothing, and takes no lock.
 ///
 /// | Refusal | When | Calls |
 /// |---|---|---|
-/// | `NoAction` | the action isn't begun | all that name an action |
+/// | `NoAction` | the action wasn't begun | all that name an action |
 /// | `Over` | it has committed or was aborted | all that name an action |
 /// | `Suspended` | it has a live child | `Commit`, `AbortOthers`, `Ask`, `Alter`, `TestRead`,
 /// `TestWrite` |
@@ -24,7 +24,7 @@ use thiserror::Error;
 /// ```
 #[derive(Clone, Copy, Debug, PartialEq, Eq, Error)]
 pub enum Refusal {
-    /// The action isn't begun.
+    /// The action wasn't begun.
     #[error("the action isn't begun")]
     NoAction,
     /// The action has committed or was aborted.
@@ -42,10 +42,10 @@ pub enum Refusal {
     /// Another action holds the object.
     #[error("another action holds the object")]
     Conflict,
-    /// The parent has the greatest depth that there may be.
+    /// The parent has the greatest depth.
     #[error("the parent is too deep")]
     TooDeep,
-    /// As many actions are begun, or objects declared, as there may be.
+    /// The greatest number of actions is begun, or of objects declared.
     #[error("there are too many already")]
     TooMany,
     /// The action has neither parent nor creator.

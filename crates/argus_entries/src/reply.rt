@@ -1,4 +1,4 @@
-//! `Reply`: what a call is answered.
+//! `Reply`: what a call returns.
 
 ghost use Rattle.std.specs.Prelude.{◌≡◌, ◌↔◌, true, IfOk};
 ghost use Rattle.argus_contents.specs.Answer.{plain_answer};
@@ -12,13 +12,13 @@ use argus_actions::ActionId;
 use argus_contents::{Answer, ObjId};
 use argus_memory::{Heap, OutOfMemory};
 
-/// What a call is answered: a number, an answer of an operation or of a test, or a refusal.
+/// What a call returns: a number, an answer of an operation or of a test, or a refusal.
 ///
 /// | Reply | To |
 /// |---|---|
 /// | `Object` | `Declare`: the number of the object |
 /// | `Begun` | `BeginTop`, `BeginSub`, `BeginNested`: the number of the action |
-/// | `Answered` | `Ask`, `Alter`: the operation's answer; a signal's lock was granted, too |
+/// | `Answered` | `Ask`, `Alter`: the operation's answer; also for a signal the lock was granted |
 /// | `Answered` | `Commit`, `Abort`, `AbortOthers`: `Done` |
 /// | `Answered` | `TestRead`, `TestWrite`: a `Flag` |
 /// | `Refused` | every call; nothing was changed |

@@ -1,4 +1,4 @@
--- A journal may cross to another thread, and be looked at from there: as a set for `search`, `crosses`.
+-- A journal may go to another thread, and be looked at from there: as a set for `search`, `crosses`.
 use denote.RattleType.{RattleType}
 use denote.Struct.Declared.{shape}
 use denote.Struct.Tuple.{Tuple, tuple_type}

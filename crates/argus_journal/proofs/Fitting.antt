@@ -1,4 +1,4 @@
--- A fitting change leaves a fitting content, and what fits goes on to fit when more objects are declared.
+-- A fitting change leaves a fitting content, and what fits still fits when more objects are declared.
 use Rattle.std.proofs.Common.{Bool, List, None, Option, Some, [], arith, drop, false, length, nat_lt, refl, suc}
 use Rattle.std.proofs.Common.{take, true, zero, ℕ, ℤ, ◌++◌, ◌-◌, ◌-ℤ◌, ◌∷◌, ◌≡◌, ◌≤◌}
 use Rattle.std.specs.Prelude.{if◌then◌else◌, slice_set, unsigned_abs}

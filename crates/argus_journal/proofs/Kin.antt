@@ -1,4 +1,4 @@
--- Of a legal journal, the parents, creators and ancestors that its entries tell are those of its history.
+-- For a legal journal, the parents, creators and ancestors by its entries are those of its history.
 use Rattle.std.proofs.Common.{Bool, List, None, Option, Some, [], ap, arith, cond, false, refl, subst, sym, true, ℕ}
 use Rattle.std.proofs.Common.{⊎_elim, ◌+◌, ◌-◌, ◌<◌, ◌∙◌, ◌∷◌, ◌≡◌, ◌≢◌}
 use Rattle.std.specs.List.{list_any}

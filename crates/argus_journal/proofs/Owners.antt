@@ -1,5 +1,5 @@
--- Of a legal journal, an owner that is settled stays so, what one action holds shares one fate, and who writes
--- answers for itself.
+-- For a legal journal, a final owner stays, all that one action owns has the same last owner, and an action that writes
+-- is its own owner.
 use Rattle.std.proofs.Common.{Bool, List, None, Option, Some, [], ap, arith, cond, drop, false, refl, subst, sym, take}
 use Rattle.std.proofs.Common.{true, ℕ, ⊎_elim, ◌++◌, ◌+◌, ◌-◌, ◌<◌, ◌∙◌, ◌∷◌, ◌≡◌}
 use Rattle.std.specs.Prelude.{is_some, nat_lt, ◌&&◌, ◌==◌}

@@ -1,4 +1,4 @@
--- Where references occur in a content, and that each names a declared object where the content fits.
+-- Where references occur in a content, and that each names a declared object if the content fits.
 use Rattle.std.proofs.Common.{Bool, List, None, Option, Some, [], ap, arith, false, inl, inr, length, nat_lt, refl, sym}
 use Rattle.std.proofs.Common.{true, ℕ, ⊎_elim, ◌++◌, ◌<◌, ◌∙◌, ◌∷◌, ◌≡◌}
 use Rattle.std.proofs.lemmas.Bool.{eq-eqb, eqb-true, or_cases}

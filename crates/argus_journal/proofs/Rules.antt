@@ -1,4 +1,4 @@
--- Refusals that come first don't depend on what is asked after them.
+-- Refusals that come first don't depend on the tests after them.
 use Rattle.std.proofs.Common.{Bool, None, Option, false, refl, true, ℕ, ◌+◌, ◌≡◌}
 use Rattle.std.specs.Option.{option_or}
 use Rattle.std.specs.Prelude.{nat_lt, not}

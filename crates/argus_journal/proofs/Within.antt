@@ -1,4 +1,4 @@
--- As many objects and actions as there may be.
+-- Objects and actions stay within the limits.
 use Rattle.std.proofs.Common.{List, None, Option, Some, [], arith, length, length-append, nat_lt, refl, subst, sym}
 use Rattle.std.proofs.Common.{true, ℕ, ◌++◌, ◌+◌, ◌-◌, ◌<◌, ◌∷◌, ◌≡◌, ◌≤◌}
 use Rattle.std.proofs.lemmas.Bool.Decides.{nat_tests}

@@ -1,4 +1,4 @@
--- What a call is answered after a journal: the first refusal that applies, or else what it asked
+-- The answer to a call after a journal: the first refusal that applies, or otherwise what it asked
 -- for.
 use Rattle.std.specs.Prelude.{Bool, List, None, Option, Some, false, length, nat_lt, not, slice_get}
 use Rattle.std.specs.Prelude.{true, ℕ, ◌-◌, ◌==◌}
@@ -66,7 +66,7 @@ suits_change shapes o change =
 abbrev pub if_created : History PlainEntry → ℕ → Option Refusal
 if_created h a = unless (not (begun_by h (in_history a) == 0)) NoSiblings None
 
--- how many ancestors an action has, itself among them
+-- how many ancestors an action has, itself included
 abbrev pub depth : History PlainEntry → ℕ → ℕ
 depth h a = length (lineage h (in_history a)) - 1
 
@@ -78,8 +78,8 @@ if_room h = unless (nat_lt (in_program (next_action h)) MAX_ACTIONS) TooMany Non
 abbrev pub if_shallow : History PlainEntry → ℕ → Option Refusal
 if_shallow h parent = unless (nat_lt (depth h parent) MAX_ACTION_DEPTH) TooDeep (if_room h)
 
--- the first refusal that applies, where these objects are declared (Argus Reference Manual 1987,
--- locking rules)
+-- the first refusal that applies, with these objects declared (Argus Reference Manual 1987, locking
+-- rules)
 abbrev pub refusal : History PlainEntry → List PlainShape → PlainCall → Option Refusal
 refusal h shapes (declare shape) = unless (nat_lt (length shapes) MAX_OBJECTS) TooMany None
 refusal h shapes begin_top = if_room h
@@ -103,7 +103,7 @@ refusal h shapes (test_write a o) = if_free h a (if_declared shapes o None)
 abbrev pub visible_in_history : Opening → History PlainEntry → ℕ → ℕ → Option PlainContent
 visible_in_history s h a o = sees entries (model_opening s) h (in_history a) o
 
--- the reply where no refusal applies: the next number, an answer, or whether the lock is granted
+-- the reply if no refusal applies: the next number, an answer, or whether the lock is granted
 abbrev pub granted : Opening → History PlainEntry → List PlainShape → PlainCall → PlainReply
 granted s h shapes (declare shape) = object (length shapes)
 granted s h shapes begin_top = begun (in_program (next_action h))
@@ -117,7 +117,7 @@ granted s h shapes (alter a o change) = answered (outcome change (visible_in_his
 granted s h shapes (test_read a o) = answered (flag (may_read entries h (in_history a) o))
 granted s h shapes (test_write a o) = answered (flag (may_write entries h (in_history a) o))
 
--- the refusal, if there is one, or else the reply
+-- the refusal, if there is one, otherwise the reply
 abbrev pub or_refused : Option Refusal → PlainReply → PlainReply
 or_refused None reply = reply
 or_refused (Some why) reply = refused why

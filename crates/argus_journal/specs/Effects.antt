@@ -8,8 +8,8 @@ use Rattle.argus_journal.specs.Entries.{entries}
 use Rattle.argus_journal.specs.Events.{history}
 use Rattle.argus_journal.specs.Opening.{Opening, model_opening}
 
--- the commit of a topaction adds what it sees in each object that it has written, and everything
--- else nothing
+-- the commit of a topaction adds what it sees in each object that it has written; everything else
+-- adds nothing
 abbrev pub added_by : Opening → Option (Event PlainEntry) → List PlainEntry
     → List (List (ℕ × Option PlainContent))
 added_by s None j = []

@@ -26,7 +26,7 @@ is_write (abort_others a) = false
 is_write (ask a o query) = false
 is_write (test_read a o) = false
 
--- what the call leaves of a content; a granted test for writing acts as the change `touch`
+-- what the call makes of a content; a granted test for writing acts like the change `touch`
 abbrev pub content_after_call : PlainCall → Option PlainContent → Option PlainContent
 content_after_call (alter a o change) c = (outcome change c).0
 content_after_call (test_write a o) c = (outcome touch c).0
@@ -40,7 +40,7 @@ content_after_call (abort_others a) c = c
 content_after_call (ask a o query) c = c
 content_after_call (test_read a o) c = c
 
--- what the call is answered at a content, where its lock is granted
+-- the answer to the call at a content, if its lock is granted
 abbrev pub answer_at_content : PlainCall → Option PlainContent → PlainAnswer
 answer_at_content (ask a o query) c = reply query c
 answer_at_content (alter a o change) c = (outcome change c).1
@@ -54,7 +54,7 @@ answer_at_content (commit a) c = done
 answer_at_content (abort a) c = done
 answer_at_content (abort_others a) c = done
 
--- a call that needs no write lock leaves the content
+-- a call that needs no write lock doesn't change the content
 abbrev pub calls_keep : (call : PlainCall) → is_write call ≡ false → (c : Option PlainContent)
     → content_after_call call c ≡ c
 calls_keep (alter a o change) n c = absurd (false≢true (sym n))
@@ -69,12 +69,12 @@ calls_keep (abort_others a) n c = refl
 calls_keep (ask a o query) n c = refl
 calls_keep (test_read a o) n c = refl
 
--- an entry that is no write leaves what it finds
+-- an entry that isn't a write leaves what it finds
 abbrev pub entry_keeps : (e : PlainEntry) → is_write e.call ≡ false → (c : Option PlainContent)
     → content_after_call e.call c ≡ c
 entry_keeps e n c = calls_keep e.call n c
 
--- the recorded reply is the one that the content gives
+-- the recorded reply is the one that follows from the content
 abbrev pub entries : Meaning PlainEntry (Option PlainContent) PlainReply
 entries = record {
   writes = λ e. is_write e.call;

@@ -18,14 +18,14 @@ is_begun_reply (object o) = false
 is_begun_reply (answered x) = false
 is_begun_reply (refused why) = false
 
--- the reply is an answer, which a signal is, too
+-- the reply is an answer; a signal is one
 abbrev pub is_answered : PlainReply → Bool
 is_answered (answered x) = true
 is_answered (object o) = false
 is_answered (begun n) = false
 is_answered (refused why) = false
 
--- the truth that a test is answered
+-- the truth value that a test returned
 abbrev pub truth_of : PlainAnswer → Bool
 truth_of (flag truth) = truth
 truth_of done = false
@@ -34,19 +34,19 @@ truth_of (num n) = false
 truth_of (body c) = false
 truth_of (signal s) = false
 
--- a test is answered yes
+-- a test returned yes
 abbrev pub says_yes : PlainReply → Bool
 says_yes (answered x) = truth_of x
 says_yes (object o) = false
 says_yes (begun n) = false
 says_yes (refused why) = false
 
--- the event, where the reply says so
+-- the event, if the reply says so
 abbrev pub event_if : Bool → Event PlainEntry → Option (Event PlainEntry)
 event_if said event = if said then Some event else None
 
--- what a call with this reply says happened: nothing where it was refused, a declaration, or a test
--- that says no
+-- what a call with this reply says happened: nothing if it was refused, is a declaration, or is a
+-- test that says no
 abbrev pub event_of : History PlainEntry → PlainCall → PlainReply → PlainEntry
     → Option (Event PlainEntry)
 event_of h (declare shape) r e = None
@@ -68,7 +68,7 @@ abbrev pub with_event : Option (Event PlainEntry) → History PlainEntry → His
 with_event None h = h
 with_event (Some event) h = event ▹ h
 
--- the history that a journal tells, from its opening on
+-- the history of a journal, from its opening on
 abbrev pub history : Opening → List PlainEntry → History PlainEntry
 history s [] = Opened s.first_action
 history s (e ∷ older) = with_event (event_of (history s older) e.call e.reply e) (history s older)

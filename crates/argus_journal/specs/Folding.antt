@@ -7,7 +7,7 @@ use Rattle.argus_journal.specs.Objects.{shapes}
 use Rattle.argus_journal.specs.Opening.{Opening}
 use Rattle.argus_journal.specs.JournalFacts.{base_of, next_action_number}
 
--- objects of these shapes, each with the content that the function gives its number
+-- objects of these shapes, each with the content that the function returns for its number
 abbrev pub with_contents : (ℕ → Option PlainContent) → List PlainShape
     → List (PlainShape × Option PlainContent)
 with_contents content [] = []
@@ -18,8 +18,8 @@ with_contents content (shape ∷ shapes) =
 abbrev pub next_entry_number : Opening → List PlainEntry → ℕ
 next_entry_number s j = s.first_entry + length j
 
--- the opening that goes on where the journal ends: the objects with what is in them for good, and
--- the next numbers
+-- the opening that goes on where the journal ends: the objects with their bases, and the next
+-- numbers
 abbrev pub fold : Opening → List PlainEntry → Opening
 fold s j = record {
   objects = with_contents (base_of s j) (shapes s j);

@@ -1,4 +1,4 @@
--- What contracts see of a `Journal`: its opening, its entries, and for how many more there is room.
+-- What contracts see of a `Journal`: its opening, its entries, and room for how many more there is.
 use Rattle.std.specs.Prelude.{List, None, Option, Some, if◌then◌else◌, map, nat_lt, reverse}
 use Rattle.std.specs.Prelude.{slice_get, take, vec_len, ℕ, ◌-◌}
 use Rattle.std.specs.Borrow.{Bor}
@@ -18,7 +18,7 @@ use Rattle.argus_journal.specs.declared.journal.Journal.{Journal}
 abbrev pub opening_of : Journal → Opening
 opening_of j = opening_with j.objects.items j.first_action j.first_entry
 
--- what an object of the opening says that was looked for
+-- what an object of the opening says, if there is one
 abbrev pub plain_opened : Option (Bor Shape × Bor (Option Content))
     → Option (PlainShape × Option PlainContent)
 plain_opened None = None
@@ -32,7 +32,7 @@ newest_first entries = reverse (map plain_entry entries)
 abbrev pub entries_of : Journal → List PlainEntry
 entries_of j = newest_first j.entries.items
 
--- so many of them from the first on, the newest first
+-- this many of them from the first on, the newest first
 abbrev pub first_entries_of : Journal → ℕ → List PlainEntry
 first_entries_of j n = newest_first (take n j.entries.items)
 
@@ -40,21 +40,21 @@ first_entries_of j n = newest_first (take n j.entries.items)
 abbrev pub IsLegal : Journal → Type 0
 IsLegal j = Legal (opening_of j) (entries_of j)
 
--- that a journal is legal says no more than that
+-- a journal is legal exactly if that holds
 pub IsLegal-prop : (j : Journal) → IsProp (IsLegal j)
 IsLegal-prop j = Legal-prop (opening_of j) (entries_of j)
 
--- for how many more entries there is room
+-- room for how many more entries there is
 abbrev pub room_of : Journal → ℕ
 room_of j = vec_capacity j.entries - vec_len j.entries
 
--- the entry of a number, where the journal holds it; the first has the number of the opening's
--- first entry
+-- the entry of a number, if the journal has it; the first one has the number of the opening's first
+-- entry
 abbrev pub entry_at : Opening → List PlainEntry → ℕ → Option PlainEntry
 entry_at s j at =
     if nat_lt at s.first_entry then None else slice_get (reverse j) (at - s.first_entry)
 
--- what an entry says that was looked for
+-- what an entry says, if there is one
 abbrev pub plain_entry_found : Option (Bor Entry) → Option PlainEntry
 plain_entry_found None = None
 plain_entry_found (Some entry) = Some (plain_entry entry.now)

@@ -42,11 +42,11 @@ is_under_in s j actions a = list_any (λ x. is_ancestor_in s j x a) actions
 abbrev pub parent_in : Opening → List PlainEntry → ℕ → Option ℕ
 parent_in s j a = unless_base (parent (history s j) (in_history a))
 
--- who began an action: a subaction's parent, a nested topaction's creator
+-- the creator of an action: a subaction's parent, or a nested topaction's creator
 abbrev pub begun_by_in : Opening → List PlainEntry → ℕ → Option ℕ
 begun_by_in s j a = unless_base (begun_by (history s j) (in_history a))
 
--- p is an ancestor of a; all stand under the base, which is no parent
+-- p is an ancestor of a; all are under the base, which isn't a parent
 abbrev pub is_parent_above : Opening → List PlainEntry → Option ℕ → ℕ → Bool
 is_parent_above s j None a = true
 is_parent_above s j (Some p) a = is_ancestor_in s j p a
@@ -62,17 +62,17 @@ in_program_owner model.Gone = Gone
 in_program_owner model.Base = Base
 in_program_owner (model.Held x) = Held (record { 0 = in_program x })
 
--- who answers for what the action did; none where it hasn't begun
+-- the owner of what the action did; none if it hasn't begun
 abbrev pub owner_in : Opening → List PlainEntry → ℕ → Option Owner
 owner_in s j a =
     if nat_lt (in_history a) (next_action (history s j)) then Some
     (in_program_owner (owner (history s j) (in_history a))) else None
 
--- who holds the object for reading, in increasing number
+-- the read holders of the object, in increasing number
 abbrev pub readers_of : Opening → List PlainEntry → ℕ → List ℕ
 readers_of s j o = all_in_program (readers entries (history s j) o)
 
--- who holds the object for writing, in increasing number
+-- the write holders of the object, in increasing number
 abbrev pub writers_of : Opening → List PlainEntry → ℕ → List ℕ
 writers_of s j o = all_in_program (writers entries (history s j) o)
 
@@ -86,16 +86,16 @@ holders_inherited a (Some p) holders =
 abbrev pub visible_to : Opening → List PlainEntry → ℕ → ℕ → Option PlainContent
 visible_to s j a o = visible_in_history s (history s j) a o
 
--- each who holds the object for writing, from ancestor to descendant, with what it sees there: its
+-- each write holder of the object, from ancestor to descendant, with what it sees there: its
 -- version
 abbrev pub versions_of : Opening → List PlainEntry → ℕ → List (ℕ × Option PlainContent)
 versions_of s j o = map (λ a. (a, visible_to s j a o)) (writers_of s j o)
 
--- what is in the object for good
+-- the object's base
 abbrev pub base_of : Opening → List PlainEntry → ℕ → Option PlainContent
 base_of s j o = base entries (model_opening s) (history s j) o
 
--- the objects that an action has written, and its committed subactions, in increasing number
+-- the objects that an action and its committed subactions have written, in increasing number
 abbrev pub written_by : Opening → List PlainEntry → ℕ → List ℕ
 written_by s j a = written_objects entries (work (history s j) (in_history a))
 

@@ -39,7 +39,7 @@ journal_view_coded =
 abbrev pub entry_with : PlainCall → PlainReply → PlainEntry
 entry_with call reply = record { call = call; reply = reply }
 
--- the reply that the journal gives to the call
+-- the reply to the call that follows from the journal
 abbrev pub reply_to : JournalView → PlainCall → PlainReply
 reply_to journal call = answer journal.opening journal.entries call
 
@@ -48,7 +48,7 @@ abbrev pub refusal_to : JournalView → PlainCall → Option Refusal
 refusal_to journal call =
     refusal (history journal.opening journal.entries) (shapes journal.opening journal.entries) call
 
--- the call with the reply that the journal gives to it
+-- the call with the reply that follows from the journal
 abbrev pub entry_of : JournalView → PlainCall → PlainEntry
 entry_of journal call = entry_with call (reply_to journal call)
 
@@ -56,7 +56,7 @@ entry_of journal call = entry_with call (reply_to journal call)
 abbrev pub with_entry : JournalView → PlainEntry → JournalView
 with_entry journal e = record { opening = journal.opening; entries = e ∷ journal.entries }
 
--- the journal with the call, and the reply that it gives to it
+-- the journal with the call, and the reply that follows from it
 abbrev pub after : JournalView → PlainCall → JournalView
 after journal call = with_entry journal (entry_of journal call)
 

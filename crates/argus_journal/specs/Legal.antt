@@ -11,7 +11,7 @@ abbrev pub Legal : Opening → List PlainEntry → Type 0
 Legal s [] = Unit {0}
 Legal s (e ∷ older) = (e.reply ≡ answer s older e.call) × Legal s older
 
--- a journal is legal in one way at most, so that the fact can stand in a type
+-- a journal is legal in at most one way, so that the fact can be part of a type
 pub Legal-prop : (s : Opening) (j : List PlainEntry) → IsProp (Legal s j)
 Legal-prop s [] = Unit-prop
 Legal-prop s (e ∷ older) =

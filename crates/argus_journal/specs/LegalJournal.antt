@@ -1,4 +1,4 @@
--- What contracts see of a `LegalJournal`: what they see of the journal that it holds.
+-- What contracts see of a `LegalJournal`: the same as of the journal that it holds.
 use Rattle.std.specs.Prelude.{List, ℕ}
 use Rattle.argus_entries.specs.Entry.{PlainEntry}
 use Rattle.argus_journal.specs.Journal.{entries_of, opening_of, room_of}
@@ -13,6 +13,6 @@ opening_in kept = opening_of kept.journal
 abbrev pub entries_in : LegalJournal → List PlainEntry
 entries_in kept = entries_of kept.journal
 
--- for how many more entries there is room
+-- room for how many more entries there is
 abbrev pub room_in : LegalJournal → ℕ
 room_in kept = room_of kept.journal

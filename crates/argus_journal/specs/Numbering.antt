@@ -1,5 +1,5 @@
--- The numbers of actions: the program's action a is a + 1 in the history, where 0 is the base. The
--- shift stands here alone.
+-- The numbers of actions: the program's action a is a + 1 in the history, where 0 is the base. Only
+-- this file has the shift.
 use Rattle.std.specs.Prelude.{List, None, Option, Some, if◌then◌else◌, map, ℕ, ◌+◌, ◌-◌, ◌==◌}
 
 -- the history's number of an action of the program
@@ -18,6 +18,6 @@ all_in_history actions = map in_history actions
 abbrev pub all_in_program : List ℕ → List ℕ
 all_in_program xs = map in_program xs
 
--- the program's number of a parent or a creator; none where it is the base
+-- the program's number of a parent or a creator; none if it is the base
 abbrev pub unless_base : ℕ → Option ℕ
 unless_base x = if x == 0 then None else Some (in_program x)

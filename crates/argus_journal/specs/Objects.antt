@@ -38,6 +38,6 @@ shapes s (e ∷ older) = shapes s older ++ declared_by e.call e.reply
 abbrev pub declared : Opening → List PlainEntry → ℕ
 declared s j = length (shapes s j)
 
--- the shape of an object, where it is declared
+-- the shape of an object, if it is declared
 abbrev pub shape_of : Opening → List PlainEntry → ℕ → Option PlainShape
 shape_of s j o = slice_get (shapes s j) o

@@ -22,11 +22,11 @@ pub record Opening : Type 0 where
   -- the number of the first entry, and how many are folded
   pub first_entry : ℕ
 
--- no object, no action, no entry
+-- without objects, actions and entries
 abbrev pub empty : Opening
 empty = record { objects = []; first_action = 0; first_entry = 0 }
 
--- the content of an object; none where it wasn't declared
+-- the content of an object; none if it wasn't declared
 abbrev pub content_in : List (PlainShape × Option PlainContent) → ℕ → Option PlainContent
 content_in objects o = option_and_then (λ object. object.1) (slice_get objects o)
 
@@ -38,7 +38,7 @@ model_opening s = record {
   first_entry = s.first_entry;
 }
 
--- an absent content fits every shape, and a present one no shape that isn't there
+-- an absent content fits every shape, and a present one fits no absent shape
 abbrev pub fits_shape : Option PlainShape → ℕ → Option PlainContent → Bool
 fits_shape shape n None = true
 fits_shape None n (Some c) = false
@@ -48,7 +48,7 @@ fits_shape (Some shape) n (Some c) = is_fitting shape n c
 abbrev pub is_sound : Opening → Bool
 is_sound s = list_all (λ object. fits_shape (Some object.0) (length s.objects) object.1) s.objects
 
--- it names no more objects, actions and entries than there may be
+-- it has no more objects, actions and entries than the limits allow
 pub record KeepsNumbers (s : Opening) : Type 0 where
   pub objects : length s.objects ≤ MAX_OBJECTS
   pub actions : s.first_action ≤ MAX_ACTIONS

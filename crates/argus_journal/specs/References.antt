@@ -52,6 +52,6 @@ IsPartOf v (Some (rec vs)) = IsPartOfOne v (listed vs)
 IsPartOf v (Some (arr low vs)) = IsPartOfOne v (listed vs)
 IsPartOf v (Some (var t w)) = IsPart v w
 
--- a reference to the object stands in the content
+-- the content has a reference to the object
 abbrev pub OccursIn : ℕ → Option PlainContent → Type 0
 OccursIn o c = IsPartOf (value.atomic o) c

@@ -1,4 +1,4 @@
--- What the numbers in a journal's entries tell, newest first. Of a legal journal it is what its
+-- What the numbers in a journal's entries say, newest first. For a legal journal it is what its
 -- history says.
 use Rattle.std.specs.Prelude.{◌&&◌, Bool, List, None, Option, Some, [], false, if◌then◌else◌}
 use Rattle.std.specs.Prelude.{nat_lt, not, true, ℕ, ◌==◌, ◌||◌, ◌∷◌, ◌≡◌}
@@ -35,7 +35,7 @@ parent_by (alter a o change) = None
 parent_by (test_read a o) = None
 parent_by (test_write a o) = None
 
--- who begins an action by the call: its parent or its creator
+-- the creator of the action that the call begins: its parent or its creator
 abbrev pub begun_by_call : PlainCall → Option ℕ
 begun_by_call (begin_sub parent) = Some parent
 begun_by_call (begin_nested creator) = Some creator
@@ -49,7 +49,7 @@ begun_by_call (alter a o change) = None
 begun_by_call (test_read a o) = None
 begun_by_call (test_write a o) = None
 
--- what is so of the parent of the action that the call begins
+-- what holds of the parent of the action that the call begins
 abbrev pub at_parent : {X : Type 0} → X → Option ℕ → (ℕ → X) → X
 at_parent none None up = none
 at_parent none (Some parent) up = up parent
@@ -62,13 +62,13 @@ is_ancestor_by_entries (e ∷ older) x a =
     (x == a || at_parent false (parent_by e.call) (is_ancestor_by_entries older x)) else
     is_ancestor_by_entries older x a
 
--- the parent of an action; none of a topaction, and of one that hasn't begun
+-- the parent of an action; none for a topaction, and for one that hasn't begun
 abbrev pub parent_by_entries : List PlainEntry → ℕ → Option ℕ
 parent_by_entries [] a = None
 parent_by_entries (e ∷ older) a = if begins e.reply a then parent_by e.call else parent_by_entries
     older a
 
--- who began an action
+-- the creator of an action
 abbrev pub begun_by_entries : List PlainEntry → ℕ → Option ℕ
 begun_by_entries [] a = None
 begun_by_entries (e ∷ older) a = if begins e.reply a then begun_by_call e.call else
@@ -88,16 +88,16 @@ is_under_sibling_by_entries (e ∷ older) c b x =
     || at_parent false (parent_by e.call) (is_under_sibling_by_entries older c b))
     else is_under_sibling_by_entries older c b x
 
--- who is next to answer for what a committed action did
+-- the next owner of what a committed action did
 abbrev pub heir : Option ℕ → Owner
 heir None = Base
 heir (Some parent) = Held (record { 0 = parent })
 
--- x, or nobody once it is over
+-- x, or nobody after it is over
 abbrev pub gone_if : Bool → ActionId → Owner
 gone_if over x = if over then Gone else Held x
 
--- the owner x of some work, after this call was answered
+-- the owner x of some work, after this call with its reply
 abbrev pub owner_then : PlainCall → List PlainEntry → ActionId → Owner
 owner_then (commit b) older x = if b == x.0 then heir (parent_by_entries older b) else Held x
 owner_then (abort b) older x = gone_if (is_ancestor_by_entries older b x.0) x
@@ -122,20 +122,19 @@ owner_next e older (Some Base) = Some Base
 owner_next e older (Some (Held x)) =
     Some (if is_answered e.reply then owner_then e.call older x else Held x)
 
--- who answers for what an action did, where the first action has this number; none where it hasn't
--- begun
+-- the owner of what an action did, if the first action has this number; none if it hasn't begun
 abbrev pub owner_by_entries : ℕ → List PlainEntry → ℕ → Option Owner
 owner_by_entries first [] a = if nat_lt a first then Some Folded else None
 owner_by_entries first (e ∷ older) a =
     if begins e.reply a then Some (Held (record { 0 = a })) else
     owner_next e older (owner_by_entries first older a)
 
--- what is known of the last owner of an action's work, if anything, is what the entries tell
+-- what is known of the last owner of an action's work, if anything, agrees with the entries
 abbrev pub IsOwnerByEntries : ℕ → List PlainEntry → Option (ActionId × Option Owner) → Type 0
 IsOwnerByEntries first j None = Unit {0}
 IsOwnerByEntries first j (Some known) = known.1 ≡ owner_by_entries first j known.0.0
 
--- the last owner of what has this owner now, where that can be said: for good, undone and folded
+-- the last owner of work with this owner now, if that can be said: for good, undone and folded
 -- stay, and what an action holds shares the fate of its own work
 abbrev pub last_owner : Option (ActionId × Option Owner) → Option Owner → Option (Option Owner)
 last_owner known None = None
@@ -145,7 +144,7 @@ last_owner known (Some Base) = Some (Some Base)
 last_owner None (Some (Held x)) = None
 last_owner (Some known) (Some (Held x)) = if known.0.0 == x.0 then Some known.1 else None
 
--- the first other than a to hold its work: this one, or the holder now where there was none
+-- the first other than a to hold its work: this one, or the holder now if there was none
 abbrev pub first_heir : ℕ → ActionId → Option Owner → ActionId
 first_heir a heir None = heir
 first_heir a heir (Some Folded) = heir
@@ -153,8 +152,8 @@ first_heir a heir (Some Gone) = heir
 first_heir a heir (Some Base) = heir
 first_heir a heir (Some (Held x)) = if heir.0 == a then x else heir
 
--- what has this owner counts for the reader: it is there for good, or held by the reader or one
--- above it
+-- work with this owner counts for the reader: it is there for good, or held by the reader or an
+-- ancestor of it
 abbrev pub counts_with : List PlainEntry → Option ActionId → Option Owner → Bool
 counts_with j reader None = false
 counts_with j reader (Some Folded) = false
@@ -188,19 +187,19 @@ abbrev pub is_counted : (ℕ → Bool) → Option ActionId → Bool
 is_counted counts None = false
 is_counted counts (Some a) = counts a.0
 
--- what f leaves of the content, where there is a writer and it counts
+-- what f makes of the content, if there is a writer and it counts
 abbrev pub written_if : (ℕ → Bool) → (Option PlainContent → Option PlainContent) → Option ActionId
     → Option PlainContent
     → Option PlainContent
 written_if counts f writer c = if is_counted counts writer then f c else c
 
--- the content after an entry, where its action writes the object and counts
+-- the content after an entry, if its action writes the object and counts
 abbrev pub replay_next : (ℕ → Bool) → PlainEntry → ℕ → Option PlainContent → Option PlainContent
 replay_next counts e o c = written_if counts (content_after_call e.call)
     (writer_by e.call e.reply o) c
 
--- from the opening on, what each write to the object leaves, in order, where its action counts by
--- the whole journal
+-- from the opening on, what each write to the object leaves, in order, if its action counts by the
+-- whole journal
 abbrev pub replayed : Opening → List PlainEntry → Option ActionId → ℕ → List PlainEntry
     → Option PlainContent
 replayed s j reader o [] = content_in s.objects o

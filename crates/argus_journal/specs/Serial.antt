@@ -1,4 +1,4 @@
--- What a serial run answers.
+-- The answers of a serial run.
 use Rattle.std.specs.Prelude.{List, Option, true, ℕ, ◌≡◌}
 use Rattle.argus_contents.specs.Answer.{flag}
 use Rattle.argus_contents.specs.Change.{outcome}
@@ -11,7 +11,7 @@ use Rattle.argus_entries.specs.Reply.{PlainReply, answered}
 use Rattle.argus_model.specs.Work.{Access, content_before}
 use Rattle.argus_journal.specs.Entries.{entries}
 
--- the call is an access to this object, and is answered so at this content of it
+-- the call is an access to this object, and this is its answer at this content of it
 abbrev pub IsAnsweredAt : PlainCall → PlainReply → ℕ → Option PlainContent → Type 0
 IsAnsweredAt (ask a o query) r i c = (i ≡ o) × (r ≡ answered (reply query c))
 IsAnsweredAt (alter a o change) r i c = (i ≡ o) × (r ≡ answered (outcome change c).1)
@@ -25,7 +25,7 @@ IsAnsweredAt (commit a) r i c = ⊥
 IsAnsweredAt (abort a) r i c = ⊥
 IsAnsweredAt (abort_others a) r i c = ⊥
 
--- an access, run after these, the newest first, gives its reply again
+-- an access, run after these (the newest first), gives its reply again
 abbrev pub AnswersAt : (ℕ → Option PlainContent) → Access PlainEntry → List (Access PlainEntry)
     → Type 0
 AnswersAt contents e earlier =

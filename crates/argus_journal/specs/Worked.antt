@@ -29,7 +29,7 @@ then_calls s j (call ∷ calls) =
 abbrev pub journal : List PlainCall → List PlainEntry
 journal calls = then_calls empty [] calls
 
--- what these calls are answered after the journal
+-- the replies to these calls after the journal
 abbrev pub replies : Opening → List PlainEntry → List PlainCall → List PlainReply
 replies s j [] = []
 replies s j (call ∷ calls) =
@@ -43,7 +43,7 @@ calls_run j = map (λ access. access.what.call) (serial_run empty j)
 abbrev pub calls_run_to : List PlainEntry → ℕ → List PlainCall
 calls_run_to j a = map (λ access. access.what.call) (serial_run_to empty j a)
 
--- the action that answers for some work
+-- the action that owns some work
 abbrev pub held : ℕ → Option Owner
 held a = Some (Held (record { 0 = a }))
 
@@ -88,8 +88,8 @@ refused_in_turn =
     begin_top ∷ begin_sub 1 ∷ ask 1 0 (Field 0) ∷ commit 1 ∷ abort 1 ∷ ask 2 9 (Field 0) ∷ ask 7 0
     (Field 0) ∷ begin_top ∷ ask 3 9 (Field 0) ∷ []
 
--- topaction 2 removes an item of the empty array 2, and has the write lock though it was only
--- signalled
+-- topaction 2 removes an item of the empty array 2, and has the write lock though it got only a
+-- signal
 abbrev pub signal_holds : List PlainCall
 signal_holds =
     declare (shape.arr ty.int) ∷ begin_top ∷ alter 1 2
@@ -153,6 +153,6 @@ abbrev pub chain : ℕ → ℕ → List PlainCall
 chain a zero = []
 chain a (suc n) = begin_sub a ∷ chain (a + 1) n
 
--- every action that there may be was begun before the opening
+-- as many actions as the limit allows were begun before the opening
 abbrev pub full : Opening
 full = record { objects = []; first_action = MAX_ACTIONS; first_entry = 0 }

@@ -1,4 +1,4 @@
--- Journals worked out: which refusal comes first where several apply, and calls at the limits.
+-- Journals worked out: which refusal comes first if several apply, and calls at the limits.
 use Rattle.std.specs.Prelude.{List, [], codes, pos, ℕ, ◌-◌, ◌∷◌}
 use Rattle.argus_contents.specs.Change.{create, set_field}
 use Rattle.argus_contents.specs.Content.{arr}
@@ -12,8 +12,8 @@ use Rattle.argus_entries.specs.Call.{begin_top, commit, declare, test_read, test
 use Rattle.argus_journal.specs.Opening.{Opening}
 use Rattle.argus_journal.specs.Worked.{chain, set_to}
 
--- topaction 2 makes an ill-typed change of object 0, which 1 has written, and asks it a question
--- for arrays
+-- topaction 2 makes an ill-typed change of object 0, which 1 has written, and a query for arrays of
+-- it
 abbrev pub ill_typed_and_held : List PlainCall
 ill_typed_and_held =
     begin_top ∷ alter 1 0 (set_to 1) ∷ begin_top ∷ alter 2 0 (set_field 0 (value.text (codes "x")))
@@ -24,7 +24,7 @@ abbrev pub over_and_suspended : List PlainCall
 over_and_suspended =
     begin_top ∷ begin_nested 1 ∷ abort 1 ∷ commit 1 ∷ ask 1 0 (Field 0) ∷ abort 1 ∷ []
 
--- topaction 1 is suspended by its subaction 2 and asks, changes and tests an object that isn't
+-- topaction 1, suspended by its subaction 2, queries, changes and tests an object that isn't
 -- declared; it may begin a nested topaction
 abbrev pub suspended_and_undeclared : List PlainCall
 suspended_and_undeclared =
@@ -38,7 +38,7 @@ tests_in_order =
     begin_top ∷ commit 1 ∷ test_read 1 9 ∷ test_write 1 9 ∷ test_read 5 9 ∷ test_write 5 9
     ∷ begin_top ∷ test_read 2 9 ∷ test_write 2 9 ∷ []
 
--- topaction 1 asks the absent array 2 for its size, and is signalled; topaction 2 then wants to
+-- topaction 1 asks the absent array 2 for its size, and gets a signal; topaction 2 then wants to
 -- create it
 abbrev pub a_signalled_question : List PlainCall
 a_signalled_question =
@@ -60,19 +60,19 @@ a_live_subaction =
     begin_top ∷ alter 1 0 (set_to 1) ∷ begin_nested 1 ∷ alter 2 1 (set_to 2) ∷ commit 2 ∷ begin_sub 1
     ∷ ask 3 1 (Field 0) ∷ alter 3 0 (set_to 3) ∷ begin_sub 3 ∷ alter 4 1 (set_to 4) ∷ abort 4 ∷ []
 
--- so many actions were begun before the opening
+-- this many actions were begun before the opening
 abbrev pub going_on_at : ℕ → Opening
 going_on_at n = record { objects = []; first_action = n; first_entry = 0 }
 
--- the last action that there may be begins and is aborted; then begins of it, of one that hasn't
--- begun, and of a topaction
+-- the last action that the limit allows begins and is aborted; then begins under it, under one that
+-- hasn't begun, and of a topaction
 abbrev pub the_last_action : List PlainCall
 the_last_action =
     begin_top ∷ abort (MAX_ACTIONS - 1) ∷ begin_sub (MAX_ACTIONS - 1)
     ∷ begin_nested (MAX_ACTIONS - 1)
     ∷ begin_sub MAX_ACTIONS ∷ begin_nested MAX_ACTIONS ∷ begin_top ∷ []
 
--- the last actions that there may be stand one under another, as deep as they may; then begins
+-- the last actions that the limit allows are one under another, as deep as they may be; then begins
 -- under the deepest
 abbrev pub the_last_chain : List PlainCall
 the_last_chain = begin_top ∷ chain (MAX_ACTIONS - MAX_ACTION_DEPTH) 63

@@ -32,7 +32,7 @@ abbrev pub what_they_held_is_free : List PlainCall
 what_they_held_is_free =
     alter 4 0 (set_to 4) ∷ alter 5 1 (set_to 5) ∷ ask 3 1 (Field 0) ∷ commit 2 ∷ []
 
--- an action whose siblings have all ended: no other ends
+-- an action whose siblings have all ended ends no other
 abbrev pub none_is_left : List PlainCall
 none_is_left = begin_top ∷ begin_sub 1 ∷ begin_sub 1 ∷ commit 2 ∷ abort_others 3 ∷ ask 3 0 (Field 0)
     ∷ abort_others 9 ∷ abort_others 2 ∷ []

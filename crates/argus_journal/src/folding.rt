@@ -1,6 +1,6 @@
 //! What a fold keeps: the opening that a legal journal is folded into goes on where the journal
-//! ends. Where the old opening has to be sound or within the limits, the law says so: every
-//! `Journal` has such an opening.
+//! ends. If the old opening has to be sound or within the limits, the law says so: every `Journal`
+//! has such an opening.
 ghost use Rattle.std.specs.Prelude.{◌≡◌, ◌<◌, ◌≤◌, ◌++◌, [], List, Option, length, map, true, ℕ};
 ghost use Rattle.argus_contents.specs.Content.{PlainContent};
 ghost use Rattle.argus_contents.specs.Shape.{PlainShape};
@@ -14,8 +14,8 @@ ghost use Rattle.argus_journal.specs.JournalFacts.{base_of, effects_of, next_act
 ghost use Rattle.argus_journal.specs.declared.limits.TheConstants.{MAX_FIRST_ENTRY};
 ghost use Rattle.argus_model.specs.Effects.{table};
 
-/// The fold is an opening as it has to be: its contents fit, and it is within the limits. With no
-/// entry yet it is a legal journal.
+/// The fold is a sound opening: its contents fit, and it is within the limits. Without entries it
+/// is a legal journal.
 pub fn a_fold_is_an_opening()
     ensures sound { (s : Opening) (j : List PlainEntry) → is_sound s ≡ true → Legal s j
         → is_sound (fold s j) ≡ true }
@@ -24,8 +24,8 @@ pub fn a_fold_is_an_opening()
     ensures legal { (s : Opening) (j : List PlainEntry) → Legal (fold s j) [] }
 {}
 
-/// Objects of the journal's shapes, each with what is in it for good, and the next numbers make the
-/// fold: so a guardian makes it of what it keeps.
+/// Objects of the journal's shapes, each with its base, and the next numbers make the fold. So a
+/// guardian makes it from what it keeps.
 pub fn what_makes_a_fold()
     ensures { (s : Opening) (j : List PlainEntry)
         (objects : List (PlainShape × Option PlainContent)) (first : ℕ)
@@ -35,7 +35,7 @@ pub fn what_makes_a_fold()
         → opening_at objects first (next_entry_number s j) ≡ fold s j }
 {}
 
-/// Objects, shapes and what is there for good stay, and so do the numbers that come next.
+/// Objects, shapes and bases stay, and so do the numbers that come next.
 pub fn a_fold_goes_on()
     ensures shapes { (s : Opening) (j : List PlainEntry) → shapes (fold s j) [] ≡ shapes s j }
     ensures base { (s : Opening) (j : List PlainEntry) (o : ℕ) → is_sound s ≡ true → Legal s j
@@ -46,9 +46,8 @@ pub fn a_fold_goes_on()
         → next_entry_number (fold s j) [] ≡ next_entry_number s j }
 {}
 
-/// Effects go on across the fold: the table from the old opening over the old effects and later
-/// ones is the table from the fold over the later ones. So it is what the later entries leave for
-/// good.
+/// Effects go on across the fold: the old opening with the old effects and the later ones makes the
+/// same table as the fold with the later ones. So it is what the later entries leave for good.
 pub fn effects_go_on()
     ensures table { (s : Opening) (j : List PlainEntry) (later : List (List
         (ℕ × Option PlainContent)))

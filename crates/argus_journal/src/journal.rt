@@ -1,4 +1,4 @@
-//! `Journal`: the calls of a guardian in order, with what they were answered.
+//! `Journal`: the calls of a guardian in order, with their replies.
 
 ghost use Rattle.std.specs.Prelude.{◌≡◌, ◌<◌, ◌≤◌, ◌+◌, [], ◌∷◌, length, map, slice_get, true};
 ghost use Rattle.std.specs.Prelude.{IfOk, OnOk};
@@ -18,8 +18,8 @@ use argus_memory::{Heap, OutOfMemory, Room};
 /// The calls that were made to a guardian, in order, each with its reply.
 ///
 /// It begins with an opening: objects with their shapes and contents, and how many actions and
-/// entries went before. Contracts see the opening, the entries (the newest first), and for how many
-/// more entries there is room.
+/// entries went before. Contracts see the opening, the entries (the newest first), and room for how
+/// many more entries there is.
 ///
 /// ```text
 /// let mut journal = Journal::new(heap);
@@ -44,7 +44,7 @@ impl Journal {
     ghost use Rattle.argus_journal.specs.Journal.{plain_entry_found};
     ghost use Rattle.argus_journal.specs.Journal.{plain_opened, room_of};
 
-    /// A journal with no entry, of no object and no action. It takes no memory.
+    /// A journal without entries, objects and actions. It takes no memory.
     pub fn new(heap: Heap) -> Journal
         ensures opening { opening_of result ≡ empty }
         ensures entries { entries_of result ≡ [] }
@@ -52,11 +52,11 @@ impl Journal {
         Journal::starting_at(heap, Vec::new(heap.room()), 0, 0)
     }
 
-    /// A journal with no entry that goes on where another ended: with these objects, in the order
-    /// of their numbers, and so many actions and entries before it. It takes no memory.
+    /// A journal without entries that goes on where another ended: with these objects, in the order
+    /// of their numbers, and this many actions and entries before it. It takes no memory.
     ///
     /// At most `MAX_OBJECTS` objects, at most `MAX_ACTIONS` actions, at most `MAX_FIRST_ENTRY`
-    /// entries; each content fits its shape, where all these objects are declared.
+    /// entries; each content fits its shape, with all these objects declared.
     pub fn starting_at(
         heap: Heap,
         objects: Vec<(Shape, Option<Content>), Room>,
@@ -94,8 +94,8 @@ impl Journal {
         self.first_action
     }
 
-    /// What the opening says of an object: its shape, and its content if there is one. None where
-    /// the opening hasn't the object. Each content there fits its shape.
+    /// What the opening says of an object: its shape, and its content if there is one. `None` if
+    /// the opening doesn't have the object. Each content in it fits its shape.
     pub fn opening(&self, o: ObjId) -> Option<(&Shape, &Option<Content>)>
         ensures object { plain_opened result ≡ slice_get (opening_of self.now).objects o.0 }
         ensures sound { is_sound (opening_of self.now) ≡ true }
@@ -106,8 +106,7 @@ impl Journal {
         }
     }
 
-    /// Makes room for one more entry. The room that was there stays, and after `OutOfMemory` all is
-    /// as before.
+    /// Makes room for one more entry. No room is lost, and after `OutOfMemory` nothing has changed.
     #[inline(always)]
     pub fn reserve(&mut self) -> Result<(), OutOfMemory>
         ensures opening { opening_of self.new ≡ opening_of self.old }
@@ -121,7 +120,7 @@ impl Journal {
         self.grow()
     }
 
-    // The same where there is no room: seldom, so it stands out of line.
+    // The same if there is no room; it is rare, so it isn't inlined.
     #[inline(never)]
     fn grow(&mut self) -> Result<(), OutOfMemory>
         ensures opening { opening_of self.new ≡ opening_of self.old }
@@ -133,7 +132,7 @@ impl Journal {
         Ok(())
     }
 
-    /// Puts an entry at the end, in the room that is there. It takes no memory.
+    /// Appends an entry, in the reserved room. It takes no memory.
     pub fn push(&mut self, entry: Entry)
         requires { 0 < room_of self.old }
         ensures opening { opening_of self.new ≡ opening_of self.old }
@@ -143,9 +142,8 @@ impl Journal {
         self.entries.push_reserved(entry);
     }
 
-    /// Folds the entries into the opening: these are the objects of its fold, with what is in them
-    /// for good, and the number of the next action. It takes no memory, and gives back the room of
-    /// the entries.
+    /// Folds the entries into the opening: these are the objects of its fold, with their bases, and
+    /// the number of the next action. It takes no memory, and frees the room of the entries.
     ///
     /// The journal has to be legal, and the number of its next entry at most `MAX_FIRST_ENTRY`.
     pub fn fold(&mut self, objects: Vec<(Shape, Option<Content>), Room>, first_action: u32)
@@ -173,8 +171,7 @@ impl Journal {
         self.first_entry + self.entries.len() as u64
     }
 
-    /// The entry with this number. None where it is the number of no entry, or of one before the
-    /// opening.
+    /// The entry with this number. `None` if there is no such entry, or it came before the opening.
     pub fn get(&self, at: u64) -> Option<&Entry>
         ensures { plain_entry_found result ≡ entry_at (opening_of self.now)
             (entries_of self.now) at }
@@ -192,7 +189,7 @@ impl Journal {
         self.entries.as_slice()
     }
 
-    /// A copy of what the object held in the opening; none where it wasn't declared.
+    /// A copy of what the object held in the opening; none if it wasn't declared.
     pub(crate) fn opening_content(
         &self,
         heap: Heap,

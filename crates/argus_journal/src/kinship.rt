@@ -1,5 +1,5 @@
-//! Parents, creators and ancestors, as the entries tell: the entries from the newest to the begin
-//! of the topmost action that is asked for are gone through.
+//! Parents, creators and ancestors from the entries: a scan from the newest entry to the begin of
+//! the topmost action that is asked about.
 
 ghost use Rattle.std.specs.Prelude.{◌≡◌, None, Option, Some};
 ghost use Rattle.argus_actions.specs.declared.action_id.ActionId.{ActionId};
@@ -45,7 +45,7 @@ fn begun_by_call(call: &Call) -> Option<ActionId>
     }
 }
 
-/// The parent of the action; none of a topaction.
+/// The parent of the action; none for a topaction.
 pub(crate) fn parent_of(entries: &[Entry], a: ActionId) -> Option<ActionId>
     ensures { action_number_of result ≡ by_entries.parent_by_entries
         (newest_first entries.now) a.0 }
@@ -60,7 +60,7 @@ pub(crate) fn parent_of(entries: &[Entry], a: ActionId) -> Option<ActionId>
     None
 }
 
-/// Who began the action: its parent or its creator.
+/// The action that began it: its parent or its creator.
 pub(crate) fn begun_by(entries: &[Entry], a: ActionId) -> Option<ActionId>
     ensures { action_number_of result ≡ by_entries.begun_by_entries (newest_first entries.now) a.0 }
 {

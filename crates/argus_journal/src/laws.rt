@@ -1,4 +1,4 @@
-//! What holds of every legal journal, whatever its opening, in the program's numbers. Where the
+//! What holds of every legal journal, whatever its opening, in the program's numbers. If the
 //! opening has to be sound or within the limits, the law says so: every `Journal` has such an
 //! opening.
 ghost use Rattle.std.specs.Prelude.{◌≡◌, ◌<◌, ◌≤◌, ◌∷◌, ◌++◌, ◌||◌, ◌↔◌, List, Option};
@@ -35,9 +35,8 @@ pub fn history_is_lawful()
         → Lawful entries (model_opening s) (history s j) }
 {}
 
-/// Of one who holds an object for writing and any other holder of it, one is an ancestor of the
-/// other (Moss 1981, locking rules). So the writers, which are listed in increasing number, are
-/// listed from ancestor to descendant.
+/// Of an object's write holder and any other holder, one is an ancestor of the other (Moss 1981,
+/// locking rules). So the writers, listed in increasing number, go from ancestor to descendant.
 pub fn exclusion()
     ensures related { (s : Opening) (j : List PlainEntry) (o x y : ℕ) → Legal s j
         → contains (writers_of s j o) x ≡ true
@@ -51,8 +50,8 @@ pub fn exclusion()
         → is_live_in s j x ≡ true }
 {}
 
-/// What is in an object for good is what the serial run leaves in it: the work of the committed
-/// topactions, one after another in the order of their commits.
+/// An object's base is what the serial run leaves in it: the work of the committed topactions, one
+/// after another in the order of their commits.
 pub fn base_is_serial()
     ensures { (s : Opening) (j : List PlainEntry) (o : ℕ) → Legal s j
         → content_after entries (content_in s.objects) o (serial_run s j) ≡ base_of s j o }
@@ -60,8 +59,8 @@ pub fn base_is_serial()
 
 /// The committed topactions, run one after another in the order of their commits from the contents
 /// of the opening, and within each action its committed subactions likewise, give each reply again:
-/// every access is answered by what its object holds just before it. They leave in each object what
-/// is there for good.
+/// every access gets its answer from what its object holds just before it. They leave each object's
+/// base in it.
 pub fn committed_work_runs_again()
     ensures answers { (s : Opening) (j : List PlainEntry) → Legal s j
         → AnswersAgain entries (content_in s.objects) (reverse (serial_run s j)) }
@@ -74,15 +73,15 @@ pub fn committed_work_runs_again()
         → run entries (content_in s.objects) (reverse (serial_run s j)) o ≡ base_of s j o }
 {}
 
-/// Nothing is left out of that run, and nothing stands in it twice: in another order perhaps, it is
-/// the accesses of all actions whose work is there for good.
+/// That run leaves nothing out, and has nothing twice: it is the accesses of all actions whose work
+/// is there for good, perhaps in another order.
 pub fn committed_work_is_complete()
     ensures { (s : Opening) (j : List PlainEntry) → Legal s j
         → IsPermutation (serial_run s j) (accesses_for_good s j) }
 {}
 
-/// That run, followed by the work of a live action's ancestors, the topmost first, and its own, gives
-/// each reply again, too; it leaves in each object what the action sees.
+/// That run, followed by the work of a live action's ancestors, the topmost first, and its own,
+/// gives each reply again, too. It leaves in each object what the action sees.
 pub fn live_work_runs_again()
     ensures begins { (s : Opening) (j : List PlainEntry) (a : ℕ) → Legal s j
         → is_live_in s j a ≡ true
@@ -101,8 +100,8 @@ pub fn live_work_runs_again()
         ≡ visible_to s j a o }
 {}
 
-/// What is in an object for good, and what an action sees in it, is absent or fits the object's
-/// shape with the objects declared so far. Of the opening this has to hold.
+/// An object's base, and what an action sees in it, is absent or fits the object's shape with the
+/// objects declared so far, if this holds of the opening.
 pub fn contents_fit()
     ensures base { (s : Opening) (j : List PlainEntry) (o : ℕ) → is_sound s ≡ true → Legal s j
         → fits_shape (shape_of s j o) (declared s j) (base_of s j o) ≡ true }
@@ -120,14 +119,14 @@ pub fn what_fits()
         → OccursIn r c → r < declared s j }
 {}
 
-/// A reference stands in the list of a content's references exactly where it occurs in the content.
+/// A reference is in the list of a content's references exactly if it occurs in the content.
 pub fn references_are_all()
     ensures { (c : Option PlainContent) (r : ℕ)
         → (contains (references_in c) r ≡ true) ↔ OccursIn r c }
 {}
 
-/// The table of the effects is what is in each object for good. The commit of a topaction adds its
-/// effect, the empty one too, and no other entry adds any.
+/// The table of the effects has each object's base. The commit of a topaction adds its effect, even
+/// an empty one, and no other entry adds any.
 pub fn table_of_effects()
     ensures base { (s : Opening) (j : List PlainEntry) (o : ℕ) → Legal s j
         → table (content_in s.objects) (effects_of s j) o ≡ base_of s j o }
@@ -138,8 +137,8 @@ pub fn table_of_effects()
         → contains (written_by s j a) o ≡ contains (writers_of s j o) a }
 {}
 
-/// From an opening within the limits on, as many objects are declared and actions begun as there
-/// may be, and no more.
+/// From an opening within the limits on, no more objects are declared and actions begun than the
+/// limits allow.
 pub fn numbers_stay_within_limits()
     ensures objects { (s : Opening) (j : List PlainEntry) → KeepsNumbers s → Legal s j
         → declared s j ≤ MAX_OBJECTS }

@@ -15,8 +15,8 @@ use argus_contents::{Content, Shape};
 use argus_entries::Entry;
 use argus_memory::{Heap, OutOfMemory, Room};
 
-/// A journal of which it is known that each reply is the answer of the entries before it. So every
-/// law of a legal journal holds of it, and its opening is sound and within the limits.
+/// A journal in which each reply is known to be the answer of the entries before it. So every law
+/// of a legal journal holds of it, and its opening is sound and within the limits.
 ///
 /// ```text
 /// let mut kept = LegalJournal::new(heap);
@@ -33,7 +33,7 @@ pub struct LegalJournal {
 impl LegalJournal {
     ghost use Rattle.argus_journal.specs.LegalJournal.{entries_in, opening_in, room_in};
 
-    /// A journal with no entry, of no object and no action. It takes no memory.
+    /// A journal without entries, objects and actions. It takes no memory.
     pub fn new(heap: Heap) -> LegalJournal
         ensures opening { opening_in result ≡ empty }
         ensures entries { entries_in result ≡ [] }
@@ -43,7 +43,7 @@ impl LegalJournal {
         }
     }
 
-    /// A journal with no entry that goes on where another ended, as `Journal::starting_at` makes
+    /// A journal without entries that goes on where another ended, as `Journal::starting_at` makes
     /// it. It takes no memory.
     pub fn starting_at(
         heap: Heap,
@@ -63,7 +63,7 @@ impl LegalJournal {
         }
     }
 
-    /// The journal, to be read: it is legal, and its opening sound and within the limits.
+    /// The journal, for reading: it is legal, and its opening is sound and within the limits.
     pub fn journal(&self) -> &Journal
         ensures opening { opening_of result.now ≡ opening_in self.now }
         ensures entries { entries_of result.now ≡ entries_in self.now }
@@ -74,8 +74,7 @@ impl LegalJournal {
         &self.journal
     }
 
-    /// Makes room for one more entry. The room that was there stays, and after `OutOfMemory` all is
-    /// as before.
+    /// Makes room for one more entry. No room is lost, and after `OutOfMemory` nothing has changed.
     #[inline(always)]
     pub fn reserve(&mut self) -> Result<(), OutOfMemory>
         ensures opening { opening_in self.new ≡ opening_in self.old }
@@ -86,8 +85,7 @@ impl LegalJournal {
         self.journal.reserve()
     }
 
-    /// Puts an entry at the end whose reply is the answer, in the room that is there. It takes no
-    /// memory.
+    /// Appends an entry whose reply is the answer, in the reserved room. It takes no memory.
     #[inline(always)]
     pub fn push(&mut self, entry: Entry)
         requires room { 0 < room_in self.old }
@@ -100,8 +98,8 @@ impl LegalJournal {
         self.journal.push(entry);
     }
 
-    /// Folds the entries into the opening, as `Journal::fold` does. It takes no memory, and
-    /// gives back the room of the entries.
+    /// Folds the entries into the opening, as `Journal::fold` does. It takes no memory, and frees
+    /// the room of the entries.
     pub fn fold(&mut self, objects: Vec<(Shape, Option<Content>), Room>, first_action: u32)
         requires numbered { next_entry_number (opening_in self.old) (entries_in self.old)
             ≤ MAX_FIRST_ENTRY }

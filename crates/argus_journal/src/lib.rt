@@ -1,11 +1,10 @@
-//! The journal of a guardian: which calls were made and what they were answered, when such a list
-//! is legal, what it says of each object, and the laws of every legal journal.
+//! The journal of a guardian: which calls were made with which replies, when such a list is legal,
+//! what it says of each object, and the laws of every legal journal.
 //!
 //! The definitions are in specs/: the answer of a call after a journal (the first refusal that
-//! applies, or else what it asked for), legal journals, the history that a journal tells in the
-//! words of `argus_model`, and who holds an object, what an action sees in it and what is in it for
-//! good. What contracts say of actions is in the program's numbers; those of the history are one
-//! more.
+//! applies, or otherwise what it asked for), legal journals, the history of a journal in the terms
+//! of `argus_model`, and who holds an object, what an action sees in it and what its base is. What
+//! contracts say of actions is in the program's numbers; those of the history are one more.
 //!
 //! | Module | Its laws |
 //! |---|---|
@@ -14,8 +13,8 @@
 //! | `folding` | what a checkpoint keeps |
 //! | `worked` | journals worked out |
 //!
-//! No function of these modules does anything when it is called: each carries laws, which hold of
-//! every legal journal, whatever its opening.
+//! No function of these modules does anything when it is called: each has laws, which hold of every
+//! legal journal, whatever its opening.
 #![tactic(auto)]
 
 pub mod folding;

@@ -1,6 +1,5 @@
 //! What one more entry of a legal journal changes, by what it says happened, in the program's
-//! numbers: who is live, who holds an object, what an action sees in it, and what is in it for
-//! good.
+//! numbers: which actions are live, who holds an object, what an action sees in it, and its base.
 //!
 //! | | nothing | a begins | an access of a | a commits, p its parent | some are aborted |
 //! |---|---|---|---|---|---|
@@ -36,8 +35,8 @@ pub fn nothing_happens()
         → history s (e ∷ j) ≡ history s j }
 {}
 
-/// An action begins: it is live, and sees what its parent sees or what is there for good; of the
-/// others all stays.
+/// An action begins: it is live, and sees what its parent sees or what is there for good; nothing
+/// changes for the others.
 pub fn a_begin()
     ensures live { (s : Opening) (e : PlainEntry) (j : List PlainEntry) (from : Origin) (x : ℕ)
         → Legal s (e ∷ j) → happens s e j ≡ Some (Began from)
@@ -66,8 +65,8 @@ pub fn a_begin()
         → base_of s (e ∷ j) o ≡ base_of s j o }
 {}
 
-/// An access that was granted: its action becomes a holder, and sees what the access left; of the
-/// others all stays.
+/// An access that was granted: its action becomes a holder, and sees what the access left; nothing
+/// changes for the others.
 pub fn an_access()
     ensures live { (s : Opening) (e : PlainEntry) (j : List PlainEntry) (a i x : ℕ)
         → Legal s (e ∷ j) → happens s e j ≡ Some (Accessed (in_history a) i e)
@@ -94,8 +93,9 @@ pub fn an_access()
         → base_of s (e ∷ j) o ≡ base_of s j o }
 {}
 
-/// A commit: the parent takes the place of the action as holder, and who stands under the parent
-/// sees what the action saw, where the action has written. Of a topaction, that is there for good.
+/// A commit: the parent takes the place of the action as holder, and in the objects that the action
+/// has written, the actions under the parent see what it saw. For a topaction, that is there for
+/// good.
 pub fn a_commit()
     ensures live { (s : Opening) (e : PlainEntry) (j : List PlainEntry) (a x : ℕ)
         → Legal s (e ∷ j) → happens s e j ≡ Some (Committed (in_history a))
@@ -119,8 +119,8 @@ pub fn a_commit()
         then visible_to s j a o else base_of s j o) }
 {}
 
-/// An abort of some actions in one step: all that stand under them are over, and what they held is
-/// free; of the others all stays. `AbortOthers` aborts the live siblings of its action.
+/// An abort of some actions in one step: all actions under them are over, and what they held is
+/// free; nothing changes for the others. `AbortOthers` aborts the live siblings of its action.
 pub fn an_abort()
     ensures siblings { (s : Opening) (e : PlainEntry) (j : List PlainEntry) (a : ℕ)
         → e.call ≡ abort_others a → is_answered e.reply ≡ true

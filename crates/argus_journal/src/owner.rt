@@ -1,8 +1,8 @@
-//! `Owner`: who answers for what an action did.
+//! `Owner`: the owner of what an action did.
 
 use argus_actions::ActionId;
 
-/// Who answers for what an action did: itself until it commits, and then whoever answers for its
+/// The owner of what an action did: the action itself until it commits, and then the owner of its
 /// parent.
 ///
 /// Source: inheritance of locks (Moss, Nested Transactions, MIT/LCS/TR-260, 1981).

@@ -1,4 +1,4 @@
-//! `owner_of`: who answers for what an action did.
+//! `owner_of`: the owner of what an action did.
 
 ghost use Rattle.std.specs.Prelude.{◌≡◌, Some, false, if◌then◌else◌};
 ghost use Rattle.argus_entries.specs.Call.{plain_call};
@@ -17,11 +17,11 @@ use crate::owner::Owner;
 use argus_actions::ActionId;
 use argus_entries::{Call, Entry, Reply};
 
-/// Who answers for what the action did. None where it hasn't begun, `Folded` where it was begun
-/// before the opening.
+/// The owner of what the action did. `None` if it wasn't begun, `Folded` if it was begun before the
+/// opening.
 ///
-/// The journal has to be legal, as a guardian's is. The entries are gone through until the action's
-/// owner is settled; this is for audits. It takes no memory.
+/// The journal has to be legal, as a guardian's is. It scans the entries until the action's owner
+/// is known; it is for audits. It takes no memory.
 pub fn owner_of(journal: &Journal, a: ActionId) -> Option<Owner>
     requires { Legal (opening_of journal.now) (entries_of journal.now) }
     ensures { result ≡ owner_in (opening_of journal.now) (entries_of journal.now) a.0 }
@@ -35,11 +35,11 @@ pub fn owner_of(journal: &Journal, a: ActionId) -> Option<Owner>
     owner_from(journal, 0, a, opened, &mut None)
 }
 
-/// Who answers for what the action did, where this is who did after so many entries.
+/// The owner of what the action did, given the owner after this many entries.
 ///
-/// The last owner of one action may be known. It is used where that action comes to hold the work;
-/// afterwards that of the work's first heir is known. So the entries of a long action are gone
-/// through once, and not for each of its writes or subactions.
+/// The last owner of one action may be known. It is used when that action comes to hold the work;
+/// afterwards that of the work's first heir is known. So the entries of a long action are scanned
+/// once, and not for each of its writes or subactions.
 pub(crate) fn owner_from(
     journal: &Journal,
     from: usize,
@@ -76,7 +76,7 @@ pub(crate) fn owner_from(
     owner
 }
 
-// The last owner of what has this owner now, where that can be said.
+// The last owner of work with this owner now, if that can be said.
 fn last_owner(
     known: Option<(ActionId, Option<Owner>)>,
     owner: Option<Owner>,
@@ -99,7 +99,7 @@ fn last_known(known: Option<(ActionId, Option<Owner>)>, x: ActionId) -> Option<O
     }
 }
 
-// The first other than a to hold its work, where this was the first so far, or a itself.
+// The first other than a to hold its work, if this was the first so far, or a itself.
 fn first_heir(a: ActionId, heir: ActionId, owner: Option<Owner>) -> ActionId
     ensures { result ≡ by_entries.first_heir a.0 heir owner }
 {
@@ -156,7 +156,7 @@ fn gone_if(over: bool, x: ActionId) -> Owner
     if over { Owner::Gone } else { Owner::Held(x) }
 }
 
-// Who is next to answer for what the action did, once it commits.
+// The next owner of what the action did, once it commits.
 fn heir_of(entries: &[Entry], a: ActionId) -> Owner
     ensures { result ≡ by_entries.heir (by_entries.parent_by_entries
         (newest_first entries.now) a.0) }

@@ -22,12 +22,12 @@ use argus_contents::{Answer, Content, ObjId, alter_in_place};
 use argus_entries::{Call, Entry, Reply};
 use argus_memory::{Heap, OutOfMemory};
 
-/// What the action sees in the object: what was written for good, and what was written by those
-/// whose owner is the action or an ancestor of it. Absent where the object isn't declared.
+/// What the action sees in the object: what was written for good, and what was written by actions
+/// whose owner is the action or an ancestor of it. Absent if the object isn't declared.
 ///
-/// The journal has to be legal, as a guardian's is. All entries are gone through, and for a write
-/// of the object those after it until its last owner is known; this is for audits. `OutOfMemory`:
-/// there was no memory for a copy of what the opening or a change has, or for a longer array.
+/// The journal has to be legal, as a guardian's is. It scans all entries, and for each write of the
+/// object those after it until its last owner is known; it is for audits. `OutOfMemory`: there was
+/// no memory for a copy of what the opening or a change has, or for a longer array.
 pub fn replay_for(
     heap: Heap,
     journal: &Journal,
@@ -41,11 +41,11 @@ pub fn replay_for(
     replay(heap, journal, Some(h), o)
 }
 
-/// What is in the object for good. Absent where the object isn't declared.
+/// The object's base. Absent if the object isn't declared.
 ///
-/// The journal has to be legal, as a guardian's is. All entries are gone through, and for a write
-/// of the object those after it until its last owner is known; this is for audits. `OutOfMemory`:
-/// there was no memory for a copy of what the opening or a change has, or for a longer array.
+/// The journal has to be legal, as a guardian's is. It scans all entries, and for each write of the
+/// object those after it until its last owner is known; it is for audits. `OutOfMemory`: there was
+/// no memory for a copy of what the opening or a change has, or for a longer array.
 pub fn replay_base(heap: Heap, journal: &Journal, o: ObjId) -> Result<Option<Content>, OutOfMemory>
     requires { Legal (opening_of journal.now) (entries_of journal.now) }
     ensures { IfOk result (λ content. plain_option content
@@ -78,7 +78,7 @@ fn replay(
     Ok(content)
 }
 
-// Whether this entry, the last of so many, writes the object by an action that counts for the
+// Whether this entry, the last of this many, writes the object by an action that counts for the
 // reader.
 fn is_counted(
     journal: &Journal,
@@ -150,7 +150,7 @@ fn truth_of(answer: &Answer) -> bool
     }
 }
 
-// Whether what has this owner counts for the reader.
+// Whether work with this owner counts for the reader.
 fn counts(entries: &[Entry], reader: Option<ActionId>, owner: Option<Owner>) -> bool
     ensures { result ≡ by_entries.counts_with (newest_first entries.now) reader owner }
 {
@@ -164,7 +164,7 @@ fn counts(entries: &[Entry], reader: Option<ActionId>, owner: Option<Owner>) -> 
     }
 }
 
-// What the entry's call leaves of the content.
+// What the entry's call makes of the content.
 fn write(heap: Heap, entry: &Entry, content: &mut Option<Content>) -> Result<(), OutOfMemory>
     requires { KeepsLimits (plain_option content.old) }
     ensures { OnOk result (plain_option content.new

@@ -1,10 +1,10 @@
 //! Journals worked out. Each has two records of a number, objects 0 and 1, which topaction 0 has
 //! created with 0 in them.
-ghost use Rattle.std.specs.Prelude.{◌≡◌, true, false, Some, [], ◌∷◌, ◌++◌, codes, map, pos};
+ghost use Rattle.std.specs.Prelude.{◌≡◌, true, false, None, Some, [], ◌∷◌, ◌++◌, codes, map, pos};
 ghost use Rattle.argus_contents.specs.Answer.{body, done, flag, num, signal, val};
 ghost use Rattle.argus_contents.specs.Change.{create};
 ghost use Rattle.argus_contents.specs.Content.{arr, var};
-ghost use Rattle.argus_contents.specs.Value.{int, text};
+ghost use Rattle.argus_contents.specs.Value.{atomic, choice, int, text};
 ghost use Rattle.argus_contents.specs.declared.query.Query.TheVariants.{Field};
 ghost use Rattle.argus_contents.specs.declared.signal.Signal.TheVariants.{Bounds, WrongTag};
 ghost use Rattle.argus_entries.specs.Call.{abort, alter, ask, begin_top, commit, test_read};
@@ -17,8 +17,9 @@ ghost use Rattle.argus_entries.specs.declared.refusal.Refusal.TheVariants.{TooDe
 ghost use Rattle.argus_journal.specs.declared.owner.Owner.TheVariants.{Base, Gone};
 ghost use Rattle.argus_journal.specs.Opening.{empty};
 ghost use Rattle.argus_journal.specs.JournalFacts.{base_of, committed_in, effects_of, owner_in};
-ghost use Rattle.argus_journal.specs.JournalFacts.{readers_of};
+ghost use Rattle.argus_journal.specs.JournalFacts.{holders_inherited, readers_of};
 ghost use Rattle.argus_journal.specs.JournalFacts.{versions_of, writers_of};
+ghost use Rattle.argus_journal.specs.References.{references_in};
 ghost use Rattle.argus_journal.specs.Worked.{chain, full, held, holding, journal, prepared};
 ghost use Rattle.argus_journal.specs.Worked.{calls_run, replies, set_to};
 ghost use Rattle.argus_journal.specs.Worked.{all_wait, nested_outlives, reference_waits};
@@ -62,7 +63,7 @@ pub fn a_subaction_commits()
         versions_of empty (journal (prepared ++ sub_writes ++ ends)) 0 ≡ [] }
 {}
 
-/// Two subactions read an object; one may write it once the other has committed, since then their
+/// Two subactions read an object; one may write it after the other has committed, since then their
 /// parent is the other reader.
 pub fn readers_are_inherited()
     ensures replies { replies empty (journal prepared) two_read
@@ -85,7 +86,7 @@ pub fn a_nested_topaction_outlives_its_creator()
         ≡ Some (holding 0) ∷ Some (holding 8) ∷ [] }
 {}
 
-/// Who has a live child is suspended, and an abort ends the child, too.
+/// An action with a live child is suspended, and its abort ends the child, too.
 pub fn refusals_come_in_order()
     ensures { replies empty (journal prepared) refused_in_turn
         ≡ begun 1 ∷ begun 2 ∷ refused Suspended ∷ refused Suspended ∷ answered done ∷ refused Over
@@ -118,10 +119,11 @@ pub fn what_suits_no_shape_is_refused()
         ≡ answered done ∷ answered (body (var 1 (text (codes "no")))) ∷ [] }
 {}
 
-/// A reference suits once its object is declared.
+/// A reference suits only after its object is declared.
 pub fn a_reference_waits_for_its_object()
-    ensures { replies empty (journal prepared) reference_waits
+    ensures replies { replies empty (journal prepared) reference_waits
         ≡ object 2 ∷ begun 1 ∷ refused IllTyped ∷ object 3 ∷ answered done ∷ [] }
+    ensures within_a_choice { references_in (Some (var 0 (choice 1 (atomic 3)))) ≡ 3 ∷ [] }
 {}
 
 /// A test that says yes takes its lock, and a test for writing makes a version; one that says no
@@ -133,6 +135,9 @@ pub fn tests_take_locks()
     ensures none { versions_of empty (journal (prepared ++ tests_no)) 0 ≡ [] }
     ensures both { readers_of empty (journal (prepared ++ tests_no ++ test_read 2 0 ∷ [])) 0
         ≡ 1 ∷ 2 ∷ [] }
+    ensures given_back { holders_inherited 1 None (1 ∷ 2 ∷ []) ≡ 2 ∷ []
+        × readers_of empty (journal (prepared ++ tests_no ++ test_read 2 0 ∷ commit 1 ∷ [])) 0
+        ≡ 2 ∷ [] }
     ensures then { let ends = test_read 2 0 ∷ commit 1 ∷ test_write 2 0 ∷ [] in
         replies empty (journal (prepared ++ tests_no)) ends
         ≡ answered (flag true) ∷ answered done ∷ answered (flag true) ∷ [] }

@@ -12,8 +12,7 @@ ghost use Rattle.argus_journal.specs.Opening.{empty};
 ghost use Rattle.argus_journal.specs.Worked.{holding, journal, prepared, replies, then_calls};
 ghost use Rattle.argus_journal.specs.WorkedOpenings.{checkpointed, going_on, under_the_folded};
 
-/// The fold has the objects with what was there for good, and the next numbers; what was begun
-/// before is over.
+/// The fold has the objects with their bases, and the next numbers; what was begun before is over.
 pub fn the_past_is_folded()
     ensures fold { fold empty (journal prepared) ≡ checkpointed }
     ensures replies { replies checkpointed [] going_on

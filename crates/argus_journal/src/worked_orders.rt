@@ -1,5 +1,5 @@
-//! Journals worked out: which refusal comes first where several apply, what a lone question and a
-//! lone test hold, and calls at the limits. Objects 0 and 1 are as in `worked`.
+//! Journals worked out: which refusal comes first if several apply, which locks a single query and
+//! a single test take, and calls at the limits. Objects 0 and 1 are as in `worked`.
 ghost use Rattle.std.specs.Prelude.{◌≡◌, ◌-◌, ◌∷◌, ◌++◌, [], Some, length, pos, true};
 ghost use Rattle.argus_contents.specs.Answer.{done, flag, signal, val};
 ghost use Rattle.argus_contents.specs.Shape.{PlainShape};
@@ -28,7 +28,7 @@ ghost use Rattle.argus_journal.specs.WorkedOrders.{the_last_action, the_last_cha
 ghost use Rattle.argus_journal.specs.WorkedOrders.{under_the_deepest};
 
 /// A change that doesn't suit the object's shape is refused for that, whoever holds the object; so
-/// is a question for another kind of object.
+/// is a query for another kind of object.
 pub fn ill_typed_before_conflict()
     ensures { replies empty (journal prepared) ill_typed_and_held
         ≡ begun 1 ∷ answered done ∷ begun 2 ∷ refused IllTyped ∷ refused IllTyped ∷ refused Conflict
@@ -41,7 +41,7 @@ pub fn over_before_suspended()
         ≡ begun 1 ∷ begun 2 ∷ answered done ∷ refused Over ∷ refused Over ∷ refused Over ∷ [] }
 {}
 
-/// A suspended action is refused before its object is looked for; it may begin another child.
+/// A suspended action is refused before its object is looked up; it may begin another child.
 pub fn suspended_before_no_object()
     ensures { replies empty (journal prepared) suspended_and_undeclared
         ≡ begun 1 ∷ begun 2 ∷ refused Suspended ∷ refused Suspended ∷ refused Suspended
@@ -56,7 +56,7 @@ pub fn tests_are_refused_in_order()
         ∷ begun 2 ∷ refused NoObject ∷ refused NoObject ∷ [] }
 {}
 
-/// A question that was signalled holds its read lock.
+/// A query that returned a signal holds its read lock.
 pub fn a_signalled_question_reads()
     ensures replies { replies empty (journal prepared) a_signalled_question
         ≡ object 2 ∷ begun 1 ∷ answered (signal Absent) ∷ begun 2 ∷ refused Conflict ∷ [] }
@@ -79,8 +79,9 @@ pub fn a_reader_leaves_an_empty_effect()
         ≡ ((0, Some (holding 0)) ∷ (1, Some (holding 0)) ∷ []) ∷ [] ∷ [] }
 {}
 
-/// The serial run up to a live action has first the committed topactions, and so what the nested
-/// topaction did before what its creator had done earlier. What an aborted subaction did isn't there.
+/// The serial run up to a live action begins with the committed topactions, so it has what the
+/// nested topaction did before what its creator did earlier. What an aborted subaction did isn't in
+/// it.
 pub fn a_run_goes_up_to_a_live_action()
     ensures replies { replies empty (journal prepared) a_live_subaction
         ≡ begun 1 ∷ answered done ∷ begun 2 ∷ answered done ∷ answered done ∷ begun 3
@@ -97,8 +98,8 @@ pub fn a_run_goes_up_to_a_live_action()
         ∷ alter 0 1 (create (holding 0)) ∷ alter 0 0 (create (holding 0)) ∷ [] }
 {}
 
-/// The last action that there may be begins, and no other; who is over or hasn't begun is refused
-/// for that, and who is too deep for that.
+/// The last action that the limit allows begins, and no other. One that is over or hasn't begun is
+/// refused for that, and one that is too deep for that.
 pub fn the_last_action_begins()
     ensures last { replies (going_on_at (MAX_ACTIONS - 1)) [] the_last_action
         ≡ begun (MAX_ACTIONS - 1) ∷ answered done ∷ refused Over ∷ refused Over
@@ -108,7 +109,7 @@ pub fn the_last_action_begins()
         ≡ refused TooDeep ∷ refused TooMany ∷ [] }
 {}
 
-/// The last object that there may be is declared, and no other.
+/// The last object that the limit allows is declared, and no other.
 pub fn the_last_object_is_declared()
     ensures { (s : Opening) (shape : PlainShape) → length s.objects ≡ MAX_OBJECTS - 1
         → replies s [] (declare shape ∷ declare shape ∷ [])

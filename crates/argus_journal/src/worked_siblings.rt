@@ -14,8 +14,8 @@ ghost use Rattle.argus_journal.specs.WorkedSiblings.{a_nested_one_ends_others, a
 ghost use Rattle.argus_journal.specs.WorkedSiblings.{both_kinds_end, none_is_left, others_end};
 ghost use Rattle.argus_journal.specs.WorkedSiblings.{what_they_held_is_free};
 
-/// Live siblings of both kinds end with all that stand under them; a sibling that has committed
-/// stays so, and a nested topaction begun under a sibling goes on.
+/// Live siblings of both kinds end with all actions under them; a sibling that has committed stays
+/// so, and a nested topaction begun under a sibling goes on.
 pub fn others_are_ended()
     ensures replies { replies empty (journal prepared) others_end
         ≡ begun 1 ∷ begun 2 ∷ begun 3 ∷ begun 4 ∷ begun 5 ∷ begun 6 ∷ answered done ∷ answered done
@@ -45,8 +45,8 @@ pub fn both_kinds_are_ended()
         ≡ answered done ∷ answered done ∷ refused Over ∷ refused Over ∷ [] }
 {}
 
-/// Where no sibling is live nothing ends, and the call is done; who is over or not begun is
-/// refused.
+/// If no sibling is live nothing ends, and the reply is done; an action that is over or not begun
+/// is refused.
 pub fn no_other_is_left()
     ensures { replies empty (journal prepared) none_is_left
         ≡ begun 1 ∷ begun 2 ∷ begun 3 ∷ answered done ∷ answered done ∷ answered (val (int (pos 0)))

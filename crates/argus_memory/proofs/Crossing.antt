@@ -1,5 +1,5 @@
--- A heap may cross to another thread, or be looked at from there, and so may what lies in its rooms, where its parts
--- may: as a set for `search`, `crosses`.
+-- A heap may go to another thread, or be looked at from there, and so may what is in its rooms, if its parts may: as a
+-- set for `search`, `crosses`.
 use denote.RattleType.{RattleType}
 use denote.Param.Send.{IsSend, IsSync, Frees}
 use Rattle.std.proofs.Crossing.{send, sync, frees}

@@ -1,4 +1,4 @@
--- The right to look at a count, which lasts, can be had twice, and crosses threads. Assumes `Logic`.
+-- The right to look at a count lasts, can be duplicated, and may go to other threads. Assumes `Logic`.
 use Rattle.std.proofs.Common.{ℕ, List, [], ◌∷◌, refl}
 use seplogic.Ra.Ura.{Ura}
 use mir.Syntax.{ty_ptr}

@@ -3,13 +3,13 @@
 use std::alloc::{AllocError, Global};
 use std::sync::atomic::{AtomicU64, Ordering};
 
-// From here on a count stands for no limit.
+// From here on a count means no limit.
 pub(crate) const UNLIMITED: u64 = 1 << 62;
 
 /// How many allocations a [`Heap`](crate::Heap) may still make. All copies share one count.
 ///
-/// The count lies in one word that is never freed, so that a heap can be copied into every value.
-/// An allocation or a growth takes one, whatever its size; giving memory back takes none.
+/// The count is one word that is never freed, so that a heap can be copied into every value. An
+/// allocation or a growth takes one, whatever its size; giving memory back takes none.
 ///
 /// ```text
 /// let budget = Budget::new(rt.alloc())?;
@@ -24,23 +24,23 @@ pub struct Budget {
 impl Budget {
     /// A budget without a limit.
     ///
-    /// `AllocError` comes where the inner allocator refuses the word that holds the count.
+    /// `AllocError` comes if the inner allocator refuses the word that holds the count.
     pub fn new(inner: Global) -> Result<Budget, AllocError> {
         let left: &'static AtomicU64 = Box::leak(Box::new(inner, AtomicU64::new(UNLIMITED))?);
         Ok(Budget { left })
     }
 
-    /// Allows so many further allocations, and then refuses each one; 2^62 and more are no limit.
+    /// Allows this many further allocations, and then refuses each one; 2^62 and more are no limit.
     pub fn allow(&self, allocations: u64) {
         self.left.store(allocations, Ordering::SeqCst);
     }
 
-    /// Takes the limit away.
+    /// Removes the limit.
     pub fn lift(&self) {
         self.allow(UNLIMITED);
     }
 
-    /// How many allocations are left; None where there is no limit.
+    /// How many allocations are left; `None` if there is no limit.
     pub fn left(&self) -> Option<u64> {
         let left = self.left.load(Ordering::SeqCst);
         if left < UNLIMITED { Some(left) } else { None }

@@ -1,4 +1,4 @@
-//! `Count`: where a budget's count lies, as an allocator holds it.
+//! `Count`: where a budget's count is, as an allocator holds it.
 ghost use denote.Sharing.{said};
 ghost use Rattle.argus_memory.specs.Count.{lasts};
 
@@ -6,9 +6,9 @@ use crate::budget::{Budget, UNLIMITED};
 use std::marker::{Model, Send, Sync};
 use std::sync::atomic::{AtomicU64, Ordering};
 
-// The word of a budget, behind a raw pointer. It says what a `&'static` to it says; but of a type
+// The word of a budget, behind a raw pointer. It means the same as a `&'static`. But for a type
 // with a reference in it the check writes out the whole structure at each step of each function,
-// and an allocator stands in every list.
+// and every list has an allocator.
 #[derive(Drop)]
 pub(crate) struct Count {
     at: *const AtomicU64,
@@ -46,7 +46,7 @@ impl Count {
     }
 }
 
-// Takes one from the count, if it is limited; true where nothing was left.
+// Takes one from the count, if it is limited; true if nothing was left.
 #[inline(always)]
 pub(crate) fn is_spent(count: &Count) -> bool {
     count.word().load(Ordering::Relaxed) < UNLIMITED && was_last(count)

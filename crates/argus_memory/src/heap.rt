@@ -1,4 +1,4 @@
-//! `Heap`: where the values of this project have their memory.
+//! `Heap`: where the values of this project get their memory.
 ghost use Rattle.std.specs.Prelude.{⊤};
 
 use crate::budget::Budget;
@@ -7,7 +7,7 @@ use crate::limited::{Limited, Room};
 use crate::out_of_memory::OutOfMemory;
 use std::alloc::{AllocError, Global};
 
-/// Where memory is had: the program's own allocator, and a budget for what is taken of it.
+/// Where memory comes from: the program's own allocator, and a budget for what is taken from it.
 ///
 /// It is one word, and freely copied. A list, a text or a box is made in its [`room`](Heap::room).
 ///
@@ -26,7 +26,7 @@ pub struct Heap {
 impl Heap {
     /// A heap without a limit. Make it once, first in `main`, and copy it.
     ///
-    /// `AllocError` comes where the inner allocator refuses the word of its budget.
+    /// `AllocError` comes if the inner allocator refuses the word of its budget.
     pub fn new(inner: Global) -> Result<Heap, AllocError> {
         Ok(Heap::with_budget(inner, Budget::new(inner)?))
     }
@@ -41,11 +41,10 @@ impl Heap {
         Limited::over(self.inner, Count::of(self.budget))
     }
 
-    /// Takes one from the budget for an allocation that is made outside of rooms, as by a
-    /// collection
-    /// that takes only allocators which are `Copy`, and gives what to make it with.
+    /// Takes one from the budget for an allocation that is made outside of rooms, and returns the
+    /// allocator to make it with. A collection that takes only `Copy` allocators needs it.
     ///
-    /// `OutOfMemory` comes where nothing was left.
+    /// `OutOfMemory` comes if nothing was left.
     pub fn ask(self) -> Result<Global, OutOfMemory> {
         if is_spent(&Count::of(self.budget)) {
             return Err(OutOfMemory);
@@ -55,7 +54,7 @@ impl Heap {
 }
 
 impl Limited<Global> {
-    /// The heap that this is a room of: `list.allocator().heap()` is where `list` has its memory.
+    /// The heap that this is a room of: `list.allocator().heap()` is where `list` gets its memory.
     pub fn heap(&self) -> Heap {
         Heap::with_budget(*self.inner(), self.count().budget())
     }

@@ -1,9 +1,9 @@
-//! The allocator of all Argus crates, and the error that want of memory is.
+//! The allocator of all Argus crates, and the error `OutOfMemory`.
 //!
-//! Memory is had of a [`Heap`]: one word, freely copied, over the program's allocator. It may have
+//! Memory comes from a [`Heap`]: one word, freely copied, over the program's allocator. It may have
 //! a [`Budget`], past which each allocation is refused. So a user can bound what a guardian takes,
-//! and a test can refuse each allocation of a call in turn. What a list, a text or a box holds is a
-//! [`Room`] of its heap.
+//! and a test can refuse each allocation of a call in turn. A list, a text or a box has a [`Room`]
+//! of its heap as its allocator.
 //!
 //! ```text
 //! let heap = Heap::new(rt.alloc())?;               // no limit

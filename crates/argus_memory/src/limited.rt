@@ -3,9 +3,9 @@
 use crate::count::{Count, is_spent};
 use std::alloc::{AllocError, Allocator, Global};
 
-/// An allocator that answers as its inner one does, and refuses once its budget is used up.
+/// An allocator that does what its inner one does, and refuses once its budget is used up.
 ///
-/// A refusal is an `AllocError`, as where the machine has no memory left, and changes nothing.
+/// A refusal is an `AllocError`, as if the machine had no memory left, and changes nothing.
 #[derive(Drop)]
 pub struct Limited<B: Allocator> {
     // The proofs in proofs/limited count on this order: the inner allocator, then one word.
@@ -13,8 +13,7 @@ pub struct Limited<B: Allocator> {
     count: Count,
 }
 
-/// What a list, a text, a box or a map holds to have its memory by: one word, of a
-/// [`Heap`](crate::Heap).
+/// What a list, a text, a box or a map gets its memory from: one word, of a [`Heap`](crate::Heap).
 ///
 /// ```text
 /// let mut names: Vec<String<Room>, Room> = Vec::new(heap.room());

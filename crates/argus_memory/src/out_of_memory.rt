@@ -1,11 +1,11 @@
-//! `OutOfMemory`: the error that want of memory is.
+//! `OutOfMemory`: the error of an allocation that was refused.
 
 use std::alloc::{AllocError, AllocFailed};
 use thiserror::Error;
 
 /// An allocation was refused: by the machine, or by the budget of the heap that was asked.
 ///
-/// A call that answers it leaves everything as it was, unless its page says otherwise.
+/// A call that returns it has changed nothing, unless its documentation says otherwise.
 ///
 /// ```text
 /// match content.duplicate(heap) {

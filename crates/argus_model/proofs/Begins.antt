@@ -1,4 +1,4 @@
--- Each action that has begun has its begin, which says who its parent and its creator are.
+-- Each action that has begun has its begin, which names its parent and its creator.
 use Rattle.std.proofs.Common.{List, [], arith, cond, ap, refl, sym, true, ℕ, ⊎_elim, ◌<◌, ◌∙◌, ◌∷◌, ◌≡◌, ◌++◌}
 use Rattle.std.proofs.lemmas.Bool.{cases_eq, eq-eqb, ne_eqb}
 use Rattle.argus_model.specs.Ancestors.{begun_by, parent}

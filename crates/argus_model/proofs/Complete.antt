@@ -1,4 +1,4 @@
--- The work of an action is each access that it answers for, once.
+-- The work of an action is each access that it owns, once.
 use Rattle.std.proofs.Common.{Bool, List, None, Option, Some, [], ap, arith, cond, false, refl, subst}
 use Rattle.std.proofs.Common.{sym, true, ℕ, ⊎_elim, ◌++◌, ◌<◌, ◌∙◌, ◌∷◌, ◌≡◌, ◌≢◌}
 use Rattle.std.specs.List.Sorted.{IsPermutation}

@@ -8,7 +8,8 @@ use Rattle.argus_model.specs.HolderSteps.{has_used}
 use Rattle.argus_model.specs.Meaning.{Fits, Meaning}
 use Rattle.argus_model.specs.Work.{Access, content_after}
 use Rattle.argus_model.specs.WorkSteps.{Replays, accesses_by}
-use Rattle.argus_model.proofs.Work.{has_used_more, touches}
+use Rattle.argus_model.proofs.Exclusion.{has_used_more, has_used_now}
+use Rattle.argus_model.proofs.Work.{touches}
 
 module _ {V C A : Type 0} (meaning : Meaning V C A) (contents : ℕ → C) where
   -- where two lists leave the same in an object, they do so with the same later accesses, too
@@ -59,8 +60,7 @@ module _ {V C A : Type 0} (meaning : Meaning V C A) (contents : ℕ → C) where
       let here = o' == o && (false || meaning.writes v) in
       ⊎_elim
       (λ y. let q : t b ≡ u b =
-      same b (or_left (b == b && here) (has_used meaning.writes k b o false)
-      (and_from (b == b) here (eq-eqb b b refl) y)) in
+      same b (has_used_now meaning.writes k b o' v o false y) in
       ⊎_elim
       (λ m. ap (λ z. content_after meaning contents o (cond z (e ∷ accesses_by t k) (accesses_by t k))) m
       ∙ ap (λ c. cond (o' == o) (meaning.after v c) c) ih

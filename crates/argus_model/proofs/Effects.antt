@@ -1,4 +1,4 @@
--- The table of what the committed topactions left is the base, and an event at most adds one effect at the end.
+-- The table of what the committed topactions left has the bases, and an event adds at most one effect at the end.
 use Rattle.std.proofs.Common.{Bool, List, Some, [], ap, append-nil, arith, cond, false, refl, subst, sym, true, ℕ}
 use Rattle.std.proofs.Common.{⊎_elim, ◌++◌, ◌∙◌, ◌∷◌, ◌≡◌, ◌≢◌}
 use Rattle.std.specs.Prelude.{map, reverse, ◌&&◌, ◌==◌, ◌||◌}

@@ -1,198 +1,328 @@
 -- Of a write holder and any other holder, one is an ancestor of the other.
-use Rattle.std.proofs.Common.{Bool, None, Option, Some, ap, arith, cond, false, inl, inr, refl, subst, sym, true, ℕ}
-use Rattle.std.proofs.Common.{⊎_elim, ◌<◌, ◌∙◌, ◌∷◌, ◌≡◌, ◌≢◌, ◌⊎◌}
+use Rattle.std.proofs.Common.{Bool, List, None, Option, Some, ap, arith, cond, false, inl, inr, refl, sym, true, ℕ}
+use Rattle.std.proofs.Common.{◌<◌, ◌∙◌, ◌∷◌, ◌≡◌, ◌≢◌, ◌⊎◌}
 use Rattle.std.specs.Prelude.{◌&&◌, ◌==◌, ◌||◌}
-use Rattle.std.proofs.lemmas.Bool.{and_from, and_parts, cases_Bool, eq-eqb, eqb-true, false≢true, or_cases, or_left}
-use Rattle.std.proofs.lemmas.Bool.{or_right}
+use Rattle.std.proofs.lemmas.Bool.{and_from, and_parts, eq-eqb, eqb-true, false≢true, or_cases, or_left, or_right}
 use Rattle.argus_model.specs.Ancestors.{is_ancestor, is_under, lineage, parent}
-use Rattle.argus_model.specs.Event.{Aborted, Accessed, Began, Committed}
+use Rattle.argus_model.specs.Event.{Aborted, Accessed, Began, Committed, Origin}
 use Rattle.argus_model.specs.History.{History, Opened, next_action, ◌▹◌}
 use Rattle.argus_model.specs.HolderSteps.{has_used, if_owned, may_by_steps}
 use Rattle.argus_model.specs.Numbers.{contains}
-use Rattle.argus_model.specs.OwnerSteps.{owner_by_steps, stands}
+use Rattle.argus_model.specs.OwnerSteps.{StandsAlone, owner_by_steps, stands}
 use Rattle.argus_model.proofs.Ancestors.{ParentsAreOlder, ancestor_old, ancestor_self, ancestor_trans, parent_older}
 use Rattle.argus_model.proofs.Standing.{Orderly, at_some, handed_cases, kept_cases, owner_begun, owner_cases, parent_is}
 use Rattle.argus_model.proofs.Standing.{parents_are_older, stands_begun}
 
--- an ancestor of s other than s is one of its parent
-pub above_parent : {V : Type 0} (h : History V) → ParentsAreOlder h → (s x : ℕ) → s ≢ 0 → stands h s ≡ true → x ≢ s
-    → is_ancestor h x s ≡ true → is_ancestor h x (parent h s) ≡ true
-above_parent h f s x s0 l ne a =
-    let w = parent_older h s f (omega arith) (stands_begun h s l) in
-    let m : contains (s ∷ lineage h (parent h s)) x ≡ true = subst (λ t. contains t x ≡ true) w.1 a in
-    ⊎_elim (λ e. absurd (ne (eqb-true x s e))) (λ e. e) (or_cases (x == s) (contains (lineage h (parent h s)) x) m)
+-- an ancestor of an action that stands, other than the action itself, is an ancestor of its parent
+pub above_parent : {V : Type 0} (history : History V) → ParentsAreOlder history → (action above : ℕ) → action ≢ 0
+    → stands history action ≡ true → above ≢ action → is_ancestor history above action ≡ true
+    → is_ancestor history above (parent history action) ≡ true
+above_parent history older action above not_base standing another is_above =
+    let from_parent = lineage history (parent history action) in
+    let begins : lineage history action ≡ action ∷ from_parent =
+    (parent_older history action older (omega arith) (stands_begun history action standing)).1 in
+    let listed : contains (action ∷ from_parent) above ≡ true = rw begins at is_above in
+    elim (or_cases (above == action) (contains from_parent above) listed) [
+      | inl same ↦ absurd (another (eqb-true above action same))
+      | inr behind ↦ behind
+    ]
 
 -- one is an ancestor of the other
 abbrev pub Related : {V : Type 0} → History V → ℕ → ℕ → Type 0
-Related h x y = (is_ancestor h x y ≡ true) ⊎ (is_ancestor h y x ≡ true)
+Related history one other = (is_ancestor history one other ≡ true) ⊎ (is_ancestor history other one ≡ true)
 
+turned : {V : Type 0} (history : History V) (one other : ℕ) → Related history one other → Related history other one
+turned history one other (inl above) = inr above
+turned history one other (inr below) = inl below
+
+related_to_itself : {V : Type 0} (history : History V) (one other : ℕ) → one ≡ other → Related history one other
+related_to_itself history one other same = inl (rw same (ancestor_self history other))
+
+-- what stands is its own owner
+same_owner : {V : Type 0} (history : History V) (standing action owner : ℕ) → standing ≡ action
+    → stands history standing ≡ true → owner_by_steps history action ≡ Some owner → owner ≡ standing
+same_owner history standing action owner same stands_now owned =
+    let itself = at_some (owner_by_steps history standing) standing stands_now in
+    let the_same = ap (owner_by_steps history) same in
+    cc
+
+-- a test that the owner of what counts has to pass, is passed
+test_passed : (counts : Bool) (test : ℕ → Bool) (found : Option ℕ) (owner : ℕ)
+    → cond counts (if_owned test found) true ≡ true → counts ≡ true → found ≡ Some owner → test owner ≡ true
+test_passed true test (Some holder) owner passed counted owned = let same : holder ≡ owner = cc in rw (← same) passed
+test_passed true test None owner passed counted owned = cc
+test_passed false test found owner passed counted owned = absurd (false≢true counted)
+
+-- a test that each owner of what counts passes, is passed
+test_passes : (counts : Bool) (test : ℕ → Bool) (found : Option ℕ)
+    → (counts ≡ true → (owner : ℕ) → found ≡ Some owner → test owner ≡ true)
+    → cond counts (if_owned test found) true ≡ true
+test_passes true test (Some owner) each = each refl owner refl
+test_passes true test None each = refl
+test_passes false test found each = refl
+
+-- Of each lemma here `all` says which accesses it speaks of: all of them, or the write accesses alone.
 module _ {V : Type 0} (writes : V → Bool) where
   -- each access was allowed by the holders
   abbrev pub Guarded : History V → Type 0
-  Guarded (Opened n) = Unit {0}
+  Guarded (Opened before) = Unit {0}
   Guarded (Began from ▹ older) = Guarded older
-  Guarded (Committed s ▹ older) = Guarded older
-  Guarded (Aborted z ▹ older) = Guarded older
-  Guarded (Accessed a o v ▹ older) = (may_by_steps writes older a o (writes v) older ≡ true) × Guarded older
+  Guarded (Committed action ▹ older) = Guarded older
+  Guarded (Aborted actions ▹ older) = Guarded older
+  Guarded (Accessed action object what ▹ older) =
+      (may_by_steps writes older action object (writes what) older ≡ true) × Guarded older
 
-  -- after one more access an action has used an object by that access, or had used it before
-  pub has_used_cases : (h : History V) (b o' : ℕ) (v : V) (y o : ℕ) (all : Bool)
-      → has_used writes (Accessed b o' v ▹ h) y o all ≡ true
-      → ((b ≡ y) × (o' ≡ o) × ((all || writes v) ≡ true)) ⊎ (has_used writes h y o all ≡ true)
-  has_used_cases h b o' v y o all e =
-      ⊎_elim
-      (λ k. let w = and_parts (b == y) (o' == o && (all || writes v)) k in let u =
-      and_parts (o' == o) (all || writes v) w.1 in
-      inl (eqb-true b y w.0, eqb-true o' o u.0, u.1))
-      inr
-      (or_cases (b == y && (o' == o && (all || writes v))) (has_used writes h y o all) e)
+  -- who has used the object after one more access did so by that access, or had used it before
+  pub has_used_cases : (history : History V) (accessor accessed : ℕ) (what : V) (action object : ℕ) (all : Bool)
+      → has_used writes (Accessed accessor accessed what ▹ history) action object all ≡ true
+      → ((accessor ≡ action) × (accessed ≡ object) × ((all || writes what) ≡ true))
+      ⊎ (has_used writes history action object all ≡ true)
+  has_used_cases history accessor accessed what action object all used =
+      let counts = accessed == object && (all || writes what) in
+      elim (or_cases (accessor == action && counts) (has_used writes history action object all) used) [
+        | inl now ↦
+            let by_action = and_parts (accessor == action) counts now in
+            let of_object = and_parts (accessed == object) (all || writes what) by_action.1 in
+            inl (eqb-true accessor action by_action.0, eqb-true accessed object of_object.0, of_object.1)
+        | inr before ↦ inr before
+      ]
+
+  -- who accesses the object has used it
+  pub has_used_now : (history : History V) (accessor accessed : ℕ) (what : V) (object : ℕ) (all : Bool)
+      → (accessed == object && (all || writes what)) ≡ true
+      → has_used writes (Accessed accessor accessed what ▹ history) accessor object all ≡ true
+  has_used_now history accessor accessed what object all counted =
+      let counts = accessed == object && (all || writes what) in
+      let by_itself = and_from (accessor == accessor) counts (eq-eqb accessor accessor refl) counted in
+      or_left (accessor == accessor && counts) (has_used writes history accessor object all) by_itself
+
+  -- who had used the object has used it after one more access, too
+  pub has_used_more : (history : History V) (accessor accessed : ℕ) (what : V) (action object : ℕ) (all : Bool)
+      → has_used writes history action object all ≡ true
+      → has_used writes (Accessed accessor accessed what ▹ history) action object all ≡ true
+  has_used_more history accessor accessed what action object all used =
+      let now = accessor == action && (accessed == object && (all || writes what)) in
+      or_right now (has_used writes history action object all) used
 
   -- a write access counts among all accesses, too
-  pub has_used_all : (h : History V) (y o : ℕ) (all : Bool) → has_used writes h y o false ≡ true
-      → has_used writes h y o all ≡ true
-  has_used_all (Opened n) y o all e = absurd (false≢true e)
-  has_used_all (Began from ▹ h) y o all e = has_used_all h y o all e
-  has_used_all (Committed s ▹ h) y o all e = has_used_all h y o all e
-  has_used_all (Aborted z ▹ h) y o all e = has_used_all h y o all e
-  has_used_all (Accessed b o' v ▹ h) y o all e =
-      let head = b == y && (o' == o && (all || writes v)) in
-      ⊎_elim
-      (λ k. or_left head (has_used writes h y o all)
-      (and_from (b == y) (o' == o && (all || writes v)) (eq-eqb b y k.0)
-      (and_from (o' == o) (all || writes v) (eq-eqb o' o k.1) (or_right all (writes v) k.2))))
-      (λ k. or_right head (has_used writes h y o all) (has_used_all h y o all k))
-      (has_used_cases h b o' v y o false e)
+  pub has_used_all : (history : History V) (action object : ℕ) (all : Bool)
+      → has_used writes history action object false ≡ true → has_used writes history action object all ≡ true
+  has_used_all (Opened before) action object all wrote = absurd (false≢true wrote)
+  has_used_all (Began from ▹ older) action object all wrote = has_used_all older action object all wrote
+  has_used_all (Committed child ▹ older) action object all wrote = has_used_all older action object all wrote
+  has_used_all (Aborted actions ▹ older) action object all wrote = has_used_all older action object all wrote
+  has_used_all (Accessed accessor accessed what ▹ older) action object all wrote =
+      elim (has_used_cases older accessor accessed what action object false wrote) [
+        | inl now ↦
+            let of_object = eq-eqb accessed object now.1 in
+            let counted = or_right all (writes what) now.2 in
+            rw (← now.0)
+            (has_used_now older accessor accessed what object all
+            (and_from (accessed == object) (all || writes what) of_object counted))
+        | inr before ↦
+            has_used_more older accessor accessed what action object all (has_used_all older action object all before)
+      ]
 
-  -- who has an access has begun
-  pub has_used_begun : (h : History V) → Orderly h → (y o : ℕ) (all : Bool) → has_used writes h y o all ≡ true
-      → y < next_action h
-  has_used_begun (Opened n) w y o all e = absurd (false≢true e)
-  has_used_begun (Began from ▹ h) w y o all e = let l = has_used_begun h w.1 y o all e in omega arith
-  has_used_begun (Committed s ▹ h) w y o all e = has_used_begun h w.1 y o all e
-  has_used_begun (Aborted z ▹ h) w y o all e = has_used_begun h w.1 y o all e
-  has_used_begun (Accessed b o' v ▹ h) w y o all e =
-      ⊎_elim (λ k. subst (λ u. u < next_action h) k.0 (stands_begun h b w.0.standing))
-      (λ k. has_used_begun h w.1 y o all k)
-      (has_used_cases h b o' v y o all e)
+  -- who has used an object has begun
+  pub has_used_begun : (history : History V) → Orderly history → (action object : ℕ) (all : Bool)
+      → has_used writes history action object all ≡ true → action < next_action history
+  has_used_begun (Opened before) orderly action object all used = absurd (false≢true used)
+  has_used_begun (Began from ▹ older) orderly action object all used =
+      let begun_before = has_used_begun older orderly.1 action object all used in omega arith
+  has_used_begun (Committed child ▹ older) orderly action object all used =
+      has_used_begun older orderly.1 action object all used
+  has_used_begun (Aborted actions ▹ older) orderly action object all used =
+      has_used_begun older orderly.1 action object all used
+  has_used_begun (Accessed accessor accessed what ▹ older) orderly action object all used =
+      elim (has_used_cases older accessor accessed what action object all used) [
+        | inl now ↦ rw (← now.0) (stands_begun older accessor orderly.0.standing)
+        | inr before ↦ has_used_begun older orderly.1 action object all before
+      ]
 
-  -- where a lock is free for a, each owner of an access in k to the object is an ancestor of a
-  pub may_tells : (h k : History V) (a o b x : ℕ) (all : Bool) → may_by_steps writes h a o all k ≡ true
-      → has_used writes k b o all ≡ true → owner_by_steps h b ≡ Some x → is_ancestor h x a ≡ true
-  may_tells h (Opened n) a o b x all m u e = absurd (false≢true u)
-  may_tells h (Began from ▹ k) a o b x all m u e = may_tells h k a o b x all m u e
-  may_tells h (Committed s ▹ k) a o b x all m u e = may_tells h k a o b x all m u e
-  may_tells h (Aborted z ▹ k) a o b x all m u e = may_tells h k a o b x all m u e
-  may_tells h (Accessed d o' v ▹ k) a o b x all m u e =
-      let t = if_owned (λ w. is_ancestor h w a) (owner_by_steps h d) in
-      let n = and_parts (cond (o' == o && (all || writes v)) t true) (may_by_steps writes h a o all k) m in
-      ⊎_elim
-      (λ w. let c = and_from (o' == o) (all || writes v) (eq-eqb o' o w.1) w.2 in
-      let r : t ≡ true = subst (λ q. cond q t true ≡ true) c n.0 in
-      let od : owner_by_steps h d ≡ Some x = subst (λ q. owner_by_steps h q ≡ Some x) (sym w.0) e in
-      subst (λ q. if_owned (λ w. is_ancestor h w a) q ≡ true) od r)
-      (λ w. may_tells h k a o b x all n.1 w e)
-      (has_used_cases k d o' v b o all u)
+  -- where a lock is free for an action, each owner of an access in `older` to the object is an ancestor of it
+  pub may_tells : (history older : History V) (action object user owner : ℕ) (all : Bool)
+      → may_by_steps writes history action object all older ≡ true → has_used writes older user object all ≡ true
+      → owner_by_steps history user ≡ Some owner → is_ancestor history owner action ≡ true
+  may_tells history (Opened before) action object user owner all free used owned = absurd (false≢true used)
+  may_tells history (Began from ▹ older) action object user owner all free used owned =
+      may_tells history older action object user owner all free used owned
+  may_tells history (Committed child ▹ older) action object user owner all free used owned =
+      may_tells history older action object user owner all free used owned
+  may_tells history (Aborted actions ▹ older) action object user owner all free used owned =
+      may_tells history older action object user owner all free used owned
+  may_tells history (Accessed accessor accessed what ▹ older) action object user owner all free used owned =
+      let counts = accessed == object && (all || writes what) in
+      let is_above = λ (holder : ℕ). is_ancestor history holder action in
+      let found = owner_by_steps history accessor in
+      let passes_now = cond counts (if_owned is_above found) true in
+      let passed_before = may_by_steps writes history action object all older in
+      let parts = and_parts passes_now passed_before free in
+      elim (has_used_cases older accessor accessed what user object all used) [
+        | inl now ↦
+            let counted = and_from (accessed == object) (all || writes what) (eq-eqb accessed object now.1) now.2 in
+            test_passed counts is_above found owner parts.0 counted (ap (owner_by_steps history) now.0 ∙ owned)
+        | inr before ↦ may_tells history older action object user owner all parts.1 before owned
+      ]
 
-  -- where each owner of an access in k to the object is an ancestor of a, the lock is free for a
-  pub may_from : (h k : History V) (a o : ℕ) (all : Bool)
-      → ((b x : ℕ) → has_used writes k b o all ≡ true → owner_by_steps h b ≡ Some x → is_ancestor h x a ≡ true)
-      → may_by_steps writes h a o all k ≡ true
-  may_from h (Opened n) a o all each = refl
-  may_from h (Began from ▹ k) a o all each = may_from h k a o all each
-  may_from h (Committed s ▹ k) a o all each = may_from h k a o all each
-  may_from h (Aborted z ▹ k) a o all each = may_from h k a o all each
-  may_from h (Accessed d o' v ▹ k) a o all each =
-      let here = o' == o && (all || writes v) in
-      let t = if_owned (λ w. is_ancestor h w a) (owner_by_steps h d) in
-      let older = λ (b x : ℕ) (u : has_used writes k b o all ≡ true) (e : owner_by_steps h b ≡ Some x).
-      each b x (or_right (d == b && here) (has_used writes k b o all) u) e in
-      and_from (cond here t true) (may_by_steps writes h a o all k)
-      (⊎_elim
-      (λ y. ap (λ q. cond q t true) y
-      ∙ asked (owner_by_steps h d) refl
-      (or_left (d == d && here) (has_used writes k d o all) (and_from (d == d) here (eq-eqb d d refl) y)))
-      (λ n. ap (λ q. cond q t true) n)
-      (cases_Bool here))
-      (may_from h k a o all older)
-    where
-      asked : (q : Option ℕ) → owner_by_steps h d ≡ q → has_used writes (Accessed d o' v ▹ k) d o all ≡ true
-          → if_owned (λ w. is_ancestor h w a) q ≡ true
-      asked None e u = refl
-      asked (Some x) e u = each d x u e
+  -- where each owner of an access in `older` to the object is an ancestor of an action, the lock is free for it
+  pub may_from : (history older : History V) (action object : ℕ) (all : Bool)
+      → ((user owner : ℕ) → has_used writes older user object all ≡ true → owner_by_steps history user ≡ Some owner
+      → is_ancestor history owner action ≡ true) → may_by_steps writes history action object all older ≡ true
+  may_from history (Opened before) action object all each = refl
+  may_from history (Began from ▹ older) action object all each = may_from history older action object all each
+  may_from history (Committed child ▹ older) action object all each = may_from history older action object all each
+  may_from history (Aborted actions ▹ older) action object all each = may_from history older action object all each
+  may_from history (Accessed accessor accessed what ▹ older) action object all each =
+      let counts = accessed == object && (all || writes what) in
+      let is_above = λ (holder : ℕ). is_ancestor history holder action in
+      let found = owner_by_steps history accessor in
+      let now : cond counts (if_owned is_above found) true ≡ true =
+      test_passes counts is_above found
+      (λ counted owner owned. each accessor owner (has_used_now older accessor accessed what object all counted) owned)
+      in
+      let before : may_by_steps writes history action object all older ≡ true =
+      may_from history older action object all
+      (λ user owner used owned.
+      each user owner (has_used_more older accessor accessed what user object all used) owned) in
+      and_from (cond counts (if_owned is_above found) true) (may_by_steps writes history action object all older) now
+      before
 
   -- of the owners of a write access and of any access to the object, one is an ancestor of the other
   abbrev pub Exclusive : History V → Type 0
-  Exclusive h =
-      (a b o x y : ℕ) → has_used writes h a o false ≡ true → has_used writes h b o true ≡ true
-      → owner_by_steps h a ≡ Some x → owner_by_steps h b ≡ Some y → Related h x y
+  Exclusive history =
+      (writer user object holder other : ℕ) → has_used writes history writer object false ≡ true
+      → has_used writes history user object true ≡ true → owner_by_steps history writer ≡ Some holder
+      → owner_by_steps history user ≡ Some other → Related history holder other
 
-  same_owner : (h : History V) (a b x : ℕ) → a ≡ b → stands h a ≡ true → owner_by_steps h b ≡ Some x → x ≡ a
-  same_owner h a b x e l k = let o = at_some (owner_by_steps h a) a l in let q : owner_by_steps h a ≡ Some x =
-      subst (λ u. owner_by_steps h u ≡ Some x) (sym e) k in grind arith
+  -- a begin gives no owner to what has used an object
+  owner_before : (history : History V) (from : Origin) → Orderly history → (action object owner : ℕ) (all : Bool)
+      → has_used writes history action object all ≡ true → owner_by_steps (Began from ▹ history) action ≡ Some owner
+      → owner_by_steps history action ≡ Some owner
+  owner_before history from orderly action object owner all used owned =
+      let begun = has_used_begun history orderly action object all used in
+      elim (owner_cases history from action) [
+        | inl newest ↦ absurd (omega (arith, newest.0))
+        | inr older ↦ sym older.1 ∙ owned
+      ]
 
-  handed_related : (h : History V) → Orderly h → (s x y : ℕ) → s ≢ 0 → stands h s ≡ true → y < next_action h → y ≢ s
-      → Related h s y → Related h (parent h s) y
-  handed_related h w s x y s0 l yn ne (inl a) =
-      inl (ancestor_trans h (parent h s) s y (parents_are_older h w) yn
-      (parent_is h (parents_are_older h w) s s0 l).1 a)
-  handed_related h w s x y s0 l yn ne (inr a) = inr (above_parent h (parents_are_older h w) s y s0 l ne a)
+  exclusive_begin : (history : History V) (from : Origin) → Orderly history → Exclusive history
+      → Exclusive (Began from ▹ history)
+  exclusive_begin history from orderly exclusive writer user object holder other wrote used held other_held =
+      let older = parents_are_older history orderly in
+      let held_before = owner_before history from orderly writer object holder false wrote held in
+      let other_before = owner_before history from orderly user object other true used other_held in
+      let holder_begun = owner_begun history writer holder older held_before in
+      let other_begun = owner_begun history user other older other_before in
+      elim (exclusive writer user object holder other wrote used held_before other_before) [
+        | inl above ↦ inl (ancestor_old history from holder other (omega arith) above)
+        | inr below ↦ inr (ancestor_old history from other holder (omega arith) below)
+      ]
 
-  turned : (h : History V) (x y : ℕ) → Related h x y → Related h y x
-  turned h x y (inl a) = inr a
-  turned h x y (inr a) = inl a
+  module _ (history : History V) (child : ℕ) (orderly : Orderly history) (alone : StandsAlone history child) where
+    -- the owner is the parent, in the place of the child that has committed, or who it was before
+    abbrev OwnerCases : ℕ → ℕ → Type 0
+    OwnerCases action owner =
+        ((owner_by_steps history action ≡ Some child) × (owner ≡ parent history child))
+        ⊎ ((owner_by_steps history action ≡ Some owner) × (owner ≢ child))
+
+    -- whom the child was related to, its parent is related to
+    parent_related : (action owner : ℕ) → owner_by_steps history action ≡ Some owner → owner ≢ child
+        → Related history child owner → Related history (parent history child) owner
+    parent_related action owner owned another (inl above) =
+        let older = parents_are_older history orderly in
+        let parent_above = (parent_is history older child alone.not_base alone.standing).1 in
+        let begun = owner_begun history action owner older owned in
+        inl (ancestor_trans history (parent history child) child owner older begun parent_above above)
+    parent_related action owner owned another (inr below) =
+        let older = parents_are_older history orderly in
+        inr (above_parent history older child owner alone.not_base alone.standing another below)
+
+    -- owners that were related before the commit are related after it
+    related_after : (writer user holder other : ℕ)
+        → ((one another : ℕ) → owner_by_steps history writer ≡ Some one → owner_by_steps history user ≡ Some another
+        → Related history one another) → OwnerCases writer holder → OwnerCases user other
+        → Related history holder other
+    related_after writer user holder other before (inl handed) (inl other_handed) =
+        related_to_itself history holder other (handed.1 ∙ sym other_handed.1)
+    related_after writer user holder other before (inl handed) (inr other_kept) =
+        rw handed.1
+        (parent_related user other other_kept.0 other_kept.1 (before child other handed.0 other_kept.0))
+    related_after writer user holder other before (inr kept) (inl other_handed) =
+        let was_related = turned history holder child (before holder child kept.0 other_handed.0) in
+        let is_related = parent_related writer holder kept.0 kept.1 was_related in
+        turned history other holder (rw other_handed.1 is_related)
+    related_after writer user holder other before (inr kept) (inr other_kept) =
+        before holder other kept.0 other_kept.0
+
+    exclusive_commit : Exclusive history → Exclusive (Committed child ▹ history)
+    exclusive_commit exclusive writer user object holder other wrote used held other_held =
+        let above = parent history child in
+        related_after writer user holder other
+        (λ one another. exclusive writer user object one another wrote used)
+        (handed_cases child above (owner_by_steps history writer) holder held)
+        (handed_cases child above (owner_by_steps history user) other other_held)
+
+  exclusive_abort : (history : History V) (actions : List ℕ) → Exclusive history
+      → Exclusive (Aborted actions ▹ history)
+  exclusive_abort history actions exclusive writer user object holder other wrote used held other_held =
+      let is_lost = is_under history actions in
+      let held_before = (kept_cases is_lost (owner_by_steps history writer) holder held).0 in
+      let other_before = (kept_cases is_lost (owner_by_steps history user) other other_held).0 in
+      exclusive writer user object holder other wrote used held_before other_before
+
+  module _ (history : History V) (accessor accessed : ℕ) (what : V) (standing : stands history accessor ≡ true)
+      (free : may_by_steps writes history accessor accessed (writes what) history ≡ true) where
+    -- the access is this one, or an earlier one
+    abbrev AccessCases : ℕ → ℕ → Bool → Type 0
+    AccessCases action object all =
+        ((accessor ≡ action) × (accessed ≡ object) × ((all || writes what) ≡ true))
+        ⊎ (has_used writes history action object all ≡ true)
+
+    -- who has used the object that is accessed has an owner above who accesses it
+    owner_above : (action object owner : ℕ) → accessed ≡ object
+        → has_used writes history action object (writes what) ≡ true → owner_by_steps history action ≡ Some owner
+        → is_ancestor history owner accessor ≡ true
+    owner_above action object owner same used owned =
+        may_tells history history accessor accessed action owner (writes what) free (rw same used) owned
+
+    related_with : (writer user object holder other : ℕ)
+        → (has_used writes history writer object false ≡ true → has_used writes history user object true ≡ true
+        → Related history holder other) → owner_by_steps history writer ≡ Some holder
+        → owner_by_steps history user ≡ Some other → AccessCases writer object false → AccessCases user object true
+        → Related history holder other
+    related_with writer user object holder other before held other_held (inl wrote) (inl used) =
+        let is_accessor = same_owner history accessor writer holder wrote.0 standing held in
+        let other_is_accessor = same_owner history accessor user other used.0 standing other_held in
+        related_to_itself history holder other (is_accessor ∙ sym other_is_accessor)
+    related_with writer user object holder other before held other_held (inl wrote) (inr used) =
+        let is_accessor = same_owner history accessor writer holder wrote.0 standing held in
+        let used_as_writer : has_used writes history user object (writes what) ≡ true = rw wrote.2 used in
+        inr (rw is_accessor (owner_above user object other wrote.1 used_as_writer other_held))
+    related_with writer user object holder other before held other_held (inr wrote) (inl used) =
+        let is_accessor = same_owner history accessor user other used.0 standing other_held in
+        let wrote_before = has_used_all history writer object (writes what) wrote in
+        inl (rw is_accessor (owner_above writer object holder used.1 wrote_before held))
+    related_with writer user object holder other before held other_held (inr wrote) (inr used) = before wrote used
+
+    exclusive_access : Exclusive history → Exclusive (Accessed accessor accessed what ▹ history)
+    exclusive_access exclusive writer user object holder other wrote used held other_held =
+        related_with writer user object holder other
+        (λ wrote_before used_before. exclusive writer user object holder other wrote_before used_before held other_held)
+        held
+        other_held
+        (has_used_cases history accessor accessed what writer object false wrote)
+        (has_used_cases history accessor accessed what user object true used)
 
   -- a history in which each access got its lock is exclusive
-  pub exclusion : (h : History V) → Orderly h → Guarded h → Exclusive h
-  exclusion (Opened n) w g a b o x y ua ub ea eb = absurd (false≢true ua)
-  exclusion (Began from ▹ h) w g a b o x y ua ub ea eb =
-      let f = parents_are_older h w.1 in
-      let old : (d z : ℕ) (all : Bool) → has_used writes h d o all ≡ true → owner_by_steps (Began from ▹ h) d ≡ Some z
-      → owner_by_steps h d ≡ Some z =
-      λ d z all u e.
-      ⊎_elim (λ k. absurd (let l = has_used_begun h w.1 d o all u in omega (arith, k.0))) (λ k. sym k.1 ∙ e)
-      (owner_cases h from d) in
-      let ea' = old a x false ua ea in let eb' = old b y true ub eb in
-      let lx = owner_begun h a x f ea' in let ly = owner_begun h b y f eb' in
-      ⊎_elim (λ k. inl (ancestor_old h from x y (omega arith) k)) (λ k. inr (ancestor_old h from y x (omega arith) k))
-      (exclusion h w.1 g a b o x y ua ub ea' eb')
-  exclusion (Committed s ▹ h) w g a b o x y ua ub ea eb =
-      let f = parents_are_older h w.1 in let p = parent h s in
-      let ih : (x y : ℕ) → owner_by_steps h a ≡ Some x → owner_by_steps h b ≡ Some y → Related h x y =
-      λ x y. exclusion h w.1 g a b o x y ua ub in
-      ⊎_elim
-      (λ k. ⊎_elim
-      (λ m. inl (subst (λ q. is_ancestor h x q ≡ true) (k.1 ∙ sym m.1) (ancestor_self h x)))
-      (λ m. subst (λ q. Related h q y) (sym k.1)
-      (handed_related h w.1 s x y w.0.not_base w.0.standing (owner_begun h b y f m.0) m.1 (ih s y k.0 m.0)))
-      (handed_cases s p (owner_by_steps h b) y eb))
-      (λ k. ⊎_elim
-      (λ m. turned h y x
-      (subst (λ q. Related h q x) (sym m.1)
-      (handed_related h w.1 s x x w.0.not_base w.0.standing (owner_begun h a x f k.0) k.1
-      (turned h x s (ih x s k.0 m.0)))))
-      (λ m. ih x y k.0 m.0)
-      (handed_cases s p (owner_by_steps h b) y eb))
-      (handed_cases s p (owner_by_steps h a) x ea)
-  exclusion (Aborted z ▹ h) w g a b o x y ua ub ea eb =
-      exclusion h w.1 g a b o x y ua ub (kept_cases (is_under h z) (owner_by_steps h a) x ea).0
-      (kept_cases (is_under h z) (owner_by_steps h b) y eb).0
-  exclusion (Accessed d o' v ▹ h) w g a b o x y ua ub ea eb =
-      ⊎_elim
-      (λ k. let xd = same_owner h d a x k.0 w.0.standing ea in
-      let wv : writes v ≡ true = k.2 in
-      ⊎_elim
-      (λ m. let yd = same_owner h d b y m.0 w.0.standing eb in
-      inl (subst (λ q. is_ancestor h x q ≡ true) (xd ∙ sym yd) (ancestor_self h x)))
-      (λ m. let u : has_used writes h b o' (writes v) ≡ true =
-      subst (λ q. has_used writes h b q (writes v) ≡ true) (sym k.1)
-      (subst (λ q. has_used writes h b o q ≡ true) (sym wv) m) in
-      inr (subst (λ q. is_ancestor h y q ≡ true) (sym xd) (may_tells h h d o' b y (writes v) g.0 u eb)))
-      (has_used_cases h d o' v b o true ub))
-      (λ k. ⊎_elim
-      (λ m. let yd = same_owner h d b y m.0 w.0.standing eb in
-      let u : has_used writes h a o' (writes v) ≡ true =
-      subst (λ q. has_used writes h a q (writes v) ≡ true) (sym m.1) (has_used_all h a o (writes v) k) in
-      inl (subst (λ q. is_ancestor h x q ≡ true) (sym yd) (may_tells h h d o' a x (writes v) g.0 u ea)))
-      (λ m. exclusion h w.1 g.1 a b o x y k m ea eb)
-      (has_used_cases h d o' v b o true ub))
-      (has_used_cases h d o' v a o false ua)
+  pub exclusion : (history : History V) → Orderly history → Guarded history → Exclusive history
+  exclusion (Opened before) orderly guarded =
+      λ writer user object holder other wrote used held other_held. absurd (false≢true wrote)
+  exclusion (Began from ▹ older) orderly guarded =
+      exclusive_begin older from orderly.1 (exclusion older orderly.1 guarded)
+  exclusion (Committed child ▹ older) orderly guarded =
+      exclusive_commit older child orderly.1 orderly.0 (exclusion older orderly.1 guarded)
+  exclusion (Aborted actions ▹ older) orderly guarded =
+      exclusive_abort older actions (exclusion older orderly.1 guarded)
+  exclusion (Accessed accessor accessed what ▹ older) orderly guarded =
+      exclusive_access older accessor accessed what orderly.0.standing guarded.0
+      (exclusion older orderly.1 guarded.1)

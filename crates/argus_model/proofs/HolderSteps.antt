@@ -1,6 +1,6 @@
--- How the holders change by one more event, and that the lock rules ask just them.
-use Rattle.std.proofs.Common.{Bool, List, None, Option, Some, ap, arith, false, refl, subst, sym, true, ℕ, ⊎_elim, ◌∙◌}
-use Rattle.std.proofs.Common.{◌≡◌, ◌≢◌}
+-- How the holders change by one more event, and that the lock rules depend only on them.
+use Rattle.std.proofs.Common.{Bool, List, None, Option, Some, ap, arith, false, inl, inr, refl, subst, sym, true, ℕ}
+use Rattle.std.proofs.Common.{⊎_elim, ◌∙◌, ◌≡◌, ◌≢◌}
 use Rattle.std.specs.Prelude.{not, ◌&&◌, ◌==◌, ◌||◌}
 use Rattle.std.proofs.lemmas.Bool.{and_from, and_parts, cases_Bool, cases_eq, eq-eqb, false≢true, ne_eqb, or_cases}
 use Rattle.std.proofs.lemmas.Bool.{or_left, or_right}
@@ -10,7 +10,8 @@ use Rattle.argus_model.specs.Event.{Aborted, Accessed, Began, Committed, Origin}
 use Rattle.argus_model.specs.History.{History, Opened, ◌▹◌}
 use Rattle.argus_model.specs.HolderSteps.{has_used, holds, may_by_steps, used_by}
 use Rattle.argus_model.specs.OwnerSteps.{owner_inherited, is_exactly, owner_by_steps, stands, unless_lost}
-use Rattle.argus_model.proofs.Exclusion.{Guarded, exclusion, has_used_begun, has_used_cases, may_from, may_tells}
+use Rattle.argus_model.proofs.Exclusion.{Guarded, exclusion, has_used_begun, has_used_cases, has_used_more}
+use Rattle.argus_model.proofs.Exclusion.{has_used_now, may_from, may_tells}
 use Rattle.argus_model.proofs.Standing.{Orderly, at_some, handed_from, handed_stays, owner_cases, some_at}
 
 -- laws of tests
@@ -61,11 +62,11 @@ module _ {V : Type 0} (writes : V → Bool) where
   used_by_agree t u o all (Aborted a ▹ k) same = used_by_agree t u o all k same
   used_by_agree t u o all (Accessed b o' v ▹ k) same =
       let here = o' == o && (all || writes v) in
-      let rest = used_by_agree t u o all k (λ a m. same a (or_right (b == a && here) (has_used writes k a o all) m)) in
+      let rest = used_by_agree t u o all k (λ a m. same a (has_used_more writes k b o' v a o all m)) in
       ap (λ r. (here && t b) || r) rest
       ∙ ⊎_elim
       (λ y. ap (λ q. (here && q) || used_by writes u o all k)
-      (same b (or_left (b == b && here) (has_used writes k b o all) (and_from (b == b) here (eq-eqb b b refl) y))))
+      (same b (has_used_now writes k b o' v o all y)))
       (λ n. ap (λ q. (q && t b) || used_by writes u o all k) n
       ∙ sym (ap (λ q. (q && u b) || used_by writes u o all k) n))
       (cases_Bool here)
@@ -145,12 +146,13 @@ module _ {V : Type 0} (writes : V → Bool) where
   used_by_found t o all (Aborted a ▹ k) m = used_by_found t o all k m
   used_by_found t o all (Accessed b o' v ▹ k) m =
       let here = o' == o && (all || writes v) in
-      ⊎_elim
-      (λ e. let q = and_parts here (t b) e in
-      (b, or_left (b == b && here) (has_used writes k b o all) (and_from (b == b) here (eq-eqb b b refl) q.0), q.1))
-      (λ e. let q = used_by_found t o all k e in
-      (q.0, or_right (b == q.0 && here) (has_used writes k q.0 o all) q.1, q.2))
-      (or_cases (here && t b) (used_by writes t o all k) m)
+      elim (or_cases (here && t b) (used_by writes t o all k) m) [
+        | inl now ↦
+            let parts = and_parts here (t b) now in (b, has_used_now writes k b o' v o all parts.0, parts.1)
+        | inr before ↦
+            let found = used_by_found t o all k before in
+            (found.0, has_used_more writes k b o' v found.0 o all found.1, found.2)
+      ]
 
   -- one user of the object that passes the test is enough
   pub used_by_from : (t : ℕ → Bool) (o : ℕ) (all : Bool) (k : History V) (b : ℕ) → has_used writes k b o all ≡ true
@@ -161,11 +163,13 @@ module _ {V : Type 0} (writes : V → Bool) where
   used_by_from t o all (Aborted a ▹ k) b u m = used_by_from t o all k b u m
   used_by_from t o all (Accessed d o' v ▹ k) b u m =
       let here = o' == o && (all || writes v) in
-      ⊎_elim
-      (λ e. or_left (here && t d) (used_by writes t o all k)
-      (and_from here (t d) (and_from (o' == o) (all || writes v) (eq-eqb o' o e.1) e.2) (ap t e.0 ∙ m)))
-      (λ e. or_right (here && t d) (used_by writes t o all k) (used_by_from t o all k b e m))
-      (has_used_cases writes k d o' v b o all u)
+      elim (has_used_cases writes k d o' v b o all u) [
+        | inl now ↦
+            let counted = and_from (o' == o) (all || writes v) (eq-eqb o' o now.1) now.2 in
+            let passes = and_from here (t d) counted (ap t now.0 ∙ m) in
+            or_left (here && t d) (used_by writes t o all k) passes
+        | inr before ↦ or_right (here && t d) (used_by writes t o all k) (used_by_from t o all k b before m)
+      ]
 
   -- where a lock is free for a, each holder is an ancestor of a
   pub may_asks : (h : History V) (a o : ℕ) (all : Bool) → may_by_steps writes h a o all h ≡ true → (x : ℕ)

@@ -1,4 +1,4 @@
--- Who holds an object is live, and what the two lock rules ask.
+-- Holders of objects are live, and what the two lock rules require.
 use Rattle.std.proofs.Common.{Bool, false, subst, sym, true, ℕ, ⊎_elim, ◌++◌, ◌↔◌, ◌∙◌, ◌≡◌, ◌≢◌}
 use Rattle.std.specs.List.{list_all}
 use Rattle.std.proofs.lemmas.Bool.{and_from, and_parts, both_ways}

@@ -1,4 +1,4 @@
--- What a live action sees, and what is there for good, after one more event.
+-- What a live action sees, and the bases, after one more event.
 use Rattle.std.proofs.Common.{Bool, List, Some, ap, arith, cond, false, refl, sym, true, ℕ, ⊎_elim, ◌∙◌, ◌≡◌, ◌≢◌}
 use Rattle.std.specs.Prelude.{◌&&◌, ◌==◌}
 use Rattle.std.proofs.lemmas.Bool.{and_from, and_left, and_right, both_ways, cases_Bool}

@@ -1,4 +1,4 @@
--- The owner by the words of its definition is the owner by steps.
+-- The owner by its plain definition is the owner by steps.
 use Rattle.std.proofs.Common.{None, Option, Some, [], ap, arith, cond, false, refl, subst, suc, sym, true, zero, ℕ}
 use Rattle.std.proofs.Common.{⊎_elim, ◌<◌, ◌∙◌, ◌∷◌, ◌≡◌, ◌≢◌}
 use Rattle.std.specs.Prelude.{◌==◌, ◌||◌}

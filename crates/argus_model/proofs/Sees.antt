@@ -1,7 +1,7 @@
--- What an action sees, and the base, are what the accesses leave that count for it.
+-- What an action sees, and the base, are what the accesses that count for it leave.
 use Rattle.std.proofs.Common.{Bool, None, Option, Some, ap, cond, false, refl, sym, true, ℕ, ⊎_elim, ◌∙◌, ◌∷◌, ◌≡◌}
 use Rattle.std.specs.Prelude.{◌&&◌, ◌==◌}
-use Rattle.std.proofs.lemmas.Bool.{and_from, and_parts, and_right, cases_Bool, cases_eq, eq-eqb, or_left}
+use Rattle.std.proofs.lemmas.Bool.{and_from, and_parts, and_right, cases_Bool, cases_eq}
 use Rattle.argus_model.specs.Ancestors.{is_ancestor}
 use Rattle.argus_model.specs.Contents.{base, replay, sees}
 use Rattle.argus_model.specs.Event.{Aborted, Accessed, Began, Committed}
@@ -16,11 +16,11 @@ use Rattle.argus_model.specs.Work.{Access, content_after}
 use Rattle.argus_model.specs.WorkSteps.{accesses_by, owner_passes, visible_accesses}
 use Rattle.argus_model.proofs.Bools.{and_off}
 use Rattle.argus_model.proofs.Contents.{accesses_by_agree, content_stays}
+use Rattle.argus_model.proofs.Exclusion.{has_used_more, has_used_now}
 use Rattle.argus_model.proofs.Holders.{contains_holders, has_used_begun_action}
 use Rattle.argus_model.proofs.HolderSteps.{used_by_from}
 use Rattle.argus_model.proofs.Owner.{base_above, counts_for_is, is_base_is, owner_is}
 use Rattle.argus_model.proofs.Standing.{Orderly, some_at}
-use Rattle.argus_model.proofs.Work.{has_used_more}
 
 module _ {V C A : Type 0} (meaning : Meaning V C A) (opening : HistoryOpening C) where
   replay_is : (kept t : ℕ → Bool) (o : ℕ) (k : History V)
@@ -47,8 +47,7 @@ module _ {V C A : Type 0} (meaning : Meaning V C A) (opening : HistoryOpening C)
       ⊎_elim
       (λ y. let p = and_parts (o' == o) (meaning.writes v) y in
       let q : kept b ≡ t b =
-      same b (or_left (b == b && here) (has_used meaning.writes k b o false)
-      (and_from (b == b) here (eq-eqb b b refl) y)) in
+      same b (has_used_now meaning.writes k b o' v o false y) in
       ⊎_elim
       (λ m. first true
       (and_from (o' == o) (meaning.writes v && kept b) p.0 (and_from (meaning.writes v) (kept b) p.1 (q ∙ m)))

@@ -1,4 +1,4 @@
--- Creators are older, and who stands under the live siblings of an action.
+-- Creators are older, and which actions are under the live siblings of an action.
 use Rattle.std.proofs.Common.{arith, cond, subst, sym, true, ℕ, ⊎_elim, ◌<◌, ◌∙◌, ◌≡◌, ◌≢◌}
 use Rattle.std.specs.List.{list_any}
 use Rattle.std.specs.List.Sorted.{IsStrictlyIncreasing}

@@ -1,17 +1,17 @@
--- Whose work has accesses to which objects, and that the work of what is over stays.
+-- Whose work has accesses to which objects, and that the work of an action that is over stays.
 use Rattle.std.proofs.Common.{Bool, List, Some, [], ap, append_assoc, arith, cond, false, inl, inr, refl, subst, sym}
 use Rattle.std.proofs.Common.{true, ℕ, ⊎_elim, ◌++◌, ◌∙◌, ◌∷◌, ◌≡◌, ◌≢◌, ◌≤◌, ◌⊎◌}
 use Rattle.std.specs.Prelude.{◌&&◌, ◌==◌, ◌||◌}
 use Rattle.std.proofs.lemmas.Bool.{and_from, and_left, and_parts, both_ways, cases_Bool, cases_eq, eq-eqb, false≢true}
 use Rattle.std.proofs.lemmas.Bool.{ne_eqb, or_cases, or_from, or_left, or_parts, or_right}
 use Rattle.argus_model.specs.Ancestors.{is_under, parent}
-use Rattle.argus_model.specs.Event.{Aborted, Accessed, Began, Committed, Event}
+use Rattle.argus_model.specs.Event.{Aborted, Accessed, Began, Committed, Event, Origin}
 use Rattle.argus_model.specs.History.{History, Opened, next_action, ◌▹◌}
 use Rattle.argus_model.specs.HolderSteps.{has_used}
 use Rattle.argus_model.specs.Numbers.{contains}
 use Rattle.argus_model.specs.OwnerSteps.{is_exactly, owner_by_steps, stands}
 use Rattle.argus_model.specs.Work.{Access, all_of, work}
-use Rattle.argus_model.proofs.Exclusion.{has_used_cases}
+use Rattle.argus_model.proofs.Exclusion.{has_used_cases, has_used_more, has_used_now}
 use Rattle.argus_model.proofs.Standing.{Orderly, at_some, handed_from, handed_stays, kept_stays, owned_begun}
 use Rattle.argus_model.proofs.Standing.{owner_cases, parent_begun, parent_is, parents_are_older, some_at, stands_abort}
 use Rattle.argus_model.proofs.Standing.{stands_begun, stands_commit, stands_old, stands_upward}
@@ -110,103 +110,150 @@ module _ {V : Type 0} (writes : V → Bool) where
     pub uses : has_used writes h action o all ≡ true
     pub owned : owner_by_steps h action ≡ Some y
 
-  -- who has used an object has used it after one more access, too
-  pub has_used_more : (h : History V) (b o' : ℕ) (v : V) (y o : ℕ) (all : Bool) → has_used writes h y o all ≡ true
-      → has_used writes (Accessed b o' v ▹ h) y o all ≡ true
-  has_used_more h b o' v y o all u = or_right (b == y && (o' == o && (all || writes v))) (has_used writes h y o all) u
+  user_begin : (h : History V) (from : Origin) (y o : ℕ) (all : Bool) → User h y o all → User (Began from ▹ h) y o all
+  user_begin h from y o all user = record {
+    action = user.action;
+    uses = user.uses;
+    owned =
+        let begun = owned_begun h user.action y user.owned in
+        elim (owner_cases h from user.action) [
+          | inl newest ↦ absurd (omega (arith, newest.0))
+          | inr older ↦ older.1 ∙ user.owned
+        ];
+  }
+
+  user_access : (h : History V) (accessor accessed : ℕ) (what : V) (y o : ℕ) (all : Bool) → User h y o all
+      → User (Accessed accessor accessed what ▹ h) y o all
+  user_access h accessor accessed what y o all user = record {
+    action = user.action;
+    uses = has_used_more writes h accessor accessed what user.action o all user.uses;
+    owned = user.owned;
+  }
+
+  -- after the commit of a child, its parent holds the object by what the child held it by
+  user_handed : (h : History V) (child y o : ℕ) (all : Bool) → parent h child ≡ y → User h child o all
+      → User (Committed child ▹ h) y o all
+  user_handed h child y o all is_parent user = record {
+    action = user.action;
+    uses = user.uses;
+    owned =
+        handed_from child (parent h child) (owner_by_steps h user.action) user.owned ∙ ap Some is_parent;
+  }
+
+  -- the commit of a child leaves by what another holds the object
+  user_kept : (h : History V) (child y o : ℕ) (all : Bool) → y ≢ child → User h y o all
+      → User (Committed child ▹ h) y o all
+  user_kept h child y o all another user = record {
+    action = user.action;
+    uses = user.uses;
+    owned = handed_stays child (parent h child) (owner_by_steps h user.action) y user.owned another;
+  }
 
   -- what stands and has an access to the object in its work answers for who made it
   pub user_of : (h : History V) → Orderly h → (y o : ℕ) (all : Bool) → stands h y ≡ true
       → touches (work h y) o all ≡ true → User h y o all
-  user_of (Opened n) w y o all l m = absurd (false≢true m)
-  user_of (Began from ▹ h) w y o all l m =
-      ⊎_elim
-      (λ k. absurd (false≢true (subst (λ es. touches es o all ≡ true) (no_work h w.1 y (omega arith)) m)))
-      (λ k. let u = user_of h w.1 y o all (sym (stands_old h from y k) ∙ l) m in
+  user_of (Opened before) orderly y o all standing touched = absurd (false≢true touched)
+  user_of (Began from ▹ h) orderly y o all standing touched =
+      elim (cases_eq y (next_action h)) [
+        | inl newest ↦
+            let no_touch = subst (λ es. touches es o all ≡ true) (no_work h orderly.1 y (omega arith)) touched in
+            absurd (false≢true no_touch)
+        | inr older ↦
+            let stood = sym (stands_old h from y older) ∙ standing in
+            user_begin h from y o all (user_of h orderly.1 y o all stood touched)
+      ]
+  user_of (Committed child ▹ h) orderly y o all standing touched =
+      let older = parents_are_older h orderly.1 in
+      let upward = stands_upward h orderly.1 in
+      let stood = stands_commit h older upward child y orderly.0.not_base orderly.0.standing standing in
+      let above = parent h child in
+      let kept : touches (work h y) o all ≡ true → User (Committed child ▹ h) y o all =
+      λ before. user_kept h child y o all stood.1 (user_of h orderly.1 y o all stood.0 before) in
+      let its_work = λ (b : Bool). touches (cond b (work h child ++ work h y) (work h y)) o all ≡ true in
+      elim (cases_eq above y) [
+        | inl is_parent ↦
+            elim (touches-append (work h child) (work h y) o all
+            (subst its_work (eq-eqb above y is_parent) touched)) [
+              | inl by_child ↦
+                  user_handed h child y o all is_parent (user_of h orderly.1 child o all orderly.0.standing by_child)
+              | inr before ↦ kept before
+            ]
+        | inr another ↦ kept (subst its_work (ne_eqb above y another) touched)
+      ]
+  user_of (Aborted actions ▹ h) orderly y o all standing touched =
+      let stood = stands_abort h actions y standing in
+      let user = user_of h orderly.1 y o all stood.0 touched in
       record {
-        action = u.action;
-        uses = u.uses;
-        owned =
-            ⊎_elim (λ q. absurd (let b = owned_begun h u.action y u.owned in omega (arith, q.0))) (λ q. q.1 ∙ u.owned)
-            (owner_cases h from u.action);
-      })
-      (cases_eq y (next_action h))
-  user_of (Committed s ▹ h) w y o all l m =
-      let k = stands_commit h (parents_are_older h w.1) (stands_upward h w.1) s y w.0.not_base w.0.standing l in
-      let p = parent h s in
-      let ih : touches (work h y) o all ≡ true → User (Committed s ▹ h) y o all =
-      λ q. let u = user_of h w.1 y o all k.0 q in
-      record {
-        action = u.action;
-        uses = u.uses;
-        owned = handed_stays s p (owner_by_steps h u.action) y u.owned k.1;
-      } in
-      ⊎_elim
-      (λ e. ⊎_elim
-      (λ q. let u = user_of h w.1 s o all w.0.standing q in
-      record {
-        action = u.action;
-        uses = u.uses;
-        owned = handed_from s p (owner_by_steps h u.action) u.owned ∙ ap Some e;
-      })
-      ih
-      (touches-append (work h s) (work h y) o all
-      (subst (λ b. touches (cond b (work h s ++ work h y) (work h y)) o all ≡ true) (eq-eqb p y e) m)))
-      (λ e. ih (subst (λ b. touches (cond b (work h s ++ work h y) (work h y)) o all ≡ true) (ne_eqb p y e) m))
-      (cases_eq p y)
-  user_of (Aborted z ▹ h) w y o all l m =
-      let k = stands_abort h z y l in let u = user_of h w.1 y o all k.0 m in
-      record {
-        action = u.action;
-        uses = u.uses;
-        owned = kept_stays (is_under h z) (owner_by_steps h u.action) y u.owned k.1;
+        action = user.action;
+        uses = user.uses;
+        owned = kept_stays (is_under h actions) (owner_by_steps h user.action) y user.owned stood.1;
       }
-  user_of (Accessed a o' v ▹ h) w y o all l m =
-      let ih : touches (work h y) o all ≡ true → User (Accessed a o' v ▹ h) y o all =
-      λ q. let u = user_of h w.1 y o all l q in
-      record { action = u.action; uses = has_used_more h a o' v u.action o all u.uses; owned = u.owned } in
-      let here = o' == o && (all || writes v) in
-      ⊎_elim
-      (λ k. ⊎_elim
-      (λ q. record {
-        action = a;
-        uses = or_left (a == a && here) (has_used writes h a o all) (and_from (a == a) here (eq-eqb a a refl) q);
-        owned = at_some (owner_by_steps h a) a w.0.standing ∙ ap Some k;
-      })
-      ih
-      (or_cases here (touches (work h y) o all)
-      (subst (λ b. touches (cond b (record { object = o'; what = v } ∷ work h y) (work h y)) o all ≡ true)
-      (eq-eqb a y k) m)))
-      (λ k. ih (subst (λ b. touches (cond b (record { object = o'; what = v } ∷ work h y) (work h y)) o all ≡ true)
-      (ne_eqb a y k) m))
-      (cases_eq a y)
+  user_of (Accessed accessor accessed what ▹ h) orderly y o all standing touched =
+      let counts = accessed == o && (all || writes what) in
+      let its_work = λ (b : Bool).
+      touches (cond b (record { object = accessed; what = what } ∷ work h y) (work h y)) o all ≡ true in
+      let earlier : touches (work h y) o all ≡ true → User (Accessed accessor accessed what ▹ h) y o all =
+      λ before. user_access h accessor accessed what y o all (user_of h orderly.1 y o all standing before) in
+      elim (cases_eq accessor y) [
+        | inl same ↦
+            elim (or_cases counts (touches (work h y) o all) (subst its_work (eq-eqb accessor y same) touched)) [
+              | inl now ↦
+                  record {
+                    action = accessor;
+                    uses = has_used_now writes h accessor accessed what o all now;
+                    owned = at_some (owner_by_steps h accessor) accessor orderly.0.standing ∙ ap Some same;
+                  }
+              | inr before ↦ earlier before
+            ]
+        | inr another ↦ earlier (subst its_work (ne_eqb accessor y another) touched)
+      ]
+
+  -- an action that wrote the object in `older`, for which the owner answers
+  abbrev Writer : History V → History V → ℕ → ℕ → Type 0
+  Writer h older owner o =
+      (a : ℕ) × (has_used writes older a o false ≡ true) × (owner_by_steps h a ≡ Some owner)
+
+  abbrev NoWriter : History V → History V → ℕ → ℕ → Type 0
+  NoWriter h older owner o = (a : ℕ) → has_used writes older a o false ≡ true → owner_by_steps h a ≢ Some owner
+
+  module _ (h older : History V) (accessor accessed : ℕ) (what : V) (owner o : ℕ) where
+    -- this access writes the object, and the owner answers for it
+    abbrev writes_now : Bool
+    writes_now = (accessed == o && (false || writes what)) && is_exactly (owner_by_steps h accessor) owner
+
+    writer_now : writes_now ≡ true → Writer h (Accessed accessor accessed what ▹ older) owner o
+    writer_now now =
+        let found = owner_by_steps h accessor in
+        let parts = and_parts (accessed == o && (false || writes what)) (is_exactly found owner) now in
+        (accessor, has_used_now writes older accessor accessed what o false parts.0, at_some found owner parts.1)
+
+    no_writer : writes_now ≡ false → NoWriter h older owner o
+        → NoWriter h (Accessed accessor accessed what ▹ older) owner o
+    no_writer off none a wrote owned =
+        elim (has_used_cases writes older accessor accessed what a o false wrote) [
+          | inl now ↦
+              let found = owner_by_steps h accessor in
+              let counted = and_from (accessed == o) (false || writes what) (eq-eqb accessed o now.1) now.2 in
+              let is_owner = some_at found owner (ap (owner_by_steps h) now.0 ∙ owned) in
+              both_ways writes_now off
+              (and_from (accessed == o && (false || writes what)) (is_exactly found owner) counted is_owner)
+          | inr before ↦ none a before owned
+        ]
 
   -- there is a writer in k that s answers for, or none
   pub find_writer : (h k : History V) (s o : ℕ)
       → ((a : ℕ) × (has_used writes k a o false ≡ true) × (owner_by_steps h a ≡ Some s))
       ⊎ ((a : ℕ) → has_used writes k a o false ≡ true → owner_by_steps h a ≢ Some s)
-  find_writer h (Opened n) s o = inr (λ a u e. false≢true u)
-  find_writer h (Began from ▹ k) s o = find_writer h k s o
-  find_writer h (Committed b ▹ k) s o = find_writer h k s o
-  find_writer h (Aborted b ▹ k) s o = find_writer h k s o
-  find_writer h (Accessed b o' v ▹ k) s o =
-      ⊎_elim
-      (λ w. inl (w.0, has_used_more k b o' v w.0 o false w.1, w.2))
-      (λ none. ⊎_elim
-      (λ t. let q = and_parts (o' == o && (false || writes v)) (is_exactly (owner_by_steps h b) s) t in
-      inl (
-        b,
-        or_left (b == b && (o' == o && (false || writes v))) (has_used writes k b o false)
-            (and_from (b == b) (o' == o && (false || writes v)) (eq-eqb b b refl) q.0),
-        at_some (owner_by_steps h b)
-            s q.1,
-      ))
-      (λ n. inr (λ a u e. ⊎_elim
-      (λ c. both_ways ((o' == o && (false || writes v)) && is_exactly (owner_by_steps h b) s) n
-      (and_from (o' == o && (false || writes v)) (is_exactly (owner_by_steps h b) s)
-      (and_from (o' == o) (false || writes v) (eq-eqb o' o c.1) c.2)
-      (some_at (owner_by_steps h b) s (ap (owner_by_steps h) c.0 ∙ e))))
-      (λ c. none a c e)
-      (has_used_cases writes k b o' v a o false u)))
-      (cases_Bool ((o' == o && (false || writes v)) && is_exactly (owner_by_steps h b) s)))
-      (find_writer h k s o)
+  find_writer h (Opened before) s o = inr (λ a wrote owned. false≢true wrote)
+  find_writer h (Began from ▹ older) s o = find_writer h older s o
+  find_writer h (Committed child ▹ older) s o = find_writer h older s o
+  find_writer h (Aborted actions ▹ older) s o = find_writer h older s o
+  find_writer h (Accessed accessor accessed what ▹ older) s o =
+      elim (find_writer h older s o) [
+        | inl found ↦
+            inl (found.0, has_used_more writes older accessor accessed what found.0 o false found.1, found.2)
+        | inr none ↦ elim (cases_Bool (writes_now h older accessor accessed what s o)) [
+          | inl now ↦ inl (writer_now h older accessor accessed what s o now)
+          | inr off ↦ inr (no_writer h older accessor accessed what s o off none)
+        ]
+      ]

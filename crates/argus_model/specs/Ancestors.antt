@@ -15,7 +15,7 @@ parent (Committed b ▹ older) a = parent older a
 parent (Aborted bs ▹ older) a = parent older a
 parent (Accessed b o v ▹ older) a = parent older a
 
--- who began an action; a topaction that no action began has the base
+-- the creator of an action; for a topaction that no action began it is the base
 abbrev pub begun_by : {V : Type 0} → History V → ℕ → ℕ
 begun_by (Opened n) a = 0
 begun_by (Began from ▹ older) a = if a == next_action older then origin_begun_by from else begun_by
@@ -37,7 +37,7 @@ lineage (Committed b ▹ older) a = lineage older a
 lineage (Aborted bs ▹ older) a = lineage older a
 lineage (Accessed b o v ▹ older) a = lineage older a
 
--- x is a, or the parent of an ancestor of a: an action is its own ancestor, and a creator is none
+-- x is a, or the parent of an ancestor of a: an action is its own ancestor, and a creator isn't one
 abbrev pub is_ancestor : {V : Type 0} → History V → ℕ → ℕ → Bool
 is_ancestor h x a = contains (lineage h a) x
 

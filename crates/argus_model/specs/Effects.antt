@@ -9,7 +9,7 @@ use Rattle.argus_model.specs.Numbers.{insert}
 use Rattle.argus_model.specs.Work.{Access, all_of, committed_topactions, content_after, work}
 
 module _ {C : Type 0} where
-  -- the content that an effect gives the object, or else this one
+  -- the content that an effect gives the object, or otherwise this one
   abbrev pub content_by : List (ℕ × C) → ℕ → C → C
   content_by [] o c = c
   content_by (pair ∷ effect) o c = if pair.0 == o then pair.1 else content_by effect o c
@@ -27,7 +27,7 @@ module _ {V C A : Type 0} (meaning : Meaning V C A) where
       if meaning.writes e.what then insert e.object (written_objects older) else
       written_objects older
 
-  -- what this work, done after that which was done before, leaves in each object that it writes
+  -- what this work, done after the work before it, leaves in each object that it writes
   abbrev pub effect_of : (ℕ → C) → (done before : List (Access V)) → List (ℕ × C)
   effect_of contents done before =
       map (λ o. (o, content_after meaning contents o (done ++ before))) (written_objects done)
@@ -42,8 +42,8 @@ module _ {V C A : Type 0} (meaning : Meaning V C A) where
   abbrev pub effects : HistoryOpening C → History V → List (List (ℕ × C))
   effects opening h = reverse (effects_of opening.contents (work h) (committed_topactions h))
 
-  -- what one more event adds to them: the commit of a topaction its effect, which is what the
-  -- topaction sees in each object that it has written, and every other event none
+  -- what one more event adds to them: the commit of a topaction adds its effect, which is what the
+  -- topaction sees in each object that it has written; every other event adds none
   abbrev pub added_effects : HistoryOpening C → History V → Event V → List (List (ℕ × C))
   added_effects opening h (Committed a) =
       if parent h a == 0 then map (λ o. (o, sees meaning opening h a o))

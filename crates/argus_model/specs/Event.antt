@@ -1,7 +1,7 @@
 -- What can happen in a guardian: an action begins, commits, is aborted, or accesses an object.
 use Rattle.std.specs.Prelude.{List, ℕ}
 
--- Action 0 is the base, which stands under all topactions: it never begins and never ends.
+-- Action 0 is the base, the parent of all topactions: it never begins and never ends.
 
 -- how an action came to be (Argus Reference Manual 1987, actions)
 pub data Origin : Type 0 where
@@ -12,13 +12,13 @@ pub data Origin : Type 0 where
   -- a nested topaction, begun by an action and independent of it
   Nested : (creator : ℕ) → Origin
 
--- the parent of an action of this origin: of a topaction, nested or not, it is the base
+-- the parent of an action of this origin: for a topaction, nested or not, it is the base
 abbrev pub origin_parent : Origin → ℕ
 origin_parent Top = 0
 origin_parent (Sub parent) = parent
 origin_parent (Nested creator) = 0
 
--- who began an action of this origin: a subaction's parent, a nested topaction's creator, and
+-- the creator of an action of this origin: a subaction's parent, a nested topaction's creator, and
 -- otherwise the base
 abbrev pub origin_begun_by : Origin → ℕ
 origin_begun_by Top = 0

@@ -5,8 +5,8 @@ use Rattle.argus_model.specs.History.{History, HistoryOpening, next_action}
 use Rattle.argus_model.specs.Meaning.{Meaning}
 
 module _ {V C A : Type 0} (meaning : Meaning V C A) where
-  -- the opening that goes on where the history ends, when so many entries were journalled: what was
-  -- there for good, and the next numbers
+  -- the opening that goes on where the history ends, when this many entries were journalled: the
+  -- bases, and the next numbers
   abbrev pub fold : HistoryOpening C → History V → ℕ → HistoryOpening C
   fold opening h entries =
       record {

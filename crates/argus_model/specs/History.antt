@@ -7,12 +7,12 @@ use Rattle.argus_model.specs.Event.{Aborted, Accessed, Began, Committed, Event, 
 pub record HistoryOpening (C : Type 0) : Type 0 where
   -- what each object holds
   pub contents : ℕ → C
-  -- how many actions are folded, which are those of the numbers 1 to first_action
+  -- how many actions are folded: those with the numbers 1 to first_action
   pub first_action : ℕ
-  -- how many entries of the journal are folded; no law speaks of it
+  -- how many entries of the journal are folded; no law uses it
   pub first_entry : ℕ
 
--- after an opening with so many folded actions, each event with all that went before it
+-- after an opening with this many folded actions, each event with all that went before it
 infixr 67 ◌▹◌
 pub data History (V : Type 0) : Type 0 where
   Opened : (first_action : ℕ) → History V

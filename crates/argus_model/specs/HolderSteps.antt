@@ -11,8 +11,7 @@ abbrev pub if_owned : (ℕ → Bool) → Option ℕ → Bool
 if_owned test None = true
 if_owned test (Some x) = test x
 
--- Of each test here `all` says which accesses it speaks of: all of them, or the write accesses
--- alone.
+-- In each test here `all` says which accesses it is about: all of them, or only the write accesses.
 module _ {V : Type 0} (writes : V → Bool) where
   -- each owner of an access to the object in k is an ancestor of a
   abbrev pub may_by_steps : History V → ℕ → ℕ → Bool → History V → Bool

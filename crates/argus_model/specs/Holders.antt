@@ -1,4 +1,4 @@
--- Who holds an object for reading and for writing, and the two lock rules (Moss 1981, locking
+-- The holders of an object, for reading and for writing, and the two lock rules (Moss 1981, locking
 -- rules).
 use Rattle.std.specs.List.{list_all}
 use Rattle.std.specs.Prelude.{Bool, List, false, filter, if◌then◌else◌, ℕ, ◌&&◌, ◌==◌, ◌||◌}
@@ -19,33 +19,33 @@ module _ {V : Type 0} (kind : V → Bool) where
   has_access test o (Committed a ▹ older) = has_access test o older
   has_access test o (Aborted actions ▹ older) = has_access test o older
 
-  -- x answers for an access of this kind to the object
+  -- x is the owner of an access of this kind to the object
   abbrev pub is_holder : History V → ℕ → ℕ → Bool
   is_holder h o x = has_access (λ a. is_held_by x (owner h a)) o h
 
-  -- all who do, in increasing number
+  -- all such owners, in increasing number
   abbrev pub holders : History V → ℕ → List ℕ
   holders h o = filter (is_holder h o) (begun_actions h)
 
--- these holders, after a has handed what it holds to p; the base is no holder
+-- these holders, after a has handed what it holds to p; the base isn't a holder
 abbrev pub inherited : ℕ → ℕ → List ℕ → List ℕ
 inherited a p xs =
     if contains xs a then (if p == 0 then without a xs else insert p (without a xs)) else xs
 
 module _ {V C A : Type 0} (meaning : Meaning V C A) where
-  -- who holds the object for reading; a write access doesn't make a reader
+  -- the read holders of the object; a write access doesn't make a reader
   abbrev pub readers : History V → ℕ → List ℕ
   readers h o = holders (reads meaning) h o
 
-  -- who holds the object for writing
+  -- the write holders of the object
   abbrev pub writers : History V → ℕ → List ℕ
   writers h o = holders meaning.writes h o
 
-  -- each who holds the object for writing is an ancestor of a
+  -- each write holder of the object is an ancestor of a
   abbrev pub may_read : History V → ℕ → ℕ → Bool
   may_read h a o = list_all (λ x. is_ancestor h x a) (writers h o)
 
-  -- each who holds the object, for reading or for writing, is an ancestor of a
+  -- each holder of the object, for reading or for writing, is an ancestor of a
   abbrev pub may_write : History V → ℕ → ℕ → Bool
   may_write h a o = list_all (λ x. is_ancestor h x a) (readers h o)
       && list_all (λ x. is_ancestor h x a) (writers h o)

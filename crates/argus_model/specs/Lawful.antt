@@ -13,8 +13,8 @@ module _ {V C A : Type 0} (meaning : Meaning V C A) where
   abbrev pub may_access : History V → ℕ → ℕ → V → Bool
   may_access h a o v = if meaning.writes v then may_write meaning h a o else may_read meaning h a o
 
-  -- an access may come next: who makes it is live and has no live child, its lock is free, and its
-  -- answer is by what the action sees
+  -- an access may come next: its action is live and has no live child, its lock is free, and its
+  -- answer follows from what the action sees
   pub record AllowedAccess (opening : HistoryOpening C) (h : History V) (a o : ℕ)
       (v : V) : Type 0 where
     pub live : is_live h a ≡ true
@@ -22,8 +22,8 @@ module _ {V C A : Type 0} (meaning : Meaning V C A) where
     pub lock : may_access h a o v ≡ true
     pub answer : Fits meaning v (sees meaning opening h a o)
 
-  -- The event may come next. Who begins, commits or is aborted is live, and who commits has no live
-  -- child.
+  -- The event may come next. An action is begun by a live one; one that commits or is aborted is
+  -- live; one that commits has no live child.
   abbrev pub Allowed : HistoryOpening C → History V → Event V → Type 0
   Allowed opening h (Began from) = (origin_begun_by from == 0 || is_live h (origin_begun_by from))
       ≡ true

@@ -1,13 +1,13 @@
--- Who answers for what an action did: itself until it commits, and then whoever answers for its
+-- The owner of what an action did: the action itself until it commits, and then the owner of its
 -- parent (Moss 1981, inheritance of locks).
 use Rattle.std.specs.Prelude.{Bool, List, [], false, if◌then◌else◌, true, ℕ, ◌==◌, ◌∷◌}
 use Rattle.argus_model.specs.Ancestors.{is_ancestor, lineage}
 use Rattle.argus_model.specs.History.{History}
 use Rattle.argus_model.specs.Status.{has_committed, is_begun, is_doomed}
 
--- who answers for a piece of work
+-- the owner of a piece of work
 pub data Owner : Type 0 where
-  -- nobody is asked: the action was folded, or never began
+  -- unknown: the action was folded, or never began
   Folded : Owner
   -- what it did is undone
   Gone : Owner
@@ -16,19 +16,19 @@ pub data Owner : Type 0 where
   -- what it did is there for good
   Base : Owner
 
--- of a lineage: gone if the first is doomed, the first itself if it hasn't committed, else the
--- owner of its parent
+-- the owner by a lineage: gone if the first is doomed, the first itself if it hasn't committed,
+-- otherwise the owner of its parent
 abbrev pub owner_up : {V : Type 0} → History V → List ℕ → Owner
 owner_up h [] = Base
 owner_up h (a ∷ up) =
     if a == 0 then Base else if is_doomed h a then Gone else
     if has_committed h a then owner_up h up else Held a
 
--- who answers for what the action did
+-- the owner of what the action did
 abbrev pub owner : {V : Type 0} → History V → ℕ → Owner
 owner h a = if is_begun h a then owner_up h (lineage h a) else Folded
 
--- what has this owner counts for a: it is there for good, or an ancestor of a holds it
+-- work with this owner counts for a: it is there for good, or the owner is an ancestor of a
 abbrev pub counts_for : {V : Type 0} → History V → ℕ → Owner → Bool
 counts_for h a Folded = false
 counts_for h a Gone = false
@@ -42,14 +42,14 @@ is_base Folded = false
 is_base Gone = false
 is_base (Held x) = false
 
--- it is what x answers for
+-- its owner is x
 abbrev pub is_held_by : ℕ → Owner → Bool
 is_held_by x (Held y) = y == x
 is_held_by x Folded = false
 is_held_by x Gone = false
 is_held_by x Base = false
 
--- the owner, after a has handed what it answers for to p
+-- the owner, after a has handed what it owns to p
 abbrev pub passed_up : ℕ → ℕ → Owner → Owner
 passed_up a p (Held x) = if x == a then (if p == 0 then Base else Held p) else Held x
 passed_up a p Folded = Folded

@@ -8,7 +8,7 @@ use Rattle.argus_model.specs.History.{History, Opened, next_action, ◌▹◌}
 use Rattle.argus_model.specs.Numbers.{contains}
 use Rattle.argus_model.specs.Owner.{Base, Gone, Held, Owner}
 
--- the owner, after a has handed what it answers for to p
+-- the owner, after a has handed what it owns to p
 abbrev pub owner_inherited : ℕ → ℕ → Option ℕ → Option ℕ
 owner_inherited a p None = None
 owner_inherited a p (Some x) = if x == a then Some p else Some x
@@ -18,8 +18,8 @@ abbrev pub unless_lost : (ℕ → Bool) → Option ℕ → Option ℕ
 unless_lost lost None = None
 unless_lost lost (Some x) = if lost x then None else Some x
 
--- Who answers for what the action did: itself at first, its owner's parent once that commits, and
--- nobody after an abort. The base answers for itself.
+-- The owner of what the action did: the action itself at first, its owner's parent once that owner
+-- commits, and nobody after an abort. The base is its own owner.
 abbrev pub owner_by_steps : {V : Type 0} → History V → ℕ → Option ℕ
 owner_by_steps (Opened n) a = if a == 0 then Some 0 else None
 owner_by_steps (Began from ▹ older) a =
@@ -38,7 +38,7 @@ abbrev pub is_exactly : Option ℕ → ℕ → Bool
 is_exactly None a = false
 is_exactly (Some x) a = x == a
 
--- it answers for itself: a live action, or the base
+-- it stands: it is its own owner, a live action or the base
 abbrev pub stands : {V : Type 0} → History V → ℕ → Bool
 stands h a = is_exactly (owner_by_steps h a) a
 

@@ -25,7 +25,7 @@ origin (Accessed b o v ▹ older) a = origin older a
 abbrev pub row_of : {V : Type 0} → History V → ℕ → Row
 row_of h a = record { origin = origin h a; status = status h a }
 
--- the row of a number, where n actions are folded
+-- the row of a number, if n actions are folded
 abbrev pub row_at : ℕ → List Row → ℕ → Option Row
 row_at n [] a = None
 row_at n (row ∷ older) a = if a == n + length older + 1 then Some row else row_at n older a
@@ -34,27 +34,27 @@ row_at n (row ∷ older) a = if a == n + length older + 1 then Some row else row
 abbrev pub with_status : Status → Row → Row
 with_status s row = record { origin = row.origin; status = s }
 
--- the rows, where those of the numbers that pass the test get this status
+-- the rows, with this status in those whose numbers pass the test
 abbrev pub mark : ℕ → (ℕ → Bool) → Status → List Row → List Row
 mark n test s [] = []
 mark n test s (row ∷ older) =
     (if test (n + length older + 1) then with_status s row else row) ∷ mark n test s older
 
--- x is y, or above its parent; false where either has no row
+-- x is y, or above its parent; false if either has no row
 abbrev pub is_above : ℕ → List Row → ℕ → ℕ → Bool
 is_above n [] x y = false
 is_above n (row ∷ older) x y =
     if y == n + length older + 1 then (x == y || is_above n older x (origin_parent row.origin)) else
     is_above n older x y
 
--- how many actions it takes from a number up to its topaction, both counted; 0 where it has no row
+-- how many actions it takes from a number up to its topaction, both counted; 0 if it has no row
 abbrev pub depth_at : ℕ → List Row → ℕ → ℕ
 depth_at n [] a = 0
 depth_at n (row ∷ older) a =
     if a == n + length older + 1 then depth_at n older (origin_parent row.origin) + 1 else
     depth_at n older a
 
--- the rows after each event: a commit marks one, an abort all that stand under those it names
+-- the rows after each event: a commit marks one, an abort all those under the ones that it names
 abbrev pub rows : {V : Type 0} → History V → List Row
 rows (Opened n) = []
 rows (Began from ▹ older) = record { origin = from; status = IsLive } ∷ rows older

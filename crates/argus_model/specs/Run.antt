@@ -1,4 +1,4 @@
--- Accesses run one after another on plain contents, with no locks, the oldest first.
+-- Accesses run one after another on plain contents, without locks, the oldest first.
 use Rattle.std.specs.Prelude.{List, [], if◌then◌else◌, ℕ, ◌==◌, ◌∷◌}
 use Rattle.argus_model.specs.Meaning.{Fits, Meaning}
 use Rattle.argus_model.specs.Work.{Access}

@@ -39,7 +39,7 @@ abbrev pub has_live_child : {V : Type 0} → History V → ℕ → Bool
 has_live_child h a =
     list_any (λ x. is_live h x && (parent h x == a || begun_by h x == a)) (begun_actions h)
 
--- another action of the same creator; the base is none
+-- another action of the same creator; the base isn't one
 abbrev pub is_sibling : {V : Type 0} → History V → ℕ → ℕ → Bool
 is_sibling h a x = not (x == 0) && (not (x == a) && begun_by h x == begun_by h a)
 

@@ -1,4 +1,4 @@
--- The serial order: what each action did, with the work of its subactions where they committed.
+-- The serial order: what each action did, with the work of its committed subactions.
 use Rattle.std.specs.Prelude.{Bool, List, [], if◌then◌else◌, true, ℕ, ◌++◌, ◌==◌, ◌∷◌, ◌≡◌, ◌⊎◌}
 use Rattle.argus_model.specs.Ancestors.{is_ancestor, lineage, parent}
 use Rattle.argus_model.specs.Event.{Aborted, Accessed, Began, Committed}
@@ -6,7 +6,7 @@ use Rattle.argus_model.specs.History.{History, Opened, ◌▹◌}
 use Rattle.argus_model.specs.Meaning.{Meaning}
 use Rattle.argus_model.specs.Numbers.{contains}
 
--- an access with its object, apart from who made it
+-- an access with its object, apart from the action that made it
 pub record Access (V : Type 0) : Type 0 where
   pub object : ℕ
   pub what : V
@@ -29,8 +29,7 @@ accesses_by test (Began from ▹ older) = accesses_by test older
 accesses_by test (Committed a ▹ older) = accesses_by test older
 accesses_by test (Aborted actions ▹ older) = accesses_by test older
 
--- the accesses of an action, newest first, with the whole work of each subaction where that
--- committed
+-- the accesses of an action, newest first, with the whole work of each subaction at its commit
 abbrev pub work : {V : Type 0} → History V → ℕ → List (Access V)
 work (Opened n) a = []
 work (Accessed b o v ▹ older) a =
@@ -49,14 +48,14 @@ committed_topactions (Began from ▹ older) = committed_topactions older
 committed_topactions (Aborted actions ▹ older) = committed_topactions older
 committed_topactions (Accessed a o v ▹ older) = committed_topactions older
 
--- of the committed topactions, t is an ancestor of a, and no other is one
+-- of the committed topactions t, and no other, is an ancestor of a
 pub record IsItsTopaction {V : Type 0} (h : History V) (a t : ℕ) : Type 0 where
   pub committed : contains (committed_topactions h) t ≡ true
   pub above : is_ancestor h t a ≡ true
   pub only : (u : ℕ) → contains (committed_topactions h) u ≡ true → is_ancestor h u a ≡ true
       → u ≡ t
 
--- what the function gives of each number, one after another
+-- what the function returns for each number, one after another
 abbrev pub all_of : {X : Type 0} → (ℕ → List X) → List ℕ → List X
 all_of f [] = []
 all_of f (x ∷ xs) = f x ++ all_of f xs
@@ -65,8 +64,8 @@ all_of f (x ∷ xs) = f x ++ all_of f xs
 abbrev pub serial_order : {V : Type 0} → History V → List (Access V)
 serial_order h = all_of (work h) (committed_topactions h)
 
--- the work of a, before it that of its parent and so on, and first of all the work that is there
--- for good
+-- the work of a, before it that of its parent and so on, and before all of it the work that is
+-- there for good
 abbrev pub serial_order_to : {V : Type 0} → History V → ℕ → List (Access V)
 serial_order_to h a = all_of (work h) (lineage h a)
 
@@ -78,6 +77,6 @@ module _ {V C A : Type 0} (meaning : Meaning V C A) where
       if e.object == o then meaning.after e.what (content_after contents o older) else
       content_after contents o older
 
-  -- what the object of an access holds just before it, where these went before, newest first
+  -- what the object of an access holds just before it, given the accesses before it, newest first
   abbrev pub content_before : (ℕ → C) → Access V → List (Access V) → C
   content_before contents e earlier = content_after contents e.object earlier

@@ -1,5 +1,5 @@
--- A second form of what an action sees and of what is lawful, for proofs: lists of accesses, and
--- the events' own forms.
+-- A second form of what an action sees and of what is lawful, for proofs: by lists of accesses, and
+-- event by event.
 use Rattle.std.specs.Prelude.{Bool, List, None, Option, Some, [], false, true, ℕ}
 use Rattle.std.specs.Prelude.{◌∷◌, ◌≡◌}
 use Rattle.argus_model.specs.Ancestors.{is_ancestor}
@@ -22,7 +22,7 @@ visible_accesses h a =
     accesses_by (λ b. owner_passes (λ x. is_ancestor h x a) (owner_by_steps h b)) h
 
 module _ {V C A : Type 0} (meaning : Meaning V C A) (contents : ℕ → C) where
-  -- each access, newest first, is answered by what those before it leave
+  -- each access, newest first, has the answer that those before it lead to
   abbrev pub Replays : List (Access V) → Type 0
   Replays [] = Unit {0}
   Replays (e ∷ older) =

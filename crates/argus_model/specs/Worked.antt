@@ -12,7 +12,7 @@ use Rattle.argus_model.specs.Work.{Access}
 pub data NumberOperation : Type 0 where
   -- looks at the number; that it is 0 is an answer, too
   Look : (seen : ℕ) → NumberOperation
-  -- puts a number in its place, and is answered with the one that it replaced
+  -- puts a number in its place, and returns the one that it replaced
   Put : (number replaced : ℕ) → NumberOperation
 
 -- whether it puts a number
@@ -25,17 +25,17 @@ abbrev pub number_after : NumberOperation → ℕ → ℕ
 number_after (Look seen) c = c
 number_after (Put number replaced) c = number
 
--- the number that it was answered with
+-- the number that it returned
 abbrev pub answer_given : NumberOperation → ℕ
 answer_given (Look seen) = seen
 answer_given (Put number replaced) = replaced
 
--- what puts no number leaves the one that it finds
+-- an access that puts no number leaves the one that it finds
 abbrev pub looks_keep : (v : NumberOperation) → puts v ≡ false → (c : ℕ) → number_after v c ≡ c
 looks_keep (Look seen) n c = refl
 looks_keep (Put number replaced) n c = absurd (false≢true (sym n))
 
--- both answer what they find
+-- both return what they find
 abbrev pub numbers : Meaning NumberOperation ℕ ℕ
 numbers = record {
   writes = puts;
@@ -76,8 +76,8 @@ pair_goes_on =
 abbrev pub pair_ends : History NumberOperation
 pair_ends = followed_by pair_goes_on (Committed 3 ∷ Committed 1 ∷ [])
 
--- a topaction is aborted that has begun two nested topactions, one of them through a subaction;
--- another subaction of that one has committed
+-- a topaction that has begun two nested topactions, one of them through a subaction, is aborted; a
+-- subaction of that subaction has committed
 abbrev pub creator_works : History NumberOperation
 creator_works = followed_by (Opened 0) (Began Top ∷ Began (Nested 1) ∷ Accessed 2 0 (Put 7 0) ∷ [])
 

@@ -10,9 +10,8 @@ ghost use Rattle.argus_model.specs.Holders.{readers, writers, may_read, may_writ
 ghost use Rattle.argus_model.specs.Contents.{sees};
 ghost use Rattle.argus_model.specs.Lawful.{Lawful};
 
-/// Of one who holds an object for writing and any other holder of it, one is an ancestor of the
-/// other (Moss 1981, locking rules). So the writers, which are listed in increasing number, are
-/// listed from ancestor to descendant.
+/// Of an object's write holder and any other holder, one is an ancestor of the other (Moss 1981,
+/// locking rules). So the writers, listed in increasing number, go from ancestor to descendant.
 pub fn exclusion<V, C, A>()
     ensures related { (meaning : Meaning V C A) (opening : HistoryOpening C) (h : History V)
         (o x y : ℕ)
@@ -27,7 +26,7 @@ pub fn exclusion<V, C, A>()
         → x < y → is_ancestor h x y ≡ true }
 {}
 
-/// Who holds an object is live, and is listed once, in increasing number.
+/// Each holder of an object is live; they are listed once each, in increasing number.
 pub fn holders<V, C, A>()
     ensures live { (meaning : Meaning V C A) (opening : HistoryOpening C) (h : History V) (o x : ℕ)
         → Lawful meaning opening h
@@ -39,8 +38,8 @@ pub fn holders<V, C, A>()
         → IsStrictlyIncreasing (writers meaning h o) }
 {}
 
-/// An action may read an object where each of its writers is an ancestor of the action, and only
-/// there; it may write where each of its readers is one, too.
+/// An action may read an object exactly if each of its writers is an ancestor of the action; it may
+/// write exactly if each of its readers is one, too.
 pub fn lock_rules<V, C, A>()
     ensures read { (meaning : Meaning V C A) (h : History V) (a o : ℕ)
         → (may_read meaning h a o ≡ true)
@@ -51,8 +50,7 @@ pub fn lock_rules<V, C, A>()
         → is_ancestor h x a ≡ true) }
 {}
 
-/// What two actions see in an object is the same where the same of its writers are ancestors of
-/// both.
+/// Two actions see the same in an object if the same of its writers are ancestors of both.
 pub fn views<V, C, A>()
     ensures { (meaning : Meaning V C A) (opening : HistoryOpening C) (h : History V) (x y o : ℕ)
         → Lawful meaning opening h

@@ -1,5 +1,5 @@
-//! What one more event changes: who is live, who answers for what, who holds an object, what an
-//! action sees, what is there for good, and the serial order.
+//! What one more event changes: which actions are live, owners, holders of objects, what an action
+//! sees, the bases, and the serial order.
 //!
 //! | | a begins | an access of a | a commits, p its parent | some are aborted |
 //! |---|---|---|---|---|
@@ -25,8 +25,8 @@ ghost use Rattle.argus_model.specs.Contents.{sees, base};
 ghost use Rattle.argus_model.specs.Work.{work, serial_order};
 ghost use Rattle.argus_model.specs.Lawful.{Lawful};
 
-/// An action begins: it is live, answers for itself, sees what its parent sees, and has done
-/// nothing; of the others all stays.
+/// An action begins: it is live, is its own owner, sees what its parent sees, and has done nothing;
+/// nothing changes for the others.
 pub fn begin<V, C, A>()
     ensures live { (meaning : Meaning V C A) (opening : HistoryOpening C) (h : History V)
         (from : Origin)
@@ -69,14 +69,15 @@ pub fn begin<V, C, A>()
         → base meaning opening (Began from ▹ h) o ≡ base meaning opening h o }
 {}
 
-/// What there is for good is what the base, action 0, sees.
+/// What is there for good is what the base, action 0, sees.
 pub fn base_sees<V, C, A>()
     ensures { (meaning : Meaning V C A) (opening : HistoryOpening C) (h : History V) (o : ℕ)
         → Lawful meaning opening h
         → sees meaning opening h 0 o ≡ base meaning opening h o }
 {}
 
-/// An access: the action becomes a holder, and sees what the access left; of the others all stays.
+/// An access: the action becomes a holder, and sees what the access left; nothing changes for the
+/// others.
 pub fn access<V, C, A>()
     ensures live { (h : History V) (a o x : ℕ) (v : V)
         → is_live (Accessed a o v ▹ h) x ≡ is_live h x }
@@ -112,8 +113,8 @@ pub fn access<V, C, A>()
         → base meaning opening (Accessed a o v ▹ h) i ≡ base meaning opening h i }
 {}
 
-/// A commit: the parent takes the place of the action as owner and holder, and who stands under the
-/// parent sees what the action saw, where the action has written. Where the parent is the base,
+/// A commit: the parent takes the action's place as owner and holder. In the objects that the
+/// action has written, the actions under the parent see what it saw. If the parent is the base,
 /// that is there for good, and the work of the action is the last of the serial order.
 pub fn commit<V, C, A>()
     ensures live { (meaning : Meaning V C A) (opening : HistoryOpening C) (h : History V) (a x : ℕ)
@@ -148,8 +149,8 @@ pub fn commit<V, C, A>()
         ≡ (if parent h a == 0 then work h a ++ serial_order h else serial_order h) }
 {}
 
-/// An abort: all that stand under the aborted ones are over, what they answered for is undone and
-/// what they held is free; of the others all stays.
+/// An abort: all actions under the aborted ones are over, what they answered for is undone and what
+/// they held is free; nothing changes for the others.
 pub fn abort<V, C, A>()
     ensures live { (meaning : Meaning V C A) (opening : HistoryOpening C) (h : History V)
         (actions : List ℕ) (x : ℕ) → Lawful meaning opening (Aborted actions ▹ h)

@@ -15,7 +15,7 @@ ghost use Rattle.argus_model.specs.Work.{content_after, content_before};
 ghost use Rattle.argus_model.specs.Run.{AnswersAgain, run};
 ghost use Rattle.argus_model.specs.Lawful.{Lawful};
 
-/// What is in an object for good is what the serial order leaves in it.
+/// An object's base is what the serial order leaves in it.
 pub fn base_is_serial<V, C, A>()
     ensures { (meaning : Meaning V C A) (opening : HistoryOpening C) (h : History V) (o : ℕ)
         → Lawful meaning opening h
@@ -24,8 +24,8 @@ pub fn base_is_serial<V, C, A>()
 
 /// The committed topactions, run one after another in the order of their commits from the contents
 /// of the opening, and within each action its committed subactions likewise, give each recorded
-/// answer again, each access by what its object holds just before it, and leave in each object what
-/// is there for good. Each access of that run is one that the history has on record, at its object.
+/// answer again, each access from what its object holds just before it, and leave each object's
+/// base in it. Each access of that run is one that the history has on record, at its object.
 pub fn committed_work_runs_again<V, C, A>()
     ensures answers { (meaning : Meaning V C A) (opening : HistoryOpening C) (h : History V)
         → Lawful meaning opening h
@@ -42,9 +42,9 @@ pub fn committed_work_runs_again<V, C, A>()
         → run meaning opening.contents (reverse (serial_order h)) o ≡ base meaning opening h o }
 {}
 
-/// So does that run followed by the work of a live action's ancestors, the topmost first, and its
-/// own; it begins with the serial run of the committed topactions, and leaves in each object what
-/// the action sees.
+/// The same holds of that run followed by the work of a live action's ancestors, the topmost first,
+/// and its own. It begins with the serial run of the committed topactions, and leaves in each
+/// object what the action sees.
 pub fn live_work_runs_again<V, C, A>()
     ensures answers { (meaning : Meaning V C A) (opening : HistoryOpening C) (h : History V) (a : ℕ)
         → Lawful meaning opening h → is_live h a ≡ true
@@ -67,11 +67,11 @@ pub fn live_work_runs_again<V, C, A>()
         ≡ sees meaning opening h a o }
 {}
 
-/// Nothing is left out of the serial order, and nothing stands in it twice: it is the accesses whose
-/// work is there for good, in another order perhaps. So is the work of each committed topaction
-/// those of them that were made under it, and the work of a live action what it answers for. Of each
-/// action whose work is there for good, one committed topaction is an ancestor, and no other: its
-/// accesses stand in the work of that one, and in no other's.
+/// The serial order leaves nothing out, and has nothing twice: it is the accesses whose work is
+/// there for good, perhaps in another order. The work of each committed topaction is those of them
+/// that were made under it, and the work of a live action is what it owns. Each action whose work
+/// is there for good has exactly one committed topaction as an ancestor: its accesses are in the
+/// work of that one only.
 pub fn work_is_complete<V, C, A>()
     ensures serial { (meaning : Meaning V C A) (opening : HistoryOpening C) (h : History V)
         → Lawful meaning opening h
@@ -89,7 +89,7 @@ pub fn work_is_complete<V, C, A>()
         → (t : ℕ) × IsItsTopaction h a t }
 {}
 
-/// The work of an action that is over stays as it is.
+/// The work of an action that is over never changes.
 pub fn work_is_final<V, C, A>()
     ensures { (meaning : Meaning V C A) (opening : HistoryOpening C) (h : History V) (e : Event V)
         (a : ℕ)

@@ -1,5 +1,5 @@
-//! The forms by steps, which proofs about a guardian's state use, are the plain ones in another
-//! form.
+//! The step-by-step definitions, which proofs about a guardian's state use, agree with the plain
+//! ones.
 ghost use Rattle.std.specs.Prelude.{◌≡◌, ◌≢◌, ℕ, Bool, true, false};
 ghost use Rattle.argus_model.specs.History.{HistoryOpening, History};
 ghost use Rattle.argus_model.specs.Numbers.{contains};
@@ -27,7 +27,7 @@ pub fn owner_forms<V, C, A>()
         → has_live_child h a ≡ standing_child h a h }
 {}
 
-/// Of holders and the lock rules. The base is no holder.
+/// Of holders and the lock rules. The base isn't a holder.
 pub fn holder_forms<V, C, A>()
     ensures holders { (meaning : Meaning V C A) (opening : HistoryOpening C) (h : History V)
         (kind : V → Bool) (o x : ℕ) → Lawful meaning opening h → x ≢ 0
@@ -42,7 +42,7 @@ pub fn holder_forms<V, C, A>()
         → may_write meaning h a o ≡ may_by_steps meaning.writes h a o true h }
 {}
 
-/// Of what an action sees, of what is there for good, and of lawful histories.
+/// Of what an action sees, of bases, and of lawful histories.
 pub fn content_forms<V, C, A>()
     ensures sees { (meaning : Meaning V C A) (opening : HistoryOpening C) (h : History V) (a o : ℕ)
         → Lawful meaning opening h

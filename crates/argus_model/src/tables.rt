@@ -13,9 +13,8 @@ ghost use Rattle.argus_model.specs.Effects.{table, written_objects, effects, add
 ghost use Rattle.argus_model.specs.Lawful.{Lawful};
 ghost use Rattle.argus_model.specs.Fold.{fold};
 
-/// The table of all effects is what is there for good, and an event adds an effect at the end where
-/// it is the commit of a topaction, and none otherwise. What comes later goes on from what is there
-/// for good.
+/// The table of all effects has the bases. The commit of a topaction adds an effect at the end; no
+/// other event adds one. What comes later goes on from the bases.
 pub fn table_of_effects<V, C, A>()
     ensures base { (meaning : Meaning V C A) (opening : HistoryOpening C) (h : History V) (o : ℕ)
         → Lawful meaning opening h
@@ -32,7 +31,7 @@ pub fn table_of_effects<V, C, A>()
 {}
 
 /// An effect names each object that the topaction holds for writing, in increasing number: a live
-/// action has written what it holds for writing, and nothing else.
+/// action has written exactly what it holds for writing.
 pub fn effect_of_commit<V, C, A>()
     ensures written { (meaning : Meaning V C A) (opening : HistoryOpening C) (h : History V)
         (a o : ℕ)
@@ -42,8 +41,8 @@ pub fn effect_of_commit<V, C, A>()
         → IsStrictlyIncreasing (written_objects meaning done) }
 {}
 
-/// A history may go on from its own fold, with the contents that were there for good; the effects
-/// before the fold, followed by those after it, make the table of what is there for good.
+/// A history may go on from its own fold, with the bases as they were; the effects before the fold,
+/// followed by those after it, make the table of the bases.
 pub fn checkpoint<V, C, A>()
     ensures lawful { (meaning : Meaning V C A) (opening : HistoryOpening C) (h : History V)
         (entries : ℕ)

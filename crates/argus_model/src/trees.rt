@@ -16,9 +16,9 @@ ghost use Rattle.argus_model.specs.Lawful.{Allowed, Lawful};
 ghost use Rattle.argus_model.specs.Rows.{origin, row_of, row_at, is_above, depth_at, rows};
 ghost use Rattle.argus_model.specs.Rows.{has_live_row};
 
-/// An action is its own ancestor, ancestors of ancestors are ancestors, and they are older; of a
-/// live action they are live, but for the base. A creator is older, too. Nothing live stands under
-/// an action that has no live child.
+/// An action is its own ancestor, ancestors of ancestors are ancestors, and they are older. Those
+/// of a live action are live, except for the base. A creator is older, too. Under an action without
+/// a live child nothing is live.
 pub fn ancestors<V, C, A>()
     ensures own { (h : History V) (a : ℕ) → is_ancestor h a a ≡ true }
     ensures base { (h : History V) (a : ℕ) → is_ancestor h 0 a ≡ true }
@@ -47,8 +47,8 @@ pub fn begun<V>()
     ensures in_order { (h : History V) → IsStrictlyIncreasing (begun_actions h) }
 {}
 
-/// Each action that has begun has the event by which it began, and its parent and its creator are
-/// who that event names, whatever came later.
+/// Each action that has begun has the event by which it began; its parent and its creator are the
+/// ones that this event names, whatever came later.
 pub fn begins<V>()
     ensures each { (h : History V) (a : ℕ) → is_begun h a ≡ true → ItsBegin h a }
     ensures parent { (older : History V) (from : Origin) (later : List (Event V))
@@ -60,7 +60,7 @@ pub fn begins<V>()
 {}
 
 /// The rows, changed by each event in turn, say of each action what the history says: its origin
-/// and its status. There is one for each action that began since the opening.
+/// and its status. There is one row for each action that began since the opening.
 pub fn rows_say_what_happened<V, C, A>()
     ensures row { (meaning : Meaning V C A) (opening : HistoryOpening C) (h : History V) (a : ℕ)
         → Lawful meaning opening h → is_begun h a ≡ true
@@ -70,9 +70,9 @@ pub fn rows_say_what_happened<V, C, A>()
     ensures creator { (h : History V) (a : ℕ) → origin_begun_by (origin h a) ≡ begun_by h a }
 {}
 
-/// The ancestors that are read off the rows are those of the history, for actions that have begun,
-/// and no others; so are the live children. The depth of an action is how many its lineage has, the
-/// base not counted.
+/// For actions that have begun, the ancestors that are read off the rows are exactly those of the
+/// history; so are the live children. The depth of an action is the length of its lineage, not
+/// counting the base.
 pub fn rows_tell_ancestors_and_children<V, C, A>()
     ensures ancestor { (meaning : Meaning V C A) (opening : HistoryOpening C) (h : History V)
         (x a : ℕ)
@@ -88,8 +88,7 @@ pub fn rows_tell_ancestors_and_children<V, C, A>()
 {}
 
 /// The siblings that are listed are the other live actions of the same creator, and they may be
-/// aborted in one step. A live action stands under one of them exactly where a sibling is in its
-/// lineage.
+/// aborted in one step. A live action is under one of them exactly if a sibling is in its lineage.
 pub fn siblings<V, C, A>()
     ensures who { (meaning : Meaning V C A) (opening : HistoryOpening C) (h : History V) (a x : ℕ)
         → contains (live_siblings h a) x ≡ (is_live h x && is_sibling h a x) }

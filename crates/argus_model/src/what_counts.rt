@@ -11,9 +11,9 @@ ghost use Rattle.argus_model.specs.Meaning.{Meaning};
 ghost use Rattle.argus_model.specs.Work.{committed_topactions};
 ghost use Rattle.argus_model.specs.Lawful.{Lawful};
 
-/// What an action did counts for nobody once it or an ancestor was aborted, for itself until it
-/// commits, and then for whoever answers for its parent; the work of a committed topaction is there
-/// for good (Moss 1981, inheritance of locks).
+/// What an action did counts for nobody after it or an ancestor was aborted. Otherwise it counts
+/// for the action itself until it commits, and then for the owner of its parent; the work of a
+/// committed topaction is there for good (Moss 1981, inheritance of locks).
 pub fn owners<V, C, A>()
     ensures doomed { (meaning : Meaning V C A) (opening : HistoryOpening C) (h : History V) (a : ℕ)
         → Lawful meaning opening h → is_begun h a ≡ true → is_doomed h a ≡ true
@@ -33,7 +33,7 @@ pub fn owners<V, C, A>()
         → owner h a ≡ Base }
 {}
 
-/// Who answers for an action is live, and is the action or an ancestor of it.
+/// The owner of an action is live, and is the action or an ancestor of it.
 pub fn owners_are_live<V, C, A>()
     ensures live { (meaning : Meaning V C A) (opening : HistoryOpening C) (h : History V) (a x : ℕ)
         → Lawful meaning opening h → is_begun h a ≡ true → owner h a ≡ Held x
@@ -60,8 +60,8 @@ pub fn nothing_comes_back<V, C, A>()
         → is_live (e ▹ h) a ≡ false }
 {}
 
-/// The serial order has just the topactions that committed, each once, and what each of them did is
-/// there for good.
+/// The serial order has exactly the topactions that committed, each once, and what each of them did
+/// is there for good.
 pub fn committed_topactions_stay<V, C, A>()
     ensures who { (meaning : Meaning V C A) (opening : HistoryOpening C) (h : History V) (a : ℕ)
         → Lawful meaning opening h

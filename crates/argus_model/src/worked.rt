@@ -1,10 +1,11 @@
 //! Histories worked out, on objects that hold a number. Each is drawn as a table in docs/MODEL.md.
-ghost use Rattle.std.specs.Prelude.{◌≡◌, true, false, [], ◌∷◌, map};
+ghost use Rattle.std.specs.Prelude.{◌≡◌, true, false, None, Some, [], ◌∷◌, map};
 ghost use Rattle.argus_model.specs.Event.{Began, Committed, Aborted, Accessed, Sub, Nested};
 ghost use Rattle.argus_model.specs.Ancestors.{is_ancestor};
 ghost use Rattle.argus_model.specs.Status.{is_live, has_live_child, live_siblings, status};
 ghost use Rattle.argus_model.specs.Status.{IsLive, IsCommitted, IsAborted, IsFolded};
 ghost use Rattle.argus_model.specs.Owner.{owner, Folded, Gone, Held, Base};
+ghost use Rattle.argus_model.specs.OwnerSteps.{owner_by_steps};
 ghost use Rattle.argus_model.specs.Holders.{readers, writers, may_read, may_write};
 ghost use Rattle.argus_model.specs.Contents.{sees, base};
 ghost use Rattle.argus_model.specs.Work.{work, committed_topactions, serial_order};
@@ -12,7 +13,8 @@ ghost use Rattle.argus_model.specs.Work.{serial_order_to};
 ghost use Rattle.argus_model.specs.Effects.{effects, table};
 ghost use Rattle.argus_model.specs.Lawful.{Allowed, Lawful};
 ghost use Rattle.argus_model.specs.Fold.{fold};
-ghost use Rattle.argus_model.specs.Rows.{is_above, rows, has_live_row};
+ghost use Rattle.argus_model.specs.Rows.{depth_at, is_above, rows, has_live_row};
+ghost use Rattle.argus_model.specs.Run.{AnswersAgain};
 ghost use Rattle.argus_model.specs.Worked.{Look, Put, numbers, looked, put, zeros, opened_late};
 ghost use Rattle.argus_model.specs.Worked.{pair_begins, pair_goes_on, pair_ends};
 ghost use Rattle.argus_model.specs.Worked.{creator_works, creator_aborts, creator_outlived};
@@ -35,6 +37,8 @@ pub fn parallel_pair()
 
     // 2 has committed, and 3 has looked at object 0, put 5 there and looked at object 1
     ensures handed_up { owner pair_goes_on 2 ≡ Held 1 }
+    ensures by_steps { map (owner_by_steps pair_goes_on) (1 ∷ 2 ∷ 3 ∷ [])
+        ≡ Some 1 ∷ Some 1 ∷ Some 3 ∷ [] }
     ensures both_hold { writers numbers pair_goes_on 0 ≡ 1 ∷ 3 ∷ [] }
     ensures reader { readers numbers pair_goes_on 0 ≡ 3 ∷ [] }
     ensures then { map (λ a. sees numbers zeros pair_goes_on a 0) (1 ∷ 3 ∷ []) ≡ 1 ∷ 5 ∷ [] }
@@ -47,19 +51,21 @@ pub fn parallel_pair()
     // 3 and 1 have committed
     ensures serial { serial_order pair_ends
         ≡ looked 1 0 ∷ put 0 5 1 ∷ looked 0 1 ∷ put 0 1 0 ∷ [] }
+    ensures again { AnswersAgain numbers zeros.contents
+        (put 0 1 0 ∷ looked 0 1 ∷ put 0 5 1 ∷ looked 1 0 ∷ []) }
     ensures for_good { base numbers zeros pair_ends 0 ≡ 5 }
     ensures effect { effects numbers zeros pair_ends ≡ ((0, 5) ∷ []) ∷ [] }
     ensures owners { map (owner pair_ends) (1 ∷ 2 ∷ 3 ∷ []) ≡ Base ∷ Base ∷ Base ∷ [] }
     ensures free { writers numbers pair_ends 0 ≡ [] }
 {}
 
-/// Topaction 1 is aborted, and with it its subaction 3 and the subaction 5 of that one, which has
-/// committed. The nested topaction 2, which 1 began, has committed, too, and its effect stays; the
-/// nested topaction 4, which 3 began, goes on.
+/// Topaction 1 is aborted, and with it its subaction 3 and 3's subaction 5, which has committed.
+/// The nested topaction 2, which 1 began, has committed, too, and its effect stays. The nested
+/// topaction 4, which 3 began, goes on.
 pub fn nested_under_aborted_creator()
     ensures lawful { Lawful numbers zeros creator_outlived }
 
-    // 2 has put 7 into object 0: to the locks its creator is a stranger
+    // 2 has put 7 into object 0: for the locks it has nothing to do with its creator
     ensures creator_rests { has_live_child creator_works 1 ≡ true }
     ensures no_ancestor { is_ancestor creator_works 1 2 ≡ false }
     ensures creator_waits { may_read numbers creator_works 1 0 ≡ false }
@@ -69,10 +75,14 @@ pub fn nested_under_aborted_creator()
         ≡ IsAborted ∷ IsCommitted ∷ IsAborted ∷ IsLive ∷ IsAborted ∷ [] }
     ensures owners { map (owner creator_aborts) (1 ∷ 2 ∷ 3 ∷ 4 ∷ 5 ∷ [])
         ≡ Gone ∷ Base ∷ Gone ∷ Held 4 ∷ Gone ∷ [] }
+    ensures by_steps { map (owner_by_steps creator_aborts) (1 ∷ 2 ∷ 3 ∷ 4 ∷ 5 ∷ [])
+        ≡ None ∷ Some 0 ∷ None ∷ Some 4 ∷ None ∷ [] }
     ensures rows { map (λ row. row.status) (rows creator_aborts)
         ≡ IsAborted ∷ IsLive ∷ IsAborted ∷ IsCommitted ∷ IsAborted ∷ [] }
     ensures above { map (is_above 0 (rows creator_aborts) 1) (1 ∷ 2 ∷ 3 ∷ 4 ∷ 5 ∷ 6 ∷ [])
         ≡ true ∷ false ∷ true ∷ false ∷ true ∷ false ∷ [] }
+    ensures depths { map (depth_at 0 (rows creator_aborts)) (1 ∷ 2 ∷ 3 ∷ 4 ∷ 5 ∷ 6 ∷ [])
+        ≡ 1 ∷ 1 ∷ 2 ∷ 1 ∷ 3 ∷ 0 ∷ [] }
     ensures live_row { has_live_row (rows creator_aborts) 3 ≡ true }
     ensures no_live_row { has_live_row (rows creator_aborts) 1 ≡ false }
     ensures undone { writers numbers creator_aborts 1 ≡ [] }
@@ -86,8 +96,8 @@ pub fn nested_under_aborted_creator()
 {}
 
 /// Subaction 9 of topaction 3 has its siblings aborted: the subaction 5 with 7 under it, and the
-/// nested topaction 6. Spared are 4, which has committed, and 8, a topaction that 5 began. Actions
-/// 1 and 2 were folded.
+/// nested topaction 6. Not aborted are 4, which has committed, and 8, a topaction that 5 began.
+/// Actions 1 and 2 were folded.
 pub fn siblings_are_aborted()
     ensures lawful { Lawful numbers opened_late siblings_end }
 
@@ -143,7 +153,7 @@ pub fn turns_are_taken()
         × (fold numbers opened_late turns_end 21).first_entry ≡ 21 }
 {}
 
-/// What may not come next in these histories.
+/// What mustn't come next in these histories.
 pub fn rules_refuse()
     // 2 and 3 are live under 1, and 2 has put 1 into object 0
     ensures commit_over_children { ¬ Allowed numbers zeros pair_begins (Committed 1) }
@@ -158,7 +168,7 @@ pub fn rules_refuse()
     ensures access_after_commit { ¬ Allowed numbers zeros pair_goes_on (Accessed 2 1 (Look 0)) }
     ensures begin_after_commit { ¬ Allowed numbers zeros pair_goes_on (Began (Sub 2)) }
 
-    // 3 went down with its parent
+    // 3 was aborted with its parent
     ensures begin_when_doomed { ¬ Allowed numbers zeros creator_aborts (Began (Nested 3)) }
 
     // 7 has looked at object 1

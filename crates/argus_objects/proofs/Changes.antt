@@ -1,4 +1,4 @@
--- What a change leaves of the versions, where it succeeds and where it finds no memory.
+-- What a change leaves of the versions, if it succeeds and if it finds no memory.
 use Rattle.std.proofs.Common.{◌≡◌, ℕ, ◌+◌, ◌<◌, true, false, eqb, ltb, ◌&&◌, ◌||◌, inl, inr, List, [], ◌∷◌, ◌++◌}
 use Rattle.std.proofs.Common.{cond, not, map, length, take, get_or, set, Option, refl, sym, ◌∙◌, ap, arith}
 use Rattle.std.specs.Prelude.{IfOk, OnOk, OnErr, Result, Ok, Err}

@@ -1,4 +1,4 @@
--- A cell and the lists of locks may cross to another thread, and be looked at from there: as a set for `search`,
+-- A cell and the lists of locks may go to another thread, and be looked at from there: as a set for `search`,
 -- `crosses`.
 use denote.Param.Send.{IsSend, IsSync, sendable}
 use Rattle.argus_contents.proofs.Crossing as contents

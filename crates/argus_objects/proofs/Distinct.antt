@@ -1,4 +1,4 @@
--- Lists in which each object stands once.
+-- Lists in which each object comes once.
 use Rattle.std.proofs.Common.{◌≡◌, Bool, true, false, eqb, ◌||◌, if◌then◌else◌, List, [], ◌∷◌, ◌++◌}
 use Rattle.std.proofs.Common.{refl, sym, ◌∙◌, ap, subst}
 use Rattle.std.specs.List.{list_any, AllByRecursion, IsDistinct}

@@ -1,4 +1,4 @@
--- Who is among the holders once a subaction has handed what it has to its parent.
+-- The holders after a subaction has handed what it has to its parent.
 use Rattle.std.proofs.Common.{◌≡◌, ◌≢◌, ℕ, Bool, true, false, not, cond, eqb, ◌&&◌, ◌||◌, List, [], ◌∷◌, map, Some}
 use Rattle.std.proofs.Common.{refl, sym, ◌∙◌, ap, inl, inr}
 use Rattle.std.specs.List.{list_any}

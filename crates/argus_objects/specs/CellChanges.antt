@@ -73,16 +73,16 @@ versions_discarded tree a versions = filter (λ v. not (is_ancestor tree a.0 v.h
 abbrev pub is_under_any : Tree → List ActionId → ActionId → Bool
 is_under_any tree actions x = list_any (λ a. is_ancestor tree a.0 x.0) actions
 
--- the readers that stand under none of these actions, which are aborted
+-- the readers that are under none of these actions, which are aborted
 abbrev pub readers_left : Tree → List ActionId → List ActionId → List ActionId
 readers_left tree actions readers = filter (λ x. not (is_under_any tree actions x)) readers
 
--- the versions whose holders stand under none of these actions
+-- the versions whose holders are under none of these actions
 abbrev pub versions_left : Tree → List ActionId → List PlainVersion → List PlainVersion
 versions_left tree actions versions =
     filter (λ v. not (is_under_any tree actions v.holder)) versions
 
--- x is among the holders once s has handed what it has to its parent
+-- x is among the holders after s has handed what it has to its parent
 abbrev pub is_holder_inherited : ActionId → ActionId → ActionId → Bool → Bool → Bool
 is_holder_inherited s parent x has s_has = (not (x.0 == s.0) && has) || (x.0 == parent.0 && s_has)
 

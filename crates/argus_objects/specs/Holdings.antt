@@ -8,7 +8,7 @@ use Rattle.argus_objects.specs.declared.held_list.HeldList.{HeldList}
 use Rattle.argus_objects.specs.declared.holdings.Holdings.{Holdings}
 use Rattle.argus_objects.specs.ObjectList.{NotedObjects}
 
--- a list that nobody was given
+-- a list that was given to no action
 abbrev pub no_list : HeldList
 no_list = record { holder = record { 0 = 0 }; objects = no_objects }
 
@@ -16,12 +16,12 @@ no_list = record { holder = record { 0 = 0 }; objects = no_objects }
 abbrev pub own_objects : ℕ → HeldList → NotedObjects
 own_objects n list = if list.holder.0 == n then list.objects else no_objects
 
--- what the action of this number has in the list whose number stands in its place
+-- what the action of this number has in the list whose number is in its place
 unfoldable pub placed_objects : List HeldList → ℕ → Option ℕ → NotedObjects
 placed_objects lists n None = no_objects
 placed_objects lists n (Some index) = own_objects n (slice_index_or lists index no_list)
 
--- what stands in the place of the action of this number, in places of the actions from `first` on
+-- what is in the place of the action of this number, in places of the actions from `first` on
 unfoldable pub place_at : ℕ → List (Option ℕ) → ℕ → Option ℕ
 place_at first places n = if nat_lt n first then None else slice_index_or places (n - first) None
 
@@ -29,7 +29,7 @@ place_at first places n = if nat_lt n first then None else slice_index_or places
 abbrev pub list_of : ℕ → List (Option ℕ) → List HeldList → ℕ → NotedObjects
 list_of first places lists n = placed_objects lists n (place_at first places n)
 
--- what stands in the action's place
+-- what is in the action's place
 abbrev pub placed_at : Holdings → ActionId → Option ℕ
 placed_at holdings a = place_at holdings.first holdings.places.items a.0
 
@@ -37,11 +37,11 @@ placed_at holdings a = place_at holdings.first holdings.places.items a.0
 abbrev pub noted_by : Holdings → ActionId → NotedObjects
 noted_by holdings a = list_of holdings.first holdings.places.items holdings.lists.items a.0
 
--- the objects in it; none where nothing was noted
+-- the objects in it; none if nothing was noted
 abbrev pub objects_held_by : Holdings → ActionId → List ObjId
 objects_held_by holdings a = (noted_by holdings a).objects
 
--- for how many more objects there is room in the action's list
+-- room for how many more objects there is in the action's list
 abbrev pub holdings_room_of : Holdings → ActionId → ℕ
 holdings_room_of holdings a = (noted_by holdings a).room
 
@@ -50,7 +50,7 @@ pub record HasPlace (holdings : Holdings) (a : ActionId) : Type 0 where
   pub from : holdings.first ≤ a.0
   pub to : a.0 < holdings.first + length holdings.places.items
 
--- of so many places this is that of the action of this number, past the end where there is none
+-- of this many places the one of the action of this number, past the end if there is none
 pub record IsPlace (first count n place : ℕ) : Type 0 where
   pub none : n < first → count ≤ place
   pub some : first ≤ n → first + place ≡ n
@@ -101,7 +101,7 @@ SameLists old new = (x : ActionId) → objects_held_by new x ≡ objects_held_by
 abbrev pub KeepsRooms : Holdings → Holdings → Type 0
 KeepsRooms old new = (x : ActionId) → holdings_room_of old x ≤ holdings_room_of new x
 
--- each list keeps its room but the one of this action, which may lose one place
+-- each list keeps its room, except this action's, which may lose one place
 abbrev pub TakesOnePlace : Holdings → ActionId → Holdings → Type 0
 TakesOnePlace old a new =
     (x : ActionId) → holdings_room_of old x ≤ holdings_room_of new x + (if x.0 == a.0 then 1 else 0)

@@ -23,8 +23,8 @@ versions_newest_first versions = reverse (map plain_version versions)
 abbrev pub writers : List Version → List ActionId
 writers versions = map (λ v. v.holder) versions
 
--- the base, the readers in increasing number, the versions from descendant to ancestor, and for how
--- many more readers and for how many more versions there is room
+-- the base, the readers in increasing number, the versions from descendant to ancestor, and room
+-- for how many more readers and versions there is
 pub record Object : Type 0 where
   pub base : Option PlainContent
   pub readers : List ActionId

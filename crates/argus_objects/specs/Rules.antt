@@ -1,5 +1,5 @@
 -- The lock rules (Moss, Nested Transactions, 1981; Argus Reference Manual, MIT/LCS/TR-400, 1987),
--- and what is so of each object.
+-- and what holds of each object.
 use Rattle.std.specs.Prelude.{◌≡◌, ℕ, Bool, true, not, ◌&&◌, ◌||◌, ◌==◌, nat_lt, nat_le}
 use Rattle.std.specs.Prelude.{if◌then◌else◌, List, [], ◌∷◌, Option}
 use Rattle.std.specs.List.{list_all}
@@ -26,7 +26,7 @@ may_write tree object a =
 abbrev pub is_strictly_above : Tree → ActionId → ActionId → Bool
 is_strictly_above tree x y = is_ancestor tree x.0 y.0 && not (x.0 == y.0)
 
--- each is another action than all that follow, and they are its ancestors
+-- each differs from all that follow, and they are its ancestors
 abbrev pub is_chain : Tree → List ActionId → Bool
 is_chain tree [] = true
 is_chain tree (y ∷ older) = list_all (λ x. is_strictly_above tree x y) older && is_chain tree older
@@ -61,11 +61,11 @@ is_ascending (x ∷ xs) = list_all (λ y. nat_lt x.0 y.0) xs && is_ascending xs
 abbrev pub are_up_to : ActionId → List ActionId → Bool
 are_up_to a ids = list_all (λ x. nat_le x.0 a.0) ids
 
--- readers stand in increasing number, and so do the holders of versions
+-- readers are in increasing number, and so are the holders of versions
 pub record AreInOrder (readers : List ActionId) (versions : List Version) : Type 0 where
   pub readers_ascend : is_ascending readers ≡ true
   pub writers_ascend : is_ascending (writers versions) ≡ true
 
--- who is an ancestor of whom stays so
+-- every ancestor stays an ancestor
 abbrev pub KeepsAncestors : Tree → Tree → Type 0
 KeepsAncestors tree later = (x y : ℕ) → is_ancestor tree x y ≡ true → is_ancestor later x y ≡ true

@@ -35,8 +35,8 @@ use std::marker::Model;
 /// One object: its base, which no action holds, the actions that hold read locks, and the versions
 /// of those that hold write locks.
 ///
-/// Contracts see these three, and for how many more readers and versions there is room. Readers
-/// stand in increasing number, versions from ancestor to descendant. Only `reserve_grant`,
+/// Contracts see these three, and room for how many more readers and versions there is. Readers are
+/// in increasing number, versions go from ancestor to descendant. Only `reserve_grant`,
 /// `reserve_read`, `grant_change` and `grant_change_by_reference` take memory.
 ///
 /// ```text
@@ -91,7 +91,7 @@ impl Cell {
         }
     }
 
-    /// The content that the topactions so far have left.
+    /// The content that the topactions committed so far have left.
     pub fn base(&self) -> &Option<Content>
         ensures { plain_option result.now ≡ self.now.base }
     {
@@ -130,8 +130,8 @@ impl Cell {
         all_writers_above(self.versions.as_slice(), tree, a)
     }
 
-    /// Whether `a` may have a read lock, which is what `may_read` says. Of the holders of versions
-    /// only the newest one is looked at, since the others are its ancestors.
+    /// Whether `a` may have a read lock, as `may_read` says. It looks only at the newest version's
+    /// holder, since the other holders are its ancestors.
     ///
     /// Condition: the cell is lawful.
     #[inline(always)]
@@ -151,8 +151,8 @@ impl Cell {
         self.may_read(tree, a) && all_readers_above(self.readers.as_slice(), tree, a)
     }
 
-    /// Whether `a` may have a write lock, which is what `may_write` says. Of the holders of versions
-    /// only the newest one is looked at, and all readers.
+    /// Whether `a` may have a write lock, as `may_write` says. It looks at the newest version's
+    /// holder, and at all readers.
     ///
     /// Condition: the cell is lawful.
     #[inline(always)]
@@ -163,8 +163,8 @@ impl Cell {
         self.is_readable(tree, a) && all_readers_above(self.readers.as_slice(), tree, a)
     }
 
-    /// Whether `a` is a reader or has a version. Of the versions only the newest is looked at, and
-    /// of the readers those past `a` and the next one.
+    /// Whether `a` is a reader or has a version. It looks only at the newest version, and at the
+    /// readers past `a` and the next one.
     ///
     /// Condition: the read lock is granted, so that a version of `a` is the newest.
     #[inline(always)]
@@ -183,8 +183,8 @@ impl Cell {
         is_among(self.readers.as_slice(), a) || has_version(self.versions.as_slice(), a)
     }
 
-    /// Makes room for one more reader and one more version. Whatever comes, the lists stay, and no
-    /// room is lost.
+    /// Makes room for one more reader and one more version. Either way the lists stay, and no room
+    /// is lost.
     #[inline(always)]
     pub fn reserve_grant(&mut self) -> Result<(), OutOfMemory>
         ensures same { SameLocks self.old self.new }
@@ -198,8 +198,8 @@ impl Cell {
         Ok(())
     }
 
-    /// Makes room for one more reader, and none for a version. Whatever comes, the lists stay, and
-    /// no room is lost.
+    /// Makes room for one more reader, and none for a version. Either way the lists stay, and no
+    /// room is lost.
     #[inline(always)]
     pub fn reserve_read(&mut self) -> Result<(), OutOfMemory>
         ensures same { SameLocks self.old self.new }
@@ -251,13 +251,13 @@ impl Cell {
         put_version(&mut self.versions, a, new_content);
     }
 
-    /// Makes a change in `a`'s version, which is pushed if `a` had none, and gives the change's
+    /// Makes a change in `a`'s version, which is pushed if `a` had none, and returns the change's
     /// answer.
     ///
-    /// It means what `grant_write` does with the content that the change leaves of what `a` sees. A
-    /// version that is there is changed in place, so only the first write of an action copies.
-    /// After `OutOfMemory` base, readers and versions are as before. What is left keeps the limits
-    /// of arrays where a content that the change creates does.
+    /// It means what `grant_write` does with the content that the change leaves of what `a` sees.
+    /// An existing version is changed in place, so only the first write of an action copies. After
+    /// `OutOfMemory` base, readers and versions are unchanged. The result keeps the limits of
+    /// arrays if the content that the change creates, if any, does.
     ///
     /// Condition: the cell is lawful, `a` is live and has no live child, the write lock is granted,
     /// and what `a` sees keeps the limits of arrays.
@@ -288,14 +288,14 @@ impl Cell {
         change_version(&self.base, &mut self.versions, a, change)
     }
 
-    /// Makes a change that gives no value in `a`'s version, which is pushed if `a` had none, with
-    /// the meaning of `grant_change`: None where that answers `Done`, else the signal.
+    /// Makes a change that returns no value in `a`'s version, as `grant_change` does: `None` if the
+    /// answer is `Done`, else the signal.
     ///
-    /// The change stays, so that it can be moved to where it is kept; only the value that it leaves
-    /// is copied, and for the first write of an action what it sees. After `OutOfMemory` base,
-    /// readers and versions are as before.
+    /// The caller keeps the change, so it can be moved to where it is stored. Only the value that
+    /// it leaves is copied, and at the first write of an action also what the action sees. After
+    /// `OutOfMemory` base, readers and versions are unchanged.
     ///
-    /// Condition: that of `grant_change`, and the change is another than `Remh` and `Reml`.
+    /// Condition: as for `grant_change`, and the change is neither `Remh` nor `Reml`.
     #[inline(always)]
     pub fn grant_change_by_reference(
         &mut self,
@@ -340,7 +340,7 @@ impl Cell {
         content_on_top(&self.base, self.versions.as_slice())
     }
 
-    /// Hands what the subaction `s` holds to its parent, which then has it in place of its own.
+    /// Hands what the subaction `s` holds to its parent; it replaces what the parent had.
     ///
     /// Call it before the tree commits `s`. Condition: the cell is lawful, `s` is live and has no
     /// live child, and `parent` is its parent.

@@ -1,4 +1,4 @@
-//! A change of an object's version: in place where the action has one, otherwise on a copy.
+//! A change of an object's version: in place if the action has one, otherwise on a copy.
 
 ghost use Rattle.std.specs.Prelude.{◌≡◌, ◌≤◌, ◌+◌, ◌-◌, false, true, vec_len};
 ghost use Rattle.std.specs.Prelude.{IfOk, OnErr, OnOk};
@@ -32,9 +32,9 @@ pub(crate) fn content_on_top<'a>(
     }
 }
 
-/// Changes the version of `a`, or pushes one for it: the changed copy of what is on top.
+/// Changes the version of `a`, or pushes one for it: a changed copy of the content on top.
 ///
-/// After `OutOfMemory` the versions are as before.
+/// After `OutOfMemory` the versions are unchanged.
 pub(crate) fn change_version(
     base: &Option<Content>,
     versions: &mut Vec<Version, Room>,
@@ -66,10 +66,10 @@ pub(crate) fn change_version(
     Ok(answer)
 }
 
-/// [`change_version`] of a change that gives no value and stays where it is: None where that
-/// answers `Done`, else the signal.
+/// [`change_version`] of a change that returns no value, and that the caller keeps: `None` if the
+/// answer is `Done`, else the signal.
 ///
-/// After `OutOfMemory` the versions are as before.
+/// After `OutOfMemory` the versions are unchanged.
 pub(crate) fn change_version_by_reference(
     base: &Option<Content>,
     versions: &mut Vec<Version, Room>,

@@ -15,7 +15,7 @@ use argus_contents::ObjId;
 use argus_memory::{Heap, OutOfMemory, Room};
 use std::mem::replace;
 
-// Empties a list, and keeps its memory where it is small.
+// Empties a list, and keeps its memory if it is small.
 fn empty(list: &mut ObjectList, heap: Heap)
     ensures { list.new.objects ≡ [] }
 {
@@ -26,7 +26,7 @@ fn empty(list: &mut ObjectList, heap: Heap)
     }
 }
 
-// Keeps the number of a list that is nobody's, where there is one and room for it.
+// Keeps the number of a list that no action has, if there is one and room for its number.
 fn keep_unused(unused: &mut Vec<u32, Room>, index: Option<u32>) {
     if let Some(index) = index
         && unused.len() < unused.capacity()
@@ -35,14 +35,14 @@ fn keep_unused(unused: &mut Vec<u32, Room>, index: Option<u32>) {
     }
 }
 
-/// For each action a list of objects, in the order in which they were noted, each once. So a commit
-/// or an abort visits the objects of the actions that it ends, and no others.
+/// For each action a list of its objects, in the order in which they were noted, each once. So a
+/// commit or an abort visits only the objects of the actions that it ends.
 ///
-/// Each action from the first on has a place, where the number of its list stands if it has one. So a
-/// list is found with no search, and an action that never held anything takes eight bytes. A list is
-/// a plain vector. One that was passed on or cleared is used again for the next action, with its
-/// memory where it has room for 64 objects at most. `note` looks through the action's list,
-/// `note_new` and `hand_up` look through none.
+/// Each action from the first on has a place, which holds the number of its list if it has one. So
+/// a list is found without a search, and an action that never held anything takes eight bytes. A
+/// list is a plain vector. One that was passed on or cleared is used again for the next action, and
+/// keeps its memory if it has room for at most 64 objects. `note` searches the action's list;
+/// `note_new` and `hand_up` search none.
 ///
 /// ```text
 /// let mut holdings = Holdings::starting_at(heap, top.0);
@@ -55,27 +55,27 @@ fn keep_unused(unused: &mut Vec<u32, Room>, index: Option<u32>) {
 #[derive(Drop)]
 pub struct Holdings {
     heap: Heap,
-    // The action whose place stands first.
+    // The action that has the first place.
     first: u32,
     // For each action from `first` on the number of a list, if it was given one.
     places: Vec<Option<u32>, Room>,
-    // The lists. One is the action's whose it says that it is, if it stands in that action's place.
+    // The lists. A list belongs to the action that it names, if that action's place has its number.
     lists: Vec<HeldList, Room>,
     // Numbers of lists that may be given to another action.
     unused: Vec<u32, Room>,
 }
 
 impl Holdings {
-    /// Holdings in which nothing was noted. It takes no memory.
+    /// Holdings with nothing noted. It takes no memory.
     pub fn new(heap: Heap) -> Holdings
         ensures { (x : ActionId) → objects_held_by result x ≡ [] }
     {
         Holdings::starting_at(heap, 0)
     }
 
-    /// As `new`, for actions from this number on. It takes no memory. Where an earlier action gets
-    /// a list all the same, `reserve`, `reserve_pass` and `reserve_hand_up` move all places up by one
-    /// for each number between, which costs their count each time.
+    /// As `new`, for actions from this number on. It takes no memory. If an earlier action gets a
+    /// list all the same, `reserve`, `reserve_pass` and `reserve_hand_up` move all places up by one
+    /// for each number in between, each time in linear time.
     pub fn starting_at(heap: Heap, first: u32) -> Holdings
         ensures { (x : ActionId) → objects_held_by result x ≡ [] }
     {
@@ -88,7 +88,7 @@ impl Holdings {
         }
     }
 
-    /// The objects of the action's list; none where nothing was noted.
+    /// The objects of the action's list; none if nothing was noted.
     #[inline(always)]
     pub fn of(&self, a: ActionId) -> &[ObjId]
         ensures list { result.now ≡ objects_held_by self.now a }
@@ -100,9 +100,9 @@ impl Holdings {
         }
     }
 
-    /// Makes room for one more object in the action's list. `OutOfMemory`, also where there are
-    /// 4,294,967,296 lists: the lists are as before. Whatever comes, no room is lost. The room of a
-    /// list that is then passed on, handed up or cleared is gone.
+    /// Makes room for one more object in the action's list. `OutOfMemory`, also if there are
+    /// 4,294,967,296 lists: the lists are unchanged. Either way no room is lost. If the list is
+    /// then passed on, handed up or cleared, its room is gone.
     #[inline(always)]
     pub fn reserve(&mut self, a: ActionId) -> Result<(), OutOfMemory>
         ensures same { SameLists self.old self.new }
@@ -112,8 +112,8 @@ impl Holdings {
         self.reserve_for(a, 1)
     }
 
-    /// Puts the object at the end of the action's list, unless it is there. It takes no memory, and
-    /// one place of the list's room at most.
+    /// Appends the object to the action's list, unless it is in it. It takes no memory, and at most
+    /// one place of the list's room.
     ///
     /// Condition: the list has room, as `reserve` makes it.
     pub fn note(&mut self, a: ActionId, o: ObjId)
@@ -126,8 +126,8 @@ impl Holdings {
         }
     }
 
-    /// Puts the object at the end of the action's list. It takes no memory, and one place of the
-    /// list's room. It costs the same however long the list is.
+    /// Appends the object to the action's list. It takes no memory, and one place of the list's
+    /// room, in constant time.
     ///
     /// Condition: the list has room, as `reserve` makes it, and the object isn't in it.
     #[inline(always)]
@@ -143,7 +143,7 @@ impl Holdings {
     }
 
     /// Makes room in the parent's list for all objects of `s`, as `reserve` does for one. After
-    /// `OutOfMemory` the lists are as before. Whatever comes, no room is lost.
+    /// `OutOfMemory` the lists are unchanged. Either way no room is lost.
     pub fn reserve_pass(&mut self, s: ActionId, parent: ActionId) -> Result<(), OutOfMemory>
         ensures same { SameLists self.old self.new }
         ensures ok { OnOk result (length (objects_held_by self.new s) ≤ holdings_room_of self.new
@@ -157,9 +157,9 @@ impl Holdings {
         self.reserve_for(parent, count)
     }
 
-    /// Puts the objects of `s` that the parent's list lacks at its end, in their order, and empties
-    /// the list of `s`. It takes no memory, and keeps that of the list of `s` where it is small, with
-    /// room for 64 objects at most.
+    /// Appends to the parent's list those objects of `s` that it lacks, in their order, and empties
+    /// the list of `s`. It takes no memory. The list of `s` keeps its memory if that is room for at
+    /// most 64 objects.
     ///
     /// Condition: the two are different actions, and the parent's list has room for all of them, as
     /// `reserve_pass` makes it.
@@ -174,7 +174,7 @@ impl Holdings {
     }
 
     /// Makes a place for the parent's list, so that `hand_up` can put another list there. After
-    /// `OutOfMemory` the lists are as before. All room that was there stays.
+    /// `OutOfMemory` the lists are unchanged. No room is lost.
     #[inline(always)]
     pub fn reserve_hand_up(&mut self, parent: ActionId) -> Result<(), OutOfMemory>
         ensures same { SameLists self.old self.new }
@@ -188,7 +188,7 @@ impl Holdings {
     }
 
     /// Passes the objects of `s` to a parent that has none: the parent's list is then that of `s`,
-    /// whose list is empty. It takes no memory. It costs the same however long the list of `s` is.
+    /// whose list is empty. It takes no memory, and constant time.
     ///
     /// Condition: the two are different actions, the parent's list is empty, and there is a place
     /// for it, as `reserve_hand_up` makes it.
@@ -211,8 +211,8 @@ impl Holdings {
         self.put(parent, Some(index));
     }
 
-    /// Empties the action's list. It takes no memory, and keeps that of the list where it is small,
-    /// with room for 64 objects at most.
+    /// Empties the action's list. It takes no memory. The list keeps its memory if that is room for
+    /// at most 64 objects.
     pub fn clear(&mut self, a: ActionId)
         ensures { Lists self.old a [] self.new }
     {
@@ -224,7 +224,7 @@ impl Holdings {
         keep_unused(&mut self.unused, Some(index));
     }
 
-    // The place of the action's list, one past the end where it has none.
+    // The place of the action's list; one past the end if it has none.
     #[inline(always)]
     fn place_of(&self, a: ActionId) -> usize
         ensures { IsPlace self.now.first (length self.now.places.items) a.0 result }
@@ -236,7 +236,7 @@ impl Holdings {
         }
     }
 
-    // The action's list, in whose place an empty one stands then.
+    // Takes the action's list out, and leaves an empty one.
     fn take_list(&mut self, a: ActionId) -> ObjectList
         ensures list { result ≡ noted_by self.old a }
         ensures left { (x : ActionId) → noted_by self.new x ≡ (if x.0 == a.0 then no_objects else
@@ -249,7 +249,7 @@ impl Holdings {
         }
     }
 
-    // Notes these objects in the action's list, in the room that is there.
+    // Notes these objects in the action's list, in the room that it has.
     fn note_all(&mut self, a: ActionId, objects: &[ObjId])
         requires { length objects.now ≤ holdings_room_of self.old a }
         ensures { Lists self.old a (passed objects.now (objects_held_by self.old a)) self.new }
@@ -259,7 +259,7 @@ impl Holdings {
         }
     }
 
-    // Makes room for so many more objects in the action's list.
+    // Makes room for this many more objects in the action's list.
     #[inline(always)]
     fn reserve_for(&mut self, a: ActionId, additional: usize) -> Result<(), OutOfMemory>
         ensures same { SameLists self.old self.new }
@@ -272,7 +272,7 @@ impl Holdings {
         }
     }
 
-    // The same where the action's list has no place or no memory: it gets both.
+    // The same if the action's list has no place or no memory: it gets both.
     #[inline(never)]
     fn reserve_first(&mut self, a: ActionId, additional: usize) -> Result<(), OutOfMemory>
         requires { noted_by self.old a ≡ no_objects }
@@ -300,7 +300,7 @@ impl Holdings {
         Ok(())
     }
 
-    // Moves the places up until the first is of this action, or of an earlier one.
+    // Moves the places up until the first belongs to this action, or to an earlier one.
     fn begin_at(&mut self, a: ActionId) -> Result<(), OutOfMemory>
         ensures same { SameNoted self.old self.new }
         ensures ok { OnOk result (self.new.first ≤ a.0) }
@@ -357,7 +357,7 @@ impl Holdings {
         self.put(a, Some(index));
     }
 
-    // Gives a list back that was taken from this action, as an empty one, and clears it.
+    // Puts back a list that was taken from this action, emptied.
     fn give_back(&mut self, s: ActionId, mut taken: ObjectList)
         requires { objects_held_by self.old s ≡ [] }
         ensures { SameLists self.old self.new }
@@ -383,7 +383,7 @@ impl Holdings {
         }
     }
 
-    // The last unused list, if it is really nobody's. No invariant says so, so it is looked up.
+    // The last unused list, if really no action has it. No invariant says so, so it is looked up.
     fn take_unused(&mut self) -> Option<u32>
         ensures first { self.new.first ≡ self.old.first }
         ensures places { self.new.places.items ≡ self.old.places.items }
@@ -401,7 +401,7 @@ impl Holdings {
         }
     }
 
-    // A list more, for this action, and room to keep its number once it is no longer used.
+    // One more list, for this action, and room to keep its number when it is no longer used.
     fn new_list(&mut self, a: ActionId) -> Result<u32, OutOfMemory>
         ensures first { self.new.first ≡ self.old.first }
         ensures places { self.new.places.items ≡ self.old.places.items }

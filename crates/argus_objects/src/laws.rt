@@ -1,4 +1,4 @@
-//! What follows of cells as actions begin and end. These functions do nothing: each contract is a
+//! What follows for cells as actions begin and end. These functions do nothing: each contract is a
 //! law for proofs.
 
 ghost use Rattle.std.specs.Prelude.{◌≡◌, ◌≢◌, true, List, [], ◌∷◌};
@@ -15,7 +15,7 @@ ghost use Rattle.argus_objects.specs.CellChanges.{readers_discarded, versions_di
 ghost use Rattle.argus_objects.specs.CellChanges.{readers_left};
 ghost use Rattle.argus_objects.specs.CellChanges.{versions_left};
 
-/// Who is an ancestor of whom stays so, whatever begins or ends.
+/// Ancestors stay ancestors, whatever begins or ends.
 pub fn ancestors_stay()
     ensures begin { (tree : Tree) (origin : Origin)
         → KeepsAncestors tree (after_begin tree origin) }
@@ -25,7 +25,8 @@ pub fn ancestors_stay()
         → KeepsAncestors tree (after_abort_others tree a.0) }
 {}
 
-/// Where ancestors stay, a lawful cell stays lawful, and who may have a lock still may.
+/// If ancestors stay ancestors, a lawful cell stays lawful, and an action that may have a lock
+/// still may.
 pub fn lawful_stays()
     ensures lawful { (tree later : Tree) (object : Object) → KeepsAncestors tree later
         → is_lawful tree object ≡ true → is_lawful later object ≡ true }
@@ -35,7 +36,7 @@ pub fn lawful_stays()
         → may_write tree object a ≡ true → may_write later object a ≡ true }
 {}
 
-/// Who holds locks once a subaction has handed its own to its parent, and with which content.
+/// Who holds locks after a subaction has handed its own to its parent, and with which content.
 pub fn members_after_inherit()
     ensures readers { (s parent x : ActionId) (readers : List ActionId) → s.0 ≢ parent.0
         → is_reader x (readers_inherited s parent readers)
@@ -51,7 +52,8 @@ pub fn members_after_inherit()
         → version_of x (versions_inherited s parent versions) ≡ version_of x versions }
 {}
 
-/// What discards of several actions, one after another, leave: what none of them takes along.
+/// What is left when several actions are discarded, one after another: what none of them takes with
+/// it.
 pub fn discards_in_turn()
     ensures none { (tree : Tree) (readers : List ActionId)
         → readers_left tree [] readers ≡ readers }

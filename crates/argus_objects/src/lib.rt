@@ -1,9 +1,9 @@
 //! Who holds an atomic object, and with which content: the locks and versions of one object.
 //!
-//! The rules are those of nested actions: a lock is granted when all who are in its way are
-//! ancestors; a subaction's commit hands its locks and versions to its parent, and an abort drops
-//! them (Moss, Nested Transactions, MIT/LCS/TR-260, 1981; Argus Reference Manual, MIT/LCS/TR-400,
-//! 1987).
+//! The rules are those of nested actions: a lock is granted when every holder of a conflicting lock
+//! is an ancestor; a subaction's commit hands its locks and versions to its parent, and an abort
+//! drops them (Moss, Nested Transactions, MIT/LCS/TR-260, 1981; Argus Reference Manual,
+//! MIT/LCS/TR-400, 1987).
 #![tactic(auto)]
 
 mod cell;

@@ -10,7 +10,7 @@ use std::marker::Model;
 
 /// Objects in the order in which they were noted, each once.
 ///
-/// Contracts see the objects, and for how many more there is room.
+/// Contracts see the objects, and room for how many more there is.
 #[derive(Drop)]
 pub struct ObjectList {
     objects: Vec<ObjId, Room>,
@@ -51,12 +51,12 @@ impl ObjectList {
         self.objects.as_slice()
     }
 
-    /// Whether there is room for so few objects in all that the list's memory is worth keeping.
+    /// Whether the list is small enough that its memory is worth keeping.
     pub fn is_small(&self) -> bool {
         self.objects.capacity() <= 64
     }
 
-    /// Makes room for so many more objects. After `OutOfMemory` the list is as before.
+    /// Makes room for this many more objects. After `OutOfMemory` the list is unchanged.
     pub fn reserve(&mut self, additional: usize) -> Result<(), OutOfMemory>
         ensures same { self.new.objects ≡ self.old.objects }
         ensures ok { OnOk result (additional ≤ self.new.room) }
@@ -66,7 +66,7 @@ impl ObjectList {
         Ok(())
     }
 
-    /// Puts the object at the end, in the room that is there.
+    /// Appends the object, in the reserved room.
     ///
     /// Condition: the object isn't in the list, and there is room.
     #[inline(always)]
@@ -79,7 +79,7 @@ impl ObjectList {
         self.objects.push_reserved(o);
     }
 
-    /// Puts the object at the end, in the room that is there, unless it is in the list.
+    /// Appends the object, in the reserved room, unless it is in the list.
     ///
     /// Condition: there is room.
     pub fn note(&mut self, o: ObjId)
@@ -92,7 +92,7 @@ impl ObjectList {
         }
     }
 
-    /// Notes these objects in their order, in the room that is there.
+    /// Notes these objects in their order, in the reserved room.
     ///
     /// Condition: there is room for all of them.
     pub fn note_all(&mut self, objects: &[ObjId])

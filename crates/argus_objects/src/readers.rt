@@ -1,4 +1,4 @@
-//! Work on the readers of a cell, which stand in increasing number.
+//! Work on the readers of a cell, which are in increasing number.
 
 ghost use Rattle.std.specs.Prelude.{◌≡◌, ◌<◌, ◌≤◌, ◌+◌, ◌-◌, true, vec_len};
 ghost use Rattle.std.specs.Vec.{vec_capacity};
@@ -22,8 +22,8 @@ pub(crate) fn is_among(readers: &[ActionId], a: ActionId) -> bool
     at > 0 && readers[at - 1].0 == a.0
 }
 
-/// Whether all readers are ancestors of `a`. The climb goes on where the last one ended, so it
-/// costs the readers and the depth of `a`.
+/// Whether all readers are ancestors of `a`. Each climb goes on where the last one ended, so all
+/// cost as much as the readers and the depth of `a`.
 #[inline(always)]
 pub(crate) fn all_readers_above(readers: &[ActionId], tree: &ActionTree, a: ActionId) -> bool
     requires { is_ascending readers.now ≡ true }
@@ -42,7 +42,7 @@ pub(crate) fn all_readers_above(readers: &[ActionId], tree: &ActionTree, a: Acti
     true
 }
 
-/// Puts `a` in its place in the room that is there, if it isn't a reader.
+/// Puts `a` in its place in the reserved room, if it isn't a reader.
 #[inline(always)]
 pub(crate) fn add_reader(readers: &mut Vec<ActionId, Room>, a: ActionId)
     requires room { vec_len readers.old < vec_capacity readers.old }

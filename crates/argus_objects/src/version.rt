@@ -4,7 +4,7 @@ use argus_actions::ActionId;
 use argus_contents::Content;
 
 /// The content that an object has for its holder, and for the actions below the holder, until the
-/// holder commits or aborts. None is an object that has no content yet.
+/// holder commits or aborts. `None` means that the object has no content yet.
 ///
 /// Source: the version stack of the Argus Reference Manual (MIT/LCS/TR-400, 1987).
 ///

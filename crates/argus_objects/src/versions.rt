@@ -1,4 +1,4 @@
-//! Work on the versions of a cell, which stand from ancestor to descendant.
+//! Work on the versions of a cell, which go from ancestor to descendant.
 
 ghost use Rattle.std.specs.Prelude.{◌≡◌, ◌<◌, ◌≤◌, ◌==◌, ◌+◌, ◌-◌, true, length, map, nat_lt};
 ghost use Rattle.std.specs.Prelude.{take, vec_len, OnOk};
@@ -25,7 +25,8 @@ pub(crate) fn has_version(versions: &[Version], a: ActionId) -> bool
     versions.iter().any(|version| version.holder == a)
 }
 
-/// Whether the newest version is that of `a`, where no holder is past `a`: then no other is.
+/// Whether `a` has the newest version. Its caller knows that no holder is past `a`, so no other
+/// version is its own.
 #[inline(always)]
 pub(crate) fn is_newest(versions: &[Version], a: ActionId) -> bool
     requires ascending { is_ascending (writers versions.now) ≡ true }
@@ -36,8 +37,8 @@ pub(crate) fn is_newest(versions: &[Version], a: ActionId) -> bool
     held > 0 && versions[held - 1].holder.0 == a.0
 }
 
-/// Whether all holders are ancestors of `a`. The climb goes on where the last one ended, so it
-/// costs no more than the depth of `a`.
+/// Whether all holders are ancestors of `a`. Each climb goes on where the last one ended, so all
+/// cost no more than the depth of `a`.
 #[inline(always)]
 pub(crate) fn all_writers_above(versions: &[Version], tree: &ActionTree, a: ActionId) -> bool
     requires { is_ascending (writers versions.now) ≡ true }
@@ -56,7 +57,7 @@ pub(crate) fn all_writers_above(versions: &[Version], tree: &ActionTree, a: Acti
     true
 }
 
-/// Whether all holders are ancestors of `a`, where each is an ancestor of the next: then the newest
+/// Whether all holders are ancestors of `a`. Each is an ancestor of the next, so the newest
 /// decides.
 #[inline(always)]
 pub(crate) fn is_newest_above(versions: &[Version], tree: &ActionTree, a: ActionId) -> bool
@@ -104,8 +105,7 @@ pub(crate) fn are_all_related(readers: &[ActionId], versions: &[Version], tree: 
         .all(|reader| is_related_to_all(versions, tree, *reader))
 }
 
-/// Makes this the content of `a`'s version, which is pushed in the room that is there if `a` had
-/// none.
+/// Makes this the content of `a`'s version, which is pushed in the reserved room if `a` had none.
 pub(crate) fn put_version(versions: &mut Vec<Version, Room>, a: ActionId, content: Option<Content>)
     requires room { vec_len versions.old < vec_capacity versions.old }
     requires ascending { is_ascending (writers versions.old.items) ≡ true }
@@ -123,7 +123,7 @@ pub(crate) fn put_version(versions: &mut Vec<Version, Room>, a: ActionId, conten
     }
 }
 
-// Looks for the version of `t`, takes it out, and gives its content.
+// Looks for the version of `t`, takes it out, and returns its content.
 fn remove_version(versions: &mut Vec<Version, Room>, t: ActionId) -> Option<Option<Content>>
     requires { is_ascending (writers versions.old.items) ≡ true }
     ensures content { option_map plain_option result
@@ -144,7 +144,7 @@ fn remove_version(versions: &mut Vec<Version, Room>, t: ActionId) -> Option<Opti
 }
 
 /// Makes room for one more version, the first time for exactly one: most objects never have two
-/// versions at once. Whatever comes, the versions stay, and no room is lost.
+/// versions at once. Either way the versions stay, and no room is lost.
 #[inline(always)]
 pub(crate) fn reserve_version(versions: &mut Vec<Version, Room>) -> Result<(), OutOfMemory>
     ensures items { versions.new.items ≡ versions.old.items }
@@ -159,7 +159,7 @@ pub(crate) fn reserve_version(versions: &mut Vec<Version, Room>) -> Result<(), O
     Ok(())
 }
 
-// Takes the version of `t` out, and gives its content. The newest is looked at first.
+// Takes the version of `t` out, and returns its content. It looks at the newest first.
 #[inline(always)]
 fn take_version(versions: &mut Vec<Version, Room>, t: ActionId) -> Option<Option<Content>>
     requires { is_ascending (writers versions.old.items) ≡ true }
@@ -209,7 +209,7 @@ fn drop_version(versions: &mut Vec<Version, Room>, a: ActionId)
     versions.retain(|version| version.holder != a);
 }
 
-// Makes versions of `s` those of the parent.
+// Makes the versions of `s` the parent's.
 fn inherit_holder(versions: &mut [Version], s: ActionId, parent: ActionId)
     ensures { map plain_version versions.new ≡ map (version_inherited s parent)
         (map plain_version versions.old) }
@@ -245,8 +245,8 @@ fn is_past_older(versions: &[Version], parent: ActionId) -> bool
     held < 2 || versions[held - 2].holder.0 < parent.0
 }
 
-/// Makes the version of `s`, if it has one, the parent's only one. Where it is the newest, and the
-/// one below isn't the parent's, only its holder changes.
+/// Makes the version of `s`, if it has one, the parent's only one. If it is the newest, and the one
+/// below isn't the parent's, only its holder changes.
 #[inline(always)]
 pub(crate) fn inherit_version(versions: &mut Vec<Version, Room>, s: ActionId, parent: ActionId)
     requires { is_ascending (writers versions.old.items) ≡ true }

@@ -1,10 +1,9 @@
 -- A text begins with one call at most.
-use Rattle.std.proofs.Common.{◌≡◌, ℕ, ◌+◌, true, List, [], ◌∷◌, ◌++◌, get_or, arith, refl, sym, ap, inl}
+use Rattle.std.proofs.Common.{◌≡◌, ℕ, true, List, [], ◌∷◌, ◌++◌, arith, refl, sym, ap, inl}
 use Rattle.std.proofs.Common.{◌∙◌, append_assoc}
 use Rattle.std.specs.Fmt.{decimal}
-use Rattle.std.specs.Prelude.{codes, if◌then◌else◌, ◌==◌}
-use Rattle.std.proofs.lemmas.Bool.{eq-eqb, false≢true}
-use Rattle.argus_contents.specs.Change.{PlainChange}
+use Rattle.std.specs.Prelude.{codes, ◌==◌}
+use Rattle.std.proofs.lemmas.Bool.{false≢true}
 use Rattle.argus_contents.specs.Change as change
 use Rattle.argus_contents.specs.declared.query.Query.TheVariants as query
 use Rattle.argus_texts.proofs.Lists.{cancel}
@@ -14,6 +13,7 @@ use Rattle.argus_entries.specs.Call.{PlainCall}
 use Rattle.argus_entries.specs.Call as call
 use Rattle.argus_entries.specs.EntrySpelling.{call_spelling, place_spelling}
 use Rattle.argus_entries.specs.OperationSpelling.{change_spelling, query_spelling}
+use Rattle.argus_entries.proofs.FirstWords.{call_key, call_key_is, call_kind, one_call_kind}
 use Rattle.argus_reading.specs.Calls.{CallEnds, Calls, IsReadableCall, Places}
 use Rattle.argus_reading.specs.Operations.{Changes, Queries}
 use Rattle.argus_reading.proofs.Operations.{change_first, change_nil, changes_clear, queries_clear, query_first}
@@ -50,38 +50,6 @@ pub access_form : (w : List ℕ) (a o : ℕ) (s : List ℕ)
     → place_spelling w a o ++ codes " " ++ s ≡ (Places w).form (a, o) ++ 32 ∷ s
 access_form w a o s =
     append_assoc (place_spelling w a o) (32 ∷ []) s ∙ ap (λ (z : List ℕ). z ++ 32 ∷ s) (place_form w a o)
-
--- what tells the words of calls apart
-abbrev call_key : List ℕ → ℕ
-call_key t =
-    if get_or t 0 0 == 98 then 256 + get_or t 6 0 else if get_or t 0 0 == 116 then 512 + get_or t 5 0 else
-    if get_or t 0 0 == 97 then (if get_or t 1 0 == 98 then 768 + get_or t 5 0 else get_or t 1 0) else get_or t 0 0
-
-abbrev pub call_kind : PlainCall → ℕ
-call_kind (call.declare s) = 100
-call_kind call.begin_top = 372
-call_kind (call.begin_sub a) = 371
-call_kind (call.begin_nested a) = 366
-call_kind (call.commit a) = 99
-call_kind (call.abort a) = 800
-call_kind (call.abort_others a) = 863
-call_kind (call.ask a o q) = 115
-call_kind (call.alter a o c) = 108
-call_kind (call.test_read a o) = 626
-call_kind (call.test_write a o) = 631
-
-call_key_is : (c : PlainCall) (x : List ℕ) → call_key (call_spelling c ++ x) ≡ call_kind c
-call_key_is (call.declare s) x = refl
-call_key_is call.begin_top x = refl
-call_key_is (call.begin_sub a) x = refl
-call_key_is (call.begin_nested a) x = refl
-call_key_is (call.commit a) x = refl
-call_key_is (call.abort a) x = refl
-call_key_is (call.abort_others a) x = refl
-call_key_is (call.ask a o q) x = refl
-call_key_is (call.alter a o c) x = refl
-call_key_is (call.test_read a o) x = refl
-call_key_is (call.test_write a o) x = refl
 
 -- what begins with the word of a declaration is one
 pub declare_kind : (c : PlainCall) (u y : List ℕ) → codes "declare " ++ u ≡ call_spelling c ++ y → call_kind c ≡ 100
@@ -172,7 +140,7 @@ pub calls_clear : Clear Calls
 calls_clear = record {
   one = λ c d x y a b p q e.
       call_told c d x y a b p q
-      (eq-eqb (call_kind c) (call_kind d) (sym (call_key_is c x) ∙ ap call_key e ∙ call_key_is d y)) e;
+      (one_call_kind c d x y e) e;
   nil = call_nil;
   first = call_first;
 }

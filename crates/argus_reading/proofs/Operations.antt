@@ -1,9 +1,9 @@
 -- A text begins with one query and change at most.
-use Rattle.std.proofs.Common.{◌≡◌, ℕ, ◌+◌, true, List, [], ◌∷◌, ◌++◌, get_or, arith, refl, sym, ap}
+use Rattle.std.proofs.Common.{◌≡◌, ℕ, true, List, [], ◌∷◌, ◌++◌, arith, refl, sym, ap}
 use Rattle.std.proofs.Common.{◌∙◌, append_assoc, inl}
 use Rattle.std.specs.Fmt.{decimal, signed_decimal}
-use Rattle.std.specs.Prelude.{codes, if◌then◌else◌, ◌==◌}
-use Rattle.std.proofs.lemmas.Bool.{eq-eqb, false≢true}
+use Rattle.std.specs.Prelude.{codes, ◌==◌}
+use Rattle.std.proofs.lemmas.Bool.{false≢true}
 use Rattle.argus_contents.specs.Change.{PlainChange}
 use Rattle.argus_contents.specs.Change as change
 use Rattle.argus_contents.specs.declared.query.Query.{Query}
@@ -18,40 +18,12 @@ use Rattle.argus_texts.proofs.Lists.{cancel}
 use Rattle.argus_texts.proofs.Stops.{Clear, Precedes}
 use Rattle.argus_entries.specs.Laws.{ChangeWithin, QueryWithin}
 use Rattle.argus_entries.specs.OperationSpelling.{change_spelling, query_spelling}
+use Rattle.argus_entries.proofs.FirstWords.{change_kind, one_change_kind, one_query_kind, query_kind}
 use Rattle.argus_reading.specs.Operations.{ChangeEnds, Changes, Queries, QueryEnds}
 use Rattle.argus_reading.proofs.Joints.{byte_joint, bytes_clear, int_joint, ints_joint, worded_ints_clear}
 use Rattle.argus_reading.proofs.Words.{joint_clear, worded_clear}
 
 -- QUERIES
-
--- what tells the words of queries apart
-abbrev query_key : List ℕ → ℕ
-query_key t =
-    if get_or t 0 0 == 102 then 256 + get_or t 1 0 else if get_or t 0 0 == 116 then 512 + get_or t 1 0 else get_or t 0 0
-
-abbrev query_kind : Query → ℕ
-query_kind query.Whole = 119
-query_kind (query.Field i) = 361
-query_kind query.Low = 108
-query_kind query.High = 104
-query_kind query.Size = 115
-query_kind (query.Fetch i) = 357
-query_kind query.Bottom = 98
-query_kind query.Top = 623
-query_kind (query.IsTag t) = 105
-query_kind (query.TagValue t) = 609
-
-query_key_is : (q : Query) (x : List ℕ) → query_key (query_spelling q ++ x) ≡ query_kind q
-query_key_is query.Whole x = refl
-query_key_is (query.Field i) x = refl
-query_key_is query.Low x = refl
-query_key_is query.High x = refl
-query_key_is query.Size x = refl
-query_key_is (query.Fetch i) x = refl
-query_key_is query.Bottom x = refl
-query_key_is query.Top x = refl
-query_key_is (query.IsTag t) x = refl
-query_key_is (query.TagValue t) x = refl
 
 query_told : (q r : Query) (x y : List ℕ) → QueryWithin q → QueryWithin r → QueryEnds q x → QueryEnds r y
     → (query_kind q == query_kind r) ≡ true → query_spelling q ++ x ≡ query_spelling r ++ y → (q ≡ r) × (x ≡ y)
@@ -87,45 +59,12 @@ pub queries_clear : Clear Queries
 queries_clear = record {
   one = λ q r x y a b p s e.
       query_told q r x y a b p s
-      (eq-eqb (query_kind q) (query_kind r) (sym (query_key_is q x) ∙ ap query_key e ∙ query_key_is r y)) e;
+      (one_query_kind q r x y e) e;
   nil = query_nil;
   first = query_first;
 }
 
 -- CHANGES
-
--- what tells the words of changes apart
-abbrev change_key : List ℕ → ℕ
-change_key t =
-    if get_or t 0 0 == 99 then 256 + get_or t 1 0 else if get_or t 0 0 == 97 then 512 + get_or t 3 0 else
-    if get_or t 0 0 == 114 then 768 + get_or t 3 0 else if get_or t 0 0 == 116 then 1024 + get_or t 1 0 else
-    if get_or t 1 0 == 116 then 1 else get_or t 4 0
-
-abbrev change_kind : PlainChange → ℕ
-change_kind (change.create c) = 370
-change_kind (change.set_field i v) = 102
-change_kind (change.store i v) = 1
-change_kind (change.addh v) = 616
-change_kind (change.addl v) = 620
-change_kind change.remh = 872
-change_kind change.reml = 876
-change_kind (change.set_low i) = 108
-change_kind (change.trim i n) = 1138
-change_kind (change.change_tag t v) = 360
-change_kind change.touch = 1135
-
-change_key_is : (c : PlainChange) (x : List ℕ) → change_key (change_spelling c ++ x) ≡ change_kind c
-change_key_is (change.create c) x = refl
-change_key_is (change.set_field i v) x = refl
-change_key_is (change.store i v) x = refl
-change_key_is (change.addh v) x = refl
-change_key_is (change.addl v) x = refl
-change_key_is change.remh x = refl
-change_key_is change.reml x = refl
-change_key_is (change.set_low i) x = refl
-change_key_is (change.trim i n) x = refl
-change_key_is (change.change_tag t v) x = refl
-change_key_is change.touch x = refl
 
 -- two things behind a word, with a blank between
 blank_between : (w s x : List ℕ) → (w ++ codes " " ++ s) ++ x ≡ (w ++ 32 ∷ s) ++ x
@@ -196,7 +135,7 @@ pub changes_clear : Clear Changes
 changes_clear = record {
   one = λ c d x y a b p q e.
       change_told c d x y a b p q
-      (eq-eqb (change_kind c) (change_kind d) (sym (change_key_is c x) ∙ ap change_key e ∙ change_key_is d y)) e;
+      (one_change_kind c d x y e) e;
   nil = change_nil;
   first = change_first;
 }

@@ -1,13 +1,11 @@
 -- A text begins with one signal, refusal, answer and reply at most.
-use Rattle.std.proofs.Common.{◌≡◌, Bool, ℕ, true, false, List, [], ◌∷◌, ◌++◌, get_or, arith, refl, sym, ap}
+use Rattle.std.proofs.Common.{◌≡◌, Bool, ℕ, true, List, [], ◌∷◌, ◌++◌, arith, refl, sym, ap}
 use Rattle.std.proofs.Common.{◌∙◌}
-use Rattle.std.specs.Prelude.{codes, if◌then◌else◌, ◌==◌}
-use Rattle.std.proofs.lemmas.Bool.{eq-eqb, false≢true}
+use Rattle.std.specs.Prelude.{codes, ◌==◌}
+use Rattle.std.proofs.lemmas.Bool.{false≢true}
 use Rattle.argus_contents.specs.Answer.{PlainAnswer}
 use Rattle.argus_contents.specs.Answer as answer
 use Rattle.argus_contents.specs.declared.signal.Signal.{Signal}
-use Rattle.argus_contents.specs.declared.signal.Signal.TheVariants.{Absent, Bounds, Exists, Limits, NegativeSize}
-use Rattle.argus_contents.specs.declared.signal.Signal.TheVariants.{WrongTag}
 use Rattle.argus_texts.specs.Languages.{Contents, Values}
 use Rattle.argus_texts.proofs.Contents.{contents_clear}
 use Rattle.argus_texts.proofs.Forms.{ends_first, value_ends, values_clear}
@@ -18,8 +16,8 @@ use Rattle.argus_entries.specs.Laws.{AnswerWithin, ReplyWithin}
 use Rattle.argus_entries.specs.Reply.{PlainReply}
 use Rattle.argus_entries.specs.Reply as reply
 use Rattle.argus_entries.specs.declared.refusal.Refusal.{Refusal}
-use Rattle.argus_entries.specs.declared.refusal.Refusal.TheVariants.{Conflict, IllTyped, NoAction, NoObject, NoSiblings}
-use Rattle.argus_entries.specs.declared.refusal.Refusal.TheVariants.{Over, Suspended, TooDeep, TooMany}
+use Rattle.argus_entries.proofs.FirstWords.{answer_kind, flag_at, flag_back, one_answer_kind, one_reply_kind}
+use Rattle.argus_entries.proofs.FirstWords.{refusal_at, refusal_back, reply_kind, signal_at, signal_back}
 use Rattle.argus_reading.specs.Replies.{AnswerEnds, Answers, Refusals, Replies, ReplyEnds}
 use Rattle.argus_reading.proofs.Joints.{ids_clear, worded_ints_clear}
 use Rattle.argus_reading.proofs.Words.{worded_clear}
@@ -33,45 +31,10 @@ by_front A form at back a b x y e =
 
 -- SIGNALS
 
--- a signal, back from its words
-abbrev signal_at : List ℕ → Signal
-signal_at t =
-    if get_or t 7 0 == 97 then Absent else if get_or t 7 0 == 101 then Exists else
-    if get_or t 7 0 == 98 then Bounds else
-    if get_or t 7 0 == 119 then WrongTag else if get_or t 7 0 == 110 then NegativeSize else Limits
-
-signal_back : (s : Signal) (x : List ℕ) → signal_at (signal_spelling s ++ x) ≡ s
-signal_back Absent x = refl
-signal_back Exists x = refl
-signal_back Bounds x = refl
-signal_back WrongTag x = refl
-signal_back NegativeSize x = refl
-signal_back Limits x = refl
-
 one_signal : (a b : Signal) (x y : List ℕ) → signal_spelling a ++ x ≡ signal_spelling b ++ y → (a ≡ b) × (x ≡ y)
 one_signal a b x y e = by_front Signal signal_spelling signal_at signal_back a b x y e
 
 -- REFUSALS
-
--- a refusal, back from its name
-abbrev refusal_at : List ℕ → Refusal
-refusal_at t =
-    if get_or t 0 0 == 79 then Over else if get_or t 0 0 == 83 then Suspended else
-    if get_or t 0 0 == 73 then IllTyped else
-    if get_or t 0 0 == 67 then Conflict else if get_or t 0 0 ==
-    84 then (if get_or t 3 0 == 68 then TooDeep else TooMany) else
-    if get_or t 2 0 == 65 then NoAction else if get_or t 2 0 == 79 then NoObject else NoSiblings
-
-refusal_back : (r : Refusal) (x : List ℕ) → refusal_at (refusal_name r ++ x) ≡ r
-refusal_back NoAction x = refl
-refusal_back Over x = refl
-refusal_back Suspended x = refl
-refusal_back NoObject x = refl
-refusal_back IllTyped x = refl
-refusal_back Conflict x = refl
-refusal_back TooDeep x = refl
-refusal_back TooMany x = refl
-refusal_back NoSiblings x = refl
 
 one_refusal : (a b : Refusal) (x y : List ℕ) → refusal_name a ++ x ≡ refusal_name b ++ y → (a ≡ b) × (x ≡ y)
 one_refusal a b x y e = by_front Refusal refusal_name refusal_at refusal_back a b x y e
@@ -81,40 +44,6 @@ refusals_clear =
     record { one = λ a b x y g h e f i. one_refusal a b x y i; nil = λ a. tt; first = λ a c x y e. tt }
 
 -- ANSWERS
-
--- what tells the words of answers apart
-abbrev answer_key : List ℕ → ℕ
-answer_key t = get_or t 0 0
-
-abbrev answer_kind : PlainAnswer → ℕ
-answer_kind answer.done = 100
-answer_kind (answer.val v) = 118
-answer_kind (answer.num n) = 110
-answer_kind (answer.flag b) = 102
-answer_kind (answer.body c) = 98
-answer_kind (answer.signal s) = 115
-
-answer_key_is : (a : PlainAnswer) (x : List ℕ) → answer_key (answer_spelling a ++ x) ≡ answer_kind a
-answer_key_is answer.done x = refl
-answer_key_is (answer.val v) x = refl
-answer_key_is (answer.num n) x = refl
-answer_key_is (answer.flag true) x = refl
-answer_key_is (answer.flag false) x = refl
-answer_key_is (answer.body c) x = refl
-answer_key_is (answer.signal Absent) x = refl
-answer_key_is (answer.signal Exists) x = refl
-answer_key_is (answer.signal Bounds) x = refl
-answer_key_is (answer.signal WrongTag) x = refl
-answer_key_is (answer.signal NegativeSize) x = refl
-answer_key_is (answer.signal Limits) x = refl
-
--- a truth, back from its word
-abbrev flag_at : List ℕ → Bool
-flag_at t = get_or t 5 0 == 116
-
-flag_back : (b : Bool) (x : List ℕ) → flag_at (answer_spelling (answer.flag b) ++ x) ≡ b
-flag_back true x = refl
-flag_back false x = refl
 
 answer_told : (a b : PlainAnswer) (x y : List ℕ) → AnswerWithin 16 a → AnswerWithin 16 b → AnswerEnds a x
     → AnswerEnds b y → (answer_kind a == answer_kind b) ≡ true → answer_spelling a ++ x ≡ answer_spelling b ++ y
@@ -147,39 +76,12 @@ answers_clear : Clear Answers
 answers_clear = record {
   one = λ a b x y s t p q e.
       answer_told a b x y s t p q
-      (eq-eqb (answer_kind a) (answer_kind b) (sym (answer_key_is a x) ∙ ap answer_key e ∙ answer_key_is b y)) e;
+      (one_answer_kind a b x y e) e;
   nil = answer_nil;
   first = answer_first;
 }
 
 -- REPLIES
-
--- what tells the kinds of replies apart
-abbrev reply_key : List ℕ → ℕ
-reply_key t = if get_or t 0 0 == 111 then 1 else if get_or t 0 0 == 97 then 2 else if get_or t 0 0 == 114 then 3 else 4
-
-abbrev reply_kind : PlainReply → ℕ
-reply_kind (reply.object o) = 1
-reply_kind (reply.begun a) = 2
-reply_kind (reply.answered a) = 4
-reply_kind (reply.refused r) = 3
-
-reply_key_is : (r : PlainReply) (x : List ℕ) → reply_key (reply_spelling r ++ x) ≡ reply_kind r
-reply_key_is (reply.object o) x = refl
-reply_key_is (reply.begun a) x = refl
-reply_key_is (reply.answered answer.done) x = refl
-reply_key_is (reply.answered (answer.val v)) x = refl
-reply_key_is (reply.answered (answer.num n)) x = refl
-reply_key_is (reply.answered (answer.flag true)) x = refl
-reply_key_is (reply.answered (answer.flag false)) x = refl
-reply_key_is (reply.answered (answer.body c)) x = refl
-reply_key_is (reply.answered (answer.signal Absent)) x = refl
-reply_key_is (reply.answered (answer.signal Exists)) x = refl
-reply_key_is (reply.answered (answer.signal Bounds)) x = refl
-reply_key_is (reply.answered (answer.signal WrongTag)) x = refl
-reply_key_is (reply.answered (answer.signal NegativeSize)) x = refl
-reply_key_is (reply.answered (answer.signal Limits)) x = refl
-reply_key_is (reply.refused r) x = refl
 
 reply_told : (r s : PlainReply) (x y : List ℕ) → ReplyWithin 16 r → ReplyWithin 16 s → ReplyEnds r x → ReplyEnds s y
     → (reply_kind r == reply_kind s) ≡ true → reply_spelling r ++ x ≡ reply_spelling s ++ y → (r ≡ s) × (x ≡ y)
@@ -208,7 +110,7 @@ pub replies_clear : Clear Replies
 replies_clear = record {
   one = λ r s x y a b p q e.
       reply_told r s x y a b p q
-      (eq-eqb (reply_kind r) (reply_kind s) (sym (reply_key_is r x) ∙ ap reply_key e ∙ reply_key_is s y)) e;
+      (one_reply_kind r s x y e) e;
   nil = reply_nil;
   first = reply_first;
 }

@@ -11,7 +11,7 @@ use Rattle.argus_entries.specs.Laws.{CallWithin}
 use Rattle.argus_reading.specs.Combined.{Either, Worded}
 use Rattle.argus_reading.specs.Operations.{blank, ChangeEnds, Changes, Ids, Queries, QueryEnds}
 
--- a word, the number of an action, and an object behind a blank
+-- a word, the number of an action, and an object after a blank
 abbrev pub Places : List ℕ → Language
 Places word = Pairs (Worded word Ids) blank (Worded (codes "o") Ids)
 
@@ -33,7 +33,7 @@ DeclaresShape (call.test_write a o) = Unit {0}
 abbrev pub IsReadableCall : PlainCall → Type 0
 IsReadableCall c = CallWithin MAX_VALUE_DEPTH c × DeclaresShape c
 
--- what may come behind a call
+-- what may come after a call
 abbrev pub CallEnds : PlainCall → List ℕ → Type 0
 CallEnds (call.declare s) rest = Unit {0}
 CallEnds call.begin_top rest = Unit {0}
@@ -77,6 +77,6 @@ ObjectCalls =
     Either Asks (Either Alters (Either (Places (codes "test_read a"))
     (Places (codes "test_write a"))))
 
--- what calls are read from; of a declaration its word alone
+-- what calls are read from; for a declaration only its word
 abbrev pub CallParts : Language
 CallParts = Either (Word (codes "declare ")) (Either ActionCalls ObjectCalls)

@@ -1,9 +1,9 @@
--- Languages that are made of others: with a word before, and one of two.
+-- Languages made of others: a word and then a thing, and one of two.
 use Rattle.std.specs.Prelude.{ℕ, ◌⊎◌, List, ◌++◌}
 use Rattle.std.proofs.Common.{inl, inr}
 use Rattle.argus_texts.specs.Language.{Language}
 
--- a word, and a thing behind it
+-- a word, and a thing after it
 abbrev pub Worded : List ℕ → Language → Language
 Worded word L = record {
   Thing = L.Thing;
@@ -22,7 +22,7 @@ abbrev pub either_form : (L M : Language) → L.Thing ⊎ M.Thing → List ℕ
 either_form L M (inl a) = L.form a
 either_form L M (inr b) = M.form b
 
--- what may come behind it there
+-- what may come after it there
 abbrev pub either_ends : (L M : Language) → L.Thing ⊎ M.Thing → List ℕ → Type 0
 either_ends L M (inl a) rest = L.Ends a rest
 either_ends L M (inr b) rest = M.Ends b rest

@@ -16,8 +16,8 @@ abbrev pub line_stop : Stop → LineStop
 line_stop (stop.Left a) = line.Left a
 line_stop stop.Memory = line.OutOfMemory
 
--- P holds of the number of bytes that are left, and Q of that before a missing shape; want of
--- memory says nothing
+-- P holds of the number of bytes that are left, and Q of that before a missing shape; out of memory
+-- says nothing
 abbrev pub OnStop : LineStop → (ℕ → Type 0) → (ℕ → Type 0) → Type 0
 OnStop (line.Left left) P Q = P left
 OnStop (line.Shape left) P Q = Q left

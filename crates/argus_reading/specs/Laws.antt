@@ -6,8 +6,8 @@ use Rattle.argus_reading.specs.Line.{IsReadable, Tells}
 use Rattle.argus_reading.specs.declared.read_entry_error.ReadEntryError.{ReadEntryError}
 use Rattle.argus_reading.specs.declared.read_entry_error.ReadEntryError.TheVariants.{OutOfMemory}
 
--- of the line of a readable entry an error tells of want of memory alone, and the line is that of
--- no other number and entry
+-- for the line of a readable entry the only error is out of memory, and the line is that of no
+-- other number and entry
 abbrev pub EntriesAreReadBack : Type 0
 EntriesAreReadBack = (n : ℕ) (e : PlainEntry) → n < 2 ^ 64 → IsReadable e
     → ((error : ReadEntryError) → Tells error (entry_spelling n e) → error ≡ OutOfMemory)

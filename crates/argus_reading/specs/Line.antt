@@ -16,8 +16,8 @@ use Rattle.argus_reading.specs.Replies.{Replies}
 use Rattle.argus_reading.specs.declared.read_entry_error.ReadEntryError.{ReadEntryError}
 use Rattle.argus_reading.specs.declared.read_entry_error.ReadEntryError.TheVariants as error
 
--- an entry such as a line stands for: its numbers are in range, its values of depth at most 16, and
--- a shape that it declares can be made
+-- an entry that has a line: its numbers are in range, its values of depth at most 16, and a shape
+-- that it declares can be made
 abbrev pub IsReadable : PlainEntry → Type 0
 IsReadable e = IsReadableCall e.call × ReplyWithin MAX_VALUE_DEPTH e.reply
 
@@ -29,8 +29,8 @@ pub record IsEntryLine (text : List ℕ) : Type 0 where
   pub readable : IsReadable entry
   pub is : text ≡ entry_spelling number entry
 
--- text is a number and the word of a declaration up to the byte, and behind it begins no shape: so
--- it is no line
+-- text is a number and the word of a declaration up to the byte, and no shape begins after it, so
+-- it isn't a line
 pub record LacksShape (text : List ℕ) (at : ℕ) : Type 0 where
   pub number : ℕ
   pub in_range : number < 2 ^ 64
@@ -39,7 +39,7 @@ pub record LacksShape (text : List ℕ) (at : ℕ) : Type 0 where
   pub shape : BeginsNo Shapes (drop at text)
   pub refused : IsEntryLine text → ⊥
 
--- what an error says of a text; want of memory says nothing
+-- what an error says of a text; out of memory says nothing
 abbrev pub Tells : ReadEntryError → List ℕ → Type 0
 Tells (error.Fault fault) text = IsFault IsEntryLine text fault.at
 Tells (error.Shape fault) text = LacksShape text fault.at
@@ -61,11 +61,11 @@ Lines = Pairs Ordinals blank Entries
 abbrev pub Declares : List ℕ → Type 0
 Declares front = front ≡ codes "declare "
 
--- front is the same behind a number
+-- front is the same after a number
 abbrev pub DeclaresAt : List ℕ → Type 0
 DeclaresAt front = (number : ℕ) × (number < 2 ^ 64) × (front ≡ decimal number ++ codes " declare ")
 
--- text begins with no form, since behind such a front a shape had to begin where so many bytes are
+-- text begins with no form: after such a prefix a shape had to begin where this many bytes are
 -- left, and none does
 pub record Lacks (Lead : List ℕ → Type 0) (L : Language) (text : List ℕ) (left : ℕ) : Type 0 where
   pub front : List ℕ

@@ -38,7 +38,7 @@ TwoInts word = Pairs (Worded word Ints) blank Ints
 
 -- QUERIES
 
--- what may come behind a query
+-- what may come after a query
 abbrev pub QueryEnds : Query → List ℕ → Type 0
 QueryEnds (query.Field i) rest = NotDigit rest
 QueryEnds (query.Fetch i) rest = NotDigit rest
@@ -78,7 +78,7 @@ QueryParts = Either WordQueries NumberQueries
 
 -- CHANGES
 
--- what may come behind a change
+-- what may come after a change
 abbrev pub ChangeEnds : PlainChange → List ℕ → Type 0
 ChangeEnds (change.set_field i v) rest = ValueEnds v rest
 ChangeEnds (change.store i v) rest = ValueEnds v rest
@@ -105,14 +105,14 @@ Changes = record {
 abbrev pub WordChanges : Language
 WordChanges = Either (Word (codes "remh")) (Either (Word (codes "reml")) (Word (codes "touch")))
 
--- the parts of changes that hand in one thing
+-- the parts of changes with one argument
 abbrev pub SingleChanges : Language
 SingleChanges =
     Either (Worded (codes "create ") (Contents MAX_VALUE_DEPTH))
     (Either (Worded (codes "addh ") (Values MAX_VALUE_DEPTH))
     (Either (Worded (codes "addl ") (Values MAX_VALUE_DEPTH)) (Worded (codes "set_low ") Ints)))
 
--- the parts of changes that hand in two things
+-- the parts of changes with two arguments
 abbrev pub DoubleChanges : Language
 DoubleChanges =
     Either (ByteAndValue (codes "set_field ")) (Either (IntAndValue (codes "store "))

@@ -57,7 +57,7 @@ OtherRefusals =
 abbrev pub RefusalParts : Language
 RefusalParts = Either NamedRefusals OtherRefusals
 
--- what may come behind an answer
+-- what may come after an answer
 abbrev pub AnswerEnds : PlainAnswer → List ℕ → Type 0
 AnswerEnds (answer.val v) rest = ValueEnds v rest
 AnswerEnds (answer.num n) rest = NotDigit rest
@@ -81,7 +81,7 @@ WordAnswers =
     Either (Word (codes "done")) (Either (Word (codes "flag true"))
     (Either (Word (codes "flag false")) Signals))
 
--- the parts of answers that hand out something
+-- the parts of answers that have a value, a content or a number
 abbrev pub FullAnswers : Language
 FullAnswers =
     Either (Worded (codes "val ") (Values MAX_VALUE_DEPTH))
@@ -91,7 +91,7 @@ FullAnswers =
 abbrev pub AnswerParts : Language
 AnswerParts = Either WordAnswers FullAnswers
 
--- what may come behind a reply
+-- what may come after a reply
 abbrev pub ReplyEnds : PlainReply → List ℕ → Type 0
 ReplyEnds (reply.object o) rest = NotDigit rest
 ReplyEnds (reply.begun a) rest = NotDigit rest

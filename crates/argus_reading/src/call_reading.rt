@@ -20,7 +20,7 @@ use argus_entries::Call;
 use argus_memory::Heap;
 use argus_texts::front::{Stop, Unread, expect, one_shape, word};
 
-/// The call at the front, and what is behind it.
+/// The call at the front, and what comes after it.
 pub(crate) fn call(heap: Heap, text: &str) -> Result<(Call, &str), LineStop>
     ensures read { IfOk result (λ r. Reads Calls text.now (plain_call r.0) r.1.now) }
     ensures stops { IfErr result
@@ -45,7 +45,7 @@ pub(crate) fn call(heap: Heap, text: &str) -> Result<(Call, &str), LineStop>
     Err(LineStop::from(farther(declared, farther(action, object))))
 }
 
-/// The shape at the front, and what is behind it.
+/// The shape at the front, and what comes after it.
 fn declared_shape(heap: Heap, text: &str) -> Result<(Shape, &str), LineStop>
     ensures read { IfOk result (λ r. Reads Shapes text.now r.0 r.1.now) }
     ensures stops { IfErr result

@@ -14,7 +14,7 @@ use argus_contents::Change;
 use argus_memory::Heap;
 use argus_texts::front::{Stop, word};
 
-/// The change at the front, and what is behind it.
+/// The change at the front, and what comes after it.
 pub(crate) fn change(heap: Heap, text: &str) -> Result<(Change, &str), Stop>
     ensures read { IfOk result (λ r. Reads Changes text.now (plain_change r.0) r.1.now) }
     ensures stops { IfErr result
@@ -56,7 +56,7 @@ fn word_change(text: &str) -> Result<(Change, &str), Stop>
     Err(farther(remh, farther(reml, touch)))
 }
 
-/// A change that hands in one thing.
+/// A change with one argument.
 fn single_change(heap: Heap, text: &str) -> Result<(Change, &str), Stop>
     ensures read { IfOk result (λ r. Reads Changes text.now (plain_change r.0) r.1.now) }
     ensures stops { IfErr result
@@ -81,7 +81,7 @@ fn single_change(heap: Heap, text: &str) -> Result<(Change, &str), Stop>
     Err(farther(create, farther(addh, farther(addl, set_low))))
 }
 
-/// A change that hands in two things.
+/// A change with two arguments.
 fn double_change(heap: Heap, text: &str) -> Result<(Change, &str), Stop>
     ensures read { IfOk result (λ r. Reads Changes text.now (plain_change r.0) r.1.now) }
     ensures stops { IfErr result

@@ -1,11 +1,11 @@
-//! Where a text stops that may go on in several ways.
+//! Where reading stops if a text may go on in several ways.
 
 ghost use Rattle.std.specs.Prelude.{◌≡◌};
 ghost use Rattle.argus_reading.specs.Farther.{farther};
 
 use argus_texts::front::Stop;
 
-/// Where a text stops that may go on in either of two ways: where the later of them stops.
+/// Where reading stops if a text may go on in two ways: where the later of them stops.
 pub(crate) fn farther(one: Stop, other: Stop) -> Stop
     ensures { result ≡ farther one other }
 {

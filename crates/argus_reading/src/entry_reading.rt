@@ -24,9 +24,9 @@ use argus_texts::front::{Stop, expect, number, word};
 /// The number and the entry whose line the text is, as `write_entry` of `argus_entries` writes it,
 /// without a line end.
 ///
-/// `Fault` comes exactly where the text is no such line, with the length of its longest prefix that
-/// begins one. In its place comes `Shape` where a declaration's shape is no shape that can be made,
-/// with the length up to that shape. `OutOfMemory` may come in place of any answer.
+/// `Fault` comes exactly if the text isn't such a line, with the length of its longest prefix that
+/// begins one. `Shape` comes in its place if a declaration's shape can't be made, with the length
+/// up to that shape. `OutOfMemory` may come in place of any result.
 ///
 /// ```text
 /// let (number, entry) = read_entry(heap, "4 ask a0 o0 field 0 -> val 7")?;
@@ -64,7 +64,7 @@ fn whole_line(heap: Heap, text: &str) -> Result<(u64, Entry), LineStop>
     Ok((number, entry))
 }
 
-/// The number and the entry at the front, and what is behind them.
+/// The number and the entry at the front, and what comes after them.
 fn line(heap: Heap, text: &str) -> Result<(u64, Entry, &str), LineStop>
     ensures read { IfOk result
         (λ r. Reads Lines text.now
@@ -79,7 +79,7 @@ fn line(heap: Heap, text: &str) -> Result<(u64, Entry, &str), LineStop>
     Ok((number, entry, rest))
 }
 
-/// The call and the reply at the front, and what is behind them.
+/// The call and the reply at the front, and what comes after them.
 fn entry(heap: Heap, text: &str) -> Result<(Entry, &str), LineStop>
     ensures read { IfOk result
         (λ r. Reads Entries text.now ((plain_entry r.0).call, (plain_entry r.0).reply) r.1.now) }
@@ -93,7 +93,7 @@ fn entry(heap: Heap, text: &str) -> Result<(Entry, &str), LineStop>
     Ok((Entry { call, reply }, rest))
 }
 
-/// The reply behind an arrow.
+/// The reply after an arrow.
 fn answered(heap: Heap, text: &str) -> Result<(Reply, &str), Stop>
     ensures read { IfOk result
         (λ r. Reads (Worded (codes "-> ") Replies) text.now (plain_reply r.0) r.1.now) }

@@ -2,12 +2,12 @@
 
 use argus_texts::front::Stop;
 
-// As `Stop`, with shapes beside: a shape's reader says only that there is none.
+// As `Stop`, with a case for shapes: a shape's reader says only that there is none.
 #[derive(Debug, Drop)]
 pub(crate) enum LineStop {
-    // So many bytes are left where the text stops being the beginning of a form.
+    // This many bytes are left where the text stops being the beginning of a form.
     Left(usize),
-    // So many bytes are left where a shape had to come and none does.
+    // This many bytes are left where a shape had to come, and none does.
     Shape(usize),
     OutOfMemory,
 }

@@ -1,4 +1,4 @@
-//! Parts of a line that stand behind a word: numbers, values, an action and an object.
+//! Parts of a line that come after a word: numbers, values, an action and an object.
 
 ghost use Rattle.std.specs.Prelude.{◌≡◌, ◌≤◌, true, nat_lt, IfErr, IfOk};
 ghost use Rattle.std.specs.List.{list_all};
@@ -17,7 +17,7 @@ use argus_contents::{Content, ObjId, Value};
 use argus_memory::Heap;
 use argus_texts::front::{Stop, expect, int, number, one_content, one_value, word};
 
-/// The number behind the word, and what is behind it.
+/// The number after the word, and what comes after it.
 fn number_behind<'a>(text: &'a str, before: &str, most: u64) -> Result<(u64, &'a str), Stop>
     requires ascii { list_all (λ b. nat_lt b 128) before.now ≡ true }
     requires wide { 9 ≤ most }
@@ -31,7 +31,7 @@ fn number_behind<'a>(text: &'a str, before: &str, most: u64) -> Result<(u64, &'a
     Ok((number, rest))
 }
 
-/// The number of a field or a tag behind the word.
+/// The number of a field or a tag after the word.
 pub(crate) fn byte<'a>(text: &'a str, before: &str) -> Result<(u8, &'a str), Stop>
     requires { list_all (λ b. nat_lt b 128) before.now ≡ true }
     ensures read { IfOk result (λ r. Reads (Worded before.now Bytes) text.now r.0 r.1.now) }
@@ -42,7 +42,7 @@ pub(crate) fn byte<'a>(text: &'a str, before: &str) -> Result<(u8, &'a str), Sto
     Ok((number as u8, rest))
 }
 
-/// The number of an action or an object behind the word.
+/// The number of an action or an object after the word.
 pub(crate) fn id<'a>(text: &'a str, before: &str) -> Result<(u32, &'a str), Stop>
     requires { list_all (λ b. nat_lt b 128) before.now ≡ true }
     ensures read { IfOk result (λ r. Reads (Worded before.now Ids) text.now r.0 r.1.now) }
@@ -53,7 +53,7 @@ pub(crate) fn id<'a>(text: &'a str, before: &str) -> Result<(u32, &'a str), Stop
     Ok((number as u32, rest))
 }
 
-/// The action behind the word and the object behind the action.
+/// The action after the word and the object after the action.
 pub(crate) fn place<'a>(text: &'a str, before: &str) -> Result<(ActionId, ObjId, &'a str), Stop>
     requires { list_all (λ b. nat_lt b 128) before.now ≡ true }
     ensures read { IfOk result
@@ -67,7 +67,7 @@ pub(crate) fn place<'a>(text: &'a str, before: &str) -> Result<(ActionId, ObjId,
     Ok((ActionId(action), ObjId(object), rest))
 }
 
-/// The integer behind the word.
+/// The integer after the word.
 pub(crate) fn int_behind<'a>(text: &'a str, before: &str) -> Result<(i64, &'a str), Stop>
     requires { list_all (λ b. nat_lt b 128) before.now ≡ true }
     ensures read { IfOk result (λ r. Reads (Worded before.now Ints) text.now r.0 r.1.now) }
@@ -79,7 +79,7 @@ pub(crate) fn int_behind<'a>(text: &'a str, before: &str) -> Result<(i64, &'a st
     Ok((number, rest))
 }
 
-/// The value behind the word.
+/// The value after the word.
 pub(crate) fn value_behind<'a>(
     heap: Heap,
     text: &'a str,
@@ -98,7 +98,7 @@ pub(crate) fn value_behind<'a>(
     Ok((value, rest))
 }
 
-/// The content behind the word.
+/// The content after the word.
 pub(crate) fn content_behind<'a>(
     heap: Heap,
     text: &'a str,
@@ -117,7 +117,7 @@ pub(crate) fn content_behind<'a>(
     Ok((content, rest))
 }
 
-/// The number of a field or a tag behind the word, and the value behind that.
+/// The number of a field or a tag after the word, and the value after that.
 pub(crate) fn byte_and_value<'a>(
     heap: Heap,
     text: &'a str,
@@ -135,7 +135,7 @@ pub(crate) fn byte_and_value<'a>(
     Ok((number, value, rest))
 }
 
-/// The integer behind the word, and the value behind that.
+/// The integer after the word, and the value after that.
 pub(crate) fn int_and_value<'a>(
     heap: Heap,
     text: &'a str,
@@ -153,7 +153,7 @@ pub(crate) fn int_and_value<'a>(
     Ok((number, value, rest))
 }
 
-/// The integer behind the word, and the integer behind that.
+/// The integer after the word, and the integer after that.
 pub(crate) fn two_ints<'a>(text: &'a str, before: &str) -> Result<(i64, i64, &'a str), Stop>
     requires { list_all (λ b. nat_lt b 128) before.now ≡ true }
     ensures read { IfOk result (λ r. Reads (TwoInts before.now) text.now (r.0, r.1) r.2.now) }

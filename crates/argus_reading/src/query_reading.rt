@@ -9,7 +9,7 @@ use crate::part_reading::{byte, int_behind};
 use argus_contents::Query;
 use argus_texts::front::{Stop, word};
 
-/// The query at the front, and what is behind it.
+/// The query at the front, and what comes after it.
 pub(crate) fn query(text: &str) -> Result<(Query, &str), Stop>
     ensures read { IfOk result (λ r. Reads Queries text.now r.0 r.1.now) }
     ensures stops { IfErr result

@@ -15,10 +15,11 @@ use thiserror::Error;
 /// ```
 #[derive(Clone, Copy, Debug, PartialEq, Eq, Error)]
 pub enum ReadEntryError {
-    /// The text is no line: `at` is the length of its longest prefix that begins one.
+    /// The text isn't a line: `at` is the length of its longest prefix that begins one.
     #[error("no line of an entry: {0}")]
     Fault(ReadFault),
-    /// The text is no line, since it declares no shape: `at` is where the shape ought to begin.
+    /// The text isn't a line, since what it declares isn't a shape: `at` is where the shape ought
+    /// to begin.
     #[error("no shape: {0}")]
     Shape(ReadFault),
     /// There was no memory for the entry.

@@ -16,7 +16,7 @@ use argus_entries::{Refusal, Reply};
 use argus_memory::Heap;
 use argus_texts::front::{Stop, word};
 
-/// The reply at the front, and what is behind it.
+/// The reply at the front, and what comes after it.
 pub(crate) fn reply(heap: Heap, text: &str) -> Result<(Reply, &str), Stop>
     ensures read { IfOk result (λ r. Reads Replies text.now (plain_reply r.0) r.1.now) }
     ensures stops { IfErr result
@@ -41,7 +41,7 @@ pub(crate) fn reply(heap: Heap, text: &str) -> Result<(Reply, &str), Stop>
     Err(farther(object, farther(begun, farther(refused, answered))))
 }
 
-/// The refusal behind its word.
+/// The refusal after its word.
 fn refused(text: &str) -> Result<(Refusal, &str), Stop>
     ensures read { IfOk result
         (λ r. Reads (Worded (codes "refused ") Refusals) text.now r.0 r.1.now) }
@@ -70,7 +70,7 @@ fn refusal(text: &str) -> Result<(Refusal, &str), Stop>
     Err(farther(named, other))
 }
 
-/// A refusal that an action or an object which the call names is to blame for.
+/// A refusal because of an action or an object that the call names.
 fn named_refusal(text: &str) -> Result<(Refusal, &str), Stop>
     ensures read { IfOk result (λ r. Reads Refusals text.now r.0 r.1.now) }
     ensures stops { IfErr result
@@ -127,7 +127,7 @@ fn other_refusal(text: &str) -> Result<(Refusal, &str), Stop>
     Err(farther(conflict, farther(too_deep, farther(too_many, no_siblings))))
 }
 
-/// The answer at the front, and what is behind it.
+/// The answer at the front, and what comes after it.
 fn answer(heap: Heap, text: &str) -> Result<(Answer, &str), Stop>
     ensures read { IfOk result (λ r. Reads Answers text.now (plain_answer r.0) r.1.now) }
     ensures stops { IfErr result
@@ -169,7 +169,7 @@ fn word_answer(text: &str) -> Result<(Answer, &str), Stop>
     Err(farther(done, farther(yes, farther(no, signal))))
 }
 
-/// An answer that hands out something.
+/// An answer that has a value, a content or a number.
 fn full_answer(heap: Heap, text: &str) -> Result<(Answer, &str), Stop>
     ensures read { IfOk result (λ r. Reads Answers text.now (plain_answer r.0) r.1.now) }
     ensures stops { IfErr result
@@ -190,7 +190,7 @@ fn full_answer(heap: Heap, text: &str) -> Result<(Answer, &str), Stop>
     Err(farther(val, farther(num, body)))
 }
 
-/// The signal at the front, and what is behind it.
+/// The signal at the front, and what comes after it.
 fn signal(text: &str) -> Result<(Signal, &str), Stop>
     ensures read { IfOk result (λ r. Reads Signals text.now r.0 r.1.now) }
     ensures stops { IfErr result

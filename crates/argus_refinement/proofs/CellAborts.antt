@@ -1,4 +1,4 @@
--- A cell when holders are ended: what stands under the aborted actions is let go.
+-- A cell when holders are ended: actions under the aborted ones release it.
 use Rattle.std.proofs.Common.{Bool, List, ap, inl, inr, subst, sym, true, ℕ, ◌+◌, ◌∙◌, ◌≡◌}
 use Rattle.std.specs.List.{filter}
 use Rattle.std.specs.Prelude.{not, ◌&&◌}

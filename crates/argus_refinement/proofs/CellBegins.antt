@@ -1,4 +1,4 @@
--- A cell goes on when an action begins.
+-- A cell is unchanged when an action begins.
 use Rattle.std.proofs.Common.{ap, arith, sym, true, ℕ, ◌+◌, ◌∙◌, ◌≡◌}
 use Rattle.argus_actions.proofs.Above.{above_le}
 use Rattle.argus_actions.proofs.RowsLemmas.{is_above_older}

@@ -1,4 +1,4 @@
--- Who holds a cell is live, and the read lock is free in the cell exactly where it is free in the history.
+-- Holders of a cell are live, and the read lock is free in the cell exactly if it is free in the history.
 use Rattle.std.proofs.Common.{Bool, List, [], ap, arith, cond, false, refl, subst, sym}
 use Rattle.std.proofs.Common.{true, ℕ, ◌+◌, ◌∙◌, ◌∷◌, ◌≡◌, ◌≢◌, eqb}
 use Rattle.std.specs.List.{filter, list_all}

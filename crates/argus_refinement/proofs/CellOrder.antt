@@ -1,4 +1,4 @@
--- The versions of a cell stand from ancestor to descendant, and lawful follows from exclusion.
+-- The versions of a cell go from ancestor to descendant, and lawful follows from exclusion.
 use Rattle.std.proofs.Common.{Bool, List, Option, [], ap, arith, false, inl, inr, refl, subst, sym, true, ℕ, ◌+◌}
 use Rattle.std.proofs.Common.{◌<◌, ◌∙◌, ◌∷◌, ◌≡◌, ◌≢◌, ◌++◌, ◌||◌, eqb, ⊎_elim}
 use Rattle.std.specs.List.{list_all}

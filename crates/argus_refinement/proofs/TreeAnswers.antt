@@ -1,4 +1,4 @@
--- What a tree with the rows of a history answers is what the history says.
+-- What a tree with the rows of a history returns is what the history says.
 use Rattle.std.proofs.Common.{None, Option, Some, ap, arith, cond, false, inl, inr, length, refl}
 use Rattle.std.proofs.Common.{sym, true, ℕ, ◌+◌, ◌<◌, ◌≤◌, ◌∙◌, ◌≡◌}
 use Rattle.std.specs.Option.{option_and_then, option_map, option_map_or}

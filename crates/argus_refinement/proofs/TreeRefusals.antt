@@ -1,4 +1,4 @@
--- The tree refuses a call exactly where the journal does, and for the same reason.
+-- The tree refuses a call exactly if the journal does, and for the same reason.
 use Rattle.std.proofs.Common.{Bool, None, Option, Some, ap, arith, cond, false, inl, inr, refl, sym}
 use Rattle.std.proofs.Common.{true, ℕ, ◌+◌, ◌<◌, ◌≤◌, ◌∙◌, ◌≡◌}
 use Rattle.std.specs.Option.{is_none, option_map, option_or}

@@ -1,4 +1,4 @@
--- The rows of a tree, said in the words of the history: each test of them, number by number.
+-- The rows of a tree, in the terms of the history: each test of them, number by number.
 use Rattle.std.proofs.Common.{Bool, List, Option, Some, [], ap, arith, cond, false, inl, inr, length, refl, subst}
 use Rattle.std.proofs.Common.{sym, true, ℕ, ◌+◌, ◌∙◌, ◌∷◌, ◌≡◌, eqb, ◌||◌, ⊎_elim}
 use Rattle.std.specs.Option.{option_map}

@@ -1,4 +1,4 @@
--- A cell in the words of the history. The program's action a is a + 1 there.
+-- A cell in the terms of the history. The program's action a is a + 1 there.
 use Rattle.std.specs.Prelude.{List, Option, [], map, reverse, true, ℕ, ◌+◌, ◌++◌, ◌∷◌, ◌≡◌}
 use Rattle.argus_actions.specs.Tree.{Tree}
 use Rattle.argus_actions.specs.declared.action_id.ActionId.{ActionId}

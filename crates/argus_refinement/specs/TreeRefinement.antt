@@ -1,4 +1,4 @@
--- A tree of actions in the words of the history. The tree's action a is a + 1 there, where 0 is the
+-- A tree of actions in the terms of the history. The tree's action a is a + 1 there, where 0 is the
 -- base.
 use Rattle.std.specs.Option.{option_map}
 use Rattle.std.specs.Prelude.{Option, map, ◌+◌, ◌≡◌}
@@ -23,7 +23,7 @@ history_origin begun.Top = Top
 history_origin (begun.Sub parent) = Sub (parent + 1)
 history_origin (begun.Nested creator) = Nested (creator + 1)
 
--- what has become of it
+-- what became of it
 abbrev pub history_status : tree_status.Status → Status
 history_status became.Live = IsLive
 history_status became.Committed = IsCommitted
@@ -39,7 +39,7 @@ pub record IsTree {V : Type 0} (tree : Tree) (h : History V) : Type 0 where
   pub folded : tree.folded ≡ folded h
   pub rows : map history_row tree.rows ≡ rows h
 
--- why the tree refuses a call, as the journal says it
+-- why the tree refuses a call, in the journal's terms
 abbrev pub journal_refusal : ActionRefusal → Refusal
 journal_refusal refusal.NoAction = why.NoAction
 journal_refusal refusal.Over = why.Over

@@ -1,5 +1,5 @@
 //! Laws of a cell that has the base, the readers and the versions that a journal's history gives
-//! its object (`IsCell`): what it answers is what the journal says, and each of its moves is an
+//! its object (`IsCell`): what it returns is what the journal says, and each of its steps is an
 //! event.
 ghost use Rattle.std.specs.Prelude.{◌≡◌, ◌≢◌, ◌∷◌, Bool, List, None, Option, Some, ℕ, filter, map};
 ghost use Rattle.std.specs.Prelude.{not, reverse, true, false};
@@ -31,9 +31,9 @@ ghost use Rattle.argus_objects.specs.Rules as cell;
 ghost use Rattle.argus_objects.specs.Rules.{is_ascending, is_lawful};
 
 /// What a cell holds is what the journal says: its readers in increasing number, its versions from
-/// ancestor to descendant, each with what its holder sees, and its base. The locks are free in the
-/// cell where they are free in the history, and an action that may read sees what the journal says
-/// that it sees: the version of its nearest ancestor that has one, else the base.
+/// ancestor to descendant, each with what its holder sees, and its base. A lock is free in the cell
+/// if it is free in the history, and an action that may read sees what it sees by the journal: the
+/// version of its nearest ancestor that has one, otherwise the base.
 pub fn a_cell_refines_the_history()
     ensures readers { (s : Opening) (j : List PlainEntry) (t : Tree) (o : ℕ) (c : Object)
         → IsCell s (history s j) t o c
@@ -68,10 +68,10 @@ pub fn lawful_follows_from_exclusion()
         → is_lawful t c ≡ true }
 {}
 
-/// Each move of a cell is what one more entry says: a begin leaves it; a granted read makes a
-/// reader, a granted write a version with what the call leaves, and other cells stay; a commit
-/// hands what a subaction held to its parent, and makes what a topaction wrote the base; who stands
-/// under an aborted action holds nothing.
+/// Each step of a cell is what one more entry says. A begin doesn't change it. A granted read makes
+/// a reader, a granted write a version with what the call leaves, and other cells stay. A commit
+/// hands what a subaction held to its parent, and makes what a topaction wrote the base. An action
+/// under an aborted one holds nothing.
 pub fn each_move_is_an_event()
     ensures begin { (s : Opening) (e : PlainEntry) (j : List PlainEntry) (t : Tree) (o : ℕ)
         (c : Object) (from : tree_origin.Origin) → Legal s (e ∷ j) → IsTree t (history s j)

@@ -1,4 +1,4 @@
-//! The tree of actions and the cells of objects against the history that a journal tells: laws, and
+//! The tree of actions and the cells of objects agree with the history of a journal: laws only, and
 //! nothing that runs.
 #![tactic(auto)]
 

@@ -1,4 +1,4 @@
-//! Laws of a tree of actions that has the rows of a journal's history (`IsTree`): what it answers
+//! Laws of a tree of actions that has the rows of a journal's history (`IsTree`): what it returns
 //! is what the history says, each of its calls is an event, and it refuses what the journal
 //! refuses.
 ghost use Rattle.std.specs.Prelude.{◌≡◌, ◌∷◌, ◌&&◌, [], List, None, Some, ℕ};
@@ -30,9 +30,9 @@ ghost use Rattle.argus_model.specs.History.{History, Opened, ◌▹◌};
 ghost use Rattle.argus_model.specs.Status as model_status;
 ghost use Rattle.argus_model.specs.Status.{is_begun, live_siblings, status};
 
-/// What a tree answers is what the history says: the next number, who is live, who stands above
-/// whom, whose parent or creator is who, who has a live child, how deep an action stands, and what
-/// has become of it.
+/// What a tree returns is what the history says: the next number, which actions are live, the
+/// ancestors, parents and creators, which actions have a live child, the depth of an action, and
+/// its status.
 pub fn a_tree_refines_the_history()
     ensures next { (t : Tree) (s : Opening) (j : List PlainEntry) → Legal s j
         → IsTree t (history s j) → next t ≡ next_action_number s j }
@@ -60,8 +60,8 @@ pub fn a_tree_refines_the_history()
         → option_map history_status (status_of t a) ≡ Some (status (history s j) (in_history a)) }
 {}
 
-/// A tree without rows has the rows of an opening with as many folded actions; each call of the
-/// tree is an event; and the room of a tree is no matter.
+/// A tree without rows has the rows of an opening with as many folded actions. Each call of the
+/// tree is an event. A tree's room doesn't matter.
 pub fn each_call_is_an_event()
     ensures start { (t : Tree) (n : ℕ) → t.folded ≡ n → t.rows ≡ []
         → IsTree {V = PlainEntry} t (Opened n) }
@@ -80,7 +80,7 @@ pub fn each_call_is_an_event()
         (Aborted (live_siblings (history s j) (in_history a)) ▹ history s j) }
 {}
 
-/// The tree refuses a call where the journal does, and for the same reason.
+/// The tree refuses a call exactly if the journal does, and for the same reason.
 pub fn refusals_agree()
     ensures begin_top { (t : Tree) (s : Opening) (j : List PlainEntry) → Legal s j
         → IsTree t (history s j) → journal_refusal_if_any (begin_top_refusal t) ≡ if_room

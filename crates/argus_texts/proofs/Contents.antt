@@ -1,4 +1,4 @@
--- The form of a content: that a text begins with one at most, and where reading it stops.
+-- The form of a content: that a text begins with at most one, and where reading it stops.
 use Rattle.std.proofs.Common.{◌≡◌, ◌≢◌, ℕ, inl, inr, List, [], ◌∷◌, ◌++◌, length, refl, sym, ap, ◌∙◌, subst}
 use Rattle.std.proofs.Common.{append_assoc, append-nil, arith}
 use Rattle.std.specs.Prelude.{ℤ}

@@ -1,4 +1,4 @@
--- What a stop says, and what a refusal says, made weaker.
+-- What a stop says, and what a refusal says, weakened.
 use Rattle.std.proofs.Common.{ℕ}
 use Rattle.argus_texts.specs.declared.stop.Stop.{Stop}
 use Rattle.argus_texts.specs.declared.stop.Stop.TheVariants as stop

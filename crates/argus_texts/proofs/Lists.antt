@@ -1,4 +1,4 @@
--- Lists of bytes: first bytes, common fronts.
+-- Lists of bytes: first bytes, common prefixes.
 use Rattle.std.proofs.Common.{◌≡◌, ℕ, zero, suc, ◌<◌, ◌≤◌, true, List, [], ◌∷◌, ◌++◌, length, take, drop, get_or, refl}
 use Rattle.std.proofs.Common.{sym, ap, ◌∙◌, arith, drop-cons}
 use Rattle.std.specs.Prelude.{nat_lt, ◌&&◌, Bool, false}

@@ -1,4 +1,4 @@
--- The types of a shape that can be made are such as the reader asks for.
+-- The types of a shape that can be made meet the reader's requirements.
 use Rattle.std.proofs.Common.{◌≡◌, ℕ, ◌≤◌, ◌-◌, Bool, true, false, nat_lt, ◌||◌, if◌then◌else◌, Option, Some, None}
 use Rattle.std.proofs.Common.{length, refl, arith}
 use Rattle.std.proofs.lemmas.Bool.{or_parts, ltb-false}

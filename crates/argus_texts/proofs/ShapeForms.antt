@@ -1,4 +1,4 @@
--- The forms of types and shapes: a text begins with one at most.
+-- The forms of types and shapes: a text begins with at most one.
 use Rattle.std.proofs.Common.{◌≡◌, ◌≢◌, ℕ, true, List, [], ◌∷◌, ◌++◌, length, get_or, ◌&&◌, nat_lt, nat_le, refl, sym}
 use Rattle.std.proofs.Common.{ap, ◌∙◌, subst, append_assoc, codes, arith}
 use Rattle.std.specs.List.{list_all}

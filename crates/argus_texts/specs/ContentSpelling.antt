@@ -14,7 +14,7 @@ content_spelling (arr low vs) =
     signed_decimal low ++ open_bracket ∷ inside close_bracket (listed vs)
 content_spelling (var t v) = less_than ∷ (decimal t ++ colon ∷ (spelling v ++ greater_than ∷ []))
 
--- a content whose values have depth at most k each, such as a program can hold
+-- a content whose values have depth at most k each, that a program can hold
 abbrev pub PartsWithin : ℕ → PlainContent → Type 0
 PartsWithin k (rec vs) = AllWithin k (listed vs)
 PartsWithin k (arr low vs) = IsI64 low × AllWithin k (listed vs)

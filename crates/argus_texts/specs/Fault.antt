@@ -20,7 +20,7 @@ pub record IsContentText (text : List ℕ) : Type 0 where
   pub within : PartsWithin MAX_VALUE_DEPTH content
   pub is : text ≡ content_spelling content
 
--- some accepted text begins so
+-- some accepted text begins like this
 abbrev pub Begins : (List ℕ → Type 0) → List ℕ → Type 0
 Begins Accepted front = (more : List ℕ) × Accepted (front ++ more)
 
@@ -32,7 +32,7 @@ pub record IsFault (Accepted : List ℕ → Type 0) (text : List ℕ) (at : ℕ)
   pub begins : Begins Accepted (take at text)
   pub longest : (n : ℕ) → at < n → n ≤ length text → Begins Accepted (take n text) → ⊥
 
--- P holds of the position of a fault; want of memory says nothing
+-- P holds of the position of a fault; out of memory says nothing
 abbrev pub OnFault : ReadError → (ℕ → Type 0) → Type 0
 OnFault (error.Fault fault) P = P fault.at
 OnFault error.Memory P = Unit {0}

@@ -3,7 +3,7 @@ use Rattle.std.specs.Prelude.{◌≡◌, ◌≢◌, ℕ, List, [], ◌∷◌, �
 use Rattle.argus_texts.specs.declared.stop.Stop.{Stop}
 use Rattle.argus_texts.specs.declared.stop.Stop.TheVariants as stop
 
--- Things with a written form each: which of them are accepted, and what may come behind a form.
+-- Things that have written forms: which of them are accepted, and what may come after a form.
 pub record Language : Type 1 where
   pub Thing : Type 0
   pub Good : Thing → Type 0
@@ -28,13 +28,13 @@ pub record Starts (L : Language) (text : List ℕ) : Type 0 where
   pub rest : List ℕ
   pub reads : Reads L text thing rest
 
--- front begins no form that goes on as back does: back's first byte already can't come, or, if back
--- is empty, no form has come
+-- no form begins with front and goes on as back does: back's first byte already can't come, or, if
+-- back is empty, no form has come
 abbrev pub NoWay : Language → List ℕ → List ℕ → Type 0
 NoWay L front [] = Starts L front → ⊥
 NoWay L front (c ∷ back) = (more : List ℕ) → Starts L (front ++ c ∷ more) → ⊥
 
--- text stops being the beginning of a form where so many bytes are left
+-- text stops being the beginning of a form where this many bytes are left
 pub record Stops (L : Language) (text : List ℕ) (left : ℕ) : Type 0 where
   pub front : List ℕ
   pub back : List ℕ
@@ -44,12 +44,12 @@ pub record Stops (L : Language) (text : List ℕ) (left : ℕ) : Type 0 where
   pub way : FormOf L (front ++ more)
   pub no_way : NoWay L front back
 
--- P holds of the number of bytes that are left; want of memory says nothing
+-- P holds of the number of bytes that are left; out of memory says nothing
 abbrev pub OnLeft : Stop → (ℕ → Type 0) → Type 0
 OnLeft (stop.Left left) P = P left
 OnLeft stop.Memory P = Unit {0}
 
--- the first byte, if there is one, is such
+-- the first byte, if there is one, passes the test
 abbrev pub First : (ℕ → Type 0) → List ℕ → Type 0
 First P [] = Unit {0}
 First P (c ∷ x) = P c

@@ -39,7 +39,7 @@ abbrev pub Word : List ℕ → Language
 Word word =
     record { Thing = Unit {0}; Good = λ u. Unit {0}; form = λ u. word; Ends = λ u rest. Unit {0} }
 
--- texts behind their opening quote
+-- texts after their opening quote
 abbrev pub Quoted : Language
 Quoted = record {
   Thing = List ℕ;
@@ -59,7 +59,7 @@ Pairs L c M =
       Ends = λ p rest. M.Ends p.1 rest;
     }
 
--- what may come behind a value
+-- what may come after a value
 abbrev pub ValueEnds : PlainValue → List ℕ → Type 0
 ValueEnds (value.int n) rest = NotDigit rest
 ValueEnds (value.atomic o) rest = NotDigit rest
@@ -84,7 +84,7 @@ Insides close k = record {
       λ vs rest. Unit {0};
 }
 
--- the same, of one value and more
+-- the same, with at least one value
 abbrev pub Items : ℕ → ℕ → Language
 Items close k = record {
   Thing = PlainValue × PlainValues;
@@ -93,7 +93,7 @@ Items close k = record {
   Ends = λ p rest. Unit {0};
 }
 
--- a tag and a value, behind the opening angle
+-- a tag and a value, after the opening angle
 abbrev pub Choices : ℕ → Language
 Choices k = Pairs (Numbers 0 255) colon (Pairs (Values k) greater_than (Word []))
 

@@ -16,7 +16,7 @@ ValuesAreReadBack = (v : PlainValue) → Within MAX_VALUE_DEPTH v
     → ((at : ℕ) → IsFault IsValueText (spelling v) at → ⊥)
     × ((w : PlainValue) → Within MAX_VALUE_DEPTH w → spelling v ≡ spelling w → w ≡ v)
 
--- values of whatever depth with one written form are the same
+-- values of any depth with the same written form are the same
 abbrev pub ValueTextsAreUnambiguous : Type 0
 ValueTextsAreUnambiguous =
     (k : ℕ) (v w : PlainValue) → Within k v → Within k w → spelling v ≡ spelling w → v ≡ w
@@ -34,15 +34,15 @@ ContentsAreReadBack =
     (c : PlainContent) → PartsWithin MAX_VALUE_DEPTH c
     → IsReadBack c
 
--- a content such as a program can hold that fits a shape that can be made has values of depth at
--- most 16, whatever depth was known of them, and is read back
+-- a content that a program can hold that fits a shape that can be made has values of depth at most
+-- 16, whatever depth was known of them, and is read back
 abbrev pub FittingContentsAreReadBack : Type 0
 FittingContentsAreReadBack =
     (s : PlainShape) (declared k : ℕ) (c : PlainContent) → IsMakeable s
     → is_fitting s declared c ≡ true → PartsWithin k c
     → PartsWithin MAX_VALUE_DEPTH c × IsReadBack c
 
--- contents of whatever depth with one written form are the same
+-- contents of any depth with the same written form are the same
 abbrev pub ContentTextsAreUnambiguous : Type 0
 ContentTextsAreUnambiguous =
     (k : ℕ) (c d : PlainContent) → PartsWithin k c → PartsWithin k d
@@ -55,7 +55,7 @@ ShapesAreReadBack =
     → IsShapeText (shape_spelling s) × ((t : PlainShape) → IsMakeable t
     → shape_spelling s ≡ shape_spelling t → t ≡ s)
 
--- shapes of whatever depth and length with one written form are the same
+-- shapes of any depth and length with the same written form are the same
 abbrev pub ShapeTextsAreUnambiguous : Type 0
 ShapeTextsAreUnambiguous =
     (s t : PlainShape) → HasNames s → HasNames t → shape_spelling s ≡ shape_spelling t → s ≡ t

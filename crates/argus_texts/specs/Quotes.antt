@@ -1,4 +1,4 @@
--- The bytes that are written otherwise in a text.
+-- The bytes that are escaped in a text.
 use Rattle.std.specs.Prelude.{◌≡◌, ◌≢◌, ℕ, ◌⊎◌}
 use Rattle.argus_texts.specs.Bytes.{backslash, letter_n, line_feed, quote}
 
@@ -6,6 +6,6 @@ use Rattle.argus_texts.specs.Bytes.{backslash, letter_n, line_feed, quote}
 abbrev pub IsSpecial : ℕ → Type 0
 IsSpecial b = (b ≡ quote) ⊎ ((b ≡ backslash) ⊎ (b ≡ line_feed))
 
--- it doesn't come behind a backslash
+-- it doesn't come after a backslash
 abbrev pub IsNoEscape : ℕ → Type 0
 IsNoEscape b = (b ≢ quote) × (b ≢ backslash) × (b ≢ letter_n)

@@ -1,4 +1,4 @@
--- The languages of the reader of shapes, and what it asks of types while it reads.
+-- The languages of the reader of shapes, and what it requires of types while it reads.
 use Rattle.std.specs.Prelude.{◌≡◌, ℕ, ◌<◌, ◌-◌, true, List, [], ◌∷◌, ◌++◌}
 use Rattle.argus_contents.specs.Name.{is_name}
 use Rattle.argus_contents.specs.Shape.{PlainShape}
@@ -11,11 +11,11 @@ use Rattle.argus_texts.specs.Language.{Language, Starts}
 use Rattle.argus_texts.specs.ShapeSpelling.{ty_spelling, names_inside, shape_spelling, IsMakeable}
 use Rattle.argus_texts.specs.Bytes.{close_bracket, colon}
 
--- the text begins with no form of the language
+-- the text doesn't begin with a form of the language
 abbrev pub BeginsNo : Language → List ℕ → Type 0
 BeginsNo L text = Starts L text → ⊥
 
--- P holds where there is no form; want of memory says nothing
+-- P holds if there is no form; out of memory says nothing
 abbrev pub OnNoForm : Unread → Type 0 → Type 0
 OnNoForm unread.NoForm P = P
 OnNoForm unread.Memory P = Unit {0}

@@ -23,7 +23,7 @@ abbrev mutual
   names_inside ty.none = close_bracket ∷ []
   names_inside (ty.more name x fs) = name ++ colon ∷ (ty_spelling x ++ names_behind fs)
 
-  -- what comes behind a name and its type, up to the closing bracket
+  -- what comes after a name and its type, up to the closing bracket
   pub names_behind : PlainFields → List ℕ
   names_behind ty.none = close_bracket ∷ []
   names_behind (ty.more name x fs) = comma ∷ (name ++ colon ∷ (ty_spelling x ++ names_behind fs))

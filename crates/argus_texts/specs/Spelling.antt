@@ -1,4 +1,4 @@
--- The one written form of a value, and the values that a text can stand for.
+-- The one written form of a value, and the values that a text can spell.
 use Rattle.std.specs.Prelude.{ℕ, ℤ, pos, negsuc, ◌<◌, ◌^◌, ◌-◌, ◌==◌, if◌then◌else◌, true, false}
 use Rattle.std.specs.Prelude.{List, [], ◌∷◌, ◌++◌, codes}
 use Rattle.std.specs.Fmt.{decimal, signed_decimal}
@@ -9,7 +9,7 @@ use Rattle.argus_texts.specs.Bytes.{at_sign, backslash, close_brace, close_brack
 use Rattle.argus_texts.specs.Bytes.{greater_than, less_than, letter_n, line_feed, open_brace}
 use Rattle.argus_texts.specs.Bytes.{open_bracket, quote}
 
--- a byte of a text: the quote, the backslash and the line feed stand behind a backslash, the line
+-- a byte of a text: the quote, the backslash and the line feed are escaped by a backslash, the line
 -- feed as `n`
 abbrev pub escape : ℕ → List ℕ
 escape b =
@@ -40,7 +40,7 @@ abbrev mutual
   inside close value.none = close ∷ []
   inside close (value.more v vs) = spelling v ++ behind close vs
 
-  -- what comes behind a value, up to the closing byte
+  -- what comes after a value, up to the closing byte
   pub behind : ℕ → PlainValues → List ℕ
   behind close value.none = close ∷ []
   behind close (value.more v vs) = comma ∷ (spelling v ++ behind close vs)
@@ -51,8 +51,7 @@ IsI64 (pos n) = n < 2 ^ 63
 IsI64 (negsuc n) = n < 2 ^ 63
 
 abbrev mutual
-  -- a value of depth at most k, such as a program can hold: its numbers in range, its texts in
-  -- UTF-8
+  -- a value of depth at most k, that a program can hold: its numbers in range, its texts in UTF-8
   pub Within : ℕ → PlainValue → Type 0
   Within k value.null = 0 < k
   Within k (value.bool b) = 0 < k
@@ -63,7 +62,7 @@ abbrev mutual
   Within k (value.fields vs) = (0 < k) × AllWithin (k - 1) vs
   Within k (value.choice t v) = (0 < k) × (t < 2 ^ 8) × Within (k - 1) v
 
-  -- each of the values is such
+  -- each of the values is such a value
   pub AllWithin : ℕ → PlainValues → Type 0
   AllWithin k value.none = Unit {0}
   AllWithin k (value.more v vs) = Within k v × AllWithin k vs

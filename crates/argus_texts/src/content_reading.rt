@@ -20,10 +20,10 @@ use argus_contents::limits::MAX_VALUE_DEPTH;
 use argus_memory::Heap;
 use std::collections::VecDeque;
 
-/// The content whose written form the text is, where its values have a depth of at most 16 each.
+/// The content whose written form the text is, if its values have a depth of at most 16 each.
 ///
-/// `Fault` comes exactly where the text is no such form, with the length of its longest prefix that
-/// begins one. `Memory` may come in place of either other answer.
+/// `Fault` comes exactly if the text isn't such a form, with the length of its longest prefix that
+/// begins one. `Memory` may come in place of either other result.
 pub fn read_content(heap: Heap, text: &str) -> Result<Content, ReadError>
     ensures read { IfOk result
         (λ c. PartsWithin MAX_VALUE_DEPTH (plain_content c)
@@ -55,7 +55,7 @@ fn whole_content(heap: Heap, text: &str) -> Result<Content, Stop>
     Ok(content)
 }
 
-/// The content at the front, and what is behind it.
+/// The content at the front, and what comes after it.
 pub fn one_content(heap: Heap, text: &str) -> Result<(Content, &str), Stop>
     ensures read { IfOk result
         (λ r. Reads (Contents MAX_VALUE_DEPTH) text.now (plain_content r.0) r.1.now) }

@@ -1,4 +1,4 @@
-//! The front of a text, read part by part: for rooms whose own texts have these forms as parts.
+//! The front of a text, read part by part: for crates whose own texts have these forms as parts.
 
 pub use crate::content_reading::one_content;
 pub use crate::number::{int, number};

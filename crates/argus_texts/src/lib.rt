@@ -1,4 +1,5 @@
-//! The written forms of values, contents and shapes: each has exactly one, written and read.
+//! The written forms of values, contents and shapes: each has exactly one, which is written and
+//! read.
 //!
 //! | Written form | Stands for |
 //! |---|---|

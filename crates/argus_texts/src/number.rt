@@ -1,4 +1,4 @@
-//! The numbers of a text: digits without a leading zero, and a sign before an integer.
+//! The numbers of a text: digits without a leading zero, with a sign for an integer.
 
 ghost use Rattle.std.specs.Prelude.{◌≡◌, negsuc, ◌<◌, ◌≤◌, ◌+◌, ◌-◌, ◌*◌, ◌⊎◌, IfOk, IfErr};
 ghost use Rattle.std.specs.Prelude.{IfSome, IfNone};
@@ -8,7 +8,7 @@ ghost use Rattle.argus_texts.specs.Languages.{Ints, Numbers};
 use crate::scan::{split_ascii, strip};
 use crate::stop::Stop;
 
-/// The integer at the front, and what is behind it.
+/// The integer at the front, and what comes after it.
 pub fn int(text: &str) -> Result<(i64, &str), Stop>
     ensures read { IfOk result (λ r. Reads Ints text.now r.0 r.1.now) }
     ensures stops { IfErr result (λ e. OnLeft e (λ left. Stops Ints text.now left)) }
@@ -28,7 +28,7 @@ fn negative(number: u64) -> i64
     -1 - (number - 1) as i64
 }
 
-/// The number at the front, from least (0 or 1) to most, and what is behind it.
+/// The number at the front, from least (0 or 1) to most, and what comes after it.
 pub fn number(text: &str, least: u8, most: u64) -> Result<(u64, &str), Stop>
     requires { (least ≤ 1) × (9 ≤ most) }
     ensures read { IfOk result (λ r. Reads (Numbers least most) text.now r.0 r.1.now) }
@@ -59,7 +59,7 @@ pub fn number(text: &str, least: u8, most: u64) -> Result<(u64, &str), Stop>
     Ok((number, rest))
 }
 
-/// The number with one more digit, where that has a form and isn't above the most.
+/// The number with one more digit, if that has a form and isn't above the most.
 fn with_digit(number: u64, digit: u8, most: u64) -> Option<u64>
     requires { (digit < 10) × (number ≤ most) }
     ensures some { IfSome result

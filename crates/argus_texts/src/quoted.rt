@@ -1,4 +1,4 @@
-//! The text of a text value: up to its closing quote, and behind an opening one.
+//! The text of a text value, from after its opening quote up to its closing one.
 
 ghost use Rattle.std.specs.Prelude.{◌≡◌, ◌<◌, true, false, ◌∷◌, [], ◌++◌, length, IfOk, IfErr};
 ghost use Rattle.std.specs.Prelude.{string_bytes};
@@ -12,7 +12,7 @@ use crate::scan::split_ascii;
 use crate::stop::Stop;
 use argus_memory::{Heap, Room};
 
-/// The text up to its closing quote, and what is behind that.
+/// The text up to its closing quote, and what comes after that.
 pub(crate) fn quoted(heap: Heap, text: &str) -> Result<(String<Room>, &str), Stop>
     ensures read { IfOk result (λ r. Reads Quoted text.now (string_bytes r.0) r.1.now) }
     ensures stops { IfErr result (λ e. OnLeft e (λ left. Stops Quoted text.now left)) }
@@ -37,7 +37,7 @@ pub(crate) fn quoted(heap: Heap, text: &str) -> Result<(String<Room>, &str), Sto
     }
 }
 
-/// The character that stands behind a backslash, and what is behind it.
+/// The character after a backslash, and what comes after it.
 fn after_backslash(text: &str) -> Result<(&'static str, &str), Stop>
     ensures read { IfOk result (λ r. 92 ∷ text.now ≡ escaped r.0.now ++ r.1.now) }
     ensures shorter { IfOk result (λ r. (length r.1.now < length text.now) × IsUtf8 r.1.now) }

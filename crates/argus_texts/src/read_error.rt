@@ -14,10 +14,10 @@ use thiserror::Error;
 /// ```
 #[derive(Clone, Copy, Debug, PartialEq, Eq, Error)]
 pub enum ReadError {
-    /// The text is no accepted form.
+    /// The text isn't an accepted form.
     #[error("{0}")]
     Fault(ReadFault),
-    /// There was no memory for the answer.
+    /// There was no memory for the result.
     #[error("out of memory")]
     Memory,
 }

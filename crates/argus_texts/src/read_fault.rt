@@ -2,10 +2,10 @@
 
 use thiserror::Error;
 
-/// A text is no accepted form: at which byte, from 0, it stops being the beginning of one.
+/// A text isn't an accepted form: at which byte, from 0, it stops being the beginning of one.
 ///
-/// `at` is the length of the text's longest prefix that is a prefix of some accepted form. So a
-/// text that only ends too soon has `at` equal to its length.
+/// `at` is the length of the text's longest prefix that is a prefix of some accepted form. So for a
+/// text that only ends too soon `at` is its length.
 ///
 /// ```text
 /// read_value(heap, "[1,]")      // Err(ReadError::Fault(ReadFault { at: 3 }))

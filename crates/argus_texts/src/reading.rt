@@ -19,10 +19,10 @@ use argus_contents::limits::MAX_VALUE_DEPTH;
 use argus_contents::{ObjId, Value};
 use argus_memory::{Heap, Room};
 
-/// The value whose written form the text is, where that has a depth of at most 16.
+/// The value whose written form the text is, if its depth is at most 16.
 ///
-/// `Fault` comes exactly where the text is no such form, with the length of its longest prefix that
-/// begins one. `Memory` may come in place of either other answer.
+/// `Fault` comes exactly if the text isn't such a form, with the length of its longest prefix that
+/// begins one. `Memory` may come in place of either other result.
 pub fn read_value(heap: Heap, text: &str) -> Result<Value, ReadError>
     ensures read { IfOk result
         (λ v. Within MAX_VALUE_DEPTH (plain_value v) × (text.now ≡ spelling (plain_value v))) }
@@ -52,7 +52,7 @@ fn whole_value(heap: Heap, text: &str) -> Result<Value, Stop>
     Ok(value)
 }
 
-/// The value at the front, and what is behind it.
+/// The value at the front, and what comes after it.
 #[cycle(reading)]
 pub fn one_value(heap: Heap, text: &str, levels: usize) -> Result<(Value, &str), Stop>
     requires { 0 < levels }
@@ -96,7 +96,7 @@ fn begins_int(byte: u8) -> bool
     matches!(byte, b'-' | b'0'..=b'9')
 }
 
-/// The value at the front, which doesn't begin as a scalar does, and what is behind it.
+/// The value at the front, which doesn't begin as a scalar does, and what comes after it.
 #[cycle(reading)]
 fn compound(heap: Heap, text: &str, levels: usize) -> Result<(Value, &str), Stop>
     requires { (0 < levels) × First BeginsNoScalar text.now }
@@ -124,7 +124,7 @@ fn compound(heap: Heap, text: &str, levels: usize) -> Result<(Value, &str), Stop
     Ok((Value::choice(heap, tag, part)?, rest))
 }
 
-/// The tag and the value behind an opening angle, and what is behind the closing one.
+/// The tag and the value after an opening angle, and what comes after the closing one.
 #[cycle(reading)]
 pub(crate) fn choice(heap: Heap, text: &str, levels: usize) -> Result<(u8, Value, &str), Stop>
     requires { 0 < levels }
@@ -139,7 +139,7 @@ pub(crate) fn choice(heap: Heap, text: &str, levels: usize) -> Result<(u8, Value
     Ok((tag as u8, part, rest))
 }
 
-/// The values before the closing byte, and what is behind that.
+/// The values before the closing byte, and what comes after that.
 #[cycle(reading)]
 pub(crate) fn inside(
     heap: Heap,
@@ -162,7 +162,7 @@ pub(crate) fn inside(
     Ok((Vec::new(heap.room()), others))
 }
 
-/// The values from the first on, up to the closing byte, and what is behind that.
+/// The values from the first on, up to the closing byte, and what comes after that.
 #[cycle(reading)]
 fn items(heap: Heap, text: &str, levels: usize, close: u8) -> Result<(Vec<Value, Room>, &str), Stop>
     requires { (0 < levels) × IsClose close }

@@ -9,7 +9,7 @@ ghost use Rattle.argus_texts.specs.Languages.{Word};
 
 use crate::stop::Stop;
 
-/// The first byte, and what is behind it. None at the end, and where no ASCII comes.
+/// The first byte, and what comes after it. `None` at the end, and if the next byte isn't ASCII.
 pub(crate) fn split_ascii(text: &str) -> Option<(u8, &str)>
     ensures some { IfSome result (λ r. (text.now ≡ r.0 ∷ r.1.now) × (r.0 < 128)) }
     ensures utf8 { IfSome result (λ r. IsUtf8 r.1.now) }
@@ -24,7 +24,7 @@ pub(crate) fn split_ascii(text: &str) -> Option<(u8, &str)>
     Some((*first, &text[1..]))
 }
 
-/// What is behind the byte, where it comes.
+/// What comes after the byte, if it is next.
 pub(crate) fn strip(text: &str, wanted: u8) -> Option<&str>
     requires { wanted < 128 }
     ensures some { IfSome result (λ rest. text.now ≡ wanted ∷ rest.now) }
@@ -39,7 +39,7 @@ pub(crate) fn strip(text: &str, wanted: u8) -> Option<&str>
     Some(others)
 }
 
-/// What is behind the byte, which must come.
+/// What comes after the byte, which must be next.
 pub fn expect(text: &str, wanted: u8) -> Result<&str, Stop>
     requires { wanted < 128 }
     ensures read { IfOk result (λ rest. text.now ≡ wanted ∷ rest.now) }
@@ -52,7 +52,7 @@ pub fn expect(text: &str, wanted: u8) -> Result<&str, Stop>
     }
 }
 
-/// What is behind the word, where it comes.
+/// What comes after the word, if it is next.
 pub(crate) fn strip_word<'a>(text: &'a str, word: &str) -> Option<&'a str>
     ensures some { IfSome result (λ rest. text.now ≡ word.now ++ rest.now) }
     ensures none { IfNone result (Starts (Word word.now) text.now → ⊥) }
@@ -60,7 +60,7 @@ pub(crate) fn strip_word<'a>(text: &'a str, word: &str) -> Option<&'a str>
     text.strip_prefix(word)
 }
 
-/// What is behind the word, which is ASCII and must come.
+/// What comes after the word, which is ASCII and must be next.
 pub fn word<'a>(text: &'a str, word: &str) -> Result<&'a str, Stop>
     requires { list_all (λ b. nat_lt b 128) word.now ≡ true }
     ensures read { IfOk result (λ rest. text.now ≡ word.now ++ rest.now) }

@@ -16,10 +16,10 @@ use argus_contents::limits::{MAX_NAMES, MAX_VALUE_DEPTH};
 use argus_contents::{Name, NameError, Shape, Ty};
 use argus_memory::{Heap, OutOfMemory, Room};
 
-/// The shape whose written form the text is; None exactly where the text is the form of no shape
+/// The shape whose written form the text is. `None` exactly if the text isn't the form of a shape
 /// that can be made: each list has 1 to 64 distinct names, and types have a depth of at most 16.
 ///
-/// `OutOfMemory` may come in place of either answer.
+/// `OutOfMemory` may come in place of either result.
 pub fn read_shape(heap: Heap, text: &str) -> Result<Option<Shape>, OutOfMemory>
     ensures read { IfOk result
         (λ answer. IfSome answer (λ shape. IsMakeable shape × (text.now ≡ shape_spelling shape))) }
@@ -43,7 +43,7 @@ fn whole_shape(heap: Heap, text: &str) -> Result<Shape, Unread>
     Ok(shape)
 }
 
-/// The shape at the front, and what is behind it.
+/// The shape at the front, and what comes after it.
 pub fn one_shape(heap: Heap, text: &str) -> Result<(Shape, &str), Unread>
     ensures read { IfOk result (λ r. Reads Shapes text.now r.0 r.1.now) }
     ensures refused { IfErr result (λ e. OnNoForm e (BeginsNo Shapes text.now)) }
@@ -72,7 +72,7 @@ pub fn one_shape(heap: Heap, text: &str) -> Result<(Shape, &str), Unread>
     Err(Unread::NoForm)
 }
 
-/// The type at the front, and what is behind it.
+/// The type at the front, and what comes after it.
 #[cycle(shape_reading)]
 fn one_ty(heap: Heap, text: &str, levels: usize) -> Result<(Ty, &str), Unread>
     ensures read { IfOk result (λ r. Reads (Types IsNamed) text.now (plain_ty r.0) r.1.now) }
@@ -110,7 +110,7 @@ fn scalar(text: &str) -> Option<(Ty, &str)>
     None
 }
 
-/// The type at the front, which begins as no scalar does, and what is behind it.
+/// The type at the front, which doesn't begin as a scalar does, and what comes after it.
 #[cycle(shape_reading)]
 fn compound(heap: Heap, text: &str, levels: usize) -> Result<(Ty, &str), Unread>
     requires { (0 < levels) × BeginsNo (Types IsScalar) text.now }
@@ -133,7 +133,7 @@ fn compound(heap: Heap, text: &str, levels: usize) -> Result<(Ty, &str), Unread>
     Err(Unread::NoForm)
 }
 
-/// The type before the closing bracket, and what is behind that.
+/// The type before the closing bracket, and what comes after that.
 #[cycle(shape_reading)]
 fn closed_ty(heap: Heap, text: &str, levels: usize) -> Result<(Ty, &str), Unread>
     ensures read { IfOk result (λ r. Reads (Closed IsNamed) text.now (plain_ty r.0) r.1.now) }
@@ -147,7 +147,7 @@ fn closed_ty(heap: Heap, text: &str, levels: usize) -> Result<(Ty, &str), Unread
     Ok((ty, rest))
 }
 
-/// The names with their types before the closing bracket, and what is behind that.
+/// The names with their types before the closing bracket, and what comes after that.
 #[cycle(shape_reading)]
 fn names(heap: Heap, text: &str, levels: usize) -> Result<(Vec<(Name, Ty), Room>, &str), Unread>
     ensures read { IfOk result
@@ -174,7 +174,7 @@ fn names(heap: Heap, text: &str, levels: usize) -> Result<(Vec<(Name, Ty), Room>
     Err(Unread::NoForm)
 }
 
-/// The name at the front, the type behind its colon, and what is behind that.
+/// The name at the front, the type after its colon, and what comes after that.
 #[cycle(shape_reading)]
 fn field(heap: Heap, text: &str, levels: usize) -> Result<(Name, Ty, &str), Unread>
     ensures read { IfOk result (λ r. Reads (Fields IsNamed) text.now (r.0, plain_ty r.1) r.2.now) }
@@ -186,7 +186,7 @@ fn field(heap: Heap, text: &str, levels: usize) -> Result<(Name, Ty, &str), Unre
     Ok((name, ty, rest))
 }
 
-/// The name before the first colon, and what is behind that.
+/// The name before the first colon, and what comes after that.
 fn one_name(heap: Heap, text: &str) -> Result<(Name, &str), Unread>
     ensures read { IfOk result (λ r. Reads Names text.now r.0 r.1.now) }
     ensures refused { IfErr result (λ e. OnNoForm e (BeginsNo Names text.now)) }

@@ -5,11 +5,11 @@ use std::alloc::{AllocError, AllocFailed};
 
 /// Why a part of a text wasn't read.
 ///
-/// The bytes that are left are counted, and not those that were read: so a part hands on what a part
-/// of it answers, as it is.
+/// It counts the bytes that are left, and not those that were read, so that a reader can pass on
+/// unchanged what the reader of a part returned.
 #[derive(Debug, Drop)]
 pub enum Stop {
-    /// So many bytes are left where the text stops being the beginning of a form.
+    /// This many bytes are left where the text stops being the beginning of a form.
     Left(usize),
     /// There was no memory for what was read.
     Memory,

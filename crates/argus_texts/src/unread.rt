@@ -5,7 +5,7 @@ use std::alloc::AllocFailed;
 /// Why no part of a shape was read.
 #[derive(Debug, Drop)]
 pub enum Unread {
-    /// The text begins with no form that could be a part of a shape there.
+    /// The text doesn't begin with a form that could be a part of a shape there.
     NoForm,
     /// There was no memory for what was read.
     Memory,

@@ -1,7 +1,7 @@
 //! Values of atomic objects: the crate that users name.
 //!
-//! It passes on `argus_contents` (types, values, contents, and what operations do), `argus_texts`
-//! (their written forms) and the memory that all of them lie in (`argus_memory`).
+//! It re-exports `argus_contents` (types, values, contents, and what operations do), `argus_texts`
+//! (their written forms) and the memory that all of them are in (`argus_memory`).
 //!
 //! ```text
 //! use argus_values::{Change, Content, Heap, Name, Shape, Ty, Value, alter, fits, read_value};

@@ -22,7 +22,8 @@ use argus_memory::OutOfMemory;
 
 /// Answers a query at what the action sees, and makes it a reader; or records the refusal.
 ///
-/// `OutOfMemory` may come in place of any reply: the journal stays, and the query is spent.
+/// `OutOfMemory` may come in place of any reply: the journal is unchanged, and the query is
+/// consumed.
 pub(crate) fn ask(
     state: &mut GuardianState,
     a: ActionId,
@@ -48,7 +49,7 @@ pub(crate) fn ask(
     }
 }
 
-// A query that is granted, for which there is room, and whose answer takes no memory.
+// A granted query for which there is room, and whose answer takes no memory.
 #[inline(always)]
 fn record_answer(
     state: &mut GuardianState,
@@ -85,7 +86,7 @@ fn record_answer(
     Reply::Answered(answer.answer())
 }
 
-// A query that is granted, and for which there is room. Its answer may take memory.
+// A granted query for which there is room. Its answer may take memory.
 #[inline(never)]
 fn answer_with_memory(
     state: &mut GuardianState,

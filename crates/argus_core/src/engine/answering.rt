@@ -1,4 +1,4 @@
-//! What granted accesses are answered, before anything is changed.
+//! The answers of granted accesses, before anything is changed.
 
 ghost use Rattle.std.specs.Prelude.{◌≡◌, ◌<◌, length, slice_index_or, true, IfOk, IfSome};
 ghost use Rattle.argus_contents.specs.Answer.{plain_answer};
@@ -20,7 +20,7 @@ use argus_contents::{
 use argus_entries::Reply;
 use argus_memory::{Heap, OutOfMemory};
 
-/// What a query of the object is answered, at what the action sees there.
+/// The answer to a query of the object, at what the action sees there.
 pub(crate) fn query_answer(
     heap: Heap,
     objects: &[AtomicObject],
@@ -40,7 +40,7 @@ pub(crate) fn query_answer(
     ask(heap, object.cell.visible(tree, a), query)
 }
 
-/// What a query of the object is answered, at what the action sees there, if that takes no memory.
+/// The answer to a query of the object, at what the action sees there, if it takes no memory.
 #[inline(always)]
 pub(crate) fn small_answer(
     objects: &[AtomicObject],
@@ -60,7 +60,7 @@ pub(crate) fn small_answer(
     ask_small(object.cell.visible(tree, a), query)
 }
 
-/// What a change of the object is answered, at what the action sees there.
+/// The answer to a change of the object, at what the action sees there.
 pub(crate) fn change_answer(
     heap: Heap,
     objects: &[AtomicObject],

@@ -3,7 +3,7 @@
 use argus_contents::Shape;
 use argus_objects::Cell;
 
-/// An object that was declared: its shape, which stays, and its cell.
+/// A declared object: its shape, which never changes, and its cell.
 ///
 /// ```text
 /// let object = AtomicObject { shape, cell: Cell::new(heap, None) };

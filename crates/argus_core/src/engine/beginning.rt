@@ -15,7 +15,7 @@ use argus_memory::OutOfMemory;
 
 /// Begins a topaction, or records the refusal.
 ///
-/// `OutOfMemory` may come in place of any reply: the journal stays.
+/// `OutOfMemory` may come in place of any reply: the journal is unchanged.
 pub(crate) fn begin_top(state: &mut GuardianState) -> Result<Reply, OutOfMemory>
     requires { StateInvariant state.old }
     ensures kept { StateInvariant state.new }
@@ -40,7 +40,7 @@ pub(crate) fn begin_top(state: &mut GuardianState) -> Result<Reply, OutOfMemory>
 
 /// Begins a subaction of this parent, or records the refusal.
 ///
-/// `OutOfMemory` may come in place of any reply: the journal stays.
+/// `OutOfMemory` may come in place of any reply: the journal is unchanged.
 pub(crate) fn begin_sub(state: &mut GuardianState, parent: ActionId) -> Result<Reply, OutOfMemory>
     requires { StateInvariant state.old }
     ensures kept { StateInvariant state.new }
@@ -65,7 +65,7 @@ pub(crate) fn begin_sub(state: &mut GuardianState, parent: ActionId) -> Result<R
 
 /// Begins a nested topaction of this creator, or records the refusal.
 ///
-/// `OutOfMemory` may come in place of any reply: the journal stays.
+/// `OutOfMemory` may come in place of any reply: the journal is unchanged.
 pub(crate) fn begin_nested(
     state: &mut GuardianState,
     creator: ActionId,

@@ -3,7 +3,7 @@
 use argus_actions::ActionId;
 use argus_entries::Refusal;
 
-/// How a commit goes on for which all is at hand.
+/// How a prepared commit goes on.
 ///
 /// ```text
 /// let step = ready_commit(&mut state, a)?;            // the journal is as before
@@ -13,8 +13,8 @@ use argus_entries::Refusal;
 pub(crate) enum CommitStep {
     /// It is refused.
     Refused(Refusal),
-    /// It is a subaction's: what it holds is going to be this parent's.
+    /// A subaction's: this parent will get what it holds.
     Inherit(ActionId),
-    /// It is a topaction's: its versions are going to be the bases.
+    /// A topaction's: its versions will be the bases.
     Settle,
 }

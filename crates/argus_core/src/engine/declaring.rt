@@ -17,7 +17,8 @@ use argus_objects::Cell;
 
 /// Declares an object of this shape, or records the refusal.
 ///
-/// `OutOfMemory` may come in place of any reply: the journal stays, and the shape is spent.
+/// `OutOfMemory` may come in place of any reply: the journal is unchanged, and the shape is
+/// consumed.
 pub(crate) fn declare(state: &mut GuardianState, shape: Shape) -> Result<Reply, OutOfMemory>
     requires { StateInvariant state.old }
     ensures kept { StateInvariant state.new }

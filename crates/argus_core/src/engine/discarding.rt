@@ -1,5 +1,5 @@
-//! What becomes of the objects that actions hold which an abort ends: the walk visits the objects
-//! on their lists and no other.
+//! What an abort does to the objects that the ended actions hold: it visits only the objects on
+//! their lists.
 
 ghost use Rattle.std.specs.Prelude.{◌≡◌, ◌<◌, ◌≤◌, length, true, None, Some};
 ghost use Rattle.std.specs.Option.{option_map};
@@ -16,8 +16,8 @@ use crate::engine::moving::discard_all;
 use argus_actions::{ActionId, ActionTree, Status};
 use argus_objects::Holdings;
 
-/// Discards what `top` and all that stand under it hold, in the objects on the lists of `a` and of
-/// those under `a`, and clears these lists.
+/// Discards what `top` and all actions under it hold, in the objects on the lists of `a` and of the
+/// actions under `a`, and clears these lists.
 fn sweep_under(
     objects: &mut [AtomicObject],
     holdings: &mut Holdings,
@@ -42,7 +42,7 @@ fn sweep_under(
     }
 }
 
-/// Discards what an action and all that stand under it hold, and clears their lists.
+/// Discards what an action and all actions under it hold, and clears their lists.
 pub(crate) fn discard_under(
     objects: &mut [AtomicObject],
     holdings: &mut Holdings,
@@ -61,8 +61,8 @@ pub(crate) fn discard_under(
     sweep_under(objects, holdings, tree, a, a);
 }
 
-/// Discards what the live siblings of a live action hold, which was begun under this one, and all
-/// that stand under them, and clears their lists. It goes no further than to the oldest of them.
+/// For a live action that was begun under this one: discards what its live siblings and all actions
+/// under them hold, and clears their lists. It goes no further than the oldest of them.
 fn discard_siblings(
     objects: &mut [AtomicObject],
     holdings: &mut Holdings,
@@ -95,8 +95,8 @@ fn discard_siblings(
     }
 }
 
-/// Discards what the live siblings of an action hold, where it may end them, and all that stand
-/// under them, and clears their lists.
+/// Discards what the live siblings of an action and all actions under them hold, if it may end
+/// them, and clears their lists.
 pub(crate) fn discard_others(
     objects: &mut [AtomicObject],
     holdings: &mut Holdings,
@@ -118,7 +118,7 @@ pub(crate) fn discard_others(
     }
 }
 
-/// The action that this one was begun under: its parent or its creator; None for a topaction that
+/// The action that this one was begun under: its parent or its creator; `None` for a topaction that
 /// isn't nested.
 fn begun_under(tree: &ActionTree, a: ActionId) -> Option<ActionId>
     ensures { option_map (λ (x : ActionId). x.0) result

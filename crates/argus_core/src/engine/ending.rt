@@ -20,7 +20,7 @@ use argus_memory::OutOfMemory;
 
 /// Commits an action, or records the refusal.
 ///
-/// `OutOfMemory` may come in place of any reply: the journal stays.
+/// `OutOfMemory` may come in place of any reply: the journal is unchanged.
 pub(crate) fn commit(state: &mut GuardianState, a: ActionId) -> Result<Reply, OutOfMemory>
     requires { StateInvariant state.old }
     ensures kept { StateInvariant state.new }
@@ -34,10 +34,10 @@ pub(crate) fn commit(state: &mut GuardianState, a: ActionId) -> Result<Reply, Ou
     Ok(make_commit(state, a, step))
 }
 
-/// Makes all ready for a commit: finds out how it goes on, and makes room. The journal stays,
-/// whatever is answered.
+/// Prepares a commit: finds out how it goes on, and makes room. The journal is unchanged, whatever
+/// is returned.
 ///
-/// `OutOfMemory`: there was no memory for its entry or, of a subaction, on its parent's list.
+/// `OutOfMemory`: there was no memory for its entry or, for a subaction, on its parent's list.
 #[inline(always)]
 pub(crate) fn ready_commit(
     state: &mut GuardianState,
@@ -62,7 +62,7 @@ pub(crate) fn ready_commit(
     }
 }
 
-/// Makes a commit for which all is ready, and gives its reply. It takes no memory.
+/// Makes a prepared commit, and returns its reply. It takes no memory.
 #[inline(always)]
 pub(crate) fn make_commit(state: &mut GuardianState, a: ActionId, step: CommitStep) -> Reply
     requires kept { StateInvariant state.old }
@@ -123,9 +123,9 @@ fn settle(state: &mut GuardianState, a: ActionId)
     });
 }
 
-/// Aborts an action with all that stand under it, or records the refusal.
+/// Aborts an action with all actions under it, or records the refusal.
 ///
-/// `OutOfMemory` may come in place of any reply: the journal stays.
+/// `OutOfMemory` may come in place of any reply: the journal is unchanged.
 pub(crate) fn abort(state: &mut GuardianState, a: ActionId) -> Result<Reply, OutOfMemory>
     requires { StateInvariant state.old }
     ensures kept { StateInvariant state.new }
@@ -157,7 +157,7 @@ pub(crate) fn abort(state: &mut GuardianState, a: ActionId) -> Result<Reply, Out
 
 /// Aborts all live siblings of an action, or records the refusal.
 ///
-/// `OutOfMemory` may come in place of any reply: the journal stays.
+/// `OutOfMemory` may come in place of any reply: the journal is unchanged.
 pub(crate) fn abort_others(state: &mut GuardianState, a: ActionId) -> Result<Reply, OutOfMemory>
     requires { StateInvariant state.old }
     ensures kept { StateInvariant state.new }

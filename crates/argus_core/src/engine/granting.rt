@@ -1,5 +1,6 @@
-//! How a granted access takes its lock: first all that can run out is had, then the lock is taken.
-//! The cell says whether the action holds the object, so the list of a holder is left alone.
+//! How a granted access takes its lock: first it gets everything that can run out, then it takes
+//! the lock. The cell says whether the action holds the object already, so a holder's list isn't
+//! touched.
 
 ghost use Rattle.std.specs.Prelude.{◌≡◌, ◌<◌, false, length, IfOk, OnErr, OnOk};
 ghost use Rattle.std.specs.Prelude.{slice_index_or, true};
@@ -83,8 +84,8 @@ fn reserve_read(
     Ok(is_new)
 }
 
-/// Makes room for all that a granted read of the object needs, and says whether the object is new on
-/// the action's list.
+/// Makes room for all that a granted read of the object needs, and says whether the object is new
+/// on the action's list.
 #[inline(always)]
 pub(crate) fn reserve_granted_read(
     state: &mut GuardianState,
@@ -126,9 +127,9 @@ pub(crate) fn grant_read(
     note_if(is_new, holdings, a, o);
 }
 
-/// Makes a change that gives no value in an action's version of the object, which is noted on its
-/// list: in place where the action has a version, otherwise on a copy. None where it is made, else
-/// the signal.
+/// Makes a change that returns no value in an action's version of the object, and notes the object
+/// on its list: in place if the action has a version, otherwise on a copy. `None` if it was made,
+/// else the signal.
 #[inline(always)]
 pub(crate) fn grant_change(
     objects: &mut [AtomicObject],
@@ -156,7 +157,7 @@ pub(crate) fn grant_change(
     Ok(refusal)
 }
 
-/// [`grant_change`] of any change, for which the answer is at hand.
+/// [`grant_change`] of any change, whose answer is already computed.
 pub(crate) fn grant_removal(
     objects: &mut [AtomicObject],
     holdings: &mut Holdings,

@@ -8,7 +8,7 @@ use argus_objects::Holdings;
 
 /// What a guardian keeps: the actions, the objects, what each action holds, and the journal.
 ///
-/// `StateInvariant` says that all of it stands to the journal; a call is made where it does.
+/// `StateInvariant` says that all of it agrees with the journal; each call requires it.
 ///
 /// ```text
 /// let mut state = GuardianState {

@@ -1,5 +1,5 @@
-//! What becomes of the list of a subaction that commits: where its parent has none, the whole list
-//! is handed up; else the parent's list takes the objects that the parent doesn't hold yet.
+//! What becomes of the list of a subaction that commits: if its parent has none, the whole list is
+//! handed up; otherwise the parent's list takes the objects that the parent doesn't hold yet.
 
 ghost use Rattle.std.specs.Prelude.{◌≡◌, ◌≢◌, ◌<◌, ◌==◌, ◌≤◌, length, None, OnOk, Some};
 ghost use Rattle.argus_actions.specs.Refusals.{commit_refusal};

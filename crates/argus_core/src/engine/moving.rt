@@ -55,7 +55,7 @@ pub(crate) fn settle_all(
     }
 }
 
-/// Discards what `top` and all that stand under it hold, in each object on the list.
+/// Discards what `top` and all actions under it hold, in each object on the list.
 pub(crate) fn discard_all(
     objects: &mut [AtomicObject],
     listed: &[ObjId],

@@ -1,4 +1,4 @@
-//! Why calls are refused, and how one is that is.
+//! Why calls are refused, and how a refusal is recorded.
 
 ghost use Rattle.std.specs.Prelude.{IfOk, OnErr, OnOk, length, true, ◌<◌, ◌≡◌, ◌≤◌};
 ghost use Rattle.argus_contents.specs.Change.{plain_change};
@@ -21,9 +21,10 @@ use argus_contents::{Change, ObjId, Query, change_fits, query_fits};
 use argus_entries::{Call, Entry, Refusal, Reply};
 use argus_memory::OutOfMemory;
 
-/// Refuses a call, and records it. It is rare, so it is kept out of the way of the calls.
+/// Refuses a call, and records it. It is rare, so it isn't inlined into the calls.
 ///
-/// `OutOfMemory`: there was no memory for its entry. The journal stays, and the call is spent.
+/// `OutOfMemory`: there was no memory for its entry. The journal is unchanged, and the call is
+/// consumed.
 #[cold]
 #[inline(never)]
 pub(crate) fn refuse(
@@ -44,7 +45,7 @@ pub(crate) fn refuse(
     Ok(record_refusal(state, call, why))
 }
 
-/// Records a refused call, in the room that is there, and gives its reply. It takes no memory.
+/// Records a refused call, in the reserved room, and returns its reply. It takes no memory.
 pub(crate) fn record_refusal(state: &mut GuardianState, call: Call, why: Refusal) -> Reply
     requires kept { StateInvariant state.old }
     requires place { 0 < room_in state.old.journal }

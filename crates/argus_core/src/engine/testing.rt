@@ -18,7 +18,7 @@ use argus_memory::OutOfMemory;
 /// Tests whether the action may read the object, and makes it a reader if so; or records the
 /// refusal.
 ///
-/// `OutOfMemory` may come in place of any reply: the journal stays.
+/// `OutOfMemory` may come in place of any reply: the journal is unchanged.
 pub(crate) fn test_read(
     state: &mut GuardianState,
     a: ActionId,

@@ -1,4 +1,4 @@
-//! How actions write objects: in place where the action has a version.
+//! How actions write objects: in place if the action has a version.
 
 ghost use Rattle.std.specs.Prelude.{IfOk, None, OnErr, OnOk, ◌≡◌};
 ghost use Rattle.argus_contents.specs.Change.{plain_change};
@@ -18,7 +18,8 @@ use argus_memory::OutOfMemory;
 
 /// Changes the object for the action, and makes it a writer; or records the refusal.
 ///
-/// `OutOfMemory` may come in place of any reply: the journal stays, and the change is spent.
+/// `OutOfMemory` may come in place of any reply: the journal is unchanged, and the change is
+/// consumed.
 pub(crate) fn alter(
     state: &mut GuardianState,
     a: ActionId,
@@ -60,8 +61,8 @@ pub(crate) fn alter(
     }
 }
 
-// A change that is granted, of any kind: its answer is had first, since it may be the value that
-// the change removes, which the caller and the entry both have.
+// A granted change of any kind. Its answer is computed first, since it may be the value that the
+// change removes, which both the caller and the entry get.
 #[inline(never)]
 fn alter_with_value(
     state: &mut GuardianState,
@@ -96,7 +97,7 @@ fn alter_with_value(
 /// Tests whether the action may write the object, and makes it a writer if so; or records the
 /// refusal.
 ///
-/// `OutOfMemory` may come in place of any reply: the journal stays.
+/// `OutOfMemory` may come in place of any reply: the journal is unchanged.
 pub(crate) fn test_write(
     state: &mut GuardianState,
     a: ActionId,

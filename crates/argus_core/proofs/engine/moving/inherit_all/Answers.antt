@@ -1,32 +1,28 @@
 -- The next object on the list stands as it was, since none is listed twice, and then is inherited.
-use Rattle.std.proofs.Common.{ap, get_or, ◌∙◌}
 use Rattle.argus_contents.specs.declared.obj_id.ObjId.{ObjId}
 use Rattle.argus_core.specs.Moving.{IsInherited}
-use Rattle.argus_core.proofs.Changes.{is_within, listed_at, more_changed, same_yet}
-use Rattle.argus_objects.specs.Rules.{is_lawful}
+use Rattle.argus_core.proofs.Changes.{is_within, lawful_yet, more_changed}
 use Rattle.argus_core.proofs.engine.moving.inherit_all.Goals as goal
 
 pub bounds-objects-o : goal.bounds-objects-o
 bounds-objects-o c =
-    let d : ObjId = record { 0 = 0 } in
+    let none : ObjId = record { 0 = 0 } in
     is_within (IsInherited c.args.tree.now c.args.a c.args.parent)
-    c.args.listed.now c.loop-o.o-index d c.args.objects.now c.loop-o.objects c.loop-o-test.true c.requires.there
-    c.loop-o.invariant
+    c.args.listed.now c.loop-o.o-index none c.args.objects.now c.loop-o.objects
+    c.loop-o-test.true c.requires.there c.loop-o.invariant
 
 pub inherit-requires-clause-lawful : goal.inherit-requires-clause-lawful
 inherit-requires-clause-lawful c =
-    let d : ObjId = record { 0 = 0 } in
-    ap (is_lawful c.args.tree.now) (same_yet (IsInherited c.args.tree.now c.args.a c.args.parent)
-    c.args.listed.now c.loop-o.o-index d c.args.objects.now c.loop-o.objects c.index-objects-o.result
-    c.requires.once c.loop-o-test.true c.requires.there c.loop-o.invariant)
-    ∙ c.requires.lawful (get_or c.args.listed.now c.loop-o.o-index d).0 c.index-objects-o.result
-    (c.requires.there _ (listed_at c.args.listed.now c.loop-o.o-index d c.loop-o-test.true))
+    let none : ObjId = record { 0 = 0 } in
+    lawful_yet (IsInherited c.args.tree.now c.args.a c.args.parent)
+    c.args.listed.now c.loop-o.o-index none c.args.objects.now c.loop-o.objects c.index-objects-o.result
+    c.requires.once c.loop-o-test.true c.requires.there c.loop-o.invariant c.args.tree.now c.requires.lawful
 
 pub loop-o-preserved : goal.loop-o-preserved
 loop-o-preserved c =
-    let d : ObjId = record { 0 = 0 } in
+    let none : ObjId = record { 0 = 0 } in
     more_changed (IsInherited c.args.tree.now c.args.a c.args.parent)
-    c.args.listed.now c.loop-o.o-index d c.args.objects.now c.loop-o.objects c.index-objects-o.result
+    c.args.listed.now c.loop-o.o-index none c.args.objects.now c.loop-o.objects c.index-objects-o.result
     c.requires.once c.loop-o-test.true c.requires.there c.loop-o.invariant
     c.inherit.new.self (record {
       base = c.inherit.ensures.base;

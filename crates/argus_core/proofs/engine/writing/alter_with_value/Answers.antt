@@ -11,7 +11,7 @@ use Rattle.argus_core.specs.GuardianState.{StateInvariant, journal_view_of}
 use Rattle.argus_core.specs.declared.engine.guardian_state.GuardianState.{GuardianState}
 use Rattle.argus_core.proofs.Accessed.{kept_locks}
 use Rattle.argus_core.proofs.Alters.{alter_free, alter_made, alter_still, alters}
-use Rattle.argus_core.proofs.FreeLocks.{listed_held, reader_limits, writer_limits, writer_reads}
+use Rattle.argus_core.proofs.FreeLocks.{listed_held, writer_limits, writer_reads}
 use Rattle.argus_core.proofs.engine.writing.alter_with_value.Goals as goal
 use Rattle.argus_journal.specs.JournalView.{refusal_to}
 use Rattle.argus_journal.specs.LegalJournal.{entries_in, opening_in}
