@@ -3,7 +3,7 @@
 use argus_actions::{ActionError, ActionId, ActionTree};
 use argus_memory::Heap;
 
-/// How the actions of a tree stand under each other.
+/// How the actions of a tree are nested.
 #[derive(Clone, Copy, PartialEq, Eq)]
 pub enum Kind {
     /// All are topactions.

@@ -3,7 +3,7 @@
 //!
 //! Three kinds of tree: all topactions (flat), chains of 64 actions each of which is the subaction
 //! of the one before, and one topaction with all others as its subactions, which is then aborted
-//! (wide). With no size it makes one small tree of each kind and prints what has become of it.
+//! (wide). Without a size it makes one small tree of each kind and prints what became of it.
 #![tactic(auto)]
 
 mod kinds;

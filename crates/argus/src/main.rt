@@ -5,7 +5,7 @@
 //! | 0 | done; or help or the version was asked for | nothing |
 //! | 2 | a mistake in the command line | its text |
 //! | 3 | the script is refused | `line N: KIND` |
-//! | 4 | want of memory, or a worker couldn't be started | `out of memory` |
+//! | 4 | out of memory, or a worker couldn't be started | `out of memory` |
 //! | 5 | a read or a write failed | `read fault` or `write fault` |
 #![tactic(auto)]
 
@@ -29,7 +29,7 @@ fn main(rt: HostRuntime) -> ExitCode {
     }
 }
 
-// What the words behind the program's name ask for.
+// What the words after the program's name ask for.
 fn options_given(rt: &(impl Env + AllocGlobal)) -> Result<Options, NoOptions>
     ensures { IfOk result KeepsRanges }
 {
@@ -59,7 +59,7 @@ fn run_script<
     }
 }
 
-// That standard error can't be written is told by the status alone.
+// If standard error can't be written, only the status says so.
 fn end_with_fault(rt: &impl Eprint, fault: CliFault) -> ExitCode {
     let _ = rt.eprintln(&fault);
     ExitCode::from(fault.status())

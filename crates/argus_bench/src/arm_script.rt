@@ -11,9 +11,8 @@ const CLASSES: u32 = 8;
 // How many records an arm reads and sets.
 const ACCESSES: u32 = 4;
 
-/// A script with so many arms, each of which reads 4 records and sets them: those of its class,
-/// which
-/// is its number modulo 8.
+/// A script with this many arms, each of which reads 4 records and sets them: those of its class,
+/// which is its number modulo 8.
 pub(crate) fn script_text(heap: Heap, arms: u32) -> Result<String<Room>, OutOfMemory> {
     let mut text = String::new(heap.room());
     declare_records(&mut text)?;

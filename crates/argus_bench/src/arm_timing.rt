@@ -14,11 +14,11 @@ use std::sync::Wait;
 use std::thread::Threads;
 use std::time::Duration;
 
-// More wake-ups than come.
+// More wake-ups than there will be.
 const PATIENCE: u32 = 1_000_000;
 
-/// Runs a script of so many arms by so many workers, on a guardian in which nothing was done, and
-/// settles. The run is timed, and not what comes before it, nor the settlement.
+/// Runs a script of this many arms by this many workers, on a guardian in which nothing was done,
+/// and settles. The run is timed, and not what comes before it, nor the settlement.
 pub(crate) fn time_arms<N: Sharing + Send + Sync, R: Threads + Wait + Clock + Drop + Send + Sync>(
     rt: &R,
     heap: Heap,

@@ -15,9 +15,9 @@ use std::sync::Wait;
 
 type Calls = VecDeque<DemandedCall, Room>;
 
-/// So many topactions, each of which adds 1 to four records of the thread's own. What is in them is
-/// kept here, so that the calls are known. How many were made: fewer, where a call isn't answered as
-/// it has to be.
+/// This many topactions, each of which adds 1 to four records of the thread's own. What is in them
+/// is kept here, so that the calls are known. Returns how many were made: fewer, if a call doesn't
+/// get the reply that it should.
 pub(crate) fn count_in_lists<N: Sharing, R: Wait + Drop>(
     client: &mut Client<Seated<'_, N, R>>,
     circle: Circle,

@@ -1,4 +1,4 @@
-//! `BenchError`: why a run gave no figure.
+//! `BenchError`: why a run has no figure.
 
 use argus_commands::{ParseError, RunFault};
 use argus_values::{NameError, OutOfMemory, ShapeFault};
@@ -6,7 +6,7 @@ use std::alloc::{AllocError, AllocFailed};
 use std::io;
 use thiserror::Error;
 
-/// Why a run gave no figure.
+/// Why a run has no figure.
 ///
 /// ```text
 /// assert!(rt; matches!("round".parse::<Work>(), Err(BenchError::UnknownWork)));
@@ -19,8 +19,8 @@ pub(crate) enum BenchError {
     BadCount,
     #[error("no shape of that name")]
     BadShape,
-    /// The guardian refused a call, or answered what the run doesn't ask for. A guardian begins a
-    /// million actions at the most, so a run of too many turns ends so.
+    /// The guardian refused a call, or returned what the run doesn't ask for. A guardian begins at
+    /// most a million actions, so a run of too many turns ends like this.
     #[error("a call wasn't answered as the run needs")]
     OtherReply,
     #[error("the clock can't be read")]

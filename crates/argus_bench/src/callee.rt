@@ -1,11 +1,11 @@
-//! `Callee`: who answers calls.
+//! `Callee`: what answers calls.
 
 use crate::bench_error::BenchError;
 use crate::reply_summary::ReplySummary;
 use argus_guardian::Guardian;
 use argus_journal::Call;
 
-/// Who answers calls: a guardian, or a seat of one that is shared.
+/// What answers calls: a guardian, or a seat of one that is shared.
 ///
 /// ```text
 /// let told = guardian.answer(Call::BeginTop)?;            // ReplySummary::Begun(ActionId(0))
@@ -14,7 +14,7 @@ pub(crate) trait Callee: Drop {
     /// Makes the call.
     fn answer(&mut self, call: Call) -> Result<ReplySummary, BenchError>;
 
-    /// Makes the call, once no action of another thread is in its way.
+    /// Makes the call, when no action of another thread is in its way.
     fn answer_waiting(&mut self, call: Call) -> Result<ReplySummary, BenchError>;
 }
 

@@ -3,8 +3,8 @@
 use crate::draws::Draws;
 use argus_values::ObjId;
 
-/// So many records from the first on, in a circle, and how far behind one of them three others lie:
-/// together they are the four that a topaction counts in.
+/// This many records from the first on, in a circle, and how far after one of them three others
+/// are: together they are the four that a topaction counts in.
 ///
 /// ```text
 /// let records = Circle::hot().four(&mut draws);           // as o1, o4, o6, o9
@@ -41,8 +41,8 @@ impl Circle {
         }
     }
 
-    /// Four records as if by chance, in the order of their numbers: where all lock in that order,
-    /// no two wait for each other.
+    /// Four pseudo-random records, in the order of their numbers: if all lock in that order, no two
+    /// wait for each other.
     pub(crate) fn four(self, draws: &mut Draws) -> [ObjId; 4] {
         let start = draws.below(self.count);
         let (a, b) = ordered(start, self.behind(start, self.second));

@@ -1,4 +1,4 @@
-//! `Client`: who makes calls, and goes by their replies.
+//! `Client`: makes calls, and uses their replies.
 
 use crate::bench_error::BenchError;
 use crate::callee::Callee;
@@ -8,8 +8,8 @@ use argus_journal::Call;
 use argus_values::{Change, Content, Heap, Name, ObjId, OutOfMemory, Query, Shape, Ty, Value};
 use std::collections::VecDeque;
 
-/// A guardian, or a seat of a shared one, with the one who calls it by values of `Call`. A reply of
-/// another kind than the call asks for is an error.
+/// A guardian, or a seat of a shared one, which is called by values of `Call`. A reply of another
+/// kind than the call asks for is an error.
 ///
 /// ```text
 /// let mut client = Client::of(heap, Guardian::new(heap));
@@ -55,7 +55,7 @@ impl<K: Callee> Client<K> {
         self.have_done(Call::Abort(a))
     }
 
-    /// Locks the object for a change, once no action of another thread is in the way.
+    /// Locks the object for a change, when no action of another thread is in the way.
     pub(crate) fn lock(&mut self, a: ActionId, o: ObjId) -> Result<(), BenchError> {
         let call = Call::Alter(a, o, Change::Touch);
         expect_done(self.callee.answer_waiting(call)?)
@@ -111,7 +111,7 @@ impl<K: Callee> Client<K> {
         Ok(o)
     }
 
-    /// An array of so many integers from 1 on, which a topaction of its own creates as 0.
+    /// An array of this many integers from 1 on, which a topaction of its own creates as 0.
     pub(crate) fn declare_array(&mut self, count: u16) -> Result<ObjId, BenchError> {
         let shape = Shape::arr(Ty::Int)?;
         let o = self.declare(shape)?;

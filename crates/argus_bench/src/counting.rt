@@ -28,8 +28,8 @@ struct Job {
     manner: Manner,
 }
 
-/// So many turns in all, by a thread for each of the seats. What is in the records then is read by
-/// the last seat, and not timed.
+/// This many turns in all, by a thread for each of the seats. What is in the records then is read
+/// by the last seat, and not timed.
 pub(crate) fn time_threads<
     N: Sharing + Send + Sync,
     R: Threads + Wait + Clock + Drop + Send + Sync,
@@ -97,7 +97,7 @@ fn count_all<N: Sharing + Send + Sync, R: Threads + Wait + Drop + Send + Sync>(
     map_vec(rt, jobs, &|job| count_often(rt, heap, shared, job))
 }
 
-// How many turns were made: fewer, where a call isn't answered as it has to be.
+// How many turns were made: fewer, if a call doesn't get the reply that it should.
 fn count_often<N: Sharing, R: Wait + Drop>(
     rt: &R,
     heap: Heap,

@@ -1,9 +1,9 @@
-//! `Draws`: numbers as if by chance, the same at each run.
+//! `Draws`: pseudo-random numbers, the same at each run.
 
 ghost use Rattle.std.specs.Prelude.{◌<◌};
 
-/// Numbers as if by chance, the same at each run: a linear congruential generator, of which the
-/// upper 31 bits are used. Its factor is Knuth's for words of 64 bits.
+/// Pseudo-random numbers, the same at each run: a linear congruential generator, of which the upper
+/// 31 bits are used. Its factor is Knuth's for words of 64 bits.
 ///
 /// ```text
 /// let mut draws = Draws::new();
@@ -24,7 +24,7 @@ impl Draws {
         Draws { state: seed }
     }
 
-    /// The next number, which is below `count`; 0 where that is 0.
+    /// The next number, which is below `count`; 0 if that is 0.
     pub(crate) fn below(&mut self, count: u16) -> u32
         ensures { 0 < count → result < count }
     {

@@ -16,7 +16,7 @@ pub(crate) struct Figure {
 }
 
 impl Figure {
-    /// The nanoseconds of each; of all where nothing was counted.
+    /// The nanoseconds of each; of all if nothing was counted.
     pub(crate) fn nanos_each(&self) -> f64 {
         self.taken.as_secs_f64() * 1e9 / self.count.max(1) as f64
     }

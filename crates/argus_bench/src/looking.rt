@@ -21,13 +21,13 @@ use std::sync::atomic::{AtomicU64, Ordering};
 use std::thread::{Threads, join, map_vec, sleep};
 use std::time::Duration;
 
-// A guardian begins a million actions at the most.
+// A guardian begins at most a million actions.
 const BATCHES: u32 = 60_000;
 
 const BATCH: u32 = 16;
 
-/// Looks at pairs of records, by a thread for each looker, for so many milliseconds. Meanwhile the
-/// seat commits topactions that set the two of a pair to one number, or nothing happens.
+/// Looks at pairs of records, by a thread for each looker, for this many milliseconds. Meanwhile
+/// the seat commits topactions that set the two of a pair to one number, or nothing happens.
 pub(crate) fn time_lookers<
     N: Sharing + Send + Sync,
     R: Threads + Wait + Clock + Drop + Send + Sync,

@@ -1,8 +1,8 @@
 //! Times a guardian's calls: `argus_bench TURNS WORK..`.
 //!
-//! With no words it makes a small run of each work, and prints what the calls have read and left.
-//! `bench/guardian.sh`, `bench/shared.sh` and `bench/workers.sh` print the figures, beside those of a
-//! guardian by hand where there is one.
+//! Without words it makes a small run of each work, and prints what the calls have read and left.
+//! `bench/guardian.sh`, `bench/shared.sh` and `bench/workers.sh` print the figures, beside those of
+//! a guardian by hand if there is one.
 #![tactic(auto)]
 
 mod arm_script;

@@ -2,8 +2,8 @@
 
 use crate::figure::Figure;
 
-/// What a run took, part by part (three at the most), and the sum of what it read and left. By the
-/// sum one sees that two programs have done the same.
+/// What a run took, part by part (three at the most), and the sum of what it read and left. The sum
+/// shows that two programs have done the same.
 #[derive(Clone, Copy)]
 pub(crate) struct Outcome {
     pub(crate) figures: [Option<Figure>; 3],

@@ -11,11 +11,11 @@ pub(crate) enum Part {
     First,
     /// The changes of the same object after it.
     Next,
-    /// The questions.
+    /// The queries.
     Asks,
     /// The commit of what was read or changed.
     Commit,
-    /// The contents for good, each by a replay of the journal.
+    /// The bases, each by a replay of the journal.
     Replays,
     /// The topactions of one thread while others look.
     Commits,

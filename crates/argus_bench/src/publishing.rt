@@ -1,4 +1,4 @@
-//! What is published on a readers' board, alone.
+//! What is published on a readers' board, by itself.
 
 ghost use Rattle.std.specs.Prelude.{[], ◌≡◌};
 ghost use Rattle.argus_guardian.specs.Effects.{IsTableOf};
@@ -18,7 +18,7 @@ use std::marker::Brand;
 use std::rt::Clock;
 use std::sync::Wait;
 
-/// So many publishes, each of what a topaction leaves that has set two records.
+/// This many publishes, each of what a topaction leaves that has set two records.
 pub(crate) fn run<R: Wait + Clock + Copy + Drop>(
     rt: R,
     heap: Heap,

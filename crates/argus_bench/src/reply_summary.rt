@@ -4,8 +4,8 @@ use argus_actions::ActionId;
 use argus_journal::Reply;
 use argus_values::{Answer, ObjId, Value};
 
-/// What a reply says, as far as a run needs it. It is copied, where a reply would have to be
-/// dropped on each way out of who holds it.
+/// What a reply says, as far as a run needs it. It is copied, while a reply would have to be
+/// dropped on each way out of the function that holds it.
 ///
 /// ```text
 /// assert!(rt; matches!(ReplySummary::by(Reply::Answered(Answer::Done)), ReplySummary::Done));
@@ -20,12 +20,12 @@ pub(crate) enum ReplySummary {
     Number(i64),
     /// The change, commit or abort was made.
     Done,
-    /// A refusal, or what no run asks for.
+    /// A refusal, or a reply that no run asks for.
     Other,
 }
 
 impl ReplySummary {
-    /// What the reply says, which ends with that.
+    /// What the reply says; the reply is dropped.
     #[inline(always)]
     pub(crate) fn by(reply: Reply) -> ReplySummary {
         match &reply {

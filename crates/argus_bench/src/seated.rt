@@ -9,7 +9,7 @@ use argus_values::Room;
 use std::collections::VecDeque;
 use std::sync::Wait;
 
-// More wake-ups than come.
+// More wake-ups than there will be.
 const PATIENCE: u32 = u32::MAX;
 
 /// A seat of a shared guardian, by which calls are made. Their receipts are dropped.
@@ -30,7 +30,7 @@ impl<'a, N: Sharing, R: Wait + Drop> Seated<'a, N, R> {
         Seated { rt, shared, seat }
     }
 
-    /// Makes the calls under one lock; none may be refused.
+    /// Makes the calls under one lock of the mutex; none may be refused.
     pub(crate) fn answer_each(
         &mut self,
         calls: &mut VecDeque<DemandedCall, Room>,

@@ -14,17 +14,17 @@ use std::str::FromStr;
 pub(crate) enum SharedWork {
     /// The turns of this work, by one seat.
     Turns(Work),
-    /// Topactions of so many threads, each on records of its own.
+    /// Topactions of this many threads, each on records of its own.
     Own(u8),
-    /// Topactions of so many threads on the same ten records.
+    /// Topactions of this many threads on the same ten records.
     Hot(u8),
     /// Those of `Own`, each as a list of calls.
     Batch(u8),
-    /// So many lookers, while a thread commits.
+    /// This many lookers, while a thread commits.
     Busy(u8),
-    /// So many lookers, while nothing happens.
+    /// This many lookers, while nothing happens.
     Idle(u8),
-    /// A script of many arms, run by so many workers.
+    /// A script of many arms, run by this many workers.
     Arms(u8),
 }
 

@@ -26,7 +26,8 @@ use std::sync::Wait;
 use std::sync::ledger::Blank;
 use std::thread::Threads;
 
-/// A run of so many turns; with lookers, of so many milliseconds; of a script, of so many arms.
+/// A run of this many turns; with lookers, of this many milliseconds; of a script, of this many
+/// arms.
 pub(crate) fn run<R: Threads + Wait + Clock + Copy + Drop + Send + Sync>(
     rt: R,
     heap: Heap,

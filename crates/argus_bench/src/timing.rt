@@ -20,7 +20,7 @@ use argus_values::{Heap, ObjId};
 use std::rt::Clock;
 use std::time::Duration;
 
-/// A run of so many turns. What comes before the first turn and after the last isn't timed.
+/// A run of this many turns. What comes before the first turn and after the last isn't timed.
 pub(crate) fn run(
     rt: &impl Clock,
     heap: Heap,
@@ -31,7 +31,8 @@ pub(crate) fn run(
     time_work(rt, &mut client, work, turns)
 }
 
-// The guardian is lent: who owns one while calls may fail has to drop it on each way out.
+// The guardian is borrowed: a function that owns one while calls may fail has to drop it on each
+// way out.
 fn time_work(
     rt: &impl Clock,
     client: &mut Client<Guardian>,
@@ -48,7 +49,7 @@ fn time_work(
     }
 }
 
-/// Makes so many turns of the work, with all its records there, and reads what they leave.
+/// Makes this many turns of the work, with all its records there, and reads what they leave.
 pub(crate) fn time_turns<K: Callee>(
     rt: &impl Clock,
     client: &mut Client<K>,

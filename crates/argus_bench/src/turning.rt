@@ -93,7 +93,7 @@ fn commit_and_retry<K: Callee>(
     client.abort(second)
 }
 
-/// A topaction that sets one of so many records, and commits.
+/// A topaction that sets one of this many records, and commits.
 pub(crate) fn turn_commit<K: Callee>(
     client: &mut Client<K>,
     draws: &mut Draws,
@@ -106,7 +106,7 @@ pub(crate) fn turn_commit<K: Callee>(
     client.commit(a)
 }
 
-/// A topaction that sets one of so many records, and aborts.
+/// A topaction that sets one of this many records, and aborts.
 pub(crate) fn turn_abort<K: Callee>(
     client: &mut Client<K>,
     draws: &mut Draws,
@@ -149,8 +149,8 @@ fn begin_chain<K: Callee>(client: &mut Client<K>) -> Result<[ActionId; 64], Benc
     Ok(actions)
 }
 
-/// A topaction that locks each of four records, reads it and adds 1 to it: 14 calls. Only the locks
-/// are waited for.
+/// A topaction that locks each of four records, reads it and adds 1 to it: 14 calls. It waits only
+/// for the locks.
 pub(crate) fn turn_counts<K: Callee>(
     client: &mut Client<K>,
     records: [ObjId; 4],
@@ -176,7 +176,7 @@ pub(crate) fn turn_pair<K: Callee>(
     client.commit(a)
 }
 
-/// Two records beside each other, a pair of 500.
+/// Two adjacent records, a pair of 500.
 pub(crate) fn pair(draws: &mut Draws) -> [ObjId; 2] {
     let first = draws.below(RECORDS / 2).wrapping_mul(2);
     [ObjId(first), ObjId(first.wrapping_add(1))]

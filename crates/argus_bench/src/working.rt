@@ -13,7 +13,7 @@ use argus_guardian::Guardian;
 use argus_journal::replay_base;
 use argus_values::{Content, Heap, ObjId, Value};
 
-/// How many integers the array has into which is stored.
+/// How many integers the array of the stores has.
 pub(crate) const ITEMS: u16 = 65_000;
 
 /// A guardian with this many records, of the numbers from 0 on.
@@ -35,7 +35,7 @@ pub(crate) fn records_of(work: Work) -> u16 {
     }
 }
 
-/// Makes so many turns. The sum of what they read.
+/// Makes this many turns. Returns the sum of what they read.
 pub(crate) fn make_turns<K: Callee>(
     client: &mut Client<K>,
     work: Work,
@@ -97,7 +97,7 @@ pub(crate) fn read_records<K: Callee>(
     Ok(sum)
 }
 
-/// What the journal's writes leave in the records for good, each times its place from 1 on.
+/// The bases that the journal's writes leave in the records, each times its place from 1 on.
 pub(crate) fn replay_records(client: &Client<Guardian>, count: u16) -> Result<i64, BenchError> {
     let mut sum = 0i64;
     for number in 0..count {
@@ -107,7 +107,7 @@ pub(crate) fn replay_records(client: &Client<Guardian>, count: u16) -> Result<i6
     Ok(sum)
 }
 
-// The integer that the journal's writes leave in a record for good.
+// The integer in the base that the journal's writes leave in a record.
 fn replay(heap: Heap, guardian: &Guardian, o: ObjId) -> Result<i64, BenchError> {
     let left = replay_base(heap, guardian.journal().journal(), o)?;
     match number_in(&left) {
@@ -141,7 +141,7 @@ pub(crate) fn read_array<K: Callee>(
     Ok(sum)
 }
 
-/// What is in the records for good, each times its place from 1 on.
+/// The bases of the records, each times its place from 1 on.
 pub(crate) fn weigh_records<K: Callee>(
     client: &mut Client<K>,
     count: u16,
@@ -152,7 +152,7 @@ pub(crate) fn weigh_records<K: Callee>(
     Ok(sum)
 }
 
-/// What is in the records for good, added up.
+/// The sum of the bases of the records.
 pub(crate) fn add_records<K: Callee>(
     client: &mut Client<K>,
     count: u16,
@@ -166,7 +166,7 @@ pub(crate) fn add_records<K: Callee>(
     Ok(sum)
 }
 
-/// What is in the array for good, each times its place.
+/// The base of the array, each integer times its place.
 pub(crate) fn weigh_array<K: Callee>(client: &mut Client<K>, o: ObjId) -> Result<i64, BenchError> {
     let a = client.begin_top()?;
     let sum = read_array(client, a, o)?;

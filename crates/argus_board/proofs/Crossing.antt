@@ -1,5 +1,5 @@
--- What is on a board may cross to another thread, and be looked at from there, and who writes or looks may go there:
--- as a set for `search`, `crosses`.
+-- What is on a board may go to another thread, and be looked at from there, and so may its writer and its lookers: as a
+-- set for `search`, `crosses`.
 use denote.RattleType.{RattleType}
 use denote.Struct.Declared.{shape, row as declared_row}
 use denote.Struct.Tuple.{Tuple, tuple_type}

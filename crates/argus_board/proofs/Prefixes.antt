@@ -1,4 +1,4 @@
--- Beginnings of lists.
+-- Prefixes of lists.
 use Rattle.std.proofs.Common.{List, [], ap, append_assoc, drop, length, refl, sym, ◌++◌, ◌∙◌, ◌≡◌}
 use Rattle.std.proofs.Math.Seq.{drop-append_seam}
 use Rattle.std.proofs.lemmas.List.{append-nil}

@@ -1,4 +1,4 @@
--- What is shown once all that was pending is published.
+-- What is shown after all that was pending is published.
 use Rattle.std.proofs.Common.{List, [], ap, append_assoc, sym, ◌++◌, ◌∙◌, ◌≡◌}
 use Rattle.std.proofs.lemmas.List.{append-nil}
 use Rattle.std.specs.Prelude.{Err, Ok, OnOk, Result}

@@ -4,7 +4,7 @@ use Rattle.std.specs.Prelude.{List, refl}
 use Rattle.argus_board.specs.Effects.{effects_coded}
 use Rattle.argus_contents.specs.Effect.{Effect}
 
--- the effects that lookers can see, and those that are yet to be published, the newest last
+-- the effects that lookers can see, and those that are to be published yet, the newest last
 pub record BoardView : Type 0 where
   pub published : List Effect
   pub pending : List Effect

@@ -12,16 +12,16 @@ use Rattle.argus_model.specs.Effects.{table}
 abbrev pub plain_contents : List (Option Content) → List (Option PlainContent)
 plain_contents contents = map plain_option contents
 
--- the content of an object, none where the list has none
+-- the content of an object; none if the list has none
 abbrev pub content_of_object : List (Option PlainContent) → ℕ → Option PlainContent
 content_of_object contents o = get_or contents o None
 
--- how many objects a list has to have for all that the effect names
+-- how many objects a list needs for all that the effect names
 abbrev pub needed : Effect → ℕ
 needed [] = 0
 needed (pair ∷ effect) = max (pair.0 + 1) (needed effect)
 
--- the list with so many objects at least
+-- the list with at least this many objects
 abbrev pub padded : List (Option PlainContent) → ℕ → List (Option PlainContent)
 padded contents n = contents ++ replicate (n - length contents) None
 

@@ -1,5 +1,5 @@
 -- The history of effects: a list of pages, each of which uses up one right and names the next. So
--- who holds the newest right of a line adds to that line, and nobody else does.
+-- only the holder of a line's newest right can add to that line.
 use Rattle.std.specs.Prelude.{Bool, List, [], false, fold, length, true, ℕ, ◌++◌, ◌<◌, ◌==◌, ◌∷◌}
 use Rattle.std.specs.Prelude.{◌≡◌, ◌≢◌}
 use mathlib.Core.List.{IsPrefix}

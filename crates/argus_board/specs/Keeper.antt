@@ -3,7 +3,7 @@ use Rattle.std.specs.Prelude.{[], ℕ, ◌≡◌}
 use Rattle.logbook.specs.Pages.{Book}
 use Rattle.argus_board.specs.declared.keeper.Keeper.{Keeper}
 
--- the book in which its history stands
+-- the book that has its history
 abbrev pub history_of : Keeper → Book
 history_of keeper = keeper.front.seen.book
 
@@ -15,7 +15,7 @@ next_right_of keeper = keeper.pen.nib.key
 abbrev pub IsNew : Keeper → Type 0
 IsNew keeper = keeper.front.seen.log ≡ []
 
--- it is new, and its history stands in this book and begins with this right
+-- it is new, and its history is in this book and begins with this right
 abbrev pub StartsHistory : Book → ℕ → Keeper → Type 0
 StartsHistory history root keeper =
     IsNew keeper × (history_of keeper ≡ history) × (next_right_of keeper ≡ root)

@@ -23,7 +23,7 @@ abbrev pub absorbed : List (Option PlainContent) × HistoryPrefix → BoardChang
 absorbed state (Leaves effect) = (overwritten state.0 (plain_effect effect.items), state.1)
 absorbed state (Marks front) = (state.0, front)
 
--- the changes of a log that readers don't see yet: those behind so many at its front
+-- the changes of a log that readers don't see yet: those after this many at its front
 abbrev pub pending_changes : ℕ → List BoardChange → List BoardChange
 pending_changes behind log = drop behind log
 
@@ -41,7 +41,7 @@ AreTables first shown known seen contents upto changes = (seen ≡ upto)
     × (contents ≡ contents_after first upto) × (upto ≡ shown) × (upto ++ effects_in changes ≡ known)
     × (effects_in changes ≡ [] → changes ≡ [])
 
--- each place saw a beginning of these effects
+-- each place saw a prefix of these effects
 abbrev pub AllBegin : List Effect → List (List Effect) → Type 0
 AllBegin effects views =
     (place : ℕ) (view : List Effect) → get_elem? views place ≡ some view → IsPrefix view effects
@@ -52,7 +52,7 @@ abbrev pub HasContentsOf : List (Option PlainContent) → Book → List (Option 
 HasContentsOf first own contents book effects = (contents ≡ contents_after first effects) × (book
     ≡ own)
 
--- the rule: the table has the contents of its effects, and each place saw a beginning of these
+-- the rule: the table has the contents of its effects, and each place saw a prefix of these
 abbrev pub IsConsistentTable : List (Option PlainContent) → Book → ℕ → Table → List (List Effect)
     → Type 0
 IsConsistentTable first own root table views =
@@ -60,7 +60,7 @@ IsConsistentTable first own root table views =
     (line root table.front.seen.log)
     × AllBegin (line root table.front.seen.log) views
 
--- what a place knows that was told of w: who has seen something keeps to that
+-- what a place knows after it has seen w: what it has seen stays seen
 abbrev pub joined_view : List Effect → List Effect → List Effect
 joined_view [] w = w
 joined_view (e ∷ v) w = e ∷ v

@@ -2,8 +2,8 @@
 
 use std::marker::Brand;
 
-/// One board: its history, and what stood on it at first. Who opens a board picks these in a proof;
-/// code is generic in it.
+/// One board: its history, and what was on it at first. The caller that opens a board picks these
+/// in a proof; code is generic in it.
 ///
 /// ```text
 /// fn publish_and_look<N: Board, R: Wait + Drop>(
@@ -28,10 +28,10 @@ pub trait Board {
     ghost use Rattle.argus_contents.specs.Content.{PlainContent};
     ghost use Rattle.argus_contents.specs.Effect.{Effect};
 
-    /// The book in which its history stands.
+    /// The book that has its history.
     ghost history: { Book };
 
-    /// The right that begins its line there.
+    /// The right that begins its line in the book.
     ghost root: { ℕ };
 
     /// What the objects held before all effects.

@@ -1,4 +1,4 @@
-//! `BoardWriter`: who publishes on a board.
+//! `BoardWriter`: what publishes on a board.
 
 ghost use Rattle.std.specs.Prelude.{IfOk, MatchOption, OnErr, OnOk, [], false, true, ◌++◌, ◌<◌};
 ghost use Rattle.std.specs.Prelude.{◌∷◌, ◌≡◌, ◌≢◌};
@@ -26,12 +26,12 @@ use std::marker::Model;
 use std::snapshot::Snapshot;
 use std::sync::Wait;
 
-/// Who publishes on a board. Contracts see the effects that are published, and those that are
+/// What publishes on a board. Contracts see the effects that are published, and those that are
 /// pending, the newest last.
 ///
-/// A publish waits for lookers that are inside the copy that it changes. The board ends with its
-/// writer: a look then gives `Closed`. A board without places for lookers has no contents: nobody
-/// can see them, and an effect costs nothing there.
+/// A publish waits for lookers that are reading the copy that it changes. The board ends with its
+/// writer: a look then returns `Closed`. A board without places for lookers keeps no contents,
+/// since nobody can see them, and an effect costs nothing there.
 ///
 /// ```text
 /// let mut board = BoardWriter::new(rt, heap, contents, Keeper::new(), 2)?;
@@ -40,15 +40,15 @@ use std::sync::Wait;
 /// board.publish()?;
 /// ```
 pub struct BoardWriter<N: Board, R: Wait + Drop> {
-    /// None on a board without places.
+    /// `None` on a board without places.
     pub(crate) tables: Option<Publisher<N>>,
     /// What is published.
     pub(crate) shown: HistoryPrefix,
     /// All effects since the board was opened.
     pub(crate) keeper: Keeper,
-    /// The history as it was then.
+    /// The history when the board was opened.
     pub(crate) start: HistoryPrefix,
-    /// How many places were never given out.
+    /// How many places were not given out yet.
     pub(crate) unused: u32,
     pub(crate) rt: R,
 }
@@ -92,8 +92,8 @@ impl<N: Board, R: Wait + Drop> Model for BoardWriter<N, R> {
 
 impl<N: Board, R: Wait + Drop> BoardWriter<N, R> {
     /// Opens the board with these contents, in the order of the objects' numbers, and with places
-    /// for so many lookers. For none it is `without_places`, and the contents are dropped.
-    /// `OutOfMemory`: there is no board, and all that was handed in is spent.
+    /// for this many lookers. With 0 it is `without_places`, and the contents are dropped.
+    /// `OutOfMemory`: there is no board, and all that was passed in is consumed.
     pub fn new(
         rt: R,
         heap: Heap,
@@ -113,7 +113,8 @@ impl<N: Board, R: Wait + Drop> BoardWriter<N, R> {
             return Ok(BoardWriter::without_places(rt, keeper));
         }
         let copy = duplicate_contents(heap, contents.as_slice())?;
-        // One place more than there are lookers: briefing takes a new one before it frees the old.
+        // One place more than there are lookers: briefing takes a new one before it frees the old
+        // one.
         let tables = opened::<N>(heap, contents, copy, &keeper.front, lookers as usize + 1)?;
         Ok(BoardWriter::over(rt, Some(tables), keeper, lookers))
     }
@@ -129,7 +130,7 @@ impl<N: Board, R: Wait + Drop> BoardWriter<N, R> {
         BoardWriter::over(rt, None, keeper, 0)
     }
 
-    /// A board that opens with these tables, and gives out so many places.
+    /// A board that opens with these tables, and gives out this many places.
     fn over(rt: R, tables: Option<Publisher<N>>, keeper: Keeper, unused: u32) -> BoardWriter<N, R>
         requires first { IsTableOf N.opening_contents N.before N.first }
         requires keeper { StartsHistory N.history N.root keeper }
@@ -160,9 +161,9 @@ impl<N: Board, R: Wait + Drop> BoardWriter<N, R> {
         self.tables.is_some()
     }
 
-    /// A place for a looker, which has seen what stood on the board at first. Each place is given
-    /// out once; a looker that has ended leaves its own unused. `OutOfMemory`: memory is wanting, or
-    /// no place is left.
+    /// A place for a looker, which has seen what was on the board at first. Each place is given out
+    /// once; the place of a dropped looker stays unused. `OutOfMemory`: no memory, or no place, is
+    /// left.
     pub fn looker(&mut self) -> Result<Looker<N>, OutOfMemory>
         ensures first { IfOk result (λ looker. looker ≡ N.before) }
         ensures places { OnOk result (0 < N.places) }
@@ -176,8 +177,8 @@ impl<N: Board, R: Wait + Drop> BoardWriter<N, R> {
         Ok(looker)
     }
 
-    /// Makes an effect pending. At `OutOfMemory` all is as before, and the effect is spent; a board
-    /// without places takes no memory.
+    /// Makes an effect pending. At `OutOfMemory` nothing has changed, and the effect is consumed; a
+    /// board without places takes no memory.
     pub fn append(&mut self, effect: Effect) -> Result<(), OutOfMemory>
         ensures published { self.new.published ≡ self.old.published }
         ensures ok { OnOk result (self.new.pending
@@ -195,7 +196,8 @@ impl<N: Board, R: Wait + Drop> BoardWriter<N, R> {
         Ok(())
     }
 
-    /// Makes what this tells pending, on a board without places. It takes no memory.
+    /// Makes the effects that this stands for pending, on a board without places. It takes no
+    /// memory.
     pub fn append_told<X, M: TellsEffects<X>>(&mut self, about: &X)
         requires places { N.places ≡ 0 }
         ensures published { self.new.published ≡ self.old.published }
@@ -204,8 +206,8 @@ impl<N: Board, R: Wait + Drop> BoardWriter<N, R> {
         self.keeper.add::<X, M>(Snapshot::of(about));
     }
 
-    /// Publishes what is pending. At `OutOfMemory` something was pending, and all is as before; a
-    /// board without places takes no memory. It may wait for lookers that are inside.
+    /// Publishes what is pending. At `OutOfMemory` something was pending, and nothing has changed;
+    /// a board without places takes no memory. It may wait for lookers that are reading.
     pub fn publish(&mut self) -> Result<(), OutOfMemory>
         ensures ok { OnOk result ((self.new.published ≡ self.old.published ++ self.old.pending)
             × (self.new.pending ≡ [])) }
@@ -228,8 +230,8 @@ impl<N: Board, R: Wait + Drop> BoardWriter<N, R> {
     }
 
     /// Publishes what is pending, and lets the looker see all of it. What the looker saw before is
-    /// a beginning of that, whatever is answered. At `OutOfMemory` something was pending, and all
-    /// is as before. It may wait for lookers that are inside.
+    /// a prefix of that, whatever is returned. At `OutOfMemory` something was pending, and nothing
+    /// has changed. It may wait for lookers that are reading.
     pub fn brief(&mut self, looker: &mut Looker<N>) -> Result<(), OutOfMemory>
         ensures former { IsPrefix looker.old (self.old.published ++ self.old.pending) }
         ensures ok { OnOk result ((self.new.published ≡ self.old.published ++ self.old.pending)
@@ -254,7 +256,7 @@ impl<N: Board, R: Wait + Drop> BoardWriter<N, R> {
         Ok(())
     }
 
-    /// Ends the board. It may wait for lookers that are inside.
+    /// Ends the board. It may wait for lookers that are reading.
     pub fn end(self) {
         let BoardWriter {
             tables,

@@ -7,7 +7,7 @@ use argus_contents::{Content, ObjId};
 use argus_memory::{Heap, OutOfMemory, Room};
 
 /// What a committed topaction leaves for good: each object that it has written, with its content,
-/// which may be absent. Where an object stands twice, the first counts.
+/// which may be absent. If an object comes twice, the first counts.
 ///
 /// Source: at a topaction's commit its versions become the bases (Argus Reference Manual,
 /// MIT/LCS/TR-400, 1987).

@@ -1,4 +1,4 @@
-//! `HistoryPrefix`: a beginning of the history of effects.
+//! `HistoryPrefix`: a prefix of the history of effects.
 
 ghost use Rattle.std.specs.Prelude.{◌≡◌};
 
@@ -6,14 +6,14 @@ use crate::page::Page;
 use crate::pages::Law;
 use logbook::Seen;
 
-/// A beginning of the history of effects. It has no bytes: the history exists in contracts alone.
+/// A prefix of the history of effects. It takes no bytes: the history exists only in contracts.
 #[derive(Drop)]
 pub struct HistoryPrefix {
     pub seen: Seen<Page, u64, Law>,
 }
 
 impl HistoryPrefix {
-    /// The same beginning again.
+    /// The same prefix again.
     pub fn again(&self) -> HistoryPrefix
         ensures { result ≡ self.now }
     {

@@ -1,4 +1,4 @@
-//! `Keeper`: who alone adds to the history of a board.
+//! `Keeper`: what alone adds to the history of a board.
 
 ghost use Rattle.std.specs.Prelude.{[], ℕ, ◌++◌, ◌≡◌};
 ghost use mathlib.Core.List.{IsPrefix};
@@ -12,10 +12,10 @@ use crate::tells_effects::TellsEffects;
 use logbook::{Offer, Pen, Seen, Start, Word};
 use std::snapshot::Snapshot;
 
-/// Who alone adds to the history of a board, with all of it. It takes one word, which never
-/// changes: the history itself exists in contracts alone.
+/// What alone adds to the history of a board, with the whole history. It takes one word, which
+/// never changes: the history itself exists only in contracts.
 ///
-/// Make one for each board, before the board: a contract names the board's history by it.
+/// Make one for each board, before the board, whose contracts name the history by it.
 ///
 /// ```text
 /// publish_and_look::<Brand, _>(rt, heap, Keeper::new())?;     // the function of `Board`
@@ -46,7 +46,7 @@ impl Keeper {
         }
     }
 
-    /// Adds what this tells to the line of its right. It can't fail.
+    /// Adds the effects that this stands for to the line of its right. It can't fail.
     pub(crate) fn add<X, M: TellsEffects<X>>(&mut self, about: Snapshot<X>)
         ensures book { self.new.front.seen.book ≡ self.old.front.seen.book }
         ensures line { (root : ℕ) → self.old.pen.nib.key ≡ next_right root self.old.front.seen.log
@@ -70,7 +70,7 @@ impl Keeper {
         *pen = next;
     }
 
-    /// Whatever was seen of its line begins it.
+    /// Whatever was seen of its line is a prefix of it.
     pub(crate) fn covers(&mut self, other: &HistoryPrefix)
         requires { other.now.seen.book ≡ self.old.front.seen.book }
         ensures front { self.new.front ≡ self.old.front }

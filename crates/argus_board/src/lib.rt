@@ -1,4 +1,4 @@
-//! The readers' board: committed contents that threads look at with no lock.
+//! The readers' board: committed contents that threads read without a mutex.
 #![tactic(auto)]
 
 mod board;

@@ -1,12 +1,12 @@
-//! `LookFault`: why a look gave nothing.
+//! `LookFault`: why a look returned nothing.
 
 use thiserror::Error;
 
-/// Why a look gave nothing. What the looker saw before it goes on seeing.
+/// Why a look returned nothing. The looker still sees what it saw before.
 ///
 /// | Fault | Text | When |
 /// |---|---|---|
-/// | `Memory` | `out of memory` | memory is wanting for the copies |
+/// | `Memory` | `out of memory` | there is no memory for the copies |
 /// | `Closed` | `board closed` | the board has ended |
 ///
 /// ```text
@@ -14,7 +14,7 @@ use thiserror::Error;
 /// ```
 #[derive(Clone, Copy, Debug, PartialEq, Eq, Error)]
 pub enum LookFault {
-    /// The copies were refused memory.
+    /// There was no memory for the copies.
     #[error("out of memory")]
     Memory,
     /// The board has ended.

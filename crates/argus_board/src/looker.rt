@@ -1,4 +1,4 @@
-//! `Looker`: who looks at a board, with no lock.
+//! `Looker`: a place from which a thread reads a board, without a mutex.
 
 ghost use Rattle.std.specs.Prelude.{IfOk, [], map, ◌++◌, ◌<◌, ◌≡◌};
 ghost use mathlib.Core.List.{IsPrefix};
@@ -18,7 +18,7 @@ use std::marker::Model;
 
 /// A place at a board. Contracts see it as the effects that it saw, the newest last.
 ///
-/// A look takes no lock and waits for nobody.
+/// A look takes no mutex and waits for nobody.
 ///
 /// ```text
 /// let found = looker.look(heap, &[ObjId(0), ObjId(7)])?;
@@ -49,7 +49,7 @@ impl<N: Board> Model for Looker<N> {
 }
 
 impl<N: Board> Looker<N> {
-    /// A free place, which has seen what stood on the board at first.
+    /// A free place, which has seen what was on the board at first.
     pub(crate) fn at(writer: &Publisher<N>, front: &HistoryPrefix) -> Result<Looker<N>, OutOfMemory>
         requires places { 0 < N.places }
         requires first { IsTableOf N.opening_contents N.before N.first }
@@ -63,11 +63,11 @@ impl<N: Board> Looker<N> {
         })
     }
 
-    /// What was in these objects for good at one moment, none for an object that is absent or
-    /// undeclared: all from one published table, not before what this looker saw last. It takes no
-    /// lock and waits for nobody.
+    /// The bases of these objects at one moment; none for an object that is absent or undeclared.
+    /// All are from one published table, which is no older than what this looker saw last. It takes
+    /// no mutex and waits for nobody.
     ///
-    /// Faults: `Memory`, after which it can look again; `Closed`, once the board has ended.
+    /// Faults: `Memory`, after which it can look again; `Closed`, after the board has ended.
     ///
     /// ```text
     /// let found = looker.look(heap, &[ObjId(0), ObjId(1)])?;

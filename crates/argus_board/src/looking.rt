@@ -6,7 +6,7 @@ ghost use Rattle.argus_board.specs.Effects.{content_of_object, plain_contents};
 use argus_contents::{Content, ObjId};
 use argus_memory::{Heap, OutOfMemory, Room};
 
-/// A copy of the content of each of these objects, none where it is absent or the table lacks it.
+/// A copy of the content of each of these objects; none if it is absent or the table lacks it.
 pub(crate) fn copies_of(
     heap: Heap,
     contents: &[Option<Content>],
@@ -22,7 +22,7 @@ pub(crate) fn copies_of(
     Ok(copies)
 }
 
-// Appends a copy of the object's content, none where it is absent or the table lacks it.
+// Appends a copy of the object's content; none if it is absent or the table lacks it.
 #[inline(always)]
 fn append_copy_of(
     heap: Heap,

@@ -2,7 +2,7 @@
 
 use std::marker::Model;
 
-/// Effects, as the history has them. No value of it is made.
+/// Effects, as the history has them. It has no values.
 pub struct HistoryEffects;
 
 impl Model for HistoryEffects {
@@ -18,7 +18,7 @@ impl Model for HistoryEffects {
 }
 
 /// An entry of the history: the right that it used up, the one that comes next in its line, and
-/// what commits left. No value of it is made.
+/// what commits left. It has no values.
 pub struct Page {
     pub uses: u64,
     pub gives: u64,

@@ -53,7 +53,7 @@ impl Plain<u8, Page, u64> for Grow {
     ghost state = { λ v. None };
 }
 
-/// The step that adds a page, with the effects that `M` tells.
+/// The step that adds a page, with the effects that `M` stands for.
 pub(crate) struct Add<M>(PhantomData<M>);
 
 impl<M> Play<Page, u64> for Add<M> {
@@ -62,7 +62,7 @@ impl<M> Play<Page, u64> for Add<M> {
     ghost then = { Adds };
 }
 
-/// What tells the effects that are added, and the right that comes next.
+/// What stands for the effects that are added, and the right that comes next.
 pub(crate) struct Leaf<X> {
     pub(crate) about: Snapshot<X>,
     pub(crate) next: Pen,

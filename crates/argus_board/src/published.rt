@@ -10,7 +10,7 @@ use left_right::reader::Reader;
 use left_right::writer::Writer;
 use std::marker::{Model, PhantomData};
 
-/// What a place knows: the effects that it saw, the newest last. No value of it is made.
+/// What a place knows: the effects that it saw, the newest last. It has no values.
 pub struct View;
 
 impl Model for View {
@@ -25,8 +25,8 @@ impl Model for View {
     ghost view = { λ _. [] };
 }
 
-/// The rule: what is published are the contents of its effects, and each place saw a beginning of
-/// these.
+/// The rule: the published contents are those that its effects leave, and each place saw a prefix
+/// of these effects.
 pub struct Published<N: Board>(PhantomData<N>);
 
 impl<N: Board> Protocol<Table, View> for Published<N> {
@@ -47,7 +47,7 @@ impl<N: Board> Outcome<Table, View> for SeePublished<N> {
     ghost then = { SeesPublished N.first N.history N.root };
 }
 
-/// What the writer gives out of its view, and what a place makes of it.
+/// What the writer passes on of its view, and what a place makes of it.
 pub(crate) struct Notes;
 
 impl Split<View> for Notes {

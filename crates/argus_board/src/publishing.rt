@@ -19,7 +19,7 @@ use core::mem::replace_with;
 use std::alloc::AllocError;
 use std::sync::Wait;
 
-/// A publisher of these contents, of which `copy` has the same, with room for so many readers.
+/// A publisher of these contents, of which `copy` is a copy, with room for this many readers.
 pub(crate) fn opened<N: Board>(
     heap: Heap,
     contents: Vec<Option<Content>, Room>,
@@ -47,7 +47,7 @@ pub(crate) fn opened<N: Board>(
     Ok(publisher)
 }
 
-/// Publishes what is pending, if anything is. At `Err` there was no memory.
+/// Publishes what is pending, if anything is. `Err`: out of memory.
 pub(crate) fn publish<N: Board, R: Wait>(
     rt: &R,
     writer: &mut Publisher<N>,
@@ -93,7 +93,7 @@ fn is_behind<N: Board>(writer: &Publisher<N>) -> bool
     writer.has_pending_operations()
 }
 
-/// Gives the writer one change more. At `Err` there was no memory, and nothing changed.
+/// Gives the writer one more change. `Err`: out of memory, and nothing changed.
 pub(crate) fn append_change<N: Board>(
     writer: &mut Publisher<N>,
     change: BoardChange,
@@ -134,7 +134,7 @@ fn show<N: Board, R: Wait>(
     })
 }
 
-/// Publishes what is pending, where that leaves what the front says.
+/// Publishes what is pending, given that it leaves what the front says.
 fn publish_owned<N: Board, R: Wait>(
     rt: &R,
     writer: Publisher<N>,

@@ -12,15 +12,15 @@ use left_right::Absorb;
 use std::alloc::AllocError;
 use std::marker::Model;
 
-/// What is in the objects for good, in the order of their numbers, and how far the history had come
-/// then. A board with places has two copies of it.
+/// The bases of the objects, in the order of their numbers, and how far the history had come then.
+/// A board with places has two copies of it.
 #[derive(Drop)]
 pub struct Table {
     pub contents: Vec<Option<Content>, Room>,
     pub front: HistoryPrefix,
 }
 
-/// The contents of a table, as contracts see them. No value of it is made.
+/// The contents of a table, as contracts see them. It has no values.
 pub struct Contents;
 
 impl Model for Contents {

@@ -1,8 +1,8 @@
-//! `TellsEffects`: how a value tells effects.
+//! `TellsEffects`: how a value stands for effects.
 
 use crate::effect::Effect;
 
-/// What a value tells in contracts: the effects that it stands for. No value of it is made.
+/// The effects that a value stands for in contracts. It has no values.
 pub trait TellsEffects<X> {
     ghost use Rattle.std.specs.Prelude.{List};
     ghost use Rattle.argus_contents.specs.Effect.{Effect};
@@ -11,7 +11,7 @@ pub trait TellsEffects<X> {
     ghost effects: { X → List Effect };
 }
 
-/// An effect tells itself.
+/// An effect stands for itself.
 pub(crate) struct Leaves;
 
 impl TellsEffects<Effect> for Leaves {

@@ -9,7 +9,7 @@ use argus_contents::{Content, ObjId};
 use argus_memory::Room;
 use std::alloc::AllocError;
 
-/// How many objects a table has to have for all that the effect names.
+/// How many objects a table needs for all that the effect names.
 pub(crate) fn needed(effect: &[(ObjId, Option<Content>)]) -> usize
     ensures { result ≡ needed (plain_effect effect.now) }
 {
@@ -20,7 +20,7 @@ pub(crate) fn needed(effect: &[(ObjId, Option<Content>)]) -> usize
     count
 }
 
-/// Makes the contents so many at least: the new ones are absent. At `Err` nothing changed.
+/// Extends the contents to at least this many; the new ones are absent. At `Err` nothing changed.
 pub(crate) fn pad(contents: &mut Vec<Option<Content>, Room>, count: usize) -> Result<(), AllocError>
     ensures ok { OnOk result (plain_contents contents.new.items
         ≡ padded (plain_contents contents.old.items) count) }
@@ -34,7 +34,7 @@ pub(crate) fn pad(contents: &mut Vec<Option<Content>, Room>, count: usize) -> Re
     Ok(())
 }
 
-/// Writes each object of the effect. There are so many at least.
+/// Writes each object of the effect. The list is long enough for all of them.
 pub(crate) fn write(contents: &mut Vec<Option<Content>, Room>, effect: Effect)
     requires { needed (plain_effect effect.items) ≤ length contents.old.items }
     ensures { plain_contents contents.new.items
@@ -46,7 +46,7 @@ pub(crate) fn write(contents: &mut Vec<Option<Content>, Room>, effect: Effect)
     }
 }
 
-/// Puts a content in the place of another.
+/// Replaces a content by another.
 fn put(contents: &mut Vec<Option<Content>, Room>, at: usize, content: Option<Content>)
     requires { at < length contents.old.items }
     ensures { contents.new.items ≡ set contents.old.items at content }

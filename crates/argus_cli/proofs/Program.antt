@@ -1,4 +1,4 @@
--- The programs' command lines are such of which clap tells the matches and the faults.
+-- The programs' command lines are ones for which clap's lemmas give the matches and the faults.
 use Rattle.std.proofs.Common.{List, refl, true, ◌≡◌}
 use Rattle.std.specs.Borrow.{Bor}
 use Rattle.clap.specs.Words.{Text, is_simple, is_simple_and_free}

@@ -1,4 +1,4 @@
--- What a settlement says of a guardian that began with no entry.
+-- What a settlement says of a guardian that began without entries.
 use Rattle.std.specs.Borrow.{Bor}
 use Rattle.std.proofs.Common.{All, Bool, List, None, Option, Some, [], ap, arith, false, is_some}
 use Rattle.std.proofs.Common.{length, not, refl, slice_get, suc, sum_by, take, true, zero, ℕ, ◌++◌}

@@ -11,7 +11,7 @@ use Rattle.argus_commands.specs.run_check_declared.arm_outcome.ArmOutcome.{ArmOu
 use Rattle.argus_journal.specs.JournalView.{JournalView}
 
 -- Several workers ran the script on a new guardian, and this is its journal: its entries, each
--- once, are those of receipts which show a run of the script.
+-- once, are those of receipts that show a run of the script.
 pub record IsLeftByWorkers (script : PlainScript) (journal : JournalView) : Type 0 where
   pub fresh : journal.opening ≡ empty
   pub legal : Legal journal.opening journal.entries
@@ -21,7 +21,7 @@ pub record IsLeftByWorkers (script : PlainScript) (journal : JournalView) : Type
   -- of two calls that aren't made by two arms of one coenter, the earlier one came first
   pub outcomes : List ArmOutcome
   pub checked : IsCheckedRun script receipts outcomes
-  -- each is of an entry, no two are of one, and they are as many
+  -- each is of an entry, no two are of the same, and there are as many as entries
   pub stand : All (Stands journal.opening journal.entries) receipts
   pub apart : AreApart receipts
   pub count : length receipts ≡ length journal.entries

@@ -21,7 +21,7 @@ use Rattle.clap.specs.declared.builder.value_parser.ValueParser.{ValueParser}
 use Rattle.clap.specs.declared.builder.value_parser.ValueParser.TheVariants as vp
 use Rattle.clap.specs.declared.error.kind.ErrorKind.{ErrorKind}
 
--- an option with a value: this parser takes it, and this one stands where the option is left out
+-- an option with a value: this parser takes it, and this value is its default
 abbrev pub option_of : Text → Text → ValueParser → Rule
 option_of name default parser = record (new_rule name) {
   long = Some name;
@@ -48,7 +48,7 @@ abbrev pub NamesListings : Bor (List (Bor Text)) → Type 0
 NamesListings listings = map (λ name. name.now) listings.now
     ≡ codes "bases" ∷ codes "stacks" ∷ codes "journal" ∷ codes "audit" ∷ []
 
--- the words behind the program's name, as clap matches them
+-- the words after the program's name, as clap matches them
 abbrev pub rows_of_words : Bor (List (Bor Text)) → List Text → List Row
 rows_of_words listings words = matches_of (program listings) (codes "argus" ∷ words)
 
@@ -56,7 +56,7 @@ rows_of_words listings words = matches_of (program listings) (codes "argus" ∷ 
 abbrev pub faults_of_words : Bor (List (Bor Text)) → List Text → List ErrorKind
 faults_of_words listings words = fault_of (program listings) (codes "argus" ∷ words)
 
--- the number that the text spells; the other one where there is no text
+-- the number that the text spells; the other one if there is no text
 abbrev pub number_or : ℕ → Option Text → ℕ
 number_or other None = other
 number_or other (Some text) = digits_value 10 (without_leading_plus text)
@@ -68,7 +68,7 @@ listing_named name = if bytes_eq name (codes "stacks") then Stacks
     else if bytes_eq name (codes "audit") then Audit
     else Bases
 
--- the listing that is named, and the bases where none is
+-- the listing that is named, and the bases if none is
 abbrev pub listing_or_bases : Option Text → Listing
 listing_or_bases None = Bases
 listing_or_bases (Some name) = listing_named name
@@ -99,8 +99,8 @@ pub record IsRefused (words : List Text) (error : ErrorKind) : Type 0 where
   pub named : NamesListings listings
   pub among : IsAmong error (faults_of_words listings words)
 
--- why the words give no options: the status tells a mistake in them, or that they ask for help or
--- the version
+-- why the words give no options: the status says that they have a mistake, or ask for help or the
+-- version
 abbrev pub AskNothing : List Text → NoOptions → Type 0
 AskNothing words (no.Usage status text) =
     (error : ErrorKind) × IsRefused words error × IsStatusOf error status

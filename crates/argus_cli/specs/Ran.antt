@@ -28,7 +28,7 @@ new_journal = record { opening = empty; entries = [] }
 abbrev pub may_fold : JournalView → Bool
 may_fold j = is_quiet j && nat_le (next_entry_number j.opening j.entries) MAX_FIRST_ENTRY
 
--- the journal behind the option: folded where a checkpoint is asked for and there can be one
+-- the journal after the option: folded if a checkpoint is asked for and there can be one
 abbrev pub checkpointed : Bool → JournalView → JournalView
 checkpointed false j = j
 checkpointed true j = if may_fold j then after_checkpoint j else j
@@ -45,7 +45,7 @@ pub record RunsTo (bytes : List ℕ) (options : Options) (script : PlainScript)
   pub together : 1 < options.workers → IsLeftByWorkers script left
   pub folded : journal ≡ checkpointed options.checkpoint left
 
--- The text is the listing of the guardian on which the script was run that the bytes spell.
+-- The text is the listing of the guardian on which the script that the bytes spell was run.
 pub record ListsRun (bytes : List ℕ) (options : Options) (text : List ℕ) : Type 0 where
   pub script : PlainScript
   pub journal : JournalView
@@ -67,7 +67,7 @@ pub record Refused (limit : ℕ) (before after : RunStreams) (f : ScriptFault) :
   pub fault : IsFaultOf (lines_of bytes) f
   pub kept : after.output ≡ before.output
 
--- a run whose listing was cut short: the front of it was written
+-- a run whose listing was cut short: a prefix of it was written
 pub record CutShort (options : Options) (limit : ℕ) (before after : RunStreams) : Type 0 where
   pub bytes : List ℕ
   pub read : ReadUpTo limit before.input after.input bytes
@@ -76,7 +76,7 @@ pub record CutShort (options : Options) (limit : ℕ) (before after : RunStreams
   pub count : ℕ
   pub written : Appends before.output after.output (take count text)
 
--- what a run has read and written that failed so
+-- what a run that failed like this has read and written
 abbrev pub RunFailed : Options → ℕ → RunStreams → RunStreams → CliFault → Type 0
 RunFailed options limit before after (fault.Script f) = Refused limit before after f
 RunFailed options limit before after fault.Memory =
@@ -86,7 +86,7 @@ RunFailed options limit before after fault.Read =
 RunFailed options limit before after fault.Write =
     (after.output_failed ≡ true) × CutShort options limit before after
 
--- why bytes weren't run to their end: the fault of their script, or want of memory
+-- why bytes weren't run to their end: the fault of their script, or out of memory
 abbrev pub IsRunFault : List ℕ → CliFault → Type 0
 IsRunFault bytes (fault.Script f) = IsFaultOf (lines_of bytes) f
 IsRunFault bytes fault.Memory = Unit {0}

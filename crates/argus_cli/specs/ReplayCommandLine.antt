@@ -20,7 +20,7 @@ replay_program listings = with_rule (with_rule (named_program (codes "replay"))
     (option_of (codes "list") (codes "bases") (vp.Names listings)))
     (flag_of (codes "prefix"))
 
--- the words behind the program's name, as clap matches them
+-- the words after the program's name, as clap matches them
 abbrev pub replay_rows : Bor (List (Bor Text)) → List Text → List Row
 replay_rows listings words = matches_of (replay_program listings) (codes "replay" ∷ words)
 
@@ -44,8 +44,8 @@ pub record IsReplayRefused (words : List Text) (error : ErrorKind) : Type 0 wher
   pub named : NamesListings listings
   pub among : IsAmong error (replay_faults listings words)
 
--- why the words give no options: the status tells a mistake in them, or that they ask for help or
--- the version
+-- why the words give no options: the status says that they have a mistake, or ask for help or the
+-- version
 abbrev pub AskNoReplay : List Text → NoOptions → Type 0
 AskNoReplay words (no.Usage status text) =
     (error : ErrorKind) × IsReplayRefused words error × IsStatusOf error status

@@ -22,12 +22,12 @@ abbrev pub numbered_listing : Listing → JournalView → List ℕ
 numbered_listing listing journal =
     listing_of listing (numbered_names (declared journal.opening journal.entries)) journal
 
--- the line behind so many, with this fault
+-- the line after this many, with this fault
 abbrev pub line_behind : ℕ → TextFault → FaultyLine
 line_behind lines fault = record { line = lines + 1; fault = fault }
 
--- which line is at fault behind so many that were taken, by why no more were; an end by want of
--- memory or by a failed read says of no line
+-- which line after the ones that were taken is at fault, by the reason why no more were; an end by
+-- lack of memory or by a failed read names no line
 abbrev pub IsFaultBehind : ℕ → ReadEnd → Option FaultyLine → Type 0
 IsFaultBehind lines end.Whole faulty = faulty ≡ None
 IsFaultBehind lines end.Torn faulty = faulty ≡ Some (line_behind lines text.Torn)
@@ -35,8 +35,8 @@ IsFaultBehind lines (end.Fault fault) faulty = faulty ≡ Some (line_behind line
 IsFaultBehind lines end.OutOfMemory faulty = ⊥
 IsFaultBehind lines end.Read faulty = ⊥
 
--- A replay that succeeded: this guardian was made of what was read, this line was at fault, if any,
--- which a prefix alone may have, and the listing was written.
+-- A replay that succeeded: this guardian was made of what was read, this line, if any, was at
+-- fault, which only a prefix allows, and the listing was written.
 pub record Replayed (options : ReplayOptions) (before after : RunStreams)
     (faulty : Option FaultyLine) : Type 0 where
   pub resumed : Resumed
@@ -55,7 +55,7 @@ pub record RefusedText (options : ReplayOptions) (before after : RunStreams)
   pub asked : options.prefix ≡ false
   pub kept : after.output ≡ before.output
 
--- a replay whose listing was cut short: the front of it was written
+-- a replay whose listing was cut short: a prefix of it was written
 pub record ReplayCutShort (options : ReplayOptions) (before after : RunStreams) : Type 0 where
   pub resumed : Resumed
   pub made : IsResumed before.input after.input after.input_failed resumed
@@ -63,7 +63,7 @@ pub record ReplayCutShort (options : ReplayOptions) (before after : RunStreams) 
   pub written : Appends before.output after.output
       (take count (numbered_listing options.listing resumed.guardian))
 
--- what a replay has read and written that failed so
+-- what a replay that failed like this has read and written
 abbrev pub ReplayFailed : ReplayOptions → RunStreams → RunStreams → ReplayError → Type 0
 ReplayFailed options before after (error.Line faulty) = RefusedText options before after faulty
 ReplayFailed options before after error.OutOfMemory =

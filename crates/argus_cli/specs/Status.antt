@@ -14,7 +14,7 @@ status_of fault.Memory = 4
 status_of fault.Read = 5
 status_of fault.Write = 5
 
--- a fault that a listing may have: want of memory; or a failed write, if the writer has failed
+-- a fault that a listing may have: out of memory; or a failed write, if the writer has failed
 abbrev pub IsListingFault : CliFault → Bool → Type 0
 IsListingFault (fault.Script f) failed = ⊥
 IsListingFault fault.Memory failed = Unit {0}

@@ -3,7 +3,7 @@ use Rattle.std.specs.Prelude.{Bool, List, Option, ℕ}
 use Rattle.argus_commands.specs.FailStop.{has_failed, inner_of}
 use Rattle.argus_commands.specs.streams_declared.fail_stop.FailStop.{FailStop}
 
--- What a reader has left to give and what a writer has taken, as far as they tell, and
+-- What a reader has left to give and what a writer has taken, as far as their contracts say, and
 -- whether they have failed.
 pub record RunStreams : Type 0 where
   pub input : Option (List ℕ)
@@ -11,7 +11,7 @@ pub record RunStreams : Type 0 where
   pub input_failed : Bool
   pub output_failed : Bool
 
--- these streams, where these tell what a reader has left and what a writer has taken
+-- these streams, with functions that say what a reader has left and what a writer has taken
 abbrev pub streams : {R W : Type 0} → (R → Option (List ℕ)) → (W → Option (List ℕ)) → FailStop R
     → FailStop W → RunStreams
 streams remaining contents reader writer = record {

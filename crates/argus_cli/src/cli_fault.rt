@@ -24,16 +24,16 @@ use thiserror::Error;
 /// ```
 #[derive(Clone, Copy, Debug, PartialEq, Eq, Error)]
 pub enum CliFault {
-    /// The script is refused.
+    /// The script has a fault.
     #[error("{0}")]
     Script(ScriptFault),
-    /// Memory is wanting, or a worker couldn't be started.
+    /// There is no memory, or a worker couldn't be started.
     #[error("out of memory")]
     Memory,
     /// A read failed.
     #[error("read fault")]
     Read,
-    /// A write failed, or took nothing.
+    /// A write failed, or accepted nothing.
     #[error("write fault")]
     Write,
 }

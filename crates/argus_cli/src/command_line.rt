@@ -33,22 +33,22 @@ Exit status:
   4  want of memory, or a worker couldn't be started
   5  a read or a write failed";
 
-/// What the words behind the program's name ask for. Without any, one worker runs the script, the
+/// What the words after the program's name ask for. Without any, one worker runs the script, the
 /// bases are listed and no checkpoint is made.
 ///
 /// | Words | What they ask for |
 /// |---|---|
-/// | `--workers 1` to `8` | so many workers |
-/// | `--patience 0` to `1000` | with several workers: accesses wait for so many wake-ups |
+/// | `--workers 1` to `8` | this many workers |
+/// | `--patience 0` to `1000` | with several workers: accesses wait for this many wake-ups |
 /// | `--list bases`, `stacks`, `journal` or `audit` | this listing |
-/// | `--checkpoint` | a checkpoint behind the run |
+/// | `--checkpoint` | a checkpoint after the run |
 ///
-/// On Ok there is no mistake in the words, and each option has the value that they give it, by the
-/// matches of `clap`, or its default; workers and patience are within their ranges.
+/// On `Ok` there is no mistake in the words, and each option has the value that they give it, by
+/// the matches of `clap`, or its default. Workers and patience are within their ranges.
 ///
-/// `Usage` comes where there is a mistake in the words, or they ask for `--help` or `--version`. It
-/// has the text with which the program ends and its status: 2 for a mistake, else 0. `Memory` may
-/// come in place of any answer.
+/// `Usage` comes if there is a mistake in the words, or they ask for `--help` or `--version`. It
+/// has the text with which the program ends, and its status: 2 for a mistake, else 0. `Memory` may
+/// come in place of any result.
 ///
 /// ```text
 /// let options = options(rt.alloc(), words)?;       // of `argus --list bases`
@@ -81,7 +81,7 @@ fn asked(alloc: Global, words: &[String]) -> Result<Options, Error>
     })
 }
 
-// The listing of a name that the command takes.
+// The listing with a name that the command takes.
 pub(crate) fn listing_named(name: &str) -> Listing
     ensures { result ≡ listing_named name.now }
 {

@@ -1,4 +1,4 @@
-//! `FaultyLine`: the first line of a text by which it isn't a journal's listing.
+//! `FaultyLine`: the first line because of which a text isn't a journal's listing.
 
 ghost use Rattle.std.specs.Prelude.{OnErr, OnOk, string_bytes, ◌++◌, ◌≡◌};
 ghost use Rattle.std.specs.Fmt.{decimal};
@@ -9,18 +9,18 @@ use argus_guardian::LineFault;
 use argus_journal::write_reply;
 use argus_values::{OutOfMemory, Room};
 
-/// The first line of a text by which it isn't a journal's listing: its number, from 1, and what is
-/// wrong with it.
+/// The first line because of which a text isn't a journal's listing: its number, from 1, and what
+/// is wrong with it.
 ///
 /// | What is written of it | When |
 /// |---|---|
-/// | `line 7: Torn` | the text ends in the midst of the line |
+/// | `line 7: Torn` | the text ends in the middle of the line |
 /// | `line 7: NoText at 3` | the line isn't UTF-8, from this byte on |
-/// | `line 7: NotAnOpening` | it begins as a line of an opening, and can't be the next one |
-/// | `line 7: NoLine at 3` | it is the line of no entry, from this byte on |
+/// | `line 7: NotAnOpening` | it begins like a line of an opening, and can't be the next one |
+/// | `line 7: NoLine at 3` | it isn't the line of an entry, from this byte on |
 /// | `line 7: NotNext` | it is the line of an entry, but with another number than the next |
 /// | `line 7: NotSound` | the opening before it refers to objects that aren't there |
-/// | `line 7: NotTheReply: refused Conflict` | the journal before it gives this other reply |
+/// | `line 7: NotTheReply: refused Conflict` | another reply follows from the journal: this one |
 #[derive(Debug, Drop)]
 pub struct FaultyLine {
     pub line: u64,
@@ -28,7 +28,7 @@ pub struct FaultyLine {
 }
 
 impl FaultyLine {
-    /// Appends the text of the table above, without a line end. At `OutOfMemory` the front of it was
+    /// Appends the text of the table above, without a line end. At `OutOfMemory` a prefix of it was
     /// appended.
     ///
     /// ```text

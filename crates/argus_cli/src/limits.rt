@@ -2,7 +2,7 @@
 //!
 //! | What | Limit |
 //! |---|---|
-//! | workers, of which there is one at the least | `MAX_WORKERS` |
+//! | workers, at least one | `MAX_WORKERS` |
 //! | wake-ups for which an access waits | `MAX_PATIENCE` |
 
 /// The greatest number of workers.

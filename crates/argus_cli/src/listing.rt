@@ -12,15 +12,15 @@ use argus_guardian::{Guardian, ListError, Listing};
 use argus_values::{Heap, Name};
 use std::io::Write;
 
-/// Writes a listing of the guardian, its objects under these names, as `argus_guardian::list` does;
-/// the two errors are faults of the program.
+/// Writes a listing of the guardian, its objects under these names, as `argus_guardian::list` does.
+/// The two errors are faults of the program.
 ///
 /// | Error | When | What was written |
 /// |---|---|---|
-/// | `Memory` | memory is wanting | the front of the listing |
-/// | `Write` | a write failed, or took nothing; it isn't tried again | the front of the listing |
+/// | `Memory` | there is no memory | the front of the listing |
+/// | `Write` | a write failed, or accepted nothing; it isn't tried again | its front |
 ///
-/// The writer may not have failed before.
+/// Condition: the writer hasn't failed before.
 ///
 /// ```text
 /// let mut writer = FailStop::new(rt.stdout());

@@ -29,7 +29,7 @@ Exit status:
   4  want of memory
   5  a read or a write failed";
 
-/// What the words behind the program's name ask for. Without any, the bases are listed, and the text
+/// What the words after the program's name ask for. Without any, the bases are listed, and the text
 /// has to be a listing to its end.
 ///
 /// | Words | What they ask for |
@@ -37,9 +37,9 @@ Exit status:
 /// | `--list bases`, `stacks`, `journal` or `audit` | this listing |
 /// | `--prefix` | a text that is torn or has a faulty line is listed as far as it goes |
 ///
-/// `Usage` comes where there is a mistake in the words, or they ask for `--help` or `--version`. It
-/// has the text with which the program ends and its status: 2 for a mistake, else 0. `Memory` may
-/// come in place of any answer.
+/// `Usage` comes if there is a mistake in the words, or they ask for `--help` or `--version`. It
+/// has the text with which the program ends, and its status: 2 for a mistake, else 0. `Memory` may
+/// come in place of any result.
 ///
 /// ```text
 /// let options = options_for_replay(rt.alloc(), words)?;       // of `replay --list audit`

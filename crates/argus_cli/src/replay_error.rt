@@ -11,10 +11,10 @@ use argus_values::OutOfMemory;
 ///
 /// | Error | Status | When |
 /// |---|---|---|
-/// | `Line` | 3 | the text isn't a journal's listing, by this line |
-/// | `OutOfMemory` | 4 | memory is wanting |
+/// | `Line` | 3 | the text isn't a journal's listing, because of this line |
+/// | `OutOfMemory` | 4 | there is no memory |
 /// | `Read` | 5 | a read failed |
-/// | `Write` | 5 | a write failed, or took nothing |
+/// | `Write` | 5 | a write failed, or accepted nothing |
 ///
 /// ```text
 /// if let Err(error) = replay(heap, &mut reader, &mut writer, options) {

@@ -2,7 +2,7 @@
 
 use argus_guardian::Listing;
 
-/// What is asked of a replay: which listing is written, and whether that of a front will do.
+/// What is asked of a replay: which listing is written, and whether a prefix of the text will do.
 ///
 /// ```text
 /// ReplayOptions { listing: Listing::Audit, prefix: false }

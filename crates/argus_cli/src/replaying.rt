@@ -21,23 +21,24 @@ use argus_guardian::{
 use argus_values::Heap;
 use std::io::{Read, Write};
 
-/// Reads a journal's listing, and writes the listing that is asked for of the guardian whose journal
-/// it is, its objects under their numbers (`o0`, `o1`). Each entry's call is made once more, and its
-/// reply compared with the line's: so what is listed is checked, wherever the text came from.
+/// Reads a journal's listing, and writes the listing that is asked for of the guardian whose
+/// journal it is, its objects under their numbers (`o0`, `o1`). Each entry's call is made again,
+/// and its reply compared with the line's. So what is listed is checked, wherever the text came
+/// from.
 ///
-/// None: the text is the listing of a journal, to its end. A faulty line comes only where the
-/// options take a prefix: the listing is that of the longest front of whole lines that is a
-/// journal's listing, and this is the line behind those that were taken.
+/// `None`: the text is the listing of a journal, to its end. A faulty line comes only if the
+/// options take a prefix: the listing is that of the longest prefix of whole lines that is a
+/// journal's listing, and this is the line after those that were taken.
 ///
 /// | Error | When | What was written |
 /// |---|---|---|
-/// | `Line` | the text is no journal's listing, by this line, and no prefix will do | nothing |
-/// | `OutOfMemory` | memory is wanting | nothing, or the listing's front |
+/// | `Line` | because of this line the text isn't a listing, and no prefix will do | nothing |
+/// | `OutOfMemory` | there is no memory | nothing, or the listing's front |
 /// | `Read` | a read failed; it isn't tried again | nothing |
-/// | `Write` | a write failed, or took nothing; it isn't tried again | the front of the listing |
+/// | `Write` | a write failed, or accepted nothing; it isn't tried again | its front |
 ///
-/// It holds the guardian, and of the text no more than a line and 16 KiB. Neither reader nor writer
-/// may have failed before.
+/// It holds the guardian, and of the text at most a line and 16 KiB. Condition: neither the reader
+/// nor the writer has failed before.
 ///
 /// ```text
 /// let mut reader = FailStop::new(rt.stdin());
@@ -77,7 +78,8 @@ pub fn replay<R: Read + Drop, W: Write + Drop>(
     Ok(faulty)
 }
 
-// The line behind so many that were taken, if it is at fault. There is memory for fewer than 2^64.
+// The line after the number of lines that were taken, if it is at fault. There is memory for fewer
+// than 2^64.
 fn fault_behind(lines: u64, end: ReadEnd) -> Result<Option<FaultyLine>, ReplayError>
     ensures fault { IfOk result (IsFaultBehind lines end) }
     ensures failed { IfErr result (λ e. (e ≡ error.OutOfMemory)

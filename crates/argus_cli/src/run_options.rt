@@ -12,11 +12,11 @@ use argus_guardian::Listing;
 pub struct Options {
     /// 1 to `limits::MAX_WORKERS`. One worker runs the arms of a coenter one after another.
     pub workers: u32,
-    /// With several workers: for how many wake-ups an access waits that would be refused
-    /// `Conflict`; at most `limits::MAX_PATIENCE`. All that wait are woken after each commit, abort
-    /// and end of an action's siblings that was done. One worker waits for nobody.
+    /// With several workers: for how many wake-ups an access waits that would be refused with
+    /// `Conflict`; at most `limits::MAX_PATIENCE`. All waiting threads are woken after each commit,
+    /// abort and abort of siblings that was done. One worker waits for nobody.
     pub patience: u32,
-    /// What is listed behind the run.
+    /// What is listed after the run.
     pub listing: Listing,
     /// Whether the journal is folded into its opening before the listing.
     pub checkpoint: bool,

@@ -28,21 +28,22 @@ use std::thread::Threads;
 /// Reads a script, runs it on a new guardian and writes the listing that is asked for.
 ///
 /// A script is read up to 16,777,217 bytes: one more than it may have. One worker runs the arms of
-/// a coenter one after another. Several run those of an outermost coenter at once, each on a
-/// thread of its own, and accesses wait for their locks as long as the patience lasts; what they
-/// did is then checked against the script and the journal. Where the options ask for a checkpoint,
-/// one is made behind the run; where there can't be one (an action is live, or the next entry's
-/// number is too great), the journal is listed as it stands.
+/// a coenter one after another. Several run those of an outermost coenter at once, each on a thread
+/// of its own, and accesses wait for their locks as long as the patience lasts; what they did is
+/// then checked against the script and the journal. If the options ask for a checkpoint, one is
+/// made after the run; if there can't be one (an action is live, or the next entry's number is too
+/// great), the journal is listed as it is.
 ///
 /// | Error | When | What was written |
 /// |---|---|---|
 /// | `Script` | this is the first faulty line of what was read | nothing |
-/// | `Memory` | memory is wanting, or a worker can't be started | nothing, or the listing's front |
+/// | `Memory` | no memory, or a worker can't be started | nothing, or the listing's front |
 /// | `Read` | a read failed; it isn't tried again | nothing |
-/// | `Write` | a write failed, or took nothing; it isn't tried again | the front of the listing |
+/// | `Write` | a write failed, or accepted nothing; it isn't tried again | its front |
 ///
-/// Neither reader nor writer may have failed before, and the options are within their ranges. With
-/// several workers it may wait for other threads: for ever where two arms wait for each other.
+/// Condition: neither the reader nor the writer has failed before, and the options are within their
+/// ranges. With several workers it may wait for other threads: for ever if two arms wait for each
+/// other.
 ///
 /// ```text
 /// let mut reader = FailStop::new(rt.stdin());
@@ -121,7 +122,7 @@ fn run_script<T: Threads + Wait + Copy + Drop + Send + Sync>(
     Ok(guardian)
 }
 
-// Makes a checkpoint where it is asked for; where there can't be one, the guardian stays as it is.
+// Makes a checkpoint if one is asked for; if there can't be one, the guardian is unchanged.
 fn fold_if(asked: bool, guardian: &mut Guardian) -> Result<(), OutOfMemory>
     ensures { OnOk result (guardian.new ≡ checkpointed asked guardian.old) }
 {

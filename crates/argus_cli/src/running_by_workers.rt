@@ -1,4 +1,4 @@
-//! A run by several workers, who share a new guardian.
+//! A run by several workers, which share a new guardian.
 
 ghost use Rattle.std.specs.Prelude.{All, IfOk, [], length, true, ◌+◌, ◌≡◌, ◌≤◌};
 ghost use Rattle.argus_guardian.specs.Keeper.{StartsHistory};
@@ -17,11 +17,11 @@ use std::sync::Wait;
 use std::sync::ledger::Blank;
 use std::thread::Threads;
 
-/// Runs the script by so many workers on a new guardian that they share, and settles with all seats
-/// and all receipts. Accesses wait for their locks, for at most `patience` wake-ups.
+/// Runs the script by this many workers on a new guardian that they share, and settles with all
+/// seats and all receipts. Accesses wait for their locks, for at most `patience` wake-ups.
 ///
-/// `OutOfMemory`: memory is wanting, or a worker can't be started. It is answered, too, where what
-/// the workers did isn't a run of the script, or not all that was done to the guardian.
+/// `OutOfMemory`: there is no memory, or a worker can't be started. It is also returned if what the
+/// workers did isn't a run of the script, or isn't all that was done to the guardian.
 pub(crate) fn run_by_workers<T: Threads + Wait + Copy + Drop + Send + Sync>(
     rt: &T,
     heap: Heap,
@@ -45,8 +45,8 @@ pub(crate) fn run_by_workers<T: Threads + Wait + Copy + Drop + Send + Sync>(
     )
 }
 
-// Shares the guardian among the workers and who begins their arms. The conditions from the third on
-// say which sharing this is.
+// Shares the guardian among the workers and the thread that begins their arms. The conditions from
+// the third on say which sharing this is.
 fn share<N: Sharing + Send + Sync, T: Threads + Wait + Copy + Drop + Send + Sync>(
     rt: &T,
     heap: Heap,
@@ -75,7 +75,7 @@ fn share<N: Sharing + Send + Sync, T: Threads + Wait + Copy + Drop + Send + Sync
     }
 }
 
-// Has the script run by all seats, and settles with all of them and all receipts.
+// Lets all seats run the script, and settles with all of them and all receipts.
 fn run_and_settle<N: Sharing + Send + Sync, T: Threads + Wait + Drop + Send + Sync>(
     rt: &T,
     heap: Heap,
@@ -111,8 +111,8 @@ fn run_and_settle<N: Sharing + Send + Sync, T: Threads + Wait + Drop + Send + Sy
     }
 }
 
-// Whether nothing went before the guardian's entries, as with a new one. The lock's contract doesn't
-// say which guardian is given back.
+// Whether nothing went before the guardian's entries, as in a new one. The lock's contract doesn't
+// say which guardian comes back.
 fn is_from_start(guardian: &Guardian) -> bool
     ensures { result ≡ true → guardian.now.opening ≡ empty }
 {

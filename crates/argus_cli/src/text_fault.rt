@@ -12,7 +12,7 @@ use argus_guardian::LineFault;
 /// ```
 #[derive(Debug, Drop)]
 pub enum TextFault {
-    /// The text ends in the midst of the line: it has no line feed.
+    /// The text ends in the middle of the line: it has no line feed.
     Torn,
     /// The line isn't the next one of the listing.
     Line(LineFault),

@@ -1,8 +1,8 @@
 //! Scripts: the crate that users name.
 //!
-//! It passes on `argus_language` (scripts, parsed), `argus_runs` (a script, run on a guardian),
+//! It re-exports `argus_language` (scripts, parsed), `argus_runs` (a script, run on a guardian),
 //! `argus_workers` (a script, run by several workers), `argus_run_check` (a run, checked by its
-//! receipts) and `argus_streams` (readers and writers that are never tried again once they failed).
+//! receipts) and `argus_streams` (readers and writers that are never tried again after a failure).
 //!
 //! ```text
 //! use argus_commands::{FailStop, Gate, parse, run_serial, run_shared};

@@ -1,4 +1,4 @@
--- Several calls: what one call more adds.
+-- Several calls: what one more call adds.
 use Rattle.std.proofs.Common.{List, [], ap, append_assoc, append-nil, arith, drop, length, refl, subst, suc, sym, ℕ, ◌++◌, ◌∙◌, ◌∷◌, ◌≡◌, ◌≢◌, ◌≤◌}
 use Rattle.std.proofs.Math.Bool.{and-true, and_assoc}
 use Rattle.std.specs.Prelude.{Bool, Option, Some, ◌&&◌}

@@ -1,4 +1,4 @@
--- How much of the lines that were taken is let go.
+-- How much of the lines that were taken is dropped.
 use Rattle.std.proofs.Common.{ap, length, take, ℕ, ◌+◌, ◌-◌, ◌∙◌, ◌≡◌}
 use Rattle.argus_guardian.specs.JournalText.{journal_text}
 use Rattle.argus_journal.specs.JournalView.{JournalView}

@@ -1,4 +1,4 @@
--- A test that would be answered yes, as a truth value.
+-- A test that would return yes, as a truth value.
 use Rattle.std.proofs.Common.{Bool, IsTrue, ap, false, refl, sym, true, ◌↔◌, ◌≡◌}
 use Rattle.std.proofs.lemmas.Bool.{false≢true}
 use Rattle.argus_values.specs.Answer.{body, done, flag, num, signal, val}

@@ -1,6 +1,6 @@
 -- One more call of a list, made.
 use Rattle.std.proofs.Common.{List, [], ap, drop, drop-cons, get_or, length, subst, suc, sym, true, ℕ, ◌<◌, ◌++◌, ◌∙◌, ◌∷◌, ◌≡◌}
-use Rattle.std.specs.Prelude.{Bool, Option, ◌&&◌}
+use Rattle.std.specs.Prelude.{Bool, ◌&&◌}
 use Rattle.argus_journal.specs.Call.{PlainCall}
 use Rattle.argus_journal.specs.JournalView.{JournalView, reply_to}
 use Rattle.argus_journal.specs.Reply.{PlainReply}

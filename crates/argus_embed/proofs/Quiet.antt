@@ -1,5 +1,5 @@
 -- Whether an action is live, as a host sees it: by the first live one.
-use Rattle.std.proofs.Common.{None, Option, Some, ap, arith, false, inl, inr, true, ℕ, ◌+◌, ◌-◌, ◌∙◌, ◌≡◌, ◌≤◌}
+use Rattle.std.proofs.Common.{None, Option, Some, ap, arith, false, inl, inr, true, ℕ, ◌+◌, ◌-◌, ◌∙◌, ◌≡◌}
 use Rattle.std.specs.List.{list_any}
 use Rattle.std.specs.Option.{IfNone, IfSome, is_some}
 use Rattle.std.specs.Prelude.{not}

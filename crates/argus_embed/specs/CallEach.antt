@@ -40,7 +40,7 @@ is_no_refusal outcome.Text = true
 is_no_refusal (outcome.Signal signal) = true
 is_no_refusal (outcome.Refused refusal) = false
 
--- it is no refusal and no signal
+-- it is neither a refusal nor a signal
 abbrev pub is_no_signal : Outcome → Bool
 is_no_signal outcome.Done = true
 is_no_signal (outcome.Object o) = true
@@ -59,7 +59,7 @@ meets NoRefusal o = is_no_refusal o
 meets Nothing o = true
 meets NoSignal o = is_no_signal o
 
--- the same, where there is such a demand
+-- the same, if there is such a demand
 abbrev pub meets_any : Option Demand → Outcome → Bool
 meets_any (Some demand) o = meets demand o
 meets_any None o = false
@@ -68,7 +68,7 @@ meets_any None o = false
 abbrev pub is_met : ListedCall → PlainReply → Bool
 is_met each reply = meets_any (demand_of each.demand) (outcome_of reply)
 
--- so many of the replies, from the first on, are as demanded
+-- this many of the replies, from the first on, are as demanded
 abbrev pub are_met : List ListedCall → List PlainReply → Bool
 are_met listed [] = true
 are_met [] (reply ∷ replies) = false
@@ -103,8 +103,8 @@ SaysAfter replies each call =
     (action : ℕ) × (action_by replies each.begun_by each.action ≡ Some action)
     × Says (request_of each action) each.text.now call
 
--- why it stands for none: there is no such demand, the call that is to have begun its action isn't
--- before it or began none, its text isn't UTF-8; or as of a single call
+-- why it stands for none: there is no such demand, the call that should have begun its action isn't
+-- before it or began none, its text isn't UTF-8; or as for a single call
 abbrev pub IsUnreadAfter : List PlainReply → ListedCall → EmbedError → Type 0
 IsUnreadAfter replies each error.BadDemand = demand_of each.demand ≡ None
 IsUnreadAfter replies each error.NotBegun =
@@ -133,7 +133,7 @@ abbrev pub replies_to : JournalView → List PlainCall → List PlainReply
 replies_to journal [] = []
 replies_to journal (call ∷ calls) = reply_to journal call ∷ replies_to (after journal call) calls
 
--- so many of the calls of the list, from the first on, stand for these, after these replies
+-- this many of the calls of the list, from the first on, stand for these, after these replies
 abbrev pub SayEach : JournalView → List PlainReply → List ListedCall → List PlainCall → Type 0
 SayEach journal replies listed [] = Unit {0}
 SayEach journal replies [] (call ∷ calls) = ⊥
@@ -141,7 +141,7 @@ SayEach journal replies (each ∷ listed) (call ∷ calls) =
     SaysAfter replies each call
     × SayEach (after journal call) (replies ++ reply_to journal call ∷ []) listed calls
 
--- the text that is kept after these replies: their lines, or else what was kept
+-- the text that is kept after these replies: their lines, or otherwise what was kept
 abbrev pub lines_or : Option (List ℕ) → List PlainReply → Option (List ℕ)
 lines_or text [] = text
 lines_or text (reply ∷ replies) = Some (reply_lines (reply ∷ replies))
@@ -161,7 +161,7 @@ after_each state calls = record state {
 abbrev pub after_next : EmbeddedState → PlainCall → EmbeddedState
 after_next state call = record state { journal = after state.journal call }
 
--- after so many of them
+-- after this many of them
 abbrev pub after_nexts : EmbeddedState → List PlainCall → EmbeddedState
 after_nexts state calls = record state { journal = after_calls state.journal calls }
 
@@ -203,8 +203,7 @@ with_end listed at Whole = listed
 with_end listed at Unmet = listed
 with_end listed at (Failed e) = with_error listed at e
 
--- so many calls were made, from the first on, and no more: they are those for which the calls of the
--- list stand
+-- this many calls were made, from the first on, and no more: they are those that the calls of the list stand for
 abbrev pub AreCalled : List ListedCall → List ListedCall → EmbeddedState → EmbeddedState → CallsMade
     → Type 0
 AreCalled listed listed_after old new made =

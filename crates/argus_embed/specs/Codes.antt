@@ -1,5 +1,5 @@
--- The two numbers by which a host is told what came of a call: a status, and what goes with it.
--- They are those of the C header.
+-- The two numbers from which a host sees what came of a call: a status, and what goes with it. They
+-- are those of the C header.
 use Rattle.std.specs.Prelude.{Bool, false, if◌then◌else◌, nat_lt, pos, true, ℕ, ℤ, ◌-◌, ◌^◌}
 use Rattle.argus_actions.specs.declared.status.Status.{Status}
 use Rattle.argus_actions.specs.declared.status.Status.TheVariants.{Aborted, Committed, Folded, Live}
@@ -41,7 +41,7 @@ refusal_code TooDeep = pos 7
 refusal_code TooMany = pos 8
 refusal_code NoSiblings = pos 9
 
--- a number for what has become of an action
+-- a number for an action's status
 abbrev pub status_code : Status → ℤ
 status_code Live = pos 1
 status_code Committed = pos 2
@@ -53,7 +53,7 @@ abbrev pub flag_code : Bool → ℤ
 flag_code true = pos 1
 flag_code false = pos 0
 
--- a number as a signed one of 64 bits; the greatest of these for what is past it
+-- a number as a signed one of 64 bits; anything greater becomes the greatest of these
 abbrev pub as_number : ℕ → ℤ
 as_number n = if nat_lt n (2 ^ 63) then pos n else pos (2 ^ 63 - 1)
 
@@ -70,7 +70,7 @@ outcome_codes outcome.Text = (7, pos 0)
 outcome_codes (outcome.Signal signal) = (8, signal_code signal)
 outcome_codes (outcome.Refused refusal) = (9, refusal_code refusal)
 
--- the status and the number where no call was made
+-- the status and the number if no call was made
 abbrev pub error_codes : EmbedError → ℕ × ℤ
 error_codes error.OutOfMemory = (10, pos 0)
 error_codes error.NotUtf8 = (12, pos 0)
@@ -84,7 +84,7 @@ error_codes error.Full = (20, pos 0)
 error_codes error.NotBegun = (23, pos 0)
 error_codes error.BadDemand = (24, pos 0)
 
--- the status and the number where no more lines of a text were taken
+-- the status and the number if no more lines of a text were taken
 abbrev pub text_end_codes : TextEnd → ℕ × ℤ
 text_end_codes text_end.Whole = (0, pos 0)
 text_end_codes text_end.Torn = (0, pos 0)

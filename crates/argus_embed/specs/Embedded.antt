@@ -1,7 +1,7 @@
--- What contracts see of an embedded guardian, and what a call and a question leave of it.
+-- What contracts see of an embedded guardian, and what it is after a call and a question.
 use Rattle.std.specs.Coded.{Coded, code_by, coded_list, coded_option, coded_ℕ, coded×}
 use Rattle.std.specs.List.{flat_map}
-use Rattle.std.specs.Prelude.{List, None, Option, Some, [], false, pos, refl, true, ℕ, ℤ, ◌++◌, ◌+ℤ◌, ◌<◌, ◌∷◌, ◌≡◌}
+use Rattle.std.specs.Prelude.{List, None, Option, Some, [], false, refl, true, ℕ, ◌++◌, ◌<◌, ◌∷◌, ◌≡◌}
 use Rattle.argus_values.specs.Answer.{PlainAnswer, body, done, flag, num, signal, val}
 use Rattle.argus_values.specs.Value.{PlainValue}
 use Rattle.argus_values.specs.Value as value
@@ -33,11 +33,11 @@ embedded_state_coded =
     (λ s. (s.journal, (s.text, s.taken)))
     (λ p. record { journal = p.0; text = p.1.0; taken = p.1.1 }) (λ _. refl)
 
--- no object, no action, no entry, no text, and no line taken
+-- without objects, actions, entries, a text, and lines taken
 abbrev pub empty_state : EmbeddedState
 empty_state = record { journal = no_journal; text = None; taken = no_journal }
 
--- the written form of a value that no number says: of all but integers and truth values
+-- the written form of a value that isn't a number: of all but integers and truth values
 abbrev pub value_text : PlainValue → Option (List ℕ)
 value_text value.null = Some (spelling value.null)
 value_text (value.bool truth) = None
@@ -98,8 +98,8 @@ IsFull state =
 abbrev pub after_fold : EmbeddedState → EmbeddedState
 after_fold state = record state { journal = after_checkpoint state.journal }
 
--- the journal that begins anew: the objects with what is in them for good, the number of the next
--- entry, and actions from 0 on
+-- the journal that starts over: the objects with their bases, the number of the next entry, and
+-- actions from 0 on
 abbrev pub renewed : JournalView → JournalView
 renewed journal = record {
   opening = opening_at (fold journal.opening journal.entries).objects 0
@@ -107,16 +107,16 @@ renewed journal = record {
   entries = [];
 }
 
--- the same with the journal begun anew
+-- the same with the journal started over
 abbrev pub after_renewal : EmbeddedState → EmbeddedState
 after_renewal state = record state { journal = renewed state.journal }
 
--- the same with all that was live aborted
+-- the same with all live actions aborted
 abbrev pub after_abort_live : EmbeddedState → EmbeddedState
 after_abort_live state =
     record state { journal = after_aborts state.journal (live_topactions state.journal) }
 
--- the same with some of it aborted, from the first topaction on
+-- the same with some of them aborted, from the first topaction on
 abbrev pub IsAbortedInPart : EmbeddedState → EmbeddedState → Type 0
 IsAbortedInPart old new =
     IsPartlyAborted old.journal new.journal × (new.text ≡ old.text) × (new.taken ≡ old.taken)

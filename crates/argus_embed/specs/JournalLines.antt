@@ -14,12 +14,13 @@ use Rattle.argus_embed.specs.declared.lines_writing.Fitting.{Fitting}
 abbrev pub next_of : JournalView → ℕ
 next_of journal = next_entry_number journal.opening journal.entries
 
--- the line of the entry with this number, with its line feed; nothing where the journal hasn't it
+-- the line of the entry with this number, with its line feed; nothing if the journal doesn't have
+-- it
 abbrev pub line_at : JournalView → ℕ → List ℕ
 line_at journal at =
     text_line (option_map (entry_spelling at) (entry_at journal.opening journal.entries at))
 
--- the lines of so many entries from this number on
+-- the lines of this many entries from this number on
 abbrev pub lines_from : JournalView → ℕ → ℕ → List ℕ
 lines_from journal from count = flat_map (line_at journal) (range_with_len from count)
 
@@ -27,16 +28,16 @@ lines_from journal from count = flat_map (line_at journal) (range_with_len from 
 abbrev pub HasNoPlace : JournalView → ℕ → Type 0
 HasNoPlace journal from = (from < journal.opening.first_entry) ⊎ (next_of journal < from)
 
--- the bytes of the lines that a room has taken; where it has taken none, those of the first line
+-- the bytes of the lines that a room has taken; if it has taken none, those of the first line
 abbrev pub lines_size : JournalView → ℕ → ℕ → ℕ
 lines_size journal from count =
     if count == 0 then length (line_at journal from) else length (lines_from journal from count)
 
--- so many whole lines are at the front of the room, and with the next one, if there is one, they
+-- this many whole lines are at the front of the room, and with the next one, if there is one, they
 -- would be longer than it
 pub record AreLines (journal : JournalView) (from : ℕ) (old new : List ℕ) (lines : Lines)
     : Type 0 where
-  -- there are so many entries
+  -- there are this many entries
   pub there : from + lines.count ≤ next_of journal
   pub fit : length (lines_from journal from lines.count) ≤ length old
   pub front : take (length (lines_from journal from lines.count)) new
@@ -45,10 +46,10 @@ pub record AreLines (journal : JournalView) (from : ℕ) (old new : List ℕ) (l
   pub most : from + lines.count < next_of journal
       → length old < length (lines_from journal from (lines.count + 1))
   pub size : lines.size ≡ lines_size journal from lines.count
-  -- a room that takes none stays as it is
+  -- a room that takes none is unchanged
   pub none : lines.count ≡ 0 → new ≡ old
 
--- so many lines fit: all up to the next entry; or all but the last of those that were made
+-- this many lines fit: all up to the next entry; or all but the last of those that were made
 abbrev pub IsFitting : JournalView → ℕ → ℕ → ℕ → Fitting → Type 0
 IsFitting journal from next most f =
     (f.size ≡ length (lines_from journal from f.count)) × (f.size ≤ most)

@@ -15,20 +15,20 @@ kept_text (kept.Replies replies) = Some (reply_lines (map plain_reply replies.it
 kept_text (kept.Text text) = Some text.items
 kept_text (kept.Given reply) = Some (reply_spelling (plain_reply reply))
 
--- the bytes are at the front of the room, where they fit; else the room is as it was
+-- the bytes are at the front of the room if they fit; otherwise the room is unchanged
 abbrev pub IsPut : List ℕ → List ℕ → List ℕ → Type 0
 IsPut bytes old new =
     (length bytes ≤ length old → take (length bytes) new ≡ bytes)
     × (length old < length bytes → new ≡ old)
 
--- the size of the text, which is put into the room where there is one
+-- the size of the text, which is put into the room if there is one
 abbrev pub IsCopied : Option (List ℕ) → Option ℕ → List ℕ → List ℕ → Type 0
 IsCopied (Some text) (Some size) old new = (size ≡ length text) × IsPut text old new
 IsCopied None None old new = new ≡ old
 IsCopied (Some text) None old new = ⊥
 IsCopied None (Some size) old new = ⊥
 
--- the text was appended, where there is one
+-- the text was appended, if there is one
 abbrev pub IsAppended : Option (List ℕ) → Bool → List ℕ → List ℕ → Type 0
 IsAppended (Some text) true old new = new ≡ old ++ text
 IsAppended None false old new = new ≡ old

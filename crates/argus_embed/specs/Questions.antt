@@ -1,4 +1,4 @@
--- What a question is answered, by the journal.
+-- The answer to a question, by the journal.
 use Rattle.std.specs.Fmt.{decimal}
 use Rattle.std.specs.List.{flat_map, range_with_len}
 use Rattle.std.specs.Option.{option_map}
@@ -70,11 +70,11 @@ seen_lines versions = flat_map seen_line versions
 abbrev pub object_name : ℕ → List ℕ
 object_name o = codes "o" ++ decimal o
 
--- the names of so many objects
+-- the names of this many objects
 abbrev pub object_names : ℕ → List (List ℕ)
 object_names count = map object_name (range_with_len 0 count)
 
--- the text that a question is answered, if it is answered by one
+-- the text that answers a question, if a text does
 abbrev pub text_to : JournalView → Question → Option (List ℕ)
 text_to journal (question.Base o) =
     option_map content_text (where_declared journal o.0
@@ -104,27 +104,27 @@ text_to journal question.FirstEntry = None
 abbrev pub with_text : EmbeddedState → List ℕ → EmbeddedState
 with_text state text = record state { text = Some text }
 
--- it is told as a text, which is there and is kept
+-- the answer is a text, which is there and is kept
 abbrev pub IsText : Option (List ℕ) → EmbeddedState → EmbeddedState → Outcome → Type 0
 IsText (Some text) old new told = (told ≡ outcome.Text) × (new ≡ with_text old text)
 IsText None old new told = ⊥
 
--- it is told as this, and nothing has changed
+-- the answer is this, and nothing has changed
 abbrev pub IsPlain : Outcome → EmbeddedState → EmbeddedState → Outcome → Type 0
 IsPlain expected old new told = (told ≡ expected) × (new ≡ old)
 
--- it is told as a number what has become of the action, which is begun
+-- the answer is the number of the action's status, and the action was begun
 abbrev pub IsStatus : Option Status → Outcome → Type 0
 IsStatus (Some status) told = told ≡ outcome.Number (status_code status)
 IsStatus None told = ⊥
 
--- it is told as the first live action, of those from this number on
+-- the answer is the first live action from this number on
 abbrev pub IsFirstLive : JournalView → ℕ → Outcome → Type 0
 IsFirstLive journal from told =
     (a : ℕ) × (told ≡ outcome.Action a) × (from ≤ a)
     × (is_live_in journal.opening journal.entries a ≡ true) × NoneLiveBetween journal from a
 
--- what the question is told as, by the journal, and what is kept of it
+-- what answers the question, by the journal, and what is kept of it
 abbrev pub IsAnswerTo : Question → EmbeddedState → EmbeddedState → Outcome → Type 0
 IsAnswerTo (question.CanRead a o) old new told =
     IsPlain (outcome.Flag (says_yes (reply_to old.journal (test_read a.0 o.0)))) old new told
@@ -156,8 +156,8 @@ IsAnswerTo (question.Live from) old new told = IsFirstLive old.journal from told
 IsAnswerTo question.FirstEntry old new told =
     IsPlain (outcome.Number (as_number old.journal.opening.first_entry)) old new told
 
--- there is nothing of which it is asked: the object isn't declared, the journal hasn't the entry,
--- the action isn't begun, or none from the number on is live
+-- what it asks about isn't there: the object isn't declared, the journal doesn't have the entry,
+-- the action wasn't begun, or none from the number on is live
 abbrev pub HasNothing : JournalView → Question → Type 0
 HasNothing journal (question.CanRead a o) = ⊥
 HasNothing journal (question.CanWrite a o) = ⊥
@@ -174,7 +174,7 @@ HasNothing journal (question.Status a) = status_in journal a.0 ≡ None
 HasNothing journal (question.Live from) = NoneLiveFrom journal from
 HasNothing journal question.FirstEntry = ⊥
 
--- why there is no answer: there is nothing of which it is asked; want of memory says nothing of it
+-- why there is no answer: what it asks about isn't there; out of memory says nothing of it
 abbrev pub IsUnanswered : JournalView → Question → EmbedError → Type 0
 IsUnanswered journal question error.NotThere = HasNothing journal question
 IsUnanswered journal question error.OutOfMemory = Unit {0}

@@ -1,4 +1,4 @@
--- An embedded guardian with a commit for which all is at hand, what the commit leaves, and its line.
+-- An embedded guardian with a prepared commit, what the commit leaves, and its line.
 use Rattle.std.specs.Coded.{Coded, code_by, coded_ℕ, coded×}
 use Rattle.std.specs.Prelude.{List, refl, ℕ}
 use Rattle.argus_journal.specs.Call.{commit}
@@ -7,7 +7,7 @@ use Rattle.argus_journal.specs.JournalView.{entry_of, next_entry, reply_to}
 use Rattle.argus_embed.specs.Embedded.{EmbeddedState, after_call, embedded_state_coded, outcome_of}
 use Rattle.argus_embed.specs.declared.outcome.Outcome.{Outcome}
 
--- the guardian as it is before the commit, and the action that is going to commit
+-- the guardian as it is before the commit, and the action that will commit
 pub record ReadyState : Type 0 where
   pub guardian : EmbeddedState
   pub action : ℕ
@@ -26,7 +26,7 @@ after_commit ready = after_call ready.guardian (commit ready.action)
 abbrev pub commit_outcome : ReadyState → Outcome
 commit_outcome ready = outcome_of (reply_to ready.guardian.journal (commit ready.action))
 
--- the journal's line that the commit is going to be, with its line feed
+-- the journal's line that the commit will make, with its line feed
 abbrev pub commit_line : ReadyState → List ℕ
 commit_line ready =
     entry_line (next_entry ready.guardian.journal)

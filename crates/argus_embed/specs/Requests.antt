@@ -63,15 +63,13 @@ Says r text (ask a o query) = (r.action ≡ a) × (r.object ≡ o) × SaysQuery 
 Says r text (alter a o change) =
     (r.action ≡ a) × (r.object ≡ o) × SaysChange r.kind r.first r.second text change
 
--- it is no number of a field or a tag
+-- it isn't the number of a field or a tag
 abbrev pub IsNoPart : ℤ → Type 0
 IsNoPart n = (int_lt n (pos 0) || int_lt (pos 255) n) ≡ true
 
--- why the request stands for no call: the text is no content's for a creation, no value's for
--- another
--- change, no shape's for a declaration; a field's or tag's number is none; there is no such kind.
--- Want
--- of memory says nothing of it
+-- why the request stands for no call. The text isn't that of a content for a creation, of a value
+-- for another change, or of a shape for a declaration; a field's or tag's number isn't one; or
+-- there is no such kind. Out of memory says nothing of it
 abbrev pub IsUnread : Request → List ℕ → EmbedError → Type 0
 IsUnread r text (error.BadText at) =
     ((r.kind ≡ 19) × IsFault IsContentText text at)

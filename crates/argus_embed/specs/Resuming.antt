@@ -7,7 +7,6 @@ use Rattle.argus_journal.specs.entries_declared.reply.Reply.{Reply}
 use Rattle.argus_guardian.specs.JournalText.{journal_text, no_journal}
 use Rattle.argus_guardian.specs.SoundFront.{sound_front}
 use Rattle.argus_guardian.specs.Taking.{IsFaulty, IsTorn, line_count}
-use Rattle.argus_guardian.specs.resume_declared.line_fault.LineFault.{LineFault}
 use Rattle.argus_guardian.specs.resume_declared.line_fault.LineFault.TheVariants as fault
 use Rattle.argus_guardian.specs.resume_declared.taken_end.TakenEnd.{TakenEnd}
 use Rattle.argus_guardian.specs.resume_declared.taken_end.TakenEnd.TheVariants as taken
@@ -21,14 +20,15 @@ pub record IsNotNext (state : EmbeddedState) (left : List ℕ) (wanted : ℕ) : 
   pub faulty : IsFaulty state.taken left fault.NotNext
   pub next : wanted ≡ next_entry state.taken
 
--- the journal gives the call of the next line another reply, whose text is kept, as its line has it
+-- another reply to the call of the next line follows from the journal; its text is kept, as its
+-- line has it
 pub record IsNotTheReply (state : EmbeddedState) (left : List ℕ) : Type 0 where
   pub reply : Reply
   pub faulty : IsFaulty state.taken left (fault.NotTheReply reply)
   pub kept : state.text ≡ Some (reply_spelling (plain_reply reply))
 
--- what an end says of the bytes that are left behind the lines that were taken, and of the text that
--- is kept; want of memory says nothing of the bytes
+-- what an end says of the bytes that are left after the lines that were taken, and of the text that is kept; out of
+-- memory says nothing of the bytes
 abbrev pub IsEndOf : TextEnd → EmbeddedState → EmbeddedState → List ℕ → Type 0
 IsEndOf text_end.Whole old new left = (left ≡ []) × (new.text ≡ old.text)
 IsEndOf text_end.Torn old new left = IsTorn left × (new.text ≡ old.text)
@@ -51,7 +51,7 @@ pub record IsTextTaken (old new : EmbeddedState) (text : List ℕ) (taken : Text
   pub longer : journal_text new.taken ≡ journal_text old.taken ++ take taken.bytes text
   pub lines : taken.lines ≡ line_count (take taken.bytes text)
   pub end : IsEndOf taken.end old new (drop taken.bytes text)
-  -- the guardian that is held stays as it is
+  -- the guardian that is held is unchanged
   pub held : new.journal ≡ old.journal
 
 -- the guardian of what was taken; no text is kept, and no line taken
@@ -59,7 +59,7 @@ abbrev pub after_resumption : EmbeddedState → EmbeddedState
 after_resumption state =
     record { journal = sound_front state.taken; text = None; taken = no_journal }
 
--- the listing of the guardian is what was taken, but for so many bytes at its end
+-- the listing of the guardian is what was taken, except for this many bytes at its end
 pub record IsDropped (dropped : ℕ) (old new : EmbeddedState) : Type 0 where
   pub front : journal_text new.journal
       ≡ take (length (journal_text old.taken) - dropped) (journal_text old.taken)

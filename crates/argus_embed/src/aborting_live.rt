@@ -1,4 +1,4 @@
-//! How a host aborts all that is live.
+//! How a host aborts all live actions.
 
 ghost use Rattle.std.specs.Prelude.{IfErr, OnErr, OnOk, ◌≡◌};
 ghost use Rattle.argus_embed.specs.Embedded.{IsAbortedInPart, IsBusy, after_abort_live};
@@ -8,11 +8,11 @@ use crate::embed_error::EmbedError;
 use crate::embedded::Embedded;
 
 impl Embedded {
-    /// Aborts all that is live: makes the call `abort` for each live topaction, nested ones too, in
+    /// Aborts all live actions: makes the call `abort` for each live topaction, nested ones too, in
     /// increasing number. Each is an entry of the journal. What is kept for the host stays.
     ///
-    /// `OutOfMemory`: some of them were aborted, from the first one on, and the others are live as
-    /// before; a further call aborts the others.
+    /// `OutOfMemory`: the first ones were aborted, and the others are still live; another call
+    /// aborts these.
     pub fn abort_live(&mut self) -> Result<(), EmbedError>
         ensures ok { OnOk result (self.new ≡ after_abort_live self.old) }
         ensures quiet { OnOk result (IsBusy self.new → ⊥) }

@@ -1,4 +1,4 @@
-//! How a host is answered what it asks.
+//! How a host's questions are answered.
 
 ghost use Rattle.std.specs.Option.{option_map};
 ghost use Rattle.std.specs.Prelude.{IfErr, IfOk, None, OnErr, ◌≡◌};
@@ -26,9 +26,9 @@ use std::mem::replace;
 impl Embedded {
     /// Answers a question, by what the journal says. A text is kept; nothing else changes.
     ///
-    /// `NotThere` where the object isn't declared, the journal hasn't the entry, the action isn't
-    /// begun, or no action from that number on is live. `OutOfMemory` may come in place of a text.
-    /// After an error all is as before, and what was kept stays.
+    /// `NotThere` if the object isn't declared, the journal doesn't have the entry, the action
+    /// wasn't begun, or no action from that number on is live. `OutOfMemory` may come in place of a
+    /// text. After an error nothing has changed, and what was kept stays.
     pub fn answer_question(&mut self, question: Question) -> Result<Outcome, EmbedError>
         ensures told { IfOk result (λ outcome. IsAnswerTo question self.old self.new outcome) }
         ensures untold { IfErr result (λ e. IsUnanswered self.old.journal question e) }
@@ -110,7 +110,7 @@ impl Embedded {
         self.guardian.can_write(a, o)
     }
 
-    /// Keeps the text, where there is one.
+    /// Keeps the text, if there is one.
     fn keep(&mut self, text: Option<Vec<u8, Room>>) -> Result<Outcome, EmbedError>
         ensures kept { IfOk result (λ outcome.
             IsText (option_map (λ t. t.items) text) self.old self.new outcome) }

@@ -19,18 +19,18 @@ use argus_values::OutOfMemory;
 use std::mem::replace;
 
 impl Embedded {
-    /// Makes the call that the request with its text stands for. Its reply is the answer of the
-    /// journal before it; the journal is longer by the call with this reply, whose text is kept.
+    /// Makes the call that the request with its text stands for. The reply follows from the journal
+    /// before it. The journal grows by the call with this reply, whose text is kept.
     ///
     /// | Error | When |
     /// |---|---|
-    /// | `BadText`, `BadShape` | the text is no written form of what the call takes |
+    /// | `BadText`, `BadShape` | the text isn't the written form of what the call takes |
     /// | `BadNumber` | the call takes a field or a tag, and the first number isn't within 0 to 255
     /// |
     /// | `BadKind` | there is no such kind |
-    /// | `OutOfMemory` | memory is wanting, for what the text says or for the call |
+    /// | `OutOfMemory` | there is no memory for what the text says, or for the call |
     ///
-    /// After an error all is as before, and what was kept stays.
+    /// After an error nothing has changed, and what was kept stays.
     pub fn call(&mut self, request: &Request, text: &str) -> Result<Outcome, EmbedError>
         ensures called { IfOk result (λ outcome.
             IsCalled request.now text.now self.old self.new outcome) }

@@ -23,13 +23,13 @@ use argus_values::Room;
 use std::mem::replace;
 
 impl Embedded {
-    /// Makes the calls one after another, from the first on, up to the first whose outcome isn't as
-    /// demanded. Each is a call of its own, as `Embedded::call` makes it: one entry of the journal.
-    /// It gets the two numbers of its outcome. So does the one that fails, with those of its error:
-    /// it changes nothing, and no call after it is made. What has come of those before it stays.
+    /// Makes the calls one after another, up to the first whose outcome isn't as demanded. Each is
+    /// a call of its own, as `Embedded::call` makes it: one entry of the journal. Each gets the two
+    /// numbers of its outcome. A call that fails gets those of its error: it changes nothing, and
+    /// no call after it is made. The outcomes of those before it stay.
     ///
-    /// Their texts are kept, a line for each reply that has one; where no call was made, what was
-    /// kept stays.
+    /// Their texts are kept, a line for each reply that has one; if no call was made, what was kept
+    /// stays.
     ///
     /// The errors are those of `Embedded::call`, and
     ///
@@ -39,7 +39,7 @@ impl Embedded {
     /// | `NotBegun` | `begun_by` names no earlier call of the list, or one that began no action |
     /// | `BadDemand` | there is no such demand |
     ///
-    /// Where there is no memory for as many replies as there are calls, the first one fails.
+    /// If there is no memory for as many replies as there are calls, the first one fails.
     pub fn call_each(&mut self, calls: &mut [ListedCall<'_>]) -> CallsMade
         ensures { AreCalled calls.old calls.new self.old self.new result }
     {
@@ -109,7 +109,7 @@ impl Embedded {
     }
 }
 
-/// Of a list for whose replies there is no memory.
+/// For a list for whose replies there is no memory.
 fn fail(calls: &mut [ListedCall<'_>]) -> CallsMade
     ensures count { result.count ≡ 0 }
     ensures end { result.end ≡ Failed error.OutOfMemory }

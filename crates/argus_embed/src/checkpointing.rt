@@ -11,12 +11,12 @@ use crate::embedded::Embedded;
 use argus_guardian::CheckpointError;
 
 impl Embedded {
-    /// Folds the journal's past into its opening: objects keep what is in them for good, entries
-    /// and actions their numbers. What is kept for the host stays.
+    /// Folds the journal's past into its opening: objects keep their bases, entries and actions
+    /// their numbers. What is kept for the host stays.
     ///
-    /// Errors, in this order: `Busy` where an action is live, `Full` where the next entry's number
-    /// is above the greatest that a first entry may have, `OutOfMemory`. After an error all is as
-    /// before.
+    /// Errors, in this order: `Busy` if an action is live, `Full` if the next entry's number is
+    /// above the greatest that a first entry may have, `OutOfMemory`. After an error nothing has
+    /// changed.
     pub fn checkpoint(&mut self) -> Result<(), EmbedError>
         ensures ok { OnOk result (self.new ≡ after_fold self.old) }
         ensures busy { (result_err result ≡ Some Busy) ↔ IsBusy self.old }

@@ -1,4 +1,4 @@
-//! The numbers of signals, refusals, statuses and sizes, as a host is told them.
+//! The numbers of signals, refusals, statuses and sizes, as a host gets them.
 
 ghost use Rattle.std.specs.Prelude.{◌≡◌};
 ghost use Rattle.argus_embed.specs.Codes.{as_number, flag_code, refusal_code, signal_code};
@@ -54,7 +54,7 @@ pub(crate) fn status_code(status: Status) -> i64
     }
 }
 
-/// The number as a signed one; the greatest of these for what is past it.
+/// The number as a signed one; anything greater becomes the greatest of these.
 pub(crate) fn as_number(number: u64) -> i64
     ensures { result ≡ as_number number }
 {

@@ -8,8 +8,8 @@ use argus_actions::ActionId;
 use argus_guardian::Guardian;
 use argus_values::limits::MAX_ACTIONS;
 
-/// How many actions were begun, folded ones among them, which is the number of the next one: by
-/// bisection, since every action below it has a status, and no other.
+/// How many actions were begun, folded ones included: the number of the next one. It is found by
+/// bisection, since exactly the actions below it have a status.
 pub(crate) fn actions_begun(guardian: &Guardian) -> u32
     ensures count { result ≡ next_action_number guardian.now.opening guardian.now.entries }
     ensures within { result ≤ MAX_ACTIONS }

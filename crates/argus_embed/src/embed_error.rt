@@ -7,7 +7,7 @@ use crate::codes::as_number;
 use argus_values::OutOfMemory;
 use thiserror::Error;
 
-/// Why no call was made, or no question answered. Nothing has changed then.
+/// Why no call was made, or no question answered. Nothing has changed.
 ///
 /// ```text
 /// match bank.call(&request, "[1,]") {
@@ -18,17 +18,17 @@ use thiserror::Error;
 /// ```
 #[derive(Clone, Copy, Debug, Error)]
 pub enum EmbedError {
-    /// Memory was wanting.
+    /// There was no memory.
     #[error("out of memory")]
     OutOfMemory,
     /// The text isn't UTF-8. Only a call of a list, whose text is bytes, says so.
     #[error("the text isn't UTF-8")]
     NotUtf8,
-    /// The text is no written form, of a content for a creation and else of a value: so many bytes
-    /// of it begin one, and no more.
+    /// The text isn't a written form, of a content for a creation and otherwise of a value: this
+    /// many bytes of it begin one, and no more.
     #[error("no written form from byte {0} on")]
     BadText(usize),
-    /// The text is the written form of no shape that can be made.
+    /// The text isn't the written form of a shape that can be made.
     #[error("no written form of a shape")]
     BadShape,
     /// The number of a field or a tag isn't within 0 to 255.
@@ -37,8 +37,8 @@ pub enum EmbedError {
     /// There is no call of this kind.
     #[error("no call of this kind")]
     BadKind,
-    /// The object isn't declared, the journal hasn't the entry, the action isn't begun, or none is
-    /// live.
+    /// The object isn't declared, the journal doesn't have the entry, the action wasn't begun, or
+    /// none is live.
     #[error("there is no such object, entry or action")]
     NotThere,
     /// A checkpoint, or a renewal, while an action is live.
@@ -47,7 +47,7 @@ pub enum EmbedError {
     /// A checkpoint, or a renewal, past the greatest number that a journal's first entry may have.
     #[error("the journal is full")]
     Full,
-    /// The call of the list that is to have begun the action isn't an earlier one, or began none.
+    /// The call of the list that should have begun the action isn't an earlier one, or began none.
     #[error("no earlier call of the list began this action")]
     NotBegun,
     /// There is no demand with this number.

@@ -41,7 +41,7 @@ impl Model for Embedded {
 }
 
 impl Embedded {
-    /// A guardian with no object, no action and no entry. It takes no memory.
+    /// A guardian without objects, actions and entries. It takes no memory.
     pub fn new(heap: Heap) -> Embedded
         ensures { result ≡ empty_state }
     {
@@ -53,7 +53,7 @@ impl Embedded {
         }
     }
 
-    /// Another one with no object, no action and no entry, in the same heap. It takes no memory.
+    /// Another one without objects, actions and entries, in the same heap. It takes no memory.
     pub fn beside(&self) -> Embedded
         ensures { result ≡ empty_state }
     {

@@ -13,7 +13,7 @@ use argus_guardian::{FailStop, Guardian, Listing, write_listing};
 use argus_journal::write_entry;
 use argus_values::{Heap, Name, OutOfMemory, Room};
 
-/// The line of the entry with this number; None where the journal hasn't it.
+/// The line of the entry with this number; `None` if the journal doesn't have it.
 pub(crate) fn entry_text(
     heap: Heap,
     guardian: &Guardian,
@@ -31,7 +31,7 @@ pub(crate) fn entry_text(
     Ok(Some(text.into_bytes()))
 }
 
-/// The listing, where objects have their numbers as names.
+/// The listing, in which objects have their numbers as names.
 pub(crate) fn listing_text(
     heap: Heap,
     guardian: &Guardian,
@@ -42,7 +42,7 @@ pub(crate) fn listing_text(
 {
     let names = object_names(heap, guardian.objects())?;
     let mut writer = FailStop::new(Vec::new(heap.room()));
-    // A write to a list fails for want of memory alone.
+    // A write to a list fails only if there is no memory.
     match write_listing(heap, guardian, names.as_slice(), listing, &mut writer) {
         Ok(()) => {}
         Err(_) => return Err(OutOfMemory),
@@ -53,7 +53,7 @@ pub(crate) fn listing_text(
     }
 }
 
-/// The names of so many objects.
+/// The names of this many objects.
 fn object_names(heap: Heap, count: u32) -> Result<Vec<Name, Room>, OutOfMemory>
     ensures { IfOk result (λ names. names.items ≡ object_names count) }
 {
@@ -66,8 +66,7 @@ fn object_names(heap: Heap, count: u32) -> Result<Vec<Name, Room>, OutOfMemory>
 }
 
 /// The name of an object: a letter and its number. It has a name's form, so that making it fails
-/// for
-/// want of memory alone.
+/// for lack of memory only.
 fn object_name(heap: Heap, o: u32) -> Result<Name, OutOfMemory>
     ensures { IfOk result (λ name. name ≡ object_name o) }
 {

@@ -1,4 +1,4 @@
-//! A guardian as a host of another language holds it: calls and questions by numbers and texts, and
+//! A guardian as a host in another language holds it: calls and questions by numbers and texts, and
 //! the reply's text kept until the next one.
 //!
 //! ```text

@@ -8,10 +8,10 @@
 /// ```
 #[derive(Clone, Copy, Debug)]
 pub struct Lines {
-    /// Of so many entries; 0 where there is none from that number on, or the room is too small for
+    /// Of this many entries; 0 if there is none from that number on, or the room is too small for
     /// the first.
     pub count: u64,
-    /// So many bytes are at the front of the room. Where `count` is 0, so many bytes the first line
-    /// has, 0 where there is none.
+    /// This many bytes are at the front of the room. If `count` is 0, the size of the first line; 0
+    /// if there is none.
     pub size: usize,
 }

@@ -1,4 +1,4 @@
-//! Whole lines of the journal, as they are given to the host.
+//! Whole lines of the journal, as the host gets them.
 
 ghost use Rattle.std.specs.Prelude.{IfErr, IfOk, OnErr, OnOk, Some, length, string_bytes, ◌++◌};
 ghost use Rattle.std.specs.Prelude.{◌↔◌, ◌≡◌, ◌≤◌, ◌⊎◌};
@@ -14,11 +14,11 @@ use argus_guardian::Guardian;
 use argus_journal::write_entry;
 use argus_values::{Heap, OutOfMemory, Room};
 
-/// The lines that fit, and behind them the one that doesn't, if there is one.
+/// The lines that fit, and after them the one that doesn't, if there is one.
 #[derive(Drop)]
 struct Fitting {
     text: Vec<u8, Room>,
-    // So many entries fit, in so many bytes.
+    // This many entries fit, in this many bytes.
     count: u64,
     size: usize,
 }
@@ -28,12 +28,12 @@ impl Embedded {
     /// entry with this number on, at the front of the room. What is kept for the host stays. The
     /// next number to ask for is `from + count`.
     ///
-    /// Where the room is too small for the first line it stays as it is, and `size` says what that
-    /// line wants.
+    /// If the room is too small for the first line, it is unchanged, and `size` is the size of that
+    /// line.
     ///
-    /// `NotThere` where the number is below that of the first entry since the last checkpoint, or
+    /// `NotThere` if the number is below that of the first entry since the last checkpoint, or
     /// above that of the next entry. `OutOfMemory`: the lines are made before they are put into the
-    /// room. After an error the room is as it was.
+    /// room. After an error the room is unchanged.
     ///
     /// ```text
     /// let lines = bank.lines(0, &mut room)?;              // 0 begin_top -> a0
@@ -97,7 +97,7 @@ fn fitting_lines(
     })
 }
 
-/// Appends the line of the entry with this number, where the journal has it.
+/// Appends the line of the entry with this number, if the journal has it.
 fn append_line(guardian: &Guardian, at: u64, text: &mut String<Room>) -> Result<(), OutOfMemory>
     ensures { OnOk result (string_bytes text.new
         ≡ string_bytes text.old ++ line_at guardian.now at) }

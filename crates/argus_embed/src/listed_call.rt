@@ -3,14 +3,14 @@
 ghost use Rattle.std.specs.Prelude.{◌≡◌};
 ghost use Rattle.argus_embed.specs.CallEach.{with_codes};
 
-/// One call of a list: a call by numbers (`Request`) with its text, and what its outcome must be for
-/// the calls after it to be made. Once it was made, `status` and `number` are those of its outcome.
-/// This is `argus_listed_call` of the C header.
+/// One call of a list: a call by numbers (`Request`) with its text, and what its outcome must be
+/// for the calls after it to be made. After it was made, `status` and `number` are those of its
+/// outcome. This is `argus_listed_call` of the C header.
 ///
 /// | Field | What it says |
 /// |---|---|
 /// | `kind`, `object`, `first`, `second`, `text` | as in `Request`; the text is UTF-8 |
-/// | `demand` | 0: the outcome is no refusal; 1: it may be anything; 2: no refusal and no signal |
+/// | `demand` | 0: the outcome isn't a refusal; 1: it may be anything; 2: no refusal, no signal |
 /// | `begun_by` | 0: the action is `action`; 1, 2 ..: the one that this call of the list began |
 ///
 /// The calls of the list are counted from 1.

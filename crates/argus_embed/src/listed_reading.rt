@@ -46,7 +46,7 @@ fn request_of(each: &ListedCall<'_>, action: u32) -> Request
     }
 }
 
-/// The action itself, or the one that a call of the list began, counted from 1; None where that
+/// The action itself, or the one that a call of the list began, counted from 1; `None` if that
 /// isn't one of those that were made, or began none.
 fn action_by(replies: &[Reply], begun_by: u32, action: u32) -> Option<u32>
     ensures { result ≡ action_by (map plain_reply replies.now) begun_by action }

@@ -1,4 +1,4 @@
-//! What an object holds for good, its shape, and who holds it, as texts.
+//! An object's base, its shape and its holders, as texts.
 
 ghost use Rattle.std.specs.Fmt.{decimal};
 ghost use Rattle.std.specs.Option.{option_map};
@@ -16,7 +16,7 @@ use argus_guardian::Guardian;
 use argus_objects::Version;
 use argus_values::{Content, Heap, ObjId, OutOfMemory, Room, write_content, write_shape};
 
-/// What is in the object for good; None where it isn't declared.
+/// The object's base; `None` if it isn't declared.
 pub(crate) fn base_text(
     heap: Heap,
     guardian: &Guardian,
@@ -34,7 +34,7 @@ pub(crate) fn base_text(
     Ok(Some(text.into_bytes()))
 }
 
-/// The shape with which the object was declared; None where it isn't.
+/// The shape with which the object was declared; `None` if it isn't.
 pub(crate) fn shape_text(
     heap: Heap,
     guardian: &Guardian,
@@ -52,7 +52,7 @@ pub(crate) fn shape_text(
     Ok(Some(text.into_bytes()))
 }
 
-/// A line for each reader; None where the object isn't declared.
+/// A line for each reader; `None` if the object isn't declared.
 pub(crate) fn readers_text(
     heap: Heap,
     guardian: &Guardian,
@@ -70,7 +70,7 @@ pub(crate) fn readers_text(
     Ok(Some(text.into_bytes()))
 }
 
-/// A line for each version; None where the object isn't declared.
+/// A line for each version; `None` if the object isn't declared.
 pub(crate) fn versions_text(
     heap: Heap,
     guardian: &Guardian,

@@ -17,7 +17,7 @@ use argus_values::Signal;
 /// ```
 #[derive(Clone, Copy)]
 pub enum Outcome {
-    /// It is done; there is no more to say.
+    /// It is done; there is nothing more to say.
     Done,
     /// The number of the object that was declared.
     Object(u32),

@@ -1,4 +1,4 @@
-//! Writes into a list of calls what came of each.
+//! Writes the outcome of each call into a list of calls.
 
 ghost use Rattle.std.specs.Prelude.{length, map, ◌≡◌, ◌≤◌};
 ghost use Rattle.argus_embed.specs.CallEach.{with_end, with_error, with_outcomes};

@@ -7,21 +7,21 @@ use argus_actions::ActionId;
 use argus_guardian::Listing;
 use argus_values::ObjId;
 
-/// What a host asks without an entry in the journal. Nothing changes by it, but for the text that is
-/// kept where it is answered by one.
+/// What a host asks without an entry in the journal. It changes nothing, except for the text that
+/// is kept if its answer is one.
 ///
 /// | Kind | Question | Answer |
 /// |---|---|---|
-/// | 0, 1 | `CanRead`, `CanWrite` | whether the test would be answered yes now |
+/// | 0, 1 | `CanRead`, `CanWrite` | whether the test would return yes now |
 /// | 2, 3, 4 | `Objects`, `Actions`, `Entries` | how many were declared, begun, journalled |
-/// | 5 | `Base` | the text of what is in the object for good, or `absent` |
-/// | 6 | `Readers` | who holds it for reading: a line `a1` each, in increasing number |
-/// | 7 | `Versions` | who holds it for writing: a line `a1 {7}` each, ancestors first |
+/// | 5 | `Base` | the text of the object's base, or `absent` |
+/// | 6 | `Readers` | its read holders: a line `a1` each, in increasing number |
+/// | 7 | `Versions` | its write holders: a line `a1 {7}` each, ancestors first |
 /// | 8 | `Entry` | the entry's line |
 /// | 9 to 12 | `List`, in the order of `Listing` | the listing; object 3 is named `o3` |
 /// | 13 | `Shape` | the text of the shape with which the object was declared |
-/// | 14 | `Status` | what has become of the action: 1 live, 2 committed, 3 aborted, 4 folded |
-/// | 15 | `Live` | the first live action, of those from this number on |
+/// | 14 | `Status` | what became of the action: 1 live, 2 committed, 3 aborted, 4 folded |
+/// | 15 | `Live` | the first live action from this number on |
 /// | 16 | `FirstEntry` | the number of the first entry since the last checkpoint |
 ///
 /// ```text
@@ -46,7 +46,7 @@ pub enum Question {
 }
 
 impl Question {
-    /// The question that the numbers stand for; None where there is no such kind.
+    /// The question that the numbers stand for; `None` if there is no such kind.
     pub fn of(kind: u32, action: u32, object: u32, entry: u64) -> Option<Question>
         ensures asks { IfSome result (λ question. Asks kind action object entry question) }
         ensures none { IfNone result (17 ≤ kind) }

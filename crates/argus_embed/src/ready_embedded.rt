@@ -1,4 +1,4 @@
-//! `ReadyEmbedded`: an embedded guardian with a commit for which all is at hand.
+//! `ReadyEmbedded`: an embedded guardian with a prepared commit.
 
 ghost use Rattle.std.specs.Prelude.{IfOk, OnErr, length, string_bytes, ◌≡◌};
 ghost use Rattle.argus_embed.specs.Kept.{IsPut};
@@ -12,8 +12,8 @@ use argus_journal::write_entry;
 use argus_values::{OutOfMemory, Room};
 use std::marker::Model;
 
-/// An embedded guardian with a commit for which all is at hand, so that it can't fail. Contracts
-/// see the guardian as it is before the commit, and the action.
+/// An embedded guardian with a prepared commit, which can't fail any more. Contracts see the
+/// guardian as it is before the commit, and the action.
 ///
 /// ```text
 /// let size = ready.line(&mut room)?;              // 4 commit a0 -> done: to be logged now
@@ -22,7 +22,7 @@ use std::marker::Model;
 #[derive(Drop)]
 pub struct ReadyEmbedded {
     pub(crate) commit: ReadyCommit,
-    // What is kept beside the guardian. The one in its place is empty.
+    // What is kept besides the guardian. The one in its place is empty.
     pub(crate) rest: Embedded,
 }
 
@@ -44,9 +44,9 @@ impl Model for ReadyEmbedded {
 }
 
 impl ReadyEmbedded {
-    /// The size of the journal's line that the commit is going to be, with its line feed. It is put
-    /// at the front of the room where it fits; a room that is too small stays as it is.
-    /// `OutOfMemory`: there was none for the line, and the room is as it was.
+    /// The size of the journal's line that the commit will make, with its line feed. The line is
+    /// put at the front of the room if it fits; a room that is too small is unchanged.
+    /// `OutOfMemory`: there was none for the line, and the room is unchanged.
     pub fn line(&self, room: &mut [u8]) -> Result<usize, OutOfMemory>
         ensures size { IfOk result (λ size. size ≡ length (commit_line self.now)) }
         ensures put { IfOk result (λ _. IsPut (commit_line self.now) room.old room.new) }
@@ -80,7 +80,7 @@ impl ReadyEmbedded {
         (rest, outcome)
     }
 
-    /// Gives the guardian back as it was; nothing was journalled.
+    /// Returns the guardian unchanged; nothing was journalled.
     pub fn cancel(self) -> Embedded
         ensures { result ≡ self.guardian }
     {

@@ -1,4 +1,4 @@
-//! How a host makes all ready for a commit.
+//! How a host prepares a commit.
 
 ghost use Rattle.std.specs.Prelude.{IfErr, IfOk, ◌≡◌};
 
@@ -9,9 +9,9 @@ use argus_guardian::Guardian;
 use std::mem::replace;
 
 impl Embedded {
-    /// Makes all ready for the commit of the action with this number, but for the commit itself: so
-    /// that a host can log it before anybody sees what it leaves. A commit that is going to be
-    /// refused is made ready, too. At `Err` there was no memory, and the guardian is as it was.
+    /// Prepares the commit of the action with this number, so that a host can log it before anybody
+    /// sees what it leaves. A commit that will be refused is prepared, too. `Err`: out of memory,
+    /// and the guardian is unchanged.
     ///
     /// ```text
     /// match bank.ready_commit(0) {

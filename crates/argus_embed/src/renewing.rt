@@ -1,4 +1,4 @@
-//! How a guardian begins anew, with the same objects and action numbers from 0.
+//! How a guardian starts over, with the same objects and action numbers from 0.
 
 ghost use Rattle.std.specs.Option.{option_map};
 ghost use Rattle.std.specs.Prelude.{IfErr, IfOk, OnErr, OnOk, Some, false, map, slice_get, true};
@@ -20,16 +20,16 @@ use argus_values::{Content, Heap, ObjId, OutOfMemory, Room, Shape};
 use std::mem::replace;
 
 impl Embedded {
-    /// Begins anew: objects keep their numbers, their shapes and what is in them for good, and
-    /// entries their numbers; the next action is number 0 again. All that was journalled is folded
-    /// away, as by a checkpoint. What is kept for the host stays.
+    /// Starts over: objects keep their numbers, their shapes and their bases, and entries their
+    /// numbers; the next action is number 0 again. All that was journalled is folded away, as by a
+    /// checkpoint. What is kept for the host stays.
     ///
-    /// A guardian begins `MAX_ACTIONS` actions in its life. A host that lives longer renews it; from
-    /// then on the number of an action that was begun before is that of another one, or of none.
+    /// A guardian begins at most `MAX_ACTIONS` actions. A host that needs more renews it; from then
+    /// on the number of an earlier action is that of another one, or of none.
     ///
-    /// Errors, in this order: `Busy` where an action is live, `Full` where the next entry's number
-    /// is above the greatest that a first entry may have, `OutOfMemory`. After an error all is as
-    /// before.
+    /// Errors, in this order: `Busy` if an action is live, `Full` if the next entry's number is
+    /// above the greatest that a first entry may have, `OutOfMemory`. After an error nothing has
+    /// changed.
     pub fn renew(&mut self) -> Result<(), EmbedError>
         ensures ok { OnOk result (self.new ≡ after_renewal self.old) }
         ensures busy { (result_err result ≡ Some error.Busy) ↔ IsBusy self.old }
@@ -44,7 +44,7 @@ impl Embedded {
     }
 }
 
-/// A guardian that begins anew where this one ends.
+/// A guardian that starts over where this one ends.
 fn renewed(heap: Heap, guardian: &Guardian) -> Result<Guardian, EmbedError>
     ensures ok { IfOk result (λ next. next ≡ renewed guardian.now) }
     ensures busy { (result_err result ≡ Some error.Busy) ↔ (is_quiet guardian.now ≡ false) }
@@ -64,7 +64,7 @@ fn renewed(heap: Heap, guardian: &Guardian) -> Result<Guardian, EmbedError>
     Ok(Guardian::starting_at(heap, objects, 0, first_entry)?)
 }
 
-/// Copies of the objects: their shapes, and what is in them for good.
+/// Copies of the objects: their shapes and bases.
 fn kept_objects(
     heap: Heap,
     guardian: &Guardian,
@@ -81,7 +81,7 @@ fn kept_objects(
     Ok(objects)
 }
 
-/// A copy of the object: its shape, and what is in it for good. None where it isn't declared.
+/// A copy of the object: its shape and its base. `None` if it isn't declared.
 fn kept_object(
     heap: Heap,
     guardian: &Guardian,

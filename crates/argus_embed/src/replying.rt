@@ -1,4 +1,4 @@
-//! The text that is kept, as it is given to the host.
+//! The text that is kept, as the host gets it.
 
 ghost use Rattle.std.specs.Option.{option_map};
 ghost use Rattle.std.specs.Prelude.{IfOk, OnErr, OnOk, length, map, string_bytes, ◌++◌, ◌≡◌};
@@ -16,11 +16,11 @@ use argus_journal::{Reply, write_reply};
 use argus_values::{Answer, Heap, OutOfMemory, Room, Value, write_content, write_value};
 
 impl Embedded {
-    /// The size of the text that is kept, which is put at the front of the room where it fits; a
-    /// room that is too small stays as it is. None where no text is kept: after a call whose reply
-    /// has none, or before the first one. Of a list of calls it is a line for each reply that has a
-    /// text, in their order; where `resume` has ended at `NotTheReply`, the journal's reply as its
-    /// line has it. It can be had again as long as it is kept.
+    /// The size of the text that is kept. The text is put at the front of the room if it fits; a
+    /// room that is too small is unchanged. `None` if no text is kept: after a call whose reply has
+    /// none, or before the first one. For a list of calls it is a line for each reply that has a
+    /// text, in their order; if `resume` ended at `NotTheReply`, the journal's reply as its line
+    /// has it. It can be read again as long as it is kept.
     pub fn reply(&self, room: &mut [u8]) -> Result<Option<usize>, OutOfMemory>
         ensures copied { IfOk result (λ size. IsCopied self.now.text size room.old room.new) }
         ensures room { length room.new ≡ length room.old }
@@ -88,7 +88,7 @@ fn append_line(reply: &Reply, text: &mut String<Room>) -> Result<(), OutOfMemory
     Ok(())
 }
 
-/// Appends the text that belongs to the reply; false where there is none.
+/// Appends the text that belongs to the reply; false if there is none.
 fn append_text(reply: &Reply, text: &mut String<Room>) -> Result<bool, OutOfMemory>
     ensures { IfOk result (λ is_there. IsAppended (reply_text (plain_reply reply.now)) is_there
         (string_bytes text.old) (string_bytes text.new)) }
@@ -99,7 +99,7 @@ fn append_text(reply: &Reply, text: &mut String<Room>) -> Result<bool, OutOfMemo
     }
 }
 
-/// Appends the written form of an answer that is a content, or a value that no number says.
+/// Appends the written form of an answer that is a content, or a value that isn't a number.
 fn append_answer(answer: &Answer, text: &mut String<Room>) -> Result<bool, OutOfMemory>
     ensures { IfOk result (λ is_there. IsAppended (answer_text (plain_answer answer.now)) is_there
         (string_bytes text.old) (string_bytes text.new)) }
@@ -131,7 +131,7 @@ fn append_value(value: &Value, text: &mut String<Room>) -> Result<bool, OutOfMem
     Ok(true)
 }
 
-/// Copies the bytes to the front of the room, where they fit; their number either way.
+/// Copies the bytes to the front of the room if they fit, and returns how many they are either way.
 pub(crate) fn put(room: &mut [u8], bytes: &[u8]) -> usize
     ensures size { result ≡ length bytes.now }
     ensures put { IsPut bytes.now room.old room.new }

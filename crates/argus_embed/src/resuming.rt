@@ -16,10 +16,10 @@ use std::mem::replace;
 impl Embedded {
     /// Takes whole lines of a journal's listing from the front of the text, up to the first that
     /// isn't the next one. They add to what was taken before; `resumed` makes a guardian of it. The
-    /// guardian that is held stays as it is until then.
+    /// guardian that is held is unchanged until then.
     ///
-    /// What is left of the text may be handed in again, with more behind it. What was kept stays,
-    /// but at `NotTheReply`: there the reply that the journal gives is kept, as its line has it.
+    /// What is left of the text may be passed in again, with more after it. What was kept stays,
+    /// except at `NotTheReply`: then the journal's reply is kept, as its line has it.
     ///
     /// ```text
     /// bank.resume(b"0 begin_top -> a0\n1 com");       // 18 bytes, 1 line, Torn
@@ -34,11 +34,11 @@ impl Embedded {
         TextTaken { bytes, lines, end }
     }
 
-    /// Puts the guardian of what was taken in place of the one that is held, and begins anew with
-    /// nothing taken and no text kept. Of an opening without entries it has as many objects as make
-    /// a sound one. It returns how many bytes were let go with the others.
+    /// Replaces the guardian that is held by the one of what was taken, and starts over with
+    /// nothing taken and no text kept. From an opening without entries it has as many objects as
+    /// make a sound one. It returns how many bytes were dropped with the others.
     ///
-    /// `OutOfMemory`: all is as before.
+    /// `OutOfMemory`: nothing has changed.
     pub fn resumed(&mut self) -> Result<u64, EmbedError>
         ensures ok { OnOk result (self.new ≡ after_resumption self.old) }
         ensures dropped { IfOk result (λ dropped. IsDropped dropped self.old self.new) }

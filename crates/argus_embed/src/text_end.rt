@@ -5,8 +5,8 @@ ghost use Rattle.argus_embed.specs.Codes.{text_end_codes};
 
 use crate::codes::as_number;
 
-/// Why no more lines of a text were taken. The last six say why the next line isn't the next one of
-/// a journal's listing, as `LineFault` of argus_guardian does.
+/// Why no more lines of a text were taken. The last six say why the line that comes next isn't the
+/// next one of a journal's listing, as `LineFault` of argus_guardian does.
 ///
 /// ```text
 /// match bank.resume(text).end {
@@ -21,21 +21,21 @@ pub enum TextEnd {
     Whole,
     /// Bytes are left, and there is no line feed among them.
     Torn,
-    /// Memory was wanting for the next line. The same text goes on from there.
+    /// There was no memory for the next line. The same text goes on from there.
     OutOfMemory,
-    /// The line isn't UTF-8: its longest prefix that is has so many bytes.
+    /// The line isn't UTF-8: its longest prefix that is has this many bytes.
     NoText(usize),
     /// The line begins as one of an opening, and can't be its next one.
     NotAnOpening,
-    /// The line is that of no entry: its longest prefix that begins one has so many bytes, or what
-    /// stands before a shape that can't be made.
+    /// The line isn't that of an entry: its longest prefix that begins one has this many bytes, or
+    /// what comes before a shape that can't be made.
     NoLine(usize),
     /// The line is that of an entry, and another one comes next, which has this number.
     NotNext(u64),
     /// The opening before the line refers to objects that aren't there.
     NotSound,
-    /// The line is that of the next entry, and the journal before it gives its call another reply,
-    /// whose text is kept.
+    /// The line is that of the next entry, but another reply to its call follows from the journal
+    /// before it; the text of that one is kept.
     NotTheReply,
 }
 

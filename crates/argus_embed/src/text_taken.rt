@@ -10,7 +10,7 @@ use crate::text_end::TextEnd;
 /// ```
 #[derive(Clone, Copy, Debug)]
 pub struct TextTaken {
-    /// How many bytes, from the first one on.
+    /// How many bytes, from the first on.
     pub bytes: usize,
     /// How many lines these are.
     pub lines: usize,

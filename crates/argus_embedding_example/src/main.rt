@@ -92,7 +92,7 @@ fn pay<N: Sharing, R: Wait + Drop>(
     Ok((seat, receipts))
 }
 
-// Begins a topaction. None where that is refused.
+// Begins a topaction. `None` if that is refused.
 fn begin<N: Sharing, R: Wait + Drop>(
     rt: &R,
     shared: &Shared<N, R>,

@@ -1,4 +1,4 @@
--- A line tells one deed: operations of queries and changes, taken back.
+-- A line spells one deed: operations of queries and changes, read back.
 use Rattle.std.proofs.Common.{◌≡◌, ℕ, List, [], ◌++◌, Option, Some, None, refl, sym, ◌∙◌, ap}
 use Rattle.std.specs.Option.{option_map}
 use Rattle.argus_contents.specs.Change.{PlainChange}

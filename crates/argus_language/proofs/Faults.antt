@@ -1,4 +1,4 @@
--- One line more of a script.
+-- One more line of a script.
 use Rattle.std.proofs.Common.{◌≡◌, ℕ, ◌+◌, ◌<◌, List, [], ◌∷◌, ◌++◌, length, map, take, drop, get_or, slice_get, Some}
 use Rattle.std.proofs.Common.{refl, sym, ◌∙◌, ap, subst, arith, below_more, flat_map, add-one, drop-cons, length-drop}
 use Rattle.std.proofs.Common.{inl, None, append_assoc, take-append-drop}

@@ -1,4 +1,4 @@
--- What a line tells of objects it tells of more of them, too.
+-- What a line says of objects it says of more of them, too.
 use Rattle.std.proofs.Common.{◌≡◌, ℕ, cond, List, ◌++◌, slice_get, Option, Some, None, is_some}
 use Rattle.std.proofs.Common.{refl, sym, ◌∙◌, ap, arith, length-append}
 use Rattle.std.proofs.Math.ListN.{get_or-append}

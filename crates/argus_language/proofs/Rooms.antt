@@ -1,4 +1,4 @@
--- What passes no limit has room: a command stands behind the word that the limits are judged by.
+-- What passes no limit has room: a command begins with the word by which the limits are tested.
 use Rattle.std.proofs.Common.{◌≡◌, ℕ, ◌<◌, nat_le, Bool, true, false, ◌&&◌, ◌||◌, cond, List, length, Option, Some}
 use Rattle.std.proofs.Common.{None, codes, refl, ap, arith}
 use Rattle.std.proofs.lemmas.Bool.Decides.{nat_tests}

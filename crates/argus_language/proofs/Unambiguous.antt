@@ -1,4 +1,4 @@
--- Lines spell one list of steps at most.
+-- Lines spell at most one list of steps.
 use Rattle.std.proofs.Common.{◌≡◌, ℕ, Bool, true, false, suc, List, [], ◌∷◌, ◌++◌, map, flat_map, refl, sym, ◌∙◌, ap}
 use Rattle.std.proofs.Common.{subst, append_assoc, arith}
 use Rattle.std.specs.List.{All}

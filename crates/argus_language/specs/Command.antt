@@ -32,34 +32,34 @@ pub data Command : Type 0 where
   «end» : Command
   access : List ℕ → Operation (List ℕ) → Command
 
--- what stands for itself, where no word is behind it
+-- a command without arguments, if no word comes after it
 abbrev pub alone : {A : Type 0} → List ℕ → A → Option A
 alone rest x = if is_empty rest then Some x else None
 
--- what is said with the text behind it, which isn't empty
+-- what a word says with the text after it, which isn't empty
 abbrev pub with_text : {A : Type 0} → List ℕ → (List ℕ → A) → Option A
 with_text rest f = if is_empty rest then None else Some (f rest)
 
--- what is said with the name behind it, and no more words
+-- what a word says with the name after it, and no more words
 abbrev pub with_name : {A : Type 0} → List ℕ → (List ℕ → A) → Option A
 with_name rest f = if is_name rest then Some (f rest) else None
 
--- what is said with the name and the text behind it
+-- what a word says with the name and the text after it
 abbrev pub with_name_and_text : {A : Type 0} → List ℕ → (List ℕ → List ℕ → A) → Option A
 with_name_and_text rest f = if is_name (word rest)
     && not (is_empty (others rest)) then Some (f (word rest) (others rest)) else None
 
--- what is said with the int and the text behind it
+-- what a word says with the int and the text after it
 abbrev pub with_int_and_text : {A : Type 0} → List ℕ → (ℤ → List ℕ → A) → Option A
 with_int_and_text rest f =
     option_and_then (λ i. with_text (others rest) (f i)) (int_of (word rest))
 
--- what is said with the two ints behind it
+-- what a word says with the two ints after it
 abbrev pub with_ints : {A : Type 0} → List ℕ → (ℤ → ℤ → A) → Option A
 with_ints rest f =
     option_and_then (λ i. option_map (f i) (int_of (others rest))) (int_of (word rest))
 
--- the operation on any object that a verb says with the words behind the object's name
+-- the operation on any object that a verb says with the words after the object's name
 abbrev pub any_operation : List ℕ → List ℕ → Option AnyOperation
 any_operation verb rest =
     if bytes_eq verb (codes "create") then with_text rest create else
@@ -109,19 +109,19 @@ variant_operation verb rest =
     (if bytes_eq verb (codes "change_tag") then with_name_and_text rest
     (λ tag text. of_variant tag (change_tag text)) else None))
 
--- the first of two that is there
+-- the first of the two, if there is one, otherwise the second
 abbrev pub first_of : {A : Type 0} → Option A → Option A → Option A
 first_of (Some x) o = Some x
 first_of None o = o
 
--- the operation that a verb says with the words behind the object's name
+-- the operation that a verb says with the words after the object's name
 abbrev pub operation : List ℕ → List ℕ → Option (Operation (List ℕ))
 operation verb rest =
     first_of (record_operation verb rest)
     (first_of (option_map of_any (any_operation verb rest))
     (first_of (option_map of_array (array_operation verb rest)) (variant_operation verb rest)))
 
--- what is said, and `bad` where nothing is
+-- what is said, and `bad` if nothing is
 abbrev pub or_bad : Option Command → Command
 or_bad (Some c) = c
 or_bad None = bad
@@ -136,7 +136,7 @@ abbrev pub declaring : List ℕ → Command
 declaring rest =
     if is_name (word rest) && is_word (others rest) then declare (word rest) (others rest) else bad
 
--- what kind of action the word behind `enter` says
+-- what kind of action the word after `enter` says
 abbrev pub entering : List ℕ → Command
 entering rest =
     if bytes_eq rest (codes "topaction") then enter kind.Topaction else
@@ -155,7 +155,7 @@ abbrev pub leaving : List ℕ → Command
 leaving rest =
     if is_empty rest then leave else (if bytes_eq rest (codes "all") then leave_all else bad)
 
--- what a line says, by its first word and those behind it
+-- what a line says, by its first word and those after it
 abbrev pub command : List ℕ → List ℕ → Command
 command verb rest =
     if bytes_eq verb (codes "declare") then declaring rest else
@@ -175,12 +175,12 @@ abbrev pub is_comment : List ℕ → Bool
 is_comment [] = false
 is_comment (b ∷ bs) = b == 35
 
--- what a text says: nothing where it is empty or a comment
+-- what a text says: nothing if it is empty or a comment
 abbrev pub command_of_text : List ℕ → Command
 command_of_text text =
     if is_empty text || is_comment text then nothing else command (word text) (others text)
 
--- what the bytes of a line say, blanks and line end dropped; a line that isn't UTF-8 is bad, a
--- comment too
+-- what the bytes of a line say, without blanks and line end; a line that isn't UTF-8 is bad, also
+-- as a comment
 abbrev pub command_of : List ℕ → Command
 command_of bytes = if is_utf8 bytes then command_of_text bytes else bad

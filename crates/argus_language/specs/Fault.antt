@@ -27,17 +27,17 @@ use Rattle.argus_language.specs.declared.limits.TheConstants.{MAX_LINES, MAX_LIN
 use Rattle.argus_language.specs.declared.limits.TheConstants.{MAX_OPEN_BLOCKS, MAX_SCRIPT_BYTES}
 use Rattle.argus_language.specs.declared.script_fault.ScriptFault.{ScriptFault}
 
--- What stands before a line: how many lines and bytes, and what is open.
+-- What comes before a line: how many lines and bytes, and what is open.
 pub record Position : Type 0 where
   pub lines : ℕ
   pub bytes : ℕ
   pub levels : List Level
 
--- the position behind so many lines and bytes, where this is open
+-- the position after this many lines and bytes, with this open
 abbrev pub position_at : ℕ → ℕ → List Level → Position
 position_at lines bytes levels = record { lines = lines; bytes = bytes; levels = levels }
 
--- what stands before the next line
+-- what comes before the next line
 abbrev pub position_after : Position → List ℕ → Position
 position_after p line = record {
   lines = p.lines + 1;
@@ -45,7 +45,7 @@ position_after p line = record {
   levels = levels_after (command_of (line_text line)) (p.lines + 1) p.levels;
 }
 
--- what stands behind all these lines
+-- what comes after all these lines
 abbrev pub position_behind : List (List ℕ) → Position
 position_behind lines = fold position_after (position_at 0 0 []) lines
 
@@ -54,14 +54,14 @@ abbrev pub opens_block : List ℕ → Bool
 opens_block verb =
     bytes_eq verb (codes "enter") || (bytes_eq verb (codes "coenter") || bytes_eq verb (codes "if"))
 
--- by its first word a line goes past a limit, where so many blocks are open and so many objects
+-- by its first word a line goes past a limit, with this many blocks open and this many objects
 -- declared
 abbrev pub is_past_counts : ℕ → ℕ → List ℕ → Bool
 is_past_counts blocks objects verb =
     (nat_le MAX_OPEN_BLOCKS blocks && opens_block verb)
     || (nat_le MAX_OBJECTS objects && bytes_eq verb (codes "declare"))
 
--- a line goes past a limit, behind so many lines and bytes, open blocks and declared objects
+-- a line goes past a limit, after this many lines and bytes, open blocks and declared objects
 abbrev pub is_past_limits : ℕ → ℕ → ℕ → ℕ → List ℕ → Bool
 is_past_limits lines bytes blocks objects line =
     (nat_lt MAX_LINE_BYTES (length (ended line)) || nat_lt MAX_SCRIPT_BYTES (bytes + length line))
@@ -75,12 +75,12 @@ is_one_too_many p objects verb = is_past_counts (depth_of p.levels) objects verb
 abbrev pub is_too_long : Position → ℕ → List ℕ → Bool
 is_too_long p objects line = is_past_limits p.lines p.bytes (depth_of p.levels) objects line
 
--- the words are no command
+-- the words aren't a command
 abbrev pub is_bad : Command → Bool
 is_bad command.bad = true
 is_bad c = false
 
--- what is wrong with a command, but for its names and texts
+-- what is wrong with a command, except for its names and texts
 abbrev pub place_fault : Command → List Level → Option FaultKind
 place_fault c levels =
     if is_bad c then Some kind.BadWord else
@@ -90,7 +90,7 @@ place_fault c levels =
 abbrev pub field_fault : List ℕ → PlainFields → Option FaultKind
 field_fault name fs = if is_some (field_of name fs) then None else Some kind.UnknownName
 
--- what is wrong with an operation on an object of this shape, but for its text
+-- what is wrong with an operation on an object of this shape, except for its text
 abbrev pub operation_fault : Operation (List ℕ) → PlainShape → Option FaultKind
 operation_fault (of_any o) s = None
 operation_fault (of_record name o) (rec fs) = field_fault name fs
@@ -103,7 +103,7 @@ operation_fault (of_variant name o) (rec fs) = Some kind.BadType
 operation_fault (of_variant name o) (arr t) = Some kind.BadType
 operation_fault (of_variant name o) (var fs) = field_fault name fs
 
--- what is wrong with an access to the object that was found, but for its text
+-- what is wrong with an access to the object that was found, except for its text
 abbrev pub access_fault : Operation (List ℕ) → Option PlainShape → Option FaultKind
 access_fault o None = Some kind.UnknownName
 access_fault o (Some s) = operation_fault o s
@@ -121,13 +121,13 @@ name_fault (command.test l name) os =
 name_fault (command.access name o) os = access_fault o (shape_of name os)
 name_fault c os = None
 
--- what is wrong with a line before its names and texts are looked at
+-- what is wrong with a line before its names and texts are tested
 abbrev pub line_fault : Position → ℕ → List ℕ → Option FaultKind
 line_fault p objects line =
     if is_too_long p objects line then Some kind.TooLong else
     place_fault (command_of (line_text line)) p.levels
 
--- the text of an operation is no written form, which is a fault of this kind
+-- the text of an operation isn't a written form, which is a fault of this kind
 abbrev pub OperationTextFault : Operation (List ℕ) → FaultKind → Type 0
 OperationTextFault (of_any (operation.create text)) k =
     (k ≡ kind.BadValue) × (IsContentText text → ⊥)
@@ -141,7 +141,7 @@ OperationTextFault (of_variant name (operation.change_tag text)) k =
     (k ≡ kind.BadValue) × (IsValueText text → ⊥)
 OperationTextFault o k = ⊥
 
--- the text of a command is no written form, which is a fault of this kind
+-- the text of a command isn't a written form, which is a fault of this kind
 abbrev pub TextFault : Command → FaultKind → Type 0
 TextFault (command.declare name shape) k = (k ≡ kind.BadType) × (IsShapeText shape → ⊥)
 TextFault (command.access name o) k = OperationTextFault o k
@@ -163,7 +163,8 @@ TextIsFine (command.declare name shape) = IsShapeText shape
 TextIsFine (command.access name o) = OperationTextIsFine o
 TextIsFine c = Unit {0}
 
--- what a command says of objects and hands in has a fault of this kind; texts are looked at last
+-- what a command says of objects, with its arguments, has a fault of this kind; texts are tested
+-- last
 abbrev pub HasWordFault : Command → PlainObjects → FaultKind → Type 0
 HasWordFault c os k =
     (name_fault c os ≡ Some k) ⊎ ((name_fault c os ≡ None) × TextFault c k)
@@ -214,7 +215,7 @@ pub record Unclosed (lines : List (List ℕ)) (number : ℕ) : Type 0 where
   pub line : innermost.line ≡ number
   pub before : FineBefore lines (length lines)
 
--- The fault of a script: its first faulty line, numbered from 1; where none is, the block that
+-- The fault of a script: its first faulty line, numbered from 1; if there is none, the block that
 -- isn't closed.
 abbrev pub IsFaultOf : List (List ℕ) → ScriptFault → Type 0
 IsFaultOf lines fault =

@@ -1,5 +1,5 @@
--- The first faulty line of a script, judged by the opening lines that are still unmatched before
--- it, and the arm lines directly in them. Lines are counted from 0.
+-- The first faulty line of a script, by the opening lines that are still unmatched before it, and
+-- the arm lines directly in them. Lines are counted from 0.
 use Rattle.std.specs.Prelude.{◌≡◌, ℕ, ◌+◌, ◌<◌, ◌⊎◌, ◌∷◌, if◌then◌else◌, List, [], length, take}
 use Rattle.std.specs.Prelude.{Bool, get_or, sum_by, Option, Some, None}
 use Rattle.argus_language.specs.Fault.{HasWordFault, WordsAreFine, is_bad, is_past_limits}
@@ -10,13 +10,13 @@ use Rattle.argus_language.specs.declared.fault_kind.FaultKind.{FaultKind}
 use Rattle.argus_language.specs.declared.fault_kind.FaultKind.TheVariants as kind
 use Rattle.argus_language.specs.declared.script_fault.ScriptFault.{ScriptFault}
 
--- the line at i goes past a limit, where so many objects are declared before it
+-- the line at i goes past a limit, with this many objects declared before it
 abbrev pub is_past_limits_at : List (List ℕ) → ℕ → ℕ → Bool
 is_past_limits_at lines i objects =
     is_past_limits i (sum_by length (take i lines)) (length (unmatched lines i)) objects
     (get_or lines i [])
 
--- what is wrong with the line at i before its names and texts are looked at
+-- what is wrong with the line at i before its names and texts are tested
 abbrev pub fault_at : List (List ℕ) → ℕ → ℕ → Option FaultKind
 fault_at lines i objects =
     if is_past_limits_at lines i objects then Some kind.TooLong else

@@ -10,7 +10,7 @@ abbrev pub place_from : ℕ → List ℕ → List (List ℕ) → Option ℕ
 place_from n name [] = None
 place_from n name (x ∷ names) = if bytes_eq x name then Some n else place_from (n + 1) name names
 
--- a number that a byte can hold, as each field has: a record has no more than 64
+-- a number that a byte can hold, which each field has: a record has at most 64
 abbrev pub as_byte : ℕ → Option ℕ
 as_byte n = if nat_lt n 256 then Some n else None
 

@@ -5,13 +5,13 @@ use Rattle.argus_language.specs.FaultyLines.{HasNoFaultyLine, IsFirstFaultyLine}
 use Rattle.argus_language.specs.Script.{PlainScript, Spells}
 use Rattle.argus_language.specs.declared.script_fault.ScriptFault.{ScriptFault}
 
--- lines spell one script at most
+-- lines spell at most one script
 abbrev pub SpellOneScript : Type 0
 SpellOneScript =
     (lines : List (List ℕ)) (a b : PlainScript) → Spells lines a → Spells lines b → a ≡ b
 
--- the fault of a script by its levels is the one by its unmatched opening lines, and where by one
--- of the two there is none, there is none by the other
+-- the fault of a script by its levels is the one by its unmatched opening lines, and if there is
+-- none by one of the two, there is none by the other
 abbrev pub LevelsTellUnmatchedLines : Type 0
 LevelsTellUnmatchedLines = (lines : List (List ℕ))
     → ((fault : ScriptFault) → IsFaultOf lines fault ↔ IsFirstFaultyLine lines fault)

@@ -1,4 +1,4 @@
--- The blocks and arms that are open behind a line.
+-- The blocks and arms that are open after a line.
 use Rattle.std.specs.Prelude.{ℕ, ◌+◌, Bool, true, false, not, if◌then◌else◌, List, [], ◌∷◌, drop}
 use Rattle.argus_language.specs.Command.{Command}
 use Rattle.argus_language.specs.Command as command
@@ -9,7 +9,7 @@ use Rattle.argus_language.specs.declared.block_kind.BlockKind.TheVariants as ope
 use Rattle.argus_language.specs.declared.place.Place.{Place}
 use Rattle.argus_language.specs.declared.place.Place.TheVariants as place
 
--- Lists of levels are those of the lines still unmatched, the innermost first: each line that
+-- A list of levels has the lines that are still unmatched, the innermost first: each line that
 -- opened a block, and in a coenter the last of its arm lines.
 
 -- the place in the innermost
@@ -29,16 +29,16 @@ is_arm (place.Body b) = false
 is_arm (place.Arm b) = true
 is_arm (place.Coenter b) = false
 
--- an arm ends where its next one begins, or its coenter ends
+-- an arm ends where the next one begins, or its coenter ends
 abbrev pub behind_arm : List Level → List Level
 behind_arm [] = []
 behind_arm (l ∷ ls) = if is_arm l.place then ls else l ∷ ls
 
--- a block more, which the line with this number opened
+-- one more block, which the line with this number opened
 abbrev pub with_block : Place → ℕ → List Level → List Level
 with_block p n ls = record { place = p; line = n; depth = depth_of ls + 1 } ∷ ls
 
--- an arm more: it has the number and the count of its coenter
+-- one more arm: it has the number and the count of its coenter
 abbrev pub with_arm : List Level → List Level
 with_arm [] = []
 with_arm (l ∷ ls) = record { place = in_arm l.place; line = l.line; depth = l.depth } ∷ l ∷ ls
@@ -53,7 +53,7 @@ levels_after (command.arm k) n ls = with_arm (behind_arm ls)
 levels_after command.«end» n ls = drop 1 (behind_arm ls)
 levels_after c n ls = ls
 
--- a line with this command may stand behind these levels
+-- a line with this command is allowed after these levels
 abbrev pub may_follow : Command → List Level → Bool
 may_follow command.nothing ls = true
 may_follow command.bad ls = true

@@ -1,18 +1,18 @@
--- How a script is cut into lines, and what of a line counts.
+-- How a script is cut into lines, and which part of a line counts.
 use Rattle.std.specs.Prelude.{ℕ, ◌-◌, ◌==◌, nat_lt, Bool, ◌&&◌, ◌||◌, not, if◌then◌else◌}
 use Rattle.std.specs.Prelude.{List, [], ◌∷◌, length, take, reverse, slice_index}
 
--- a byte in front of the first line
+-- a byte put before the first line
 abbrev pub onto : ℕ → List (List ℕ) → List (List ℕ)
 onto b [] = (b ∷ []) ∷ []
 onto b (line ∷ lines) = (b ∷ line) ∷ lines
 
--- the lines of a script: it is cut behind each line feed, which stays with its line
+-- the lines of a script: it is cut after each line feed, which stays with its line
 abbrev pub lines_of : List ℕ → List (List ℕ)
 lines_of [] = []
 lines_of (b ∷ bs) = if b == 10 then (10 ∷ []) ∷ lines_of bs else onto b (lines_of bs)
 
--- the bytes without the last one, where that is c
+-- the bytes without the last one, if that is c
 abbrev pub without_last : ℕ → List ℕ → List ℕ
 without_last c bs = if nat_lt 0 (length bs) && slice_index bs (length bs - 1) == c then take
     (length bs - 1) bs else bs
@@ -25,16 +25,16 @@ ended line = without_last 13 (without_last 10 line)
 abbrev pub is_blank : ℕ → Bool
 is_blank b = b == 32 || b == 9
 
--- the bytes from the first that is no blank on
+-- the bytes from the first that isn't a blank
 abbrev pub behind_blanks : List ℕ → List ℕ
 behind_blanks [] = []
 behind_blanks (b ∷ bs) = if is_blank b then behind_blanks bs else b ∷ bs
 
--- the bytes up to the last that is no blank
+-- the bytes up to the last that isn't a blank
 abbrev pub before_blanks : List ℕ → List ℕ
 before_blanks bs = reverse (behind_blanks (reverse bs))
 
--- what of a line counts: no line end, and no blanks at either end
+-- the part of a line that counts: without its line end, and without blanks at either end
 abbrev pub line_text : List ℕ → List ℕ
 line_text line = before_blanks (behind_blanks (ended line))
 

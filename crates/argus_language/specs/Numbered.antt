@@ -12,7 +12,7 @@ use Rattle.argus_language.specs.Spelled.{Sentence}
 use Rattle.argus_language.specs.Spelled as sentence
 use Rattle.argus_language.specs.declared.block_kind.BlockKind.TheVariants as opening
 
--- an operation on an object of this shape, with the number of its field or tag; None where it
+-- an operation on an object of this shape, with the number of its field or tag; `None` if it
 -- doesn't suit the shape
 abbrev pub numbered_in : PlainShape → Operation (List ℕ) → Option (Operation ℕ)
 numbered_in s (of_any o) = Some (of_any o)
@@ -31,7 +31,7 @@ abbrev pub access_to : PlainObjects → Operation (List ℕ) → ℕ → Option 
 access_to os o x = option_and_then
     (λ s. option_map (sentence.access x) (numbered_in s o)) (shape_at os x)
 
--- what a command says of these objects; None where it says nothing, or speaks of none of them
+-- what a command says of these objects; `None` if it says nothing, or is about none of them
 abbrev pub numbered : PlainObjects → Command → Option Sentence
 numbered os command.nothing = None
 numbered os command.bad = None
@@ -52,7 +52,7 @@ abbrev pub one_or_none : Option Sentence → List Sentence
 one_or_none None = []
 one_or_none (Some s) = s ∷ []
 
--- what a line tells of these objects
+-- what a line says of these objects
 abbrev pub sentences_of : PlainObjects → List ℕ → List Sentence
 sentences_of os line = one_or_none (numbered os (command_of (line_text line)))
 

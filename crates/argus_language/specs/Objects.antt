@@ -23,11 +23,11 @@ objects_coded =
     (coded× (coded_list (coded_list coded_ℕ)) (coded_list shape_coded))
     (λ o. (o.names, o.shapes)) (λ p. record { names = p.0; shapes = p.1 }) (λ _. refl)
 
--- no object
+-- without objects
 abbrev pub no_objects : PlainObjects
 no_objects = record { names = []; shapes = [] }
 
--- these objects, and behind them those
+-- these objects, and after them those
 abbrev pub with_more : PlainObjects → PlainObjects → PlainObjects
 with_more os more = record { names = os.names ++ more.names; shapes = os.shapes ++ more.shapes }
 
@@ -39,7 +39,7 @@ number_of name os = position_from (λ n. bytes_eq name n) 0 os.names
 abbrev pub shape_at : PlainObjects → ℕ → Option PlainShape
 shape_at os i = slice_get os.shapes i
 
--- each object has a shape that can be made, which alone has its written form
+-- each object has a shape that can be made; no other shape has its written form
 abbrev pub AllMakeable : PlainObjects → Type 0
 AllMakeable os = All IsMakeable os.shapes
 

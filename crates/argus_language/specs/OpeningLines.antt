@@ -1,4 +1,4 @@
--- Where a line may stand, by the opening lines that are still unmatched before it, and the arm
+-- Where a line is allowed, by the opening lines that are still unmatched before it, and the arm
 -- lines directly in them. Lines are counted from 0.
 use Rattle.std.specs.Prelude.{ℕ, zero, suc, ◌==◌, Bool, true, false, not, ◌&&◌, ◌||◌}
 use Rattle.std.specs.Prelude.{if◌then◌else◌, List, [], ◌∷◌, drop, get_or}
@@ -57,8 +57,8 @@ is_end command.leave_all = false
 is_end command.«end» = true
 is_end (command.access name o) = false
 
--- the opening lines that are unmatched behind the line at n, where these were before it: an opening
--- line is one more, and an `end` matches the innermost
+-- the opening lines that are unmatched after the line at n, given those before it: an opening line
+-- adds one, and an `end` matches the innermost
 abbrev pub unmatched_behind : Command → ℕ → List ℕ → List ℕ
 unmatched_behind c n openings =
     if opens c then n ∷ openings else (if is_end c then drop 1 openings else openings)
@@ -73,15 +73,15 @@ abbrev pub is_innermost : ℕ → List ℕ → Bool
 is_innermost i [] = false
 is_innermost i (k ∷ outer) = i == k
 
--- before the line at n an arm line stands directly in the opening line at i, which is then the
+-- before the line at n there is an arm line directly in the opening line at i, which is then the
 -- innermost that is unmatched
 abbrev pub has_arm : List (List ℕ) → ℕ → ℕ → Bool
 has_arm lines zero i = false
 has_arm lines (suc n) i =
     (is_arm_line (command_at lines n) && is_innermost i (unmatched lines n)) || has_arm lines n i
 
--- what stands directly in the block that such a line opened is in an action: in an `enter` or an
--- `if`, and in a coenter that has an arm line
+-- what is directly in the block that such a line opened is in an action: in an `enter` or an `if`,
+-- and in a coenter that has an arm line
 abbrev pub holds_action : Command → Bool → Bool
 holds_action command.nothing a = false
 holds_action command.bad a = false
@@ -96,18 +96,18 @@ holds_action command.leave_all a = false
 holds_action command.«end» a = false
 holds_action (command.access name o) a = false
 
--- the line at n stands in an action, where these opening lines are unmatched before it
+-- the line at n is in an action, if these opening lines are unmatched before it
 abbrev pub in_action : List (List ℕ) → ℕ → List ℕ → Bool
 in_action lines n [] = false
 in_action lines n (i ∷ outer) = holds_action (command_at lines i) (has_arm lines n i)
 
--- it stands at top level
+-- it is at top level
 abbrev pub at_top : List ℕ → Bool
 at_top [] = true
 at_top (i ∷ outer) = false
 
 -- an arm of this kind may begin directly in the block that such a line opened: in a coenter, and a
--- subaction's only where that isn't at top level itself
+-- subaction's only if that isn't at top level itself
 abbrev pub takes_arm_line : ActionKind → Command → List ℕ → Bool
 takes_arm_line k command.nothing outer = false
 takes_arm_line k command.bad outer = false
@@ -123,13 +123,13 @@ takes_arm_line k command.leave_all outer = false
 takes_arm_line k command.«end» outer = false
 takes_arm_line k (command.access name o) outer = false
 
--- an arm line of this kind may stand behind these lines: directly in the innermost
+-- an arm line of this kind is allowed after these lines: directly in the innermost
 abbrev pub in_coenter_for : ActionKind → List (List ℕ) → List ℕ → Bool
 in_coenter_for k lines [] = false
 in_coenter_for k lines (i ∷ outer) = takes_arm_line k (command_at lines i) outer
 
--- `leave all` may stand in the block that such a line opened: in a coenter that has an arm line and
--- isn't the outermost block; and in an `if`, where it may stand further out
+-- `leave all` is allowed in the block that such a line opened: in a coenter that has an arm line
+-- and isn't the outermost block; and in an `if`, if it is allowed further out
 abbrev pub lets_leave_all : Command → Bool → Bool → Bool → Bool
 lets_leave_all command.nothing is_outermost has_arm further = false
 lets_leave_all command.bad is_outermost has_arm further = false
@@ -144,14 +144,14 @@ lets_leave_all command.leave_all is_outermost has_arm further = false
 lets_leave_all command.«end» is_outermost has_arm further = false
 lets_leave_all (command.access name o) is_outermost has_arm further = false
 
--- `leave all` may stand at n, where these opening lines are unmatched before it: from the innermost
--- outwards come `if`s alone, and then a coenter with an arm line, which isn't at top level
+-- `leave all` is allowed at n, if these opening lines are unmatched before it: from the innermost
+-- outwards come only `if`s, and then a coenter with an arm line, which isn't at top level
 abbrev pub in_arm_of_action : List (List ℕ) → ℕ → List ℕ → Bool
 in_arm_of_action lines n [] = false
 in_arm_of_action lines n (i ∷ outer) = lets_leave_all (command_at lines i) (at_top outer)
     (has_arm lines n i) (in_arm_of_action lines n outer)
 
--- a line with this command may stand at n, where these opening lines are unmatched before it
+-- a line with this command is allowed at n, if these opening lines are unmatched before it
 abbrev pub may_stand_behind : Command → List (List ℕ) → ℕ → List ℕ → Bool
 may_stand_behind command.nothing lines n openings = true
 may_stand_behind command.bad lines n openings = true
@@ -167,6 +167,6 @@ may_stand_behind command.leave_all lines n openings = in_arm_of_action lines n o
 may_stand_behind command.«end» lines n openings = not (at_top openings)
 may_stand_behind (command.access name o) lines n openings = in_action lines n openings
 
--- the line at n may stand where it stands
+-- the line at n is allowed where it is
 abbrev pub may_stand_at : List (List ℕ) → ℕ → Bool
 may_stand_at lines n = may_stand_behind (command_at lines n) lines n (unmatched lines n)

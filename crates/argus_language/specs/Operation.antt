@@ -34,7 +34,7 @@ pub data VariantOperation : Type 0 where
   tag_value : VariantOperation
   change_tag : List ℕ → VariantOperation
 
--- an operation, by the kind of its object; F is what fields and tags go by, names or numbers
+-- an operation, by the kind of its object; F is what identifies fields and tags, names or numbers
 pub data Operation (F : Type 0) : Type 0 where
   of_any : AnyOperation → Operation F
   of_record : F → RecordOperation → Operation F

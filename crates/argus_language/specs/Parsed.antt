@@ -6,7 +6,7 @@ use Rattle.argus_language.specs.declared.parse_error.ParseError.{ParseError}
 use Rattle.argus_language.specs.declared.parse_error.ParseError.TheVariants as error
 use Rattle.argus_language.specs.declared.script_fault.ScriptFault.{ScriptFault}
 
--- P holds of the fault of a script; want of memory says nothing
+-- P holds of the fault of a script; out of memory says nothing
 abbrev pub OnScriptFault : ParseError → (ScriptFault → Type 0) → Type 0
 OnScriptFault (error.Fault fault) P = P fault
 OnScriptFault error.Memory P = Unit {0}

@@ -1,4 +1,4 @@
--- Where each step may stand.
+-- Where each step is allowed.
 use Rattle.std.specs.Prelude.{◌≡◌, Bool, true, false, not}
 use Rattle.argus_contents.specs.Change.{PlainChange}
 use Rattle.argus_contents.specs.Change as change
@@ -35,16 +35,16 @@ is_coenter (place.Body b) = false
 is_coenter (place.Arm b) = false
 is_coenter (place.Coenter b) = true
 
--- an arm may end all others: nothing but `if` blocks stands between it and here, and its coenter
--- stands in an action
+-- an arm may end all others: only `if` blocks are between it and here, and its coenter is in an
+-- action
 abbrev pub may_leave_all : Place → Bool
 may_leave_all place.Top = false
 may_leave_all (place.Body b) = b
 may_leave_all (place.Arm b) = b
 may_leave_all (place.Coenter b) = false
 
--- an arm of this kind may stand there: in a coenter, that of a subaction where the coenter stands
--- in an action
+-- an arm of this kind is allowed there: in a coenter, and a subaction's only if the coenter is in
+-- an action
 abbrev pub takes_arm : ActionKind → Place → Bool
 takes_arm k place.Top = false
 takes_arm k (place.Body b) = false
@@ -74,7 +74,7 @@ place_in (opening.If l x) p = place.Body (may_leave_all p)
 place_in opening.Coenter p = place.Coenter (not (is_top p))
 place_in (opening.Arm k) p = in_arm p
 
--- a deed may stand there
+-- a deed is allowed there
 abbrev pub may_stand : SimpleStep → Place → Bool
 may_stand part.declare p = is_top p
 may_stand (part.ask x q) p = is_body p
@@ -97,7 +97,7 @@ IsReadable (change.trim from count) = Unit {0}
 IsReadable (change.change_tag t v) = Within MAX_VALUE_DEPTH v
 IsReadable change.touch = Unit {0}
 
--- what a deed hands in has a written form that is read
+-- the argument of a deed has a written form that is read
 abbrev pub HasForm : SimpleStep → Type 0
 HasForm part.declare = Unit {0}
 HasForm (part.ask x q) = Unit {0}
@@ -107,12 +107,12 @@ HasForm part.abort_leave = Unit {0}
 HasForm part.leave_all = Unit {0}
 
 abbrev mutual
-  -- the step may stand at a place, and so may each step in it
+  -- the step is allowed at a place, and so is each step in it
   pub MayStand : Place → PlainStep → Type 0
   MayStand p (part.simple d) = (may_stand d p ≡ true) × HasForm d
   MayStand p (part.block o ps) = (may_begin o p ≡ true) × AllMayStand (place_in o p) ps
 
-  -- each of the steps may stand at a place
+  -- each of the steps is allowed at a place
   pub AllMayStand : Place → PlainSteps → Type 0
   AllMayStand p part.none = Unit {0}
   AllMayStand p (part.more x ps) = MayStand p x × AllMayStand p ps

@@ -1,4 +1,4 @@
--- A script as the rules speak of it: steps, and steps within blocks.
+-- A script as the rules see it: steps, and steps within blocks.
 use Rattle.std.specs.Prelude.{ℕ, List, [], ◌∷◌, map}
 use Rattle.argus_contents.specs.Change.{PlainChange, plain_change}
 use Rattle.argus_contents.specs.declared.query.Query.{Query}
@@ -6,7 +6,7 @@ use Rattle.argus_language.specs.declared.block_kind.BlockKind.{BlockKind}
 use Rattle.argus_language.specs.declared.step.Step.{Step, fold-Step}
 use Rattle.argus_language.specs.declared.step.Step.TheOpen.{Step-F}
 
--- a step that is one line; objects, fields and tags go by number
+-- a step that is one line; objects, fields and tags are numbers
 pub data SimpleStep : Type 0 where
   declare : SimpleStep
   ask : ℕ → Query → SimpleStep
@@ -16,7 +16,7 @@ pub data SimpleStep : Type 0 where
   leave_all : SimpleStep
 
 mutual
-  -- a step: a deed, or a block with what stands in it
+  -- a step: a deed, or a block with the steps in it
   pub data PlainStep : Type 0 where
     simple : SimpleStep → PlainStep
     block : BlockKind → PlainSteps → PlainStep
@@ -31,7 +31,7 @@ abbrev pub listed : List PlainStep → PlainSteps
 listed [] = none
 listed (p ∷ ps) = more p (listed ps)
 
--- one level of a step, where each step within is plain already
+-- one level of a step, in which each step is already plain
 abbrev pub plain_level : Step-F PlainStep → PlainStep
 plain_level Step-F.Declare = simple declare
 plain_level (Step-F.Ask x q) = simple (ask x q)

@@ -22,12 +22,12 @@ use Rattle.argus_language.specs.declared.block_kind.BlockKind.TheVariants as ope
 use Rattle.argus_language.specs.declared.place.Place.{Place}
 use Rattle.argus_language.specs.declared.step.Step.{Step}
 
--- P holds of the kind of a fault; want of memory says nothing
+-- P holds of the kind of a fault; out of memory says nothing
 abbrev pub OnKind : LineError → (FaultKind → Type 0) → Type 0
 OnKind (error.Fault k) P = P k
 OnKind error.OutOfMemory P = Unit {0}
 
--- the step may stand anywhere in an action
+-- the step is allowed anywhere in an action
 abbrev pub StandsInAction : PlainStep → Type 0
 StandsInAction part = (p : Place) → is_body p ≡ true → MayStand p part
 
@@ -35,7 +35,7 @@ StandsInAction part = (p : Place) → is_body p ≡ true → MayStand p part
 abbrev pub levels_of : List OpenBlock → List Level
 levels_of blocks = map (λ b. b.level) (reverse blocks)
 
--- the lines in front of what stands in a block: the steps before it, and its first line
+-- the lines before what is in a block: the steps before it, and its first line
 abbrev pub front : OpenBlock → List Sentence
 front b = lines_of_parts (plain_steps b.before.items) ++ sentence.begin b.opening ∷ []
 
@@ -50,28 +50,29 @@ is_arm_line (opening.If l x) = false
 is_arm_line opening.Coenter = false
 is_arm_line (opening.Arm k) = true
 
--- a block began where it may, behind steps that stand where they may
+-- a block began where it is allowed, after steps that are allowed where they are
 pub record BeganAt (p : Place) (b : OpenBlock) : Type 0 where
   pub may : may_begin b.opening p ≡ true
   pub place : b.level.place ≡ place_in b.opening p
   pub arm : is_arm b.level.place ≡ is_arm_line b.opening
   pub before : AllMayStand p (plain_steps b.before.items)
 
--- each open block began where it may, the innermost first
+-- each open block began where it is allowed, the innermost first
 abbrev pub AllBegan : List OpenBlock → Type 0
 AllBegan [] = Unit {0}
 AllBegan (b ∷ bs) = BeganAt (place_of (map (λ x. x.level) bs)) b × AllBegan bs
 
--- all that was read stands where it may
+-- all that was read is allowed where it is
 pub record IsSound (blocks : List OpenBlock) (steps : List Step) : Type 0 where
   pub began : AllBegan (reverse blocks)
   pub stand : AllMayStand (place_of (levels_of blocks)) (plain_steps steps)
 
--- the line that closes what is open at a place: an arm has none
+-- the line that closes what is open at a place; an arm has none
 abbrev pub closing_at : Place → List Sentence
 closing_at p = if is_arm p then [] else sentence.«end» ∷ []
 
--- there is room for one more of what a command opens or declares, and a declared name has its form
+-- there is room for one more of what a command opens or declares, and a declared name has the form
+-- of one
 abbrev pub IsWithinLimits : Command → List Level → PlainObjects → Type 0
 IsWithinLimits (command.enter k) ls os = depth_of ls < MAX_OPEN_BLOCKS
 IsWithinLimits command.coenter ls os = depth_of ls < MAX_OPEN_BLOCKS

@@ -42,8 +42,8 @@ pub record Declares (lines : List (List ℕ)) (objects : PlainObjects) : Type 0 
       ≡ map shape_spelling objects.shapes
   pub makeable : AllMakeable objects
 
--- Lines spell a script: they declare its objects, what they tell of these is its lines, and each of
--- its steps stands where it may.
+-- Lines spell a script: they declare its objects, what they say of these is its lines, and each of
+-- its steps is allowed where it is.
 pub record Spells (lines : List (List ℕ)) (script : PlainScript) : Type 0 where
   pub declares : Declares lines script.objects
   pub sentences : flat_map (sentences_of script.objects) lines ≡ lines_of_parts script.parts

@@ -59,8 +59,8 @@ sentence part.leave = leave
 sentence part.abort_leave = abort_leave
 sentence part.leave_all = leave_all
 
--- the line that closes what began so: none closes an arm, which goes on to the next arm or to the
--- end of its coenter
+-- the line that closes what began with this line: none closes an arm, which goes on to the next arm
+-- or to the end of its coenter
 abbrev pub closing : BlockKind → List Sentence
 closing (opening.Enter k) = «end» ∷ []
 closing (opening.If l x) = «end» ∷ []

@@ -4,8 +4,8 @@
 ///
 /// | Words | Kind |
 /// |---|---|
-/// | `enter topaction`, the arm line `topaction` | `Topaction`: a topaction, nested where it stands
-/// in an action |
+/// | `enter topaction`, the arm line `topaction` | `Topaction`: a topaction, nested if it is in an
+/// action |
 /// | `enter action`, the arm line `action` | `Subaction` |
 ///
 /// ```text

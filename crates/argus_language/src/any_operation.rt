@@ -1,6 +1,6 @@
 //! `AnyOperation`: an operation on any object.
 
-/// An operation on any object. A content stands as it does in the line.
+/// An operation on any object. A content is as it is in the line.
 #[derive(Clone, Copy)]
 pub(crate) enum AnyOperation<'a> {
     Create(&'a str),

@@ -1,6 +1,6 @@
 //! `ArrayOperation`: an operation on an array.
 
-/// An operation on an array. A value stands as it does in the line.
+/// An operation on an array. A value is as it is in the line.
 #[derive(Clone, Copy)]
 pub(crate) enum ArrayOperation<'a> {
     Low,

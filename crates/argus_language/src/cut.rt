@@ -1,11 +1,11 @@
-//! Cutting a script into lines, and a line's ends off.
+//! Cuts a script into lines, and a line's ends off.
 
 ghost use Rattle.std.specs.Prelude.{◌≡◌, ◌∷◌, ◌<◌, ◌≤◌, length, take, drop};
 ghost use Rattle.argus_language.specs.Lines.{before_blanks, behind_blanks, ended, is_blank};
 ghost use Rattle.argus_language.specs.Lines.{lines_of};
 ghost use Rattle.argus_language.specs.Lines.{without_last};
 
-/// The length of the first line, its line feed counted.
+/// The length of the first line, with its line feed.
 pub(crate) fn first_line_len(bytes: &[u8]) -> usize
     requires { 0 < length bytes.now }
     ensures some { 0 < result }

@@ -2,18 +2,17 @@
 
 use thiserror::Error;
 
-/// Why a line is refused. In one line they are looked for in the order of the table.
+/// Why a line is refused. If several apply to a line, the first of the table is returned.
 ///
 /// | Kind | When |
 /// |---|---|
 /// | `TooLong` | a limit of [`limits`](crate::limits) is passed, at this line |
-/// | `BadWord` | the line isn't UTF-8 or no command, lacks a word or has too many, or a name or an
-/// int is none |
-/// | `Misplaced` | the line may not stand there |
+/// | `BadWord` | not UTF-8 or not a command; too few or too many words; a bad name or int |
+/// | `Misplaced` | the line isn't allowed there |
 /// | `NameTwice` | the object is declared already |
 /// | `UnknownName` | no such object is declared, or it has no such field or tag |
-/// | `BadType` | the shape is no written form, or the access is not of the object's kind |
-/// | `BadValue` | the value or the content is no written form |
+/// | `BadType` | the shape isn't a written form, or the access doesn't suit the object's kind |
+/// | `BadValue` | the value or the content isn't a written form |
 /// | `Unclosed` | no line is faulty, and blocks are open at the end; the line opened the innermost
 /// |
 ///

@@ -4,7 +4,7 @@ ghost use Rattle.std.specs.Prelude.{◌≡◌};
 ghost use Rattle.argus_language.specs.Int.{above_zero, below_zero, digits_behind, int_of};
 ghost use Rattle.argus_language.specs.Int.{positive_of, with_digit};
 
-/// The int that the bytes write; None where they write none of 64 bits.
+/// The int that the bytes spell; `None` if they don't spell one of 64 bits.
 pub(crate) fn int_in(bytes: &[u8]) -> Option<i64>
     ensures { result ≡ int_of bytes.now }
 {
@@ -36,7 +36,7 @@ fn below_zero(number: u64) -> Option<i64>
     None
 }
 
-/// The number above 0 that the bytes write, up to 2^63.
+/// The number above 0 that the bytes spell, up to 2^63.
 fn positive_in(bytes: &[u8]) -> Option<u64>
     ensures { result ≡ positive_of bytes.now }
 {
@@ -47,7 +47,7 @@ fn positive_in(bytes: &[u8]) -> Option<u64>
     number_in(bytes)
 }
 
-/// The number that the digits write, up to 2^63.
+/// The number that the digits spell, up to 2^63.
 fn number_in(digits: &[u8]) -> Option<u64>
     ensures { result ≡ digits_behind 0 digits.now }
 {
@@ -58,7 +58,7 @@ fn number_in(digits: &[u8]) -> Option<u64>
     Some(number)
 }
 
-/// The number with one more digit; None where the byte is no digit, and past 2^63.
+/// The number with one more digit; `None` if the byte isn't a digit, and past 2^63.
 fn with_digit(number: u64, byte: u8) -> Option<u64>
     ensures { result ≡ with_digit number byte }
 {

@@ -4,7 +4,7 @@ use crate::action_kind::ActionKind;
 use crate::lock::Lock;
 use crate::operation::Operation;
 
-/// What a line says, with the names and the texts as they stand in it. Names have a name's form,
+/// What a line says, with the names and the texts as they are in it. Names have the form of a name,
 /// and no text is empty.
 #[derive(Clone, Copy)]
 pub(crate) enum Line<'a> {

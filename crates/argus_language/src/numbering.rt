@@ -12,8 +12,8 @@ use crate::fields::field_number;
 use crate::operation::Operation;
 use argus_contents::{Name, Shape, ShapeView, Ty};
 
-/// The number of the field or tag that an operation on an object of this shape names, 0 where it
-/// names none; or why the operation doesn't suit the shape.
+/// The number of the field or tag that an operation on an object of this shape names, 0 if it names
+/// none; or why the operation doesn't suit the shape.
 pub(crate) fn number_in(shape: &Shape, operation: &Operation<'_>) -> Result<u8, FaultKind>
     ensures number { IfOk result
         (λ n. numbered_in shape.now (plain_operation operation.now)

@@ -12,8 +12,8 @@ use std::collections::BTreeMap;
 use std::marker::Model;
 
 /// The declared objects: their names and shapes, in the order of their declarations, and the number
-/// of each name. A look-up goes by the order of the names' bytes, so no choice of names makes it
-/// slow; the names in it are borrowed from the script.
+/// of each name. A look-up uses the order of the names' bytes, so no choice of names makes it slow;
+/// the names in it are borrowed from the script.
 #[derive(Drop)]
 pub(crate) struct Objects<'a> {
     names: Vec<Name, Room>,

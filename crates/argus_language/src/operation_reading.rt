@@ -19,7 +19,7 @@ use crate::variant_operation::VariantOperation;
 use crate::words::split_word;
 use argus_contents::Name;
 
-/// The operation that a verb says with the words behind the object's name.
+/// The operation that a verb says with the words after the object's name.
 pub(crate) fn read_operation<'a>(verb: &str, rest: &'a str) -> Option<Operation<'a>>
     ensures { option_map plain_operation result ≡ operation verb.now rest.now }
 {

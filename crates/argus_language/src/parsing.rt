@@ -20,8 +20,8 @@ use argus_memory::Heap;
 /// The script that the bytes spell.
 ///
 /// `Fault` comes with the first faulty line and the first kind that applies to it, in the order of
-/// [`FaultKind`]'s table; where no line is faulty, with the line that opened the innermost block
-/// that isn't closed. `Memory` may come in place of any answer.
+/// [`FaultKind`]'s table. If no line is faulty, it comes with the line that opened the innermost
+/// block that isn't closed. `Memory` may come in place of any result.
 ///
 /// ```text
 /// let script = parse(heap, b"declare x atomic_record[n:int]\nenter topaction\nend\n")?;

@@ -1,4 +1,4 @@
-//! `Place`: where a line stands.
+//! `Place`: where a line is.
 
 ghost use Rattle.std.specs.Prelude.{◌≡◌};
 ghost use Rattle.argus_language.specs.Placement.{in_arm, is_body, is_coenter, is_top};
@@ -8,16 +8,16 @@ ghost use Rattle.argus_language.specs.Placement.{place_in, takes_arm};
 use crate::action_kind::ActionKind;
 use crate::block_kind::BlockKind;
 
-/// Where a line stands, which decides what it may say.
+/// Where a line is, which decides what it may say.
 #[derive(Clone, Copy, Debug, PartialEq, Eq)]
 pub(crate) enum Place {
     /// In no block.
     Top,
-    /// In an `enter` or an `if` block; and whether `leave all` may stand there.
+    /// In an `enter` or an `if` block; and whether `leave all` is allowed there.
     Body(bool),
-    /// In an arm, and in none of its blocks; and whether `leave all` may stand there.
+    /// In an arm, and in none of its blocks; and whether `leave all` is allowed there.
     Arm(bool),
-    /// In a coenter, before its first arm; and whether the coenter stands in an action.
+    /// In a coenter, before its first arm; and whether the coenter is in an action.
     Coenter(bool),
 }
 
@@ -52,7 +52,7 @@ impl Place {
         }
     }
 
-    /// Whether `leave all` may stand there.
+    /// Whether `leave all` is allowed there.
     pub(crate) fn may_leave_all(self) -> bool
         ensures { result ≡ may_leave_all self }
     {

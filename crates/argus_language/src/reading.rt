@@ -38,7 +38,7 @@ pub(crate) struct Reading<'a> {
 }
 
 impl<'a> Reading<'a> {
-    /// Nothing is read yet.
+    /// Nothing has been read yet.
     pub(crate) fn new(heap: Heap) -> Reading<'a>
         ensures objects { result.objects ≡ no_objects }
         ensures none_open { result.blocks.items ≡ [] }
@@ -51,7 +51,7 @@ impl<'a> Reading<'a> {
         }
     }
 
-    /// Where the next line stands.
+    /// The place of the next line.
     pub(crate) fn place(&self) -> Place
         ensures { result ≡ place_of (levels_of self.now.blocks.items) }
     {
@@ -71,7 +71,7 @@ impl<'a> Reading<'a> {
         }
     }
 
-    /// One more step, which may stand here.
+    /// One more step, which is allowed here.
     pub(crate) fn push(&mut self, step: Step) -> Result<(), LineError>
         requires sound { IsSound self.old.blocks.items self.old.steps.items }
         requires stands { MayStand (place_of (levels_of self.old.blocks.items)) (plain_step step) }
@@ -87,7 +87,7 @@ impl<'a> Reading<'a> {
         Ok(())
     }
 
-    /// A block or an arm begins, which may stand here.
+    /// A block or an arm begins, which is allowed here.
     pub(crate) fn begin(
         &mut self,
         heap: Heap,
@@ -234,7 +234,7 @@ impl<'a> Reading<'a> {
 }
 
 impl<'a> Reading<'a> {
-    /// Whether a line that says this may stand here; the innermost arm ends before a further arm.
+    /// Whether a line that says this is allowed here; the innermost arm ends before another arm.
     pub(crate) fn may_follow(&self, line: &Line<'a>) -> bool
         requires { IsSound self.now.blocks.items self.now.steps.items }
         ensures { result ≡ may_follow (plain_line line.now) (levels_of self.now.blocks.items) }
@@ -252,7 +252,7 @@ impl<'a> Reading<'a> {
         }
     }
 
-    /// Where a line stands behind the innermost arm: in that arm's coenter.
+    /// The place of a line after the innermost arm: in that arm's coenter.
     fn place_behind_arm(&self) -> Place
         requires { IsSound self.now.blocks.items self.now.steps.items }
         ensures { result ≡ place_of (behind_arm (levels_of self.now.blocks.items)) }

@@ -29,8 +29,7 @@ use argus_contents::{Change, Content, Query, Value};
 use argus_memory::Heap;
 use argus_texts::{ReadError, read_content, read_value};
 
-/// The access to the object with this number, where the number of the operation's field or tag is
-/// known.
+/// The access to the object with this number, given the number of the operation's field or tag.
 pub(crate) fn access_step(
     heap: Heap,
     object: u32,

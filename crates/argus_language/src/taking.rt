@@ -47,8 +47,8 @@ use argus_memory::{Heap, OutOfMemory};
 use argus_texts::read_shape;
 
 impl<'a> Reading<'a> {
-    /// Reads one more line, before which so many lines and bytes stand, or tells its fault. After
-    /// an error nothing more is to be read.
+    /// Reads one more line, which comes after this many lines and bytes, or returns its fault.
+    /// After an error don't read on.
     pub(crate) fn take(
         &mut self,
         heap: Heap,
@@ -95,7 +95,7 @@ impl<'a> Reading<'a> {
         self.carry(heap, lines + 1, read)
     }
 
-    /// Does what the line with this number says, which may stand here.
+    /// Does what the line with this number says, which is allowed here.
     fn carry(&mut self, heap: Heap, number: u32, line: Line<'a>) -> Result<(), LineError>
         requires sound { IsSound self.old.blocks.items self.old.steps.items }
         requires may { may_follow (plain_line line) (levels_of self.old.blocks.items) ≡ true }
@@ -135,7 +135,7 @@ impl<'a> Reading<'a> {
         }
     }
 
-    /// Whether a limit is passed at this line, where so many lines and bytes stand before it.
+    /// Whether a limit is passed at this line, which comes after this many lines and bytes.
     fn is_too_long(&self, lines: u32, bytes: usize, line: &[u8]) -> bool
         requires { bytes + length line.now < 2 ^ 64 }
         ensures { result ≡ is_too_long
@@ -149,7 +149,7 @@ impl<'a> Reading<'a> {
         lines >= MAX_LINES || self.is_one_too_many(lines, bytes, text)
     }
 
-    /// Whether a line with this text opens or declares one more than may be.
+    /// Whether a line with this text opens or declares one more than the limit.
     fn is_one_too_many(&self, lines: u32, bytes: usize, text: &[u8]) -> bool
         ensures { result ≡ is_one_too_many
             (position_at lines bytes (levels_of self.now.blocks.items))
@@ -198,7 +198,7 @@ impl<'a> Reading<'a> {
         self.push(Step::Declare)
     }
 
-    /// A block begins that is done where a lock is free.
+    /// A block begins that is run if a lock is free.
     fn test(&mut self, heap: Heap, lock: Lock, name: &'a str, number: u32) -> Result<(), LineError>
         requires sound { IsSound self.old.blocks.items self.old.steps.items }
         requires may { is_body (place_of (levels_of self.old.blocks.items)) ≡ true }
@@ -293,7 +293,7 @@ fn shape_of(heap: Heap, text: &str) -> Result<Shape, LineError>
     }
 }
 
-/// The name with this text, which has a name's form.
+/// The name with this text, which has the form of a name.
 fn name_of(heap: Heap, text: &str) -> Result<Name, LineError>
     requires { is_name text.now ≡ true }
     ensures name { IfOk result (λ name. name ≡ text.now) }

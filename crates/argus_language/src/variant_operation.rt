@@ -1,6 +1,6 @@
 //! `VariantOperation`: an operation on a variant.
 
-/// An operation on a variant, with a tag. A value stands as it does in the line.
+/// An operation on a variant, with a tag. A value is as it is in the line.
 #[derive(Clone, Copy)]
 pub(crate) enum VariantOperation<'a> {
     IsTag,

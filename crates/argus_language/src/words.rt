@@ -1,4 +1,4 @@
-//! Words of a line: the first one, and what is behind it.
+//! Words of a line: the first one, and what comes after it.
 
 ghost use Rattle.std.specs.Prelude.{◌≡◌, ◌<◌, ◌≤◌, length, take, drop, slice_index};
 ghost use Rattle.argus_language.specs.Lines.{behind_blanks, behind_word, others, word};
@@ -20,7 +20,7 @@ pub(crate) fn word_len(bytes: &[u8]) -> usize
     bytes.len()
 }
 
-/// The first word, and what is behind it and its blanks.
+/// The first word, and what comes after it and its blanks.
 pub(crate) fn split_word(text: &str) -> (&str, &str)
     ensures word { result.0.now ≡ word text.now }
     ensures others { result.1.now ≡ others text.now }

@@ -18,7 +18,7 @@ use Rattle.argus_texts.specs.ShapeSpelling.{shape_spelling}
 use Rattle.argus_listings.specs.declared.listing.Listing.{Listing}
 use Rattle.argus_listings.specs.declared.listing.Listing.TheVariants.{Audit, Bases, Journal, Stacks}
 
--- a content as it is written; `absent` where there is none
+-- a content in its written form; `absent` if there is none
 abbrev pub content_text : Option PlainContent → List ℕ
 content_text None = codes "absent"
 content_text (Some c) = content_spelling c
@@ -27,7 +27,7 @@ content_text (Some c) = content_spelling c
 abbrev pub object_line : List ℕ → List ℕ → Option PlainContent → List ℕ
 object_line name words c = name ++ words ++ content_text c ++ 10 ∷ []
 
--- the line of what an object holds for good, where more is listed of it
+-- the line of an object's base, if more is listed of the object
 abbrev pub base_line : List ℕ → Option PlainContent → List ℕ
 base_line name c = object_line name (codes " base ") c
 
@@ -39,11 +39,11 @@ version_line name v = object_line name (codes " version a" ++ decimal v.0 ++ cod
 abbrev pub version_lines : List ℕ → List (ℕ × Option PlainContent) → List ℕ
 version_lines name versions = flat_map (version_line name) versions
 
--- an action behind a space
+-- an action, after a space
 abbrev pub reader_text : ℕ → List ℕ
 reader_text a = codes " a" ++ decimal a
 
--- the readers, each behind a space; `none` where there is none
+-- the readers, each after a space; `none` if there is none
 abbrev pub readers_text : List ℕ → List ℕ
 readers_text [] = codes " none"
 readers_text (a ∷ actions) = flat_map reader_text (a ∷ actions)
@@ -52,7 +52,7 @@ readers_text (a ∷ actions) = flat_map reader_text (a ∷ actions)
 abbrev pub readers_line : List ℕ → List ℕ → List ℕ
 readers_line name readers = name ++ codes " readers" ++ readers_text readers ++ 10 ∷ []
 
--- what is in the object for good, as the journal's writes leave it when they are run again
+-- the object's base, as the journal's writes leave it when they are run again
 abbrev pub base_again : JournalView → ℕ → Option PlainContent
 base_again journal o = replayed journal.opening journal.entries None o journal.entries
 
@@ -61,7 +61,7 @@ abbrev pub seen_again : JournalView → ℕ → ℕ → Option PlainContent
 seen_again journal a o =
     replayed journal.opening journal.entries (Some (record { 0 = a })) o journal.entries
 
--- each who holds the object for writing, from ancestor to descendant, with what it sees, likewise
+-- each write holder of the object, from ancestor to descendant, with what it sees, likewise
 abbrev pub versions_again : JournalView → ℕ → List (ℕ × Option PlainContent)
 versions_again journal o =
     map (λ a. (a, seen_again journal a o)) (writers_of journal.opening journal.entries o)
@@ -83,22 +83,22 @@ abbrev pub audit_text : JournalView → ℕ → List ℕ → List ℕ
 audit_text journal o name =
     base_line name (base_again journal o) ++ version_lines name (versions_again journal o)
 
--- the lines of an object in each listing; the journal has none
+-- the lines of an object in each listing; the journal's has none
 abbrev pub object_text : Listing → JournalView → ℕ → List ℕ → List ℕ
 object_text Bases journal o name = bases_text journal o name
 object_text Stacks journal o name = stacks_text journal o name
 object_text Journal journal o name = []
 object_text Audit journal o name = audit_text journal o name
 
--- what the function says of each, with its number, where the first has this number
+-- what the function says of each with its number, counted from this number
 abbrev pub each_from : {A : Type 0} → (ℕ → A → List ℕ) → ℕ → List A → List ℕ
 each_from text n xs = flat_map (λ p. text p.0 p.1) (enumerate_from n xs)
 
--- the name of an object that nobody has named: its number
+-- the name of an object that has no other: its number
 abbrev pub numbered_name : ℕ → List ℕ
 numbered_name o = codes "o" ++ decimal o
 
--- such names of so many objects, from object 0 on
+-- such names for this many objects, from object 0 on
 abbrev pub numbered_names : ℕ → List (List ℕ)
 numbered_names count = map numbered_name (range_with_len 0 count)
 
@@ -111,7 +111,7 @@ abbrev pub objects_text : Listing → List (List ℕ) → JournalView → List �
 objects_text listing names journal =
     each_from (object_text listing journal) 0 (names_within journal names)
 
--- the line of how many entries and actions went before the opening
+-- the line that says how many entries and actions went before the opening
 abbrev pub folded_line : ℕ → ℕ → List ℕ
 folded_line entries actions =
     (codes "opening entries " ++ decimal entries)
@@ -123,7 +123,7 @@ opened_line o object =
     codes "opening o" ++ decimal o ++ codes " " ++ shape_spelling object.0
     ++ codes " " ++ content_text object.1 ++ 10 ∷ []
 
--- the lines of an opening; none where no entry went before it
+-- the lines of an opening; none if no entry went before it
 abbrev pub opening_text : Opening → List ℕ
 opening_text s =
     if s.first_entry == 0 then [] else

@@ -15,8 +15,8 @@ use argus_journal::{Journal, replay_base, replay_for};
 use argus_memory::{Heap, OutOfMemory, Room};
 use argus_objects::Version;
 
-/// The lines of a declared object: its base, and the version of each who holds it for writing. The
-/// contents are those that the journal's writes leave.
+/// The lines of a declared object: its base, and the version of each write holder. The contents are
+/// those that the journal's writes leave.
 pub(crate) fn append_audit(
     heap: Heap,
     guardian: &Guardian,

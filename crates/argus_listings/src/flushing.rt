@@ -1,4 +1,4 @@
-//! The text that is written out, and emptied, whenever it has grown long.
+//! A text that is written out and emptied whenever it has grown long.
 
 ghost use Rattle.std.specs.Prelude.{[], ◌≡◌, IfErr, OnErr, OnOk, false, string_bytes, true};
 ghost use Rattle.argus_listings.specs.Flushing.{Added, Cut};
@@ -10,7 +10,7 @@ use argus_memory::Room;
 use argus_streams::{FailStop, write_whole};
 use std::io::Write;
 
-// From so many bytes on the text is written out.
+// At this many bytes the text is written out.
 const LONG: usize = 65_536;
 
 /// Writes the text out if it is long.

@@ -24,7 +24,7 @@ use argus_streams::FailStop;
 use argus_texts::write_shape;
 use std::io::Write;
 
-/// The lines of the opening, where entries went before it.
+/// The lines of the opening, if entries went before it.
 pub(crate) fn write_opening<W: Write + Drop>(
     journal: &Journal,
     text: &mut String<Room>,

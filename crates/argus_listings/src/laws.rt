@@ -9,7 +9,7 @@ ghost use Rattle.argus_listings.specs.Listing.{version_lines, versions_again};
 use argus_core::Guardian;
 
 /// A law for proofs; it does nothing. What the journal's writes leave when they are run again is
-/// what the guardian holds: so the audit says of each object what the stacks say of its base and
+/// what the guardian holds. So the audit says of each object what the stacks say of its base and
 /// its versions.
 pub fn audits_agree_with_stacks(guardian: &Guardian)
     ensures base { (o : ℕ) → base_again guardian.now o

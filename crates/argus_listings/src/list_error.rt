@@ -1,4 +1,4 @@
-//! `ListError`: why a listing isn't there, or not all of it.
+//! `ListError`: why a listing wasn't written, or not all of it.
 
 use argus_memory::OutOfMemory;
 use thiserror::Error;
@@ -7,8 +7,8 @@ use thiserror::Error;
 ///
 /// | Error | Text | When |
 /// |---|---|---|
-/// | `OutOfMemory` | `out of memory` | memory is wanting |
-/// | `Write` | `write fault` | the writer failed, or took nothing |
+/// | `OutOfMemory` | `out of memory` | there is no memory |
+/// | `Write` | `write fault` | the writer failed, or accepted nothing |
 ///
 /// ```text
 /// write_listing(heap, &guardian, script.names(), Listing::Bases, &mut writer)?;
@@ -17,7 +17,7 @@ use thiserror::Error;
 pub enum ListError {
     #[error("out of memory")]
     OutOfMemory,
-    /// A write failed, or took nothing.
+    /// A write failed, or accepted nothing.
     #[error("write fault")]
     Write,
 }

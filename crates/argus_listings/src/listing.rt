@@ -1,13 +1,13 @@
 //! `Listing`: what is listed of a guardian.
 
 /// What is listed of a guardian. Objects come in the order of their numbers, each under its name. A
-/// content is listed as it is written, or `absent` where there is none.
+/// content is listed in its written form, or as `absent` if there is none.
 ///
 /// | Listing | Lines |
 /// |---|---|
-/// | `Bases` | for each object `acct {7}`: what it holds for good |
+/// | `Bases` | for each object `acct {7}`: its base |
 /// | `Stacks` | for each object `acct base {7}`, then its readers, then its versions |
-/// | `Journal` | the opening, where entries went before it; then each entry's line |
+/// | `Journal` | the opening, if entries went before it; then each entry's line |
 /// | `Audit` | for each object its base and its versions, by the journal; then `entries 6` |
 ///
 /// Readers are `acct readers a1 a2`, or `acct readers none`. A version is `acct version a3 {8}`;

@@ -10,7 +10,7 @@ use argus_core::Guardian;
 use argus_memory::{Heap, OutOfMemory, Room};
 
 /// Names for all objects of the guardian by their numbers: `o0`, `o1` and so on. They are listed
-/// under these where nobody has named them.
+/// under these if nobody has named them.
 ///
 /// `OutOfMemory`: there was no memory for the names.
 ///
@@ -36,7 +36,7 @@ fn numbered_name(heap: Heap, o: u32) -> Result<Name, OutOfMemory>
     append_number("o", u64::from(o), &mut text)?;
     match Name::new(heap, &text) {
         Ok(name) => Ok(name),
-        // The text has a name's form, so that memory alone can be wanting.
+        // The text has the form of a name, so only memory can be lacking.
         Err(_) => Err(OutOfMemory),
     }
 }

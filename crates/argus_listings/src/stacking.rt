@@ -29,7 +29,7 @@ pub(crate) fn append_stack(
     append_versions(guardian, o, name, text)
 }
 
-/// A line with what a declared object holds for good.
+/// A line with the base of a declared object.
 pub(crate) fn append_base(
     guardian: &Guardian,
     o: ObjId,

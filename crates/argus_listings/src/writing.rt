@@ -22,16 +22,16 @@ use std::io::Write;
 /// Writes a listing of the guardian. The first name is that of object 0, and so on; objects are
 /// listed as far as there are both a name and a declared object.
 ///
-/// The listing is made in the heap in pieces of some 64 KiB, each written once it is made. Nothing
-/// is tried again after a failure; what was written then is a front of the listing.
+/// The listing is made in the heap in pieces of some 64 KiB, each written as soon as it is made.
+/// Nothing is tried again after a failure; what was written by then is a prefix of the listing.
 ///
 /// | Error | When |
 /// |---|---|
-/// | `OutOfMemory` | memory is wanting |
-/// | `Write` | the writer failed or took nothing, and only then |
+/// | `OutOfMemory` | there is no memory |
+/// | `Write` | the writer failed or accepted nothing, and only then |
 ///
-/// The writer may not have failed before. An audit goes through the journal for each object, and
-/// for each version once more.
+/// Condition: the writer hasn't failed before. An audit scans the journal for each object, and
+/// again for each version.
 ///
 /// ```text
 /// let mut writer = FailStop::new(rt.stdout());
@@ -57,7 +57,7 @@ pub fn write_listing<W: Write + Drop>(
     flush(&mut text, writer)
 }
 
-// Writes the listing but for what is then left in the text.
+// Writes the listing except for what is then left in the text.
 fn write_lines<W: Write + Drop>(
     heap: Heap,
     guardian: &Guardian,

@@ -1,4 +1,4 @@
--- Receipts without a fault stand in the journal, each at a number of its own.
+-- Receipts without a fault are in the journal, each at a number of its own.
 use Rattle.std.specs.List.{AllByRecursion, IsDistinct, list_any}
 use Rattle.std.specs.Option.{option_or}
 use Rattle.std.proofs.Common.{All, Bool, List, None, Option, Some, [], ap, false, drop, drop-cons, get_or}

@@ -5,7 +5,7 @@ use Rattle.argus_entries.specs.Entry.{PlainEntry}
 use Rattle.argus_entries.specs.Reply.{plain_reply}
 use Rattle.argus_receipts.specs.declared.receipt.Receipt.{Receipt}
 
--- a number, and what the entry of that number should be
+-- a number, and what the entry with this number should be
 pub record PlainReceipt : Type 0 where
   pub at : ℕ
   pub entry : PlainEntry

@@ -1,4 +1,4 @@
-//! `check`: whether receipts and seats tell a journal.
+//! `check`: whether receipts and seats agree with a journal.
 
 ghost use Rattle.std.specs.Prelude.{◌≡◌, ◌≤◌, ◌++◌, ◌∷◌, [], All, None, Some, map};
 ghost use Rattle.std.specs.Prelude.{IfErr, IfOk, OnOk};
@@ -22,16 +22,16 @@ use indexmap::IndexSet;
 use std::alloc::Global;
 use std::hash::{BuildHasherDefault, FoldHasher};
 
-// The numbers of receipts that stand in the journal: nobody can choose them to collide.
+// The numbers of receipts that are in the journal, so nobody can choose them to collide.
 type Numbers = IndexSet<u64, BuildHasherDefault<FoldHasher>, Global>;
 
-/// Whether receipts and seats tell a journal: each receipt's entry stands there at its number, no
-/// two receipts have one number, and since the journal had `start` entries the seats made as many
-/// calls as came.
+/// Whether receipts and seats agree with a journal: each receipt's entry is in it at its number, no
+/// two receipts have the same number, and the seats made as many calls as there are entries after
+/// the first `start`.
 ///
-/// The first fault is answered: of each receipt in turn `Folded`, `NotThere` and `Twice` in this
-/// order, then `Count`. `OutOfMemory` may come in place of any answer. Its time grows with what the
-/// receipts say, and with nothing else.
+/// It returns the first fault: for each receipt in turn `Folded`, `NotThere` and `Twice` in this
+/// order, then `Count`. `OutOfMemory` may come in place of any result. Its time grows with the size
+/// of the receipts only.
 ///
 /// ```text
 /// check(heap, journal, 0, 3, receipts.as_slice())?;
@@ -66,7 +66,7 @@ pub fn check(
     }
 }
 
-// No numbers, and room for so many.
+// No numbers, and room for this many.
 fn room_for(heap: Heap, count: usize) -> Result<Numbers, OutOfMemory>
     ensures { IfOk result (λ numbers. numbers.keys ≡ []) }
 {
@@ -92,7 +92,8 @@ fn check_receipts(heap: Heap, journal: &Journal, receipts: &[Receipt]) -> Result
     Ok(())
 }
 
-// Whether the receipt is without a fault behind those with these numbers; then its number is added.
+// Whether the receipt is without a fault after those with these numbers; if so, its number is
+// added.
 fn check_receipt(
     journal: &Journal,
     earlier: &mut Numbers,
@@ -118,7 +119,7 @@ fn check_receipt(
     }
 }
 
-// Whether the receipt's call and reply stand in the journal at its number.
+// Whether the receipt's call and reply are in the journal at its number.
 fn stands(journal: &Journal, receipt: &Receipt) -> bool
     ensures { result ≡ is_entry (plain_receipt receipt.now).entry
         (entry_at (opening_of journal.now) (entries_of journal.now) receipt.now.at) }

@@ -1,4 +1,4 @@
-//! Receipts of calls on a shared guardian, and whether they stand in its journal.
+//! Receipts of calls on a shared guardian, and whether they are in its journal.
 #![tactic(auto)]
 
 mod checking;

@@ -1,4 +1,4 @@
-//! `Receipt`: a call as it was made, its reply, and where both stand in the journal.
+//! `Receipt`: a call as it was made, its reply, and where both are in the journal.
 
 ghost use Rattle.std.specs.Prelude.{◌≡◌};
 
@@ -19,7 +19,8 @@ pub struct Receipt {
     pub reply: Reply,
 }
 
-// By hand, so that each place where a receipt ends is one call; a derived one is written out there.
+// Written by hand, so that dropping a receipt is one call; a derived `Drop` is expanded at each
+// place.
 impl Drop for Receipt {
     fn drop(self) {
         let Receipt {

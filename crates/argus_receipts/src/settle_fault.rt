@@ -1,22 +1,22 @@
-//! `SettleFault`: why the receipts and the seats of a sharing don't tell its journal.
+//! `SettleFault`: why the receipts and the seats of a sharing don't agree with its journal.
 
 use argus_memory::OutOfMemory;
 use std::alloc::AllocFailed;
 use thiserror::Error;
 
-/// Why the receipts and the seats of a sharing don't tell its journal.
+/// Why the receipts and the seats of a sharing don't agree with its journal.
 ///
 /// | Fault | When | Text |
 /// |---|---|---|
 /// | `NotThere` | the entry of this number isn't the receipt's | `entry 3 is not that of the
 /// receipt` |
 /// | `Twice` | an earlier receipt has this number | `entry 3 has two receipts` |
-/// | `Count` | as many calls weren't made as entries came | `5 entries, and 4 calls of the seats` |
+/// | `Count` | the seats made more or fewer calls | `5 entries, and 4 calls of the seats` |
 /// | `Folded` | a checkpoint has forgotten the entry | `entry 3 was folded` |
-/// | `OutOfMemory` | memory is wanting | `out of memory` |
+/// | `OutOfMemory` | there is no memory | `out of memory` |
 ///
-/// An entry is the receipt's where it has its call and its reply. Entries and calls are counted
-/// from the beginning of the sharing on. `OutOfMemory` may come in place of any other answer.
+/// An entry is the receipt's if it has its call and its reply. Entries and calls are counted from
+/// the beginning of the sharing. `OutOfMemory` may come in place of any other result.
 ///
 /// Of one receipt `Folded` comes before `NotThere`, and that before `Twice`; of two receipts the
 /// earlier one's fault; `Count` after all receipts.

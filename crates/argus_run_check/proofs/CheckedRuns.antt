@@ -1,5 +1,5 @@
--- Whoever tells the receipts of a run comes to what whoever is told their entries comes to, and each arm ended as its
--- last call shows.
+-- A caller that answers from the receipts of a run comes to the same as one that answers from their entries, and each
+-- arm ended as its last call shows.
 use Rattle.std.proofs.Common.{Bool, List, None, Option, Some, [], ap, cond, false, length, refl, slice_get, subst, true}
 use Rattle.std.proofs.Common.{ℕ, ◌+◌, ◌++◌, ◌∙◌, ◌∷◌, ◌≡◌}
 use Rattle.argus_actions.specs.declared.action_id.ActionId.{ActionId}

@@ -1,4 +1,4 @@
--- Who made the calls so far, and how arms ended by them.
+-- Who made the calls so far, and how they ended arms.
 use Rattle.std.proofs.Common.{All, List, None, Option, Some, [], ap, arith, cond, false, inl, inr, length, map, refl}
 use Rattle.std.proofs.Common.{append_assoc, length-append, subst, sym, true, ℕ, ◌&&◌, ◌+◌, ◌++◌, ◌<◌, ◌≤◌, ◌==◌, ◌∙◌}
 use Rattle.std.proofs.Common.{◌∷◌, ◌≡◌, ◌⊎◌}

@@ -6,7 +6,7 @@ use Rattle.argus_runs.specs.Played.{Tells}
 use Rattle.argus_run_check.specs.RunCheck.{IsCheckedRun, entries_of_receipts}
 use Rattle.argus_run_check.specs.declared.arm_outcome.ArmOutcome.{ArmOutcome}
 
--- receipts that show a run of a script tell it
+-- receipts that show a run of a script are that run's
 abbrev pub CheckedRunsAreRuns : Type 0
 CheckedRunsAreRuns = (script : PlainScript) (receipts : List PlainReceipt)
     (outcomes : List ArmOutcome)

@@ -25,7 +25,7 @@ abbrev pub up_to : ArmNumber → Option ArmNumber → Bool
 up_to last None = false
 up_to last (Some x) = last.coenter == x.coenter && not (nat_lt last.arm x.arm)
 
--- what an order says of an earlier call, where the last one was made by this arm
+-- what an order says of an earlier call, if this arm made the last one
 abbrev pub HeldFrom : Option ArmNumber → Order → MadeCall → Type 0
 HeldFrom None o c = Unit {0}
 HeldFrom (Some last) o c = (parallel c.arm (Some last) ≡ false → c.at < o.within)

@@ -28,16 +28,16 @@ ended_by_call a (alter b o c) = None
 ended_by_call a (test_read b o) = None
 ended_by_call a (test_write b o) = None
 
--- how it ended, if this was the reply to its last call: a call that is refused ends it only where
--- its action is over, or was never begun
+-- how it ended, if this was the reply to its last call: a refused call ends it only if its action
+-- is over, or was never begun
 abbrev pub ended_by_reply : ActionId → PlainCall → PlainReply → Option Ended
 ended_by_reply a call (refused r) = if is_over r then Some ended.Over else None
 ended_by_reply a call (object o) = ended_by_call a call
 ended_by_reply a call (begun b) = ended_by_call a call
 ended_by_reply a call (answered x) = ended_by_call a call
 
--- how an arm ended, by its action, which it has where its begin was accepted, and by its last call;
--- None where nothing has ended it
+-- how an arm ended, by its action, which it has if its begin was accepted, and by its last call;
+-- `None` if nothing has ended it
 abbrev pub ended_as : Option ActionId → Option PlainEntry → Option Ended
 ended_as None last = Some ended.Refused
 ended_as (Some a) None = None
@@ -48,7 +48,7 @@ abbrev pub is_arm : ArmNumber → Option ArmNumber → Bool
 is_arm n None = false
 is_arm n (Some m) = n.coenter == m.coenter && n.arm == m.arm
 
--- the later of two entries, where there is one
+-- the later of two entries, if there is one
 abbrev pub later_of : Option PlainEntry → Option PlainEntry → Option PlainEntry
 later_of x None = x
 later_of x (Some y) = Some y
@@ -68,9 +68,9 @@ arm_of x = record { coenter = x.coenter; arm = x.arm }
 abbrev pub IsShown : List MadeCall → List PlainEntry → ArmOutcome → Type 0
 IsShown calls entries x = ended_as x.action (last_of_arm (arm_of x) calls entries) ≡ Some x.ended
 
--- Each arm ended as its action and its last call show: Refused exactly where it has no action;
--- Committed exactly where its last call is a commit of its action, which was accepted; Aborted
--- exactly where that is an abort of its action, which was accepted; Over exactly where that was
--- refused since its action was over, or was never begun.
+-- Each arm ended as its action and its last call show: Refused exactly if it has no action;
+-- Committed exactly if its last call is an accepted commit of its action; Aborted exactly if it is
+-- an accepted abort of its action; Over exactly if it was refused since its action was over, or was
+-- never begun.
 abbrev pub AreShown : List MadeCall → List PlainEntry → List ArmOutcome → Type 0
 AreShown calls entries outcomes = All (IsShown calls entries) outcomes

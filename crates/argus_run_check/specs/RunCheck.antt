@@ -1,5 +1,5 @@
--- What receipts in script order show: that they tell a run, who made each call, and what became of
--- the arms of outermost coenters.
+-- What receipts in script order show: that they are those of a run, who made each call, and what
+-- became of the arms of outermost coenters.
 use Rattle.std.specs.Prelude.{List, None, Option, Some, cond, map}
 use Rattle.std.specs.Prelude.{ℕ, ◌+◌, ◌++◌, ◌∷◌, ◌≡◌, []}
 use Rattle.argus_actions.specs.declared.action_id.ActionId.{ActionId}
@@ -22,9 +22,9 @@ use Rattle.argus_run_check.specs.declared.arm_outcome.ArmOutcome.{ArmOutcome}
 use Rattle.argus_run_check.specs.declared.ended.Ended.{Ended}
 use Rattle.argus_run_check.specs.declared.made_call.MadeCall.{MadeCall}
 
--- What was seen of a run so far: the receipts still to be told; who made each call that was; the
--- arm of an outermost coenter that runs, and its last call; how many outermost coenters ran before,
--- and what became of the arms so far.
+-- What was seen of a run so far: the receipts still to come; who made each call so far; the arm of
+-- an outermost coenter that runs, and its last call; how many outermost coenters ran before, and
+-- what became of the arms so far.
 pub record CheckState : Type 0 where
   pub left : List PlainReceipt
   pub calls : List MadeCall
@@ -33,7 +33,7 @@ pub record CheckState : Type 0 where
   pub coenters : ℕ
   pub outcomes : List ArmOutcome
 
--- the next receipt is told: whoever runs made its call
+-- the next receipt is used up: the arm that runs, if any, made its call
 abbrev pub with_call : PlainReceipt → List PlainReceipt → CheckState → CheckState
 with_call r rest s = record s {
   left = rest;
@@ -41,7 +41,7 @@ with_call r rest s = record s {
   last = Some r.entry;
 }
 
--- the next of these receipts has to be the call's, and gives its reply
+-- the next of these receipts has to be the call's, and has its reply
 abbrev pub reply_from_receipt : List PlainReceipt → PlainCall → CheckState
     → RunOutcome CheckState PlainReply
 reply_from_receipt [] call s = mismatched
@@ -56,7 +56,7 @@ reply_from_receipts call s = reply_from_receipt s.left call s
 abbrev pub enter_arm : ℕ → CheckState → CheckState
 enter_arm k s = record s { arm = Some (record { coenter = s.coenters; arm = k }); last = None }
 
--- it ran, and ended so
+-- it ran, and ended like this
 abbrev pub leave_arm : ℕ → Option ActionId → Ended → CheckState → CheckState
 leave_arm k action ended s = record s {
   arm = None;
@@ -96,7 +96,7 @@ start receipts = record {
   outcomes = [];
 }
 
--- nothing is left to tell, and of two calls that aren't parallel the earlier has the lower number
+-- nothing is left over, and of two calls that aren't parallel the earlier has the lower number
 abbrev pub IsWhole : CheckState → Type 0
 IsWhole s = (s.left ≡ []) × InOrder s.calls
 

@@ -1,11 +1,11 @@
--- What a teller stands for.
+-- What contracts see of a receipt caller.
 use Rattle.std.specs.Prelude.{map}
 use Rattle.std.specs.Option.{option_map}
 use Rattle.argus_receipts.specs.Receipt.{plain_receipt}
 use Rattle.argus_run_check.specs.RunCheck.{CheckState}
 use Rattle.argus_run_check.specs.declared.receipt_caller.ReceiptCaller.{ReceiptCaller}
 
--- what a teller has seen
+-- what a receipt caller has seen
 abbrev pub check_state_of : ReceiptCaller → CheckState
 check_state_of t = record {
   left = map plain_receipt t.left.now;

@@ -3,10 +3,10 @@
 use crate::ended::Ended;
 use argus_actions::ActionId;
 
-/// What became of an arm of an outermost coenter, which is one that stands in no other.
+/// What became of an arm of an outermost coenter, which is one that is in no other.
 ///
 /// `coenter` counts the outermost coenters that ran, and `arm` the arms of each, both from 0.
-/// `action` is the arm's action, where it was begun.
+/// `action` is the arm's action, if it was begun.
 ///
 /// ```text
 /// let outcomes = check_run(heap, &script, receipts.as_slice())?;

@@ -19,15 +19,15 @@ use argus_runs::run_script;
 /// outermost coenter that ran, in script order.
 ///
 /// Script order is that of a run whose arms run one after another: for a coenter the begins of all
-/// its arms, then each arm's calls, arm after arm. Two calls are *parallel* where two different
-/// arms of one outermost coenter made them; a begin of an arm isn't made by the arm.
+/// its arms, then each arm's calls, arm after arm. Two calls are *parallel* if two different arms
+/// of one outermost coenter made them; the begin of an arm isn't made by the arm.
 ///
-/// `None` comes where the receipts don't show a run: a call isn't the one that comes next after the
-/// replies before it, one is lacking or too many, of two that aren't parallel the earlier hasn't
-/// the lower number, or an arm's last call hasn't ended it, as an abort that is refused though its
-/// action isn't over. `OutOfMemory` may come in place of any answer. No receipt's call is copied, nor
-/// its reply where the call is an access; the other replies are, and the script's shapes and
-/// changes, one at a time.
+/// `None` comes if the receipts don't show a run: a call isn't the one that comes next after the
+/// replies before it; one is missing, or one too many; of two that aren't parallel the earlier
+/// doesn't have the lower number; or an arm's last call didn't end it, such as an abort that is
+/// refused though its action isn't over. `OutOfMemory` may come in place of any result. No
+/// receipt's call is copied, nor the reply to an access; other replies are, and the script's shapes
+/// and changes, one at a time.
 ///
 /// ```text
 /// let outcomes = check_run(heap, &script, receipts.as_slice())?;
@@ -65,7 +65,7 @@ pub fn check_run(
     }
 }
 
-// Whether all receipts were told, in order.
+// Whether all receipts were used up, in order.
 fn is_whole(receipt_caller: &ReceiptCaller<'_>) -> bool
     ensures { result ≡ true → IsWhole (check_state_of receipt_caller.now) }
 {

@@ -7,7 +7,7 @@
 /// | `Committed` | its last call was the commit of its action, which was accepted |
 /// | `Aborted` | its last call was an abort of its action, which was accepted |
 /// | `Refused` | its begin was refused, so it made no call |
-/// | `Over` | its last call was refused since its action was over already, or was never begun |
+/// | `Over` | its last call was refused, since its action was over or was never begun |
 ///
 /// ```text
 /// assert_eq!(rt; outcome.ended, Ended::Committed);

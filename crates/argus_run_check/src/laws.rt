@@ -2,8 +2,8 @@
 
 ghost use Rattle.argus_run_check.specs.Laws.{CheckedRunsAreRuns};
 
-/// Receipts that show a run tell it, each call being the one that comes next after the replies
-/// before it, whoever made it: so what is said of a serial run's entries is said of them, too.
+/// Receipts that show a run are that run's: each call is the one that comes next after the replies
+/// before it, whichever thread made it. So what holds of a serial run's entries holds of them, too.
 pub fn checked_runs_are_runs()
     ensures { CheckedRunsAreRuns }
 {}

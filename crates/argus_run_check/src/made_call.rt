@@ -1,4 +1,4 @@
-//! `MadeCall`: who made a call of a run, and where it stands in the journal.
+//! `MadeCall`: who made a call of a run, and where it is in the journal.
 
 use crate::arm_number::ArmNumber;
 

@@ -17,8 +17,8 @@ struct Order {
     elsewhere: u128,
 }
 
-/// Whether of two calls that aren't parallel the earlier has the lower number. Its time grows with
-/// the number of calls.
+/// Whether of two calls that aren't parallel the earlier always has the lower number. Its time
+/// grows with the number of calls.
 pub(crate) fn in_order(calls: &[MadeCall]) -> bool
     ensures { result ≡ true → InOrder calls.now }
 {
@@ -37,7 +37,7 @@ pub(crate) fn in_order(calls: &[MadeCall]) -> bool
     true
 }
 
-// The order with one call more, if it may come next.
+// The order with one more call, if it may come next.
 fn next_order(order: Order, call: MadeCall) -> Option<Order>
     ensures { IfSome result (λ next. MayComeNext order call next) }
 {

@@ -1,4 +1,4 @@
-//! `OutermostCaller`: a teller that runs the arms of outermost coenters one by one.
+//! `OutermostCaller`: a receipt caller that runs the arms of outermost coenters one by one.
 
 use crate::receipt_caller::ReceiptCaller;
 use argus_actions::ActionId;
@@ -8,8 +8,8 @@ use argus_language::Step;
 use argus_memory::Heap;
 use argus_runs::{Caller, Flow, Stopped};
 
-// Answers the calls outside the arms of outermost coenters, and has the teller run these arms, so
-// that it notes what becomes of each.
+// Answers the calls outside the arms of outermost coenters, and lets the receipt caller run these
+// arms, so that it notes what becomes of each.
 #[derive(Drop)]
 pub(crate) struct OutermostCaller<'a> {
     pub(crate) receipt_caller: ReceiptCaller<'a>,

@@ -33,7 +33,7 @@ use std::slice;
 #[derive(Drop)]
 pub(crate) struct ReceiptCaller<'a> {
     pub(crate) heap: Heap,
-    // The receipts still to be told.
+    // The receipts that are still to come.
     pub(crate) left: &'a [Receipt],
     pub(crate) calls: Vec<MadeCall, Room>,
     // The arm that runs, and the receipt of its last call so far.
@@ -42,7 +42,7 @@ pub(crate) struct ReceiptCaller<'a> {
     // The outermost coenters that ran, and what became of their arms.
     pub(crate) coenters: u32,
     pub(crate) outcomes: Vec<ArmOutcome, Room>,
-    // The next receipt wasn't the call's own, or an arm's last one hasn't ended it.
+    // The next receipt wasn't the call's own, or an arm's last one didn't end it.
     pub(crate) unfit: bool,
 }
 
@@ -102,7 +102,7 @@ impl Caller for ReceiptCaller<'_> {
 }
 
 impl<'a> ReceiptCaller<'a> {
-    // The next receipt, which has to be the call's own: it is told now.
+    // The next receipt, which has to be the call's own; it is used up.
     fn next_receipt(&mut self, call: &Call) -> Result<&'a Receipt, Stopped>
         ensures { IfOk result (λ receipt. reply_from_receipts (plain_call call.now)
             (check_state_of self.old)

@@ -11,8 +11,8 @@ use argus_language::Script;
 use argus_memory::{Heap, OutOfMemory, Room};
 use argus_receipts::Receipt;
 
-/// The receipts, in script order, with what they show; `None` where they don't show a run of the
-/// script (`shown`). `OutOfMemory` may come in place of any answer; the receipts are then dropped.
+/// The receipts, in script order, with what they show; `None` if they don't show a run of the
+/// script (`shown`). `OutOfMemory` may come in place of any result; the receipts are then dropped.
 ///
 /// ```text
 /// let report = report_of(heap, &script, receipts)?;
@@ -33,7 +33,7 @@ pub fn report_of(
     }
 }
 
-/// Whether exactly so many calls were made between these two counts.
+/// Whether exactly this many calls were made between these two counts.
 ///
 /// ```text
 /// if !has_risen(before, after, receipts.len()) {

@@ -1,4 +1,4 @@
--- The journal that a run leaves is the journal before it and entries that tell the run.
+-- The journal that a run leaves is the journal before it and the entries of the run.
 use Rattle.std.proofs.Common.{◌≡◌, Bool, true, false, List, [], ◌∷◌, ◌++◌, Option, Some, None, sym, ◌∙◌, ap}
 use Rattle.std.proofs.Common.{append_assoc, refl}
 use Rattle.std.proofs.Common.{cond, length, slice_get}

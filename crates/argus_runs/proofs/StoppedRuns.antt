@@ -1,4 +1,4 @@
--- Where a run stops before its end, its state is a beginning of what the run comes to.
+-- If a run stops before its end, its state is a prefix of what the run comes to.
 use Rattle.std.proofs.Common.{◌≡◌, ℕ, suc, Bool, true, ◌<◌, List, ◌∷◌, ◌++◌, length, get_or, drop, Option, None, Result}
 use Rattle.std.proofs.Common.{Ok, Err, OnErr, sym, ◌∙◌, ap, drop-cons}
 use Rattle.argus_actions.specs.declared.action_id.ActionId.{ActionId}

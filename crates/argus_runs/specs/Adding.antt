@@ -12,17 +12,17 @@ pub extended_more : (j : JournalView) (first more : List PlainEntry)
 extended_more j [] more = refl
 extended_more j (e ∷ first) more = extended_more (with_entry j e) first more
 
--- a journal is a beginning of itself
+-- a journal is a prefix of itself
 pub prefix_refl : (j : JournalView) → IsJournalPrefix j j
 prefix_refl j = ([], refl)
 
--- a beginning of a beginning is a beginning
+-- a prefix of a prefix is a prefix
 pub prefix_trans : (j k l : JournalView) → IsJournalPrefix j k → IsJournalPrefix k l
     → IsJournalPrefix j l
 prefix_trans j k l (a, d) (b, e) =
     (a ++ b, e ∙ ap (λ x. extended x b) d ∙ sym (extended_more j a b))
 
--- a journal is a beginning of what a call makes of it
+-- a journal is a prefix of what a call makes of it
 pub asked_grows : (call : PlainCall) (j : JournalView) → IsRunPrefix IsJournalPrefix j
     (reply_from_journal call j)
 asked_grows call j = (entry_of j call ∷ [], refl)

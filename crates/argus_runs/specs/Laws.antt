@@ -10,7 +10,7 @@ use Rattle.argus_runs.specs.RunPrefix.{extended}
 abbrev pub RunsEnd : Type 0
 RunsEnd = (old : JournalView) (script : PlainScript) → (new : JournalView) × IsPlay old script new
 
--- the entries that a run adds to a journal tell the run
+-- the entries that a run adds to a journal are that run's
 abbrev pub PlaysTell : Type 0
 PlaysTell = (old : JournalView) (script : PlainScript) (new : JournalView) → IsPlay old script new
     → (made : List PlainEntry) × (new ≡ extended old made) × Tells script made

@@ -29,22 +29,22 @@ abbrev pub Written : JournalView → Option (List ℕ) → JournalView → Optio
 Written old text new text' = (made : List PlainEntry) × (new ≡ extended old made)
     × Appends text text' (lines (next_entry old) made)
 
--- the same, but the last line lacks its end, or all of it
+-- the same, except that the last line is cut short or missing
 abbrev pub Lacking : JournalView → Option (List ℕ) → JournalView → Option (List ℕ) → Type 0
 Lacking old text new text' = (made : List PlainEntry) × (last : PlainEntry) × (n : ℕ)
     × (new ≡ extended old (made ++ last ∷ []))
     × Appends text text' (lines (next_entry old) made
     ++ take n (entry_line (next_entry old + length made) last))
 
--- What a run keeps, where the flags say whether a line could not be written whole: once that is so,
--- nothing more is called or written.
+-- What a run keeps. The flags say whether a line could not be written whole: after that nothing
+-- more is called or written.
 abbrev pub KeepsText : Bool → JournalView → Option (List ℕ) → Bool → JournalView → Option (List ℕ)
     → Type 0
 KeepsText false old text false new text' = Written old text new text'
 KeepsText false old text true new text' = Lacking old text new text'
 KeepsText true old text cut new text' = (cut ≡ true) × (new ≡ old) × (text' ≡ text)
 
--- what was written of a run that came to a stop: the lines of the entries made, or all of them but
--- the last line or its end
+-- what was written of a run that came to a stop: the lines of the entries made, perhaps with the
+-- last line cut short or missing
 abbrev pub WrittenAlmost : JournalView → Option (List ℕ) → JournalView → Option (List ℕ) → Type 0
 WrittenAlmost old text new text' = (cut : Bool) × KeepsText false old text cut new text'

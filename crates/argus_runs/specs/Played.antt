@@ -1,4 +1,4 @@
--- The calls and replies that tell a run, and the one journal of a run on a guardian.
+-- The calls and replies that make a run, and the one journal of a run on a guardian.
 use Rattle.std.specs.Prelude.{List, None, cond, ◌≡◌, [], ◌∷◌}
 use Rattle.argus_language.specs.Script.{PlainScript}
 use Rattle.argus_contents.specs.declared.obj_id.ObjId.{ObjId}
@@ -22,12 +22,12 @@ abbrev pub Tells : PlainScript → List PlainEntry → Type 0
 Tells script entries = (numbers : List ObjId)
     × (run_script (List PlainEntry) reply_from_entries None script entries ≡ finished numbers [])
 
--- the journal gives the reply, and has the call with it
+-- the reply follows from the journal, which then has the call with it
 abbrev pub reply_from_journal : PlainCall → JournalView → RunOutcome JournalView PlainReply
 reply_from_journal call journal = finished (reply_to journal call) (after journal call)
 
--- what a run of the script after this journal comes to: each reply is the one that the journal
--- gives, the arms of a coenter run one after another
+-- what a run of the script after this journal comes to: each reply follows from the journal, and
+-- the arms of a coenter run one after another
 abbrev pub play : PlainScript → JournalView → RunOutcome JournalView (List ObjId)
 play script journal = run_script JournalView reply_from_journal None script journal
 

@@ -15,18 +15,18 @@ use Rattle.argus_entries.specs.declared.refusal.Refusal.TheVariants as why
 use Rattle.argus_runs.specs.declared.flow.Flow.{Flow}
 use Rattle.argus_runs.specs.declared.flow.Flow.TheVariants as flow
 
--- the number that no object has: a name stands for it where its declaration was refused
+-- the number that no object has: a name stands for it if its declaration was refused
 abbrev pub undeclared : ObjId
 undeclared = record { 0 = MAX_OBJECTS }
 
--- the number for which a declared name stands
+-- the number that a declared name stands for
 abbrev pub object_of : PlainReply → ObjId
 object_of (object o) = record { 0 = o }
 object_of (begun a) = undeclared
 object_of (answered x) = undeclared
 object_of (refused r) = undeclared
 
--- the number of the object that the script numbers x, where its names stand for these
+-- the number of the object that is number x in the script, given the numbers of its names
 abbrev pub object_number_at : List ObjId → ℕ → ℕ
 object_number_at numbers x = (get_or numbers x undeclared).0
 

@@ -21,8 +21,8 @@ use Rattle.argus_runs.specs.Replies.{object_of, test_call}
 use Rattle.argus_runs.specs.declared.flow.Flow.{Flow}
 use Rattle.argus_runs.specs.declared.flow.Flow.TheVariants as flow
 
--- Parametrised by a state, by what a call comes to in it, and by who runs the arms of a coenter,
--- where that isn't one arm after another.
+-- Parametrised by a state, by what a call comes to in it, and by how the arms of a coenter are run,
+-- if not one after another.
 module _ (S : Type 0) (reply : PlainCall → S → RunOutcome S PlainReply)
     (arm_runner : Option (List ObjId → PlainSteps → List (Option ActionId) → S
     → RunOutcome S Flow)) where
@@ -64,7 +64,7 @@ module _ (S : Type 0) (reply : PlainCall → S → RunOutcome S PlainReply)
   abbrev pub begin_one : ActionKind → Option ActionId → S → RunOutcome S (Option ActionId)
   begin_one k within s = reply (begin_call k within) s >>= λ r t. finished (begun_by r) t
 
-  -- the beginning of an arm; nothing else is one
+  -- the beginning of an arm; nothing else is an arm
   abbrev pub begin_arm : PlainStep → Option ActionId → S → RunOutcome S (Option ActionId)
   begin_arm (simple d) within s = finished None s
   begin_arm (block (opening.Enter k) ps) within s = finished None s
@@ -78,16 +78,16 @@ module _ (S : Type 0) (reply : PlainCall → S → RunOutcome S PlainReply)
   begin_all (more p ps) within s =
       begin_arm p within s >>= λ b t. begin_all ps within t >>= λ bs u. finished (b ∷ bs) u
 
-  -- with those begun before
+  -- the same, with those begun before
   abbrev pub with_front : List (Option ActionId) → RunOutcome S (List (Option ActionId))
       → RunOutcome S (List (Option ActionId))
   with_front front r = r >>= λ bs t. finished (front ++ bs) t
 
-  -- a call by which a block is ended where it is refused
+  -- a call that ends a block if it is refused
   abbrev pub access : PlainCall → S → RunOutcome S Flow
   access call s = reply call s >>= λ r t. finished (flow_after r) t
 
-  -- a deed; only a declaration stands at top level, and that isn't made here
+  -- a deed; only a declaration is at top level, and that isn't made here
   abbrev pub run_deed : List ObjId → SimpleStep → Option ActionId → S → RunOutcome S Flow
   run_deed numbers part.declare within s = finished flow.On s
   run_deed numbers (part.ask x q) None s = finished flow.On s
@@ -105,7 +105,7 @@ module _ (S : Type 0) (reply : PlainCall → S → RunOutcome S PlainReply)
     run_steps numbers (more p ps) within s = run_step numbers p within s
         >>= λ x t. elim (goes_on x) [ true ↦ run_steps numbers ps within t | false ↦ finished x t ]
 
-    -- A step. Only blocks and coenters stand at top level.
+    -- A step. Only blocks and coenters are at top level.
     pub run_step : List ObjId → PlainStep → Option ActionId → S → RunOutcome S Flow
     run_step numbers (simple d) within s = run_deed numbers d within s
     run_step numbers (block (opening.Enter k) ps) within s = begin_one k within s
@@ -149,7 +149,7 @@ module _ (S : Type 0) (reply : PlainCall → S → RunOutcome S PlainReply)
         (Some a) s
   ]
 
-  -- the arms of a coenter, by whoever runs them
+  -- the arms of a coenter, however they are run
   abbrev pub run_arms_by_runner : List ObjId → PlainSteps → List (Option ActionId) → S
       → RunOutcome S Flow
   run_arms_by_runner numbers arms bs t = elim arm_runner [
@@ -157,14 +157,14 @@ module _ (S : Type 0) (reply : PlainCall → S → RunOutcome S PlainReply)
     | Some h ↦ h numbers arms bs t
   ]
 
-  -- the next object is declared, and its name stands for the number that is answered
+  -- the next object is declared, and its name stands for the number that is returned
   abbrev pub declare_next : List PlainShape → List ObjId → S → RunOutcome S (List ObjId)
   declare_next shapes numbers s = elim (slice_get shapes (length numbers)) [
     | None ↦ finished numbers s
     | Some shape ↦ reply (declare shape) s >>= λ r t. finished (numbers ++ object_of r ∷ []) t
   ]
 
-  -- a step at top level; its answer is for which numbers the names stand so far
+  -- a step at top level; its answer is the numbers that the names stand for so far
   abbrev pub run_top : List PlainShape → List ObjId → PlainStep → S → RunOutcome S (List ObjId)
   run_top shapes numbers (simple part.declare) s = declare_next shapes numbers s
   run_top shapes numbers (simple (part.ask x q)) s = finished numbers s
@@ -181,6 +181,6 @@ module _ (S : Type 0) (reply : PlainCall → S → RunOutcome S PlainReply)
   run_tops shapes numbers (more p ps) s =
       run_top shapes numbers p s >>= λ now t. run_tops shapes now ps t
 
-  -- the whole script; its answer is for which numbers its names stand
+  -- the whole script; its answer is the numbers that its names stand for
   abbrev pub run_script : PlainScript → S → RunOutcome S (List ObjId)
   run_script script s = run_tops script.objects.shapes [] script.parts s

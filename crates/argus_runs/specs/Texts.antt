@@ -40,11 +40,11 @@ next-extended : (j : JournalView) (made : List PlainEntry)
 next-extended j [] = omega arith
 next-extended j (e ∷ es) = omega (arith, next-extended (with_entry j e) es)
 
--- where no entry is added, and nothing written, all lines are written
+-- if no entry is added, and nothing written, all lines are written
 written_same : (j : JournalView) (t : Option (List ℕ)) → Written j t j t
 written_same j t = ([], refl, appends_nothing t)
 
--- what was written whole, and then what was written whole behind it
+-- what was written whole, and then what was written whole after it
 written_on : (j k l : JournalView) (t u v : Option (List ℕ)) → Written j t k u → Written k u l v
     → Written j t l v
 written_on j k l t u v (m, e, p) (n, f, q) = (
@@ -57,7 +57,7 @@ written_on j k l t u v (m, e, p) (n, f, q) = (
       m))) p q,
 )
 
--- what was written whole, and then what lacks the end of its last line
+-- what was written whole, and then something whose last line is cut short
 lacking_on : (j k l : JournalView) (t u v : Option (List ℕ)) → Written j t k u → Lacking k u l v
     → Lacking j t l v
 lacking_on j k l t u v (m, e, p) (n, last, i, f, q) =
@@ -91,7 +91,7 @@ pub preserved_refl : (f : Bool) (j : JournalView) (t : Option (List ℕ)) → Ke
 preserved_refl false j t = written_same j t
 preserved_refl true j t = (refl, refl, refl)
 
--- two runs, one behind the other, keep what runs keep
+-- two runs, one after the other, keep what runs keep
 pub preserved_trans : (f g h : Bool) (j k l : JournalView) (t u v : Option (List ℕ))
     → KeepsText f j t g k u
     → KeepsText g k u h l v → KeepsText f j t h l v

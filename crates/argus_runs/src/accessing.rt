@@ -81,7 +81,7 @@ pub fn call_to_test(lock: Lock, action: ActionId, object: ObjId) -> Call
     }
 }
 
-/// Whether a test was answered yes.
+/// Whether a test returned yes.
 pub fn is_yes(reply: &Reply) -> bool
     ensures { result ≡ says_yes (plain_reply reply.now) }
 {

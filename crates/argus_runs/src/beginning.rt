@@ -79,7 +79,7 @@ fn begin_arm<C: Caller>(
 
 /// Begins all arms of a coenter, before any of them runs: the action of each that was begun.
 ///
-/// `Stopped`: the caller stopped at a begin, or memory is wanting for the list. What was begun by
+/// `Stopped`: the caller stopped at a begin, or there is no memory for the list. What was begun by
 /// then stays begun.
 pub fn begin_arms<C: Caller>(
     heap: Heap,

@@ -1,4 +1,4 @@
-//! `Caller`: who makes the calls of a run.
+//! `Caller`: what makes the calls of a run.
 
 ghost use Rattle.std.specs.Prelude.{Bool, IfOk, List, None, OnErr, Option, cond, length, true, ⊤};
 ghost use Rattle.std.specs.Prelude.{◌≡◌};
@@ -22,17 +22,17 @@ use argus_entries::{Call, Reply};
 use argus_language::Step;
 use argus_memory::Heap;
 
-/// Who makes the calls of a run, one after another: a guardian with a writer, a list of replies
-/// that are given, a worker.
+/// What makes the calls of a run, one after another: a guardian with a writer, a list of given
+/// replies, a worker.
 ///
-/// A run needs no more of it than this, so one runner serves them all. What a run comes to is
-/// defined over the caller's `state` and over `reply`, what a call comes to in a state.
+/// This is all that a run needs, so one runner serves them all. What a run comes to is defined over
+/// the caller's `state` and over `reply`, which says what a call comes to in a state.
 ///
 /// ```text
 /// let flow = run_steps(heap, &mut caller, numbers, steps, Some(action))?;
 /// ```
 pub trait Caller {
-    /// What the replies go by: a journal, or the replies that are still to be told.
+    /// What determines the replies: a journal, or the replies that are still to come.
     ghost State: { Type 0 };
 
     ghost state: { Self → State };
@@ -40,26 +40,26 @@ pub trait Caller {
     /// What a call comes to.
     ghost reply: { PlainCall → State → RunOutcome State PlainReply };
 
-    /// What the arms of a coenter come to, where they aren't run one after another.
+    /// What the arms of a coenter come to, if they aren't run one after another.
     ghost arm_runner: { Option (List ObjId → PlainSteps → List (Option ActionId) → State
         → RunOutcome State Flow) };
 
-    /// What it needs to be called.
+    /// The condition for calling it.
     ghost ready: { Self → Type 0 } = { λ _. ⊤ };
 
-    /// What every call keeps, whatever comes of it.
+    /// What every call keeps, whatever its outcome.
     ghost preserved: { Self → Self → Type 0 };
 
-    /// Whether a reply is known from the state alone.
+    /// Whether the state alone determines a reply.
     ghost is_determined: { Bool };
 
-    /// That a state is a beginning of another.
+    /// That a state is a prefix of another.
     ghost is_prefix: { State → State → Type 0 };
 
     /// Whether each call adds to the state, also one that stops after its reply.
     ghost calls_extend: { Bool };
 
-    /// Makes a call. `Stopped`: the caller couldn't make it, or can't go on behind it.
+    /// Makes a call. `Stopped`: the caller couldn't make it, or can't go on after it.
     fn call(&mut self, call: Call) -> Result<Reply, Stopped>
         requires { ready self.old }
         ensures ready { ready self.new }
@@ -70,9 +70,9 @@ pub trait Caller {
         ensures early { OnErr result (calls_extend ≡ true
             → IsRunPrefix is_prefix (state self.new) (reply (plain_call call) (state self.old))) };
 
-    /// Makes an access: how its block goes on behind it. It is `call` for a run that needs of the
-    /// reply only whether it was refused; so a caller that keeps the reply needn't copy it, and one
-    /// that waits for locks waits here. `Stopped`: as in `call`.
+    /// Makes an access, and returns how its block goes on. It is `call` for a run that needs to
+    /// know only whether the access was refused. So a caller that keeps the reply needn't copy it,
+    /// and one that waits for locks waits here. `Stopped`: as in `call`.
     fn access(&mut self, call: Call) -> Result<Flow, Stopped>
         requires ready { ready self.old }
         ensures ready { ready self.new }
@@ -86,8 +86,8 @@ pub trait Caller {
         Ok(flow_of(&reply))
     }
 
-    /// Runs the arms of a coenter where it has a way of its own, or answers false. `begun` has the
-    /// action of each arm that was begun. `Stopped`: the caller can't go on.
+    /// Runs the arms of a coenter if it has a way of its own, otherwise returns false. `begun` has
+    /// the action of each arm that was begun. `Stopped`: the caller can't go on.
     fn arms(
         &mut self,
         heap: Heap,

@@ -14,7 +14,7 @@ use crate::stopped::Stopped;
 use argus_actions::ActionId;
 use argus_entries::{Call, Refusal, Reply};
 
-/// The end of a block or an arm that went on so: how the block around it goes on.
+/// The end of a block or an arm with this flow: how the block around it goes on.
 ///
 /// `Stopped`: the caller stopped at the commit or at an abort.
 pub fn finish_block<C: Caller>(
@@ -107,7 +107,7 @@ fn end_with_others<C: Caller>(caller: &mut C, action: ActionId) -> Result<Flow, 
     }
 }
 
-// Whether the action is over, or was never begun: then it needs no end.
+// Whether the action is over, or was never begun, so that it needs no end.
 fn is_over(why: Refusal) -> bool
     ensures { result ≡ is_over why }
 {

@@ -8,7 +8,7 @@ pub fn runs_end()
     ensures { RunsEnd }
 {}
 
-/// The entries that a run adds to a journal tell the run: each is the call that comes next after
+/// The entries that a run adds to a journal are that run's: each is the call that comes next after
 /// the replies before it, and nothing comes after the last.
 pub fn plays_tell()
     ensures { PlaysTell }

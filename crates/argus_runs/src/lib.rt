@@ -27,7 +27,7 @@ pub use running_without_output::run_without_output;
 pub use stepping::run_steps;
 pub use stopped::Stopped;
 
-/// The pieces of a run, for who runs the arms of coenters in another way.
+/// The pieces of a run, for a caller that runs the arms of coenters in another way.
 pub mod pieces {
     pub use crate::accessing::{call_to_test, flow_of, is_yes};
     pub use crate::beginning::{begin, begin_arms};

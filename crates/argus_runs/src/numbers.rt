@@ -1,4 +1,4 @@
-//! The numbers of objects for which the names of a script stand.
+//! The numbers of the objects that a script's names stand for.
 
 ghost use Rattle.std.specs.Prelude.{◌≡◌};
 ghost use Rattle.argus_entries.specs.Reply.{plain_reply};
@@ -11,7 +11,7 @@ use argus_entries::Reply;
 // The number that no object has.
 const UNDECLARED: ObjId = ObjId(MAX_OBJECTS);
 
-/// The object that the script numbers x, where its names stand for these numbers.
+/// The object that is number x in the script, given the numbers of its names.
 pub fn object_at(numbers: &[ObjId], x: u32) -> ObjId
     ensures { result.0 ≡ object_number_at numbers.now x }
 {
@@ -21,7 +21,7 @@ pub fn object_at(numbers: &[ObjId], x: u32) -> ObjId
     }
 }
 
-// The number for which a name stands whose declaration got this reply.
+// The number of a name whose declaration got this reply.
 pub(crate) fn object_of(reply: &Reply) -> ObjId
     ensures { result ≡ object_of (plain_reply reply.now) }
 {

@@ -6,8 +6,8 @@ use thiserror::Error;
 ///
 /// | Fault | Text | When |
 /// |---|---|---|
-/// | `Memory` | `out of memory` | memory is wanting, for a call, for its line or for the run |
-/// | `Write` | `write fault` | the writer failed, or took nothing |
+/// | `Memory` | `out of memory` | there is no memory, for a call, for its line or for the run |
+/// | `Write` | `write fault` | the writer failed, or accepted nothing |
 ///
 /// ```text
 /// run_serial(heap, &mut guardian, &script, &mut writer)?;
@@ -16,7 +16,7 @@ use thiserror::Error;
 pub enum RunFault {
     #[error("out of memory")]
     Memory,
-    /// A write failed, or took nothing.
+    /// A write failed, or accepted nothing.
     #[error("write fault")]
     Write,
 }

@@ -15,11 +15,12 @@ use argus_entries::Call;
 use argus_language::{Script, Step};
 use argus_memory::{Heap, Room};
 
-/// Runs a whole script, and answers for which numbers of objects its names stand, in the order of
-/// their declarations: 65,535, which no object has, where a declaration was refused.
+/// Runs a whole script, and returns the numbers of the objects that its names stand for, in the
+/// order of their declarations. If a declaration was refused, its number is 65,535, which no object
+/// has.
 ///
-/// Its clauses are those of `run_steps`. `Stopped` comes as there, and where memory is wanting for
-/// a copy of a shape or for a number.
+/// Its clauses are those of `run_steps`. `Stopped` comes as there, and if there is no memory for a
+/// copy of a shape or for a number.
 pub fn run_script<C: Caller>(
     heap: Heap,
     caller: &mut C,
@@ -71,10 +72,10 @@ fn run_at_top<C: Caller>(
     }
 }
 
-/// Declares the next object of the script, of these shapes, and adds the number for which its name
-/// stands: 65,535, which no object has, where the declaration was refused.
+/// Declares the next object of the script, of these shapes, and adds the number that its name
+/// stands for: 65,535, which no object has, if the declaration was refused.
 ///
-/// `Stopped`: the caller stopped at the declaration, or memory is wanting for a copy of the shape
+/// `Stopped`: the caller stopped at the declaration, or there is no memory for a copy of the shape
 /// or for the number.
 pub fn declare<C: Caller>(
     heap: Heap,

@@ -21,17 +21,17 @@ use std::io::Write;
 /// Runs a script on the guardian, the arms of a coenter one after another, and writes the line of
 /// each call that it makes, with a line feed. Nothing is tried again after a failure.
 ///
-/// On Ok the journal is the one that the script's run leaves after the journal before (`played`),
+/// On `Ok` the journal is the one that the script's run leaves after the journal before (`played`),
 /// and what was written is the lines of the entries made (`written`). After a fault the journal is
-/// a beginning of that one (`early`), and what was written are the lines of the entries made, but
-/// that the last one may lack its end, or all of it (`cut`).
+/// a prefix of that one (`early`), and what was written are the lines of the entries made, except
+/// that the last line may be cut short or missing (`cut`).
 ///
 /// | Error | When |
 /// |---|---|
-/// | `Memory` | memory is wanting, for a call, for its line or for the run |
-/// | `Write` | the writer failed or took nothing, and only then |
+/// | `Memory` | there is no memory, for a call, for its line or for the run |
+/// | `Write` | the writer failed or accepted nothing, and only then |
 ///
-/// The writer may not have failed before.
+/// Condition: the writer hasn't failed before.
 ///
 /// ```text
 /// let script = parse(heap, b"declare x atomic_record[n:int]\n")?;
@@ -62,7 +62,7 @@ pub fn run_serial<W: Write + Drop>(
     result
 }
 
-// The same, with the guardian handed over and given back.
+// The same, with the guardian passed in and returned.
 fn run_lent<W: Write + Drop>(
     heap: Heap,
     guardian: Guardian,

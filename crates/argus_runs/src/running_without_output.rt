@@ -70,8 +70,8 @@ impl Caller for Guardian {
 
 /// Runs a script on the guardian as `run_serial` does, and writes nothing.
 ///
-/// On Ok the journal is the one that the script's run leaves after the journal before (`played`);
-/// at `OutOfMemory` it is a beginning of that one (`early`).
+/// On `Ok` the journal is the one that the script's run leaves after the journal before (`played`);
+/// at `OutOfMemory` it is a prefix of that one (`early`).
 ///
 /// ```text
 /// let script = parse(heap, b"declare x atomic_record[n:int]\n")?;

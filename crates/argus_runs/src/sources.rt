@@ -1,8 +1,8 @@
-//! A whole run, where script and heap are known by what they give alone.
+//! A whole run, in which script and heap are known only by what they return.
 //!
-//! The borrow checker takes no call that puts a type of several lifetimes, as a guardian with a
-//! writer, for a type parameter, where the callee's signature names a type that holds a heap. So
-//! here script and heap are type parameters, too.
+//! The borrow checker accepts no call that puts a type of several lifetimes, such as a guardian
+//! with a writer, for a type parameter, if the callee's signature names a type that holds a heap.
+//! So here script and heap are type parameters, too.
 
 ghost use Rattle.std.specs.Prelude.{List, OnOk, true, ◌≡◌};
 ghost use Rattle.argus_language.specs.Script.{PlainScript, plain_script};
@@ -17,7 +17,7 @@ use crate::stopped::Stopped;
 use argus_language::Script;
 use argus_memory::Heap;
 
-// What gives a script.
+// What returns a script.
 pub(crate) trait GivesScript {
     ghost script: { Self → PlainScript };
 
@@ -35,7 +35,7 @@ impl GivesScript for Script {
     }
 }
 
-// What gives a heap.
+// What returns a heap.
 pub(crate) trait GivesHeap {
     fn heap(&self) -> Heap;
 }

@@ -20,13 +20,13 @@ use argus_language::{ActionKind, BlockKind, Lock, Step};
 use argus_memory::Heap;
 
 /// Runs steps of an action, or at top level, until one ends the block. `numbers` are the objects
-/// for which the script's names stand; a number past them stands for no object.
+/// that the script's names stand for; a number past them stands for none.
 ///
-/// `told`: what the run comes to, and the state after it, are what the definition gives. `early`:
-/// where it stops before its end, the state is a beginning of what the run comes to. `kept`: what
-/// the caller's calls keep, the run keeps.
+/// `told`: what the run comes to, and the state after it, are what the definition says. `early`: if
+/// it stops before its end, the state is a prefix of what the run comes to. `kept`: what the
+/// caller's calls keep, the run keeps.
 ///
-/// `Stopped`: the caller stopped, or memory is wanting, for a copy of a change or for the begun
+/// `Stopped`: the caller stopped, or there is no memory for a copy of a change or for the begun
 /// arms of a coenter. No call is made after that.
 #[cycle(run)]
 pub fn run_steps<C: Caller>(

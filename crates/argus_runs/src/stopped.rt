@@ -3,8 +3,7 @@
 use argus_memory::OutOfMemory;
 use std::alloc::{AllocError, AllocFailed};
 
-/// The run came to a stop before its end: memory is wanting, or whoever makes its calls can't go
-/// on.
+/// The run came to a stop before its end: there is no memory, or its caller can't go on.
 ///
 /// ```text
 /// match run_steps(heap, &mut caller, &[], steps, None) {

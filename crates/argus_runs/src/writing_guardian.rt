@@ -20,8 +20,8 @@ use argus_streams::{FailStop, write_whole};
 use std::io::Write;
 use std::mem::drop;
 
-/// A guardian that is called in turn, and where the line of each call is written. Once a line could
-/// not be written whole, nothing more is called.
+/// A guardian that is called in turn, and where the line of each call is written. After a line that
+/// could not be written whole, nothing more is called.
 #[derive(Drop)]
 pub(crate) struct WritingGuardian<W: Write + Drop> {
     pub(crate) guardian: Guardian,
@@ -113,7 +113,7 @@ fn next_entry(guardian: &Guardian) -> u64
     guardian.journal().journal().len()
 }
 
-// Writes the line of the entry with this number; the text is made in `line`.
+// Writes the line of the entry with this number; the text is built in `line`.
 fn write_line<W: Write + Drop>(
     guardian: &Guardian,
     at: u64,

@@ -1,4 +1,4 @@
--- Several calls: what one call more adds.
+-- Several calls: what one more call adds.
 use Rattle.std.proofs.Common.{List, [], ap, append_assoc, arith, drop, false, sym, true, ℕ, ◌++◌, ◌+◌, ◌∙◌, ◌∷◌, ◌≡◌}
 use Rattle.std.proofs.lemmas.List.{drop-drop}
 use Rattle.std.specs.Prelude.{if◌then◌else◌}

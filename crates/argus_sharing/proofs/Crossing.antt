@@ -1,4 +1,4 @@
--- A shared guardian may be lent to other threads; seats, lookers and receipts may go there: as a set for `search`,
+-- Other threads may borrow a shared guardian; seats, lookers and receipts may go there: as a set for `search`,
 -- `crosses`.
 use denote.RattleType.{RattleType}
 use denote.Struct.Declared.{shape, row as declared_row}

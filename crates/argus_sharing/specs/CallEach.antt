@@ -12,14 +12,14 @@ use Rattle.argus_sharing.specs.declared.demand.Demand.{Demand}
 use Rattle.argus_sharing.specs.declared.demand.Demand.TheVariants as demand
 use Rattle.argus_sharing.specs.declared.demanded_call.DemandedCall.{DemandedCall}
 
--- the reply is no refusal
+-- the reply isn't a refusal
 abbrev pub is_no_refusal : PlainReply → Bool
 is_no_refusal (object o) = true
 is_no_refusal (begun a) = true
 is_no_refusal (answered a) = true
 is_no_refusal (refused r) = false
 
--- the answer is no signal
+-- the answer isn't a signal
 abbrev pub is_result : PlainAnswer → Bool
 is_result done = true
 is_result (val v) = true
@@ -28,7 +28,7 @@ is_result (flag b) = true
 is_result (body c) = true
 is_result (signal s) = false
 
--- the reply is no refusal and no signal
+-- the reply is neither a refusal nor a signal
 abbrev pub is_no_signal : PlainReply → Bool
 is_no_signal (object o) = true
 is_no_signal (begun a) = true
@@ -42,7 +42,7 @@ meets demand.NoRefusal reply = is_no_refusal reply
 meets demand.NoSignal reply = is_no_signal reply
 meets (demand.Exactly demanded) reply = same_reply (plain_reply demanded) reply
 
--- the reply that the journal gives meets the demand
+-- the reply that follows from the journal meets the demand
 abbrev pub is_met : JournalView → DemandedCall → Bool
 is_met journal each = meets each.demand (reply_to journal (plain_call each.call))
 
@@ -56,13 +56,13 @@ receipts_of journal [] = []
 receipts_of journal (each ∷ calls) = receipt_of journal (plain_call each.call)
     ∷ (if is_met journal each then receipts_of (after journal (plain_call each.call)) calls else [])
 
--- why no more calls are made, where there is memory
+-- why no more calls are made, as long as there is memory
 abbrev pub end_of : JournalView → List DemandedCall → CallsEnd
 end_of journal [] = Whole
 end_of journal (each ∷ calls) =
     if is_met journal each then end_of (after journal (plain_call each.call)) calls else Unmet
 
--- the journal with the first so many of the calls
+-- the journal with the first n of the calls
 abbrev pub after_calls : JournalView → List DemandedCall → ℕ → JournalView
 after_calls journal calls zero = journal
 after_calls journal [] (suc n) = journal

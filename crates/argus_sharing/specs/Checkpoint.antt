@@ -1,4 +1,4 @@
--- What a checkpoint of a shared guardian answers.
+-- What a checkpoint of a shared guardian returns.
 use Rattle.std.specs.Prelude.{Option, Some, false, true, ◌<◌, ◌↔◌, ◌≡◌}
 use Rattle.argus_core.specs.Checkpoint.{is_quiet}
 use Rattle.argus_core.specs.declared.checkpoint_error.CheckpointError.{CheckpointError}
@@ -6,8 +6,7 @@ use Rattle.argus_core.specs.declared.checkpoint_error.CheckpointError.TheVariant
 use Rattle.argus_journal.specs.declared.limits.TheConstants.{MAX_FIRST_ENTRY}
 use Rattle.argus_journal.specs.JournalView.{JournalView, next_entry}
 
--- it is busy where an action is live; it is full where none is, and the next entry's number is past
--- the limit
+-- busy if an action is live; full if none is, and the next entry's number is past the limit
 abbrev pub IsCheckpointAnswer : JournalView → Option CheckpointError → Type 0
 IsCheckpointAnswer journal error = ((error ≡ Some Busy) ↔ (is_quiet journal ≡ false))
     × ((error ≡ Some Full) ↔ ((is_quiet journal ≡ true) × (MAX_FIRST_ENTRY < next_entry journal)))

@@ -1,4 +1,4 @@
--- How the effects on a board stand to a journal.
+-- How the effects on a board follow a journal.
 use Rattle.std.specs.List.{range_with_len}
 use Rattle.std.specs.Prelude.{List, Option, map, true, ℕ, ◌++◌, ◌≡◌, ◌≤◌}
 use mathlib.Core.List.{IsPrefix}
@@ -27,7 +27,7 @@ FollowsJournal opening journal effects = (earlier : List Effect)
     × (effects ≡ earlier ++ journal_effects journal)
 
 -- a journal that a shared guardian may have: its opening is sound and within the limits, each reply
--- is the one that the entries before it give, and no entry since the sharing began is missing
+-- follows from the entries before it, and no entry since the sharing began is missing
 abbrev pub IsSharedJournal : ℕ → JournalView → Type 0
 IsSharedJournal start journal = (is_sound journal.opening ≡ true) × KeepsNumbers journal.opening
     × Legal journal.opening journal.entries × (start ≤ next_entry journal)
@@ -37,12 +37,12 @@ abbrev pub IsFollowed : (ℕ → Option PlainContent) → ℕ → LockedState �
 IsFollowed opening start state = IsSharedJournal start state.journal
     × FollowsJournal opening state.journal (state.board.published ++ state.board.pending)
 
--- what was published stays published, and these effects stand behind all that was there
+-- what was published stays published, and these effects come after all that was there
 abbrev pub GoesOn : BoardView → BoardView → List Effect → Type 0
 GoesOn was now added = IsPrefix was.published now.published
     × (now.published ++ now.pending ≡ (was.published ++ was.pending) ++ added)
 
--- the call is no commit
+-- the call isn't a commit
 abbrev pub IsNoCommit : PlainCall → Type 0
 IsNoCommit (commit a) = ⊥
 IsNoCommit (declare shape) = Unit {0}
@@ -56,7 +56,7 @@ IsNoCommit (alter a o change) = Unit {0}
 IsNoCommit (test_read a o) = Unit {0}
 IsNoCommit (test_write a o) = Unit {0}
 
--- what is in the declared objects for good, in the order of their numbers
+-- the bases of the declared objects, in the order of their numbers
 abbrev pub journal_bases : JournalView → List (Option PlainContent)
 journal_bases journal =
     map (base_of journal.opening journal.entries)

@@ -1,4 +1,4 @@
--- What lies under the lock, as contracts see it.
+-- The value behind the mutex, as contracts see it.
 use Rattle.std.specs.Coded.{Coded, code_by, coded×}
 use Rattle.std.specs.Prelude.{refl}
 use Rattle.argus_board.specs.BoardView.{BoardView, board_view_coded}

@@ -1,4 +1,4 @@
--- Which calls end actions, so that those that wait try again.
+-- Which calls end actions, so that waiting threads try again.
 use Rattle.argus_entries.specs.Call.{PlainCall, abort, abort_others, alter, ask, begin_nested}
 use Rattle.argus_entries.specs.Call.{begin_sub, begin_top, commit, declare, plain_call, test_read}
 use Rattle.argus_entries.specs.Call.{test_write}
@@ -8,7 +8,7 @@ use Rattle.argus_receipts.specs.declared.receipt.Receipt.{Receipt}
 use Rattle.std.specs.Prelude.{Bool, Err, Ok, Result, false}
 use Rattle.argus_memory.specs.declared.out_of_memory.OutOfMemory.{OutOfMemory}
 
--- a commit, an abort or an end of all others that was done
+-- a commit, an abort or an abort of all others that was done
 abbrev pub ends_actions : PlainCall → PlainReply → Bool
 ends_actions (commit a) reply = is_answered reply
 ends_actions (abort a) reply = is_answered reply

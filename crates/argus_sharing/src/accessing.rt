@@ -1,4 +1,4 @@
-//! Accesses under the lock.
+//! Accesses under the mutex.
 
 ghost use Rattle.std.specs.Prelude.{IfOk, OnErr, OnOk, ◌++◌, ◌+◌, ◌≡◌};
 ghost use Rattle.argus_contents.specs.Change.{plain_change};

@@ -1,4 +1,4 @@
-//! Calls that begin and abort actions, under the lock.
+//! Calls that begin and abort actions, under the mutex.
 
 ghost use Rattle.std.specs.Prelude.{IfOk, OnErr, OnOk, ◌++◌, ◌+◌, ◌≡◌};
 ghost use Rattle.argus_entries.specs.Call.{abort, begin_sub, begin_top, plain_call};

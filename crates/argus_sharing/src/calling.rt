@@ -1,4 +1,4 @@
-//! Calls under the lock.
+//! Calls under the mutex.
 
 ghost use Rattle.std.specs.Prelude.{IfOk, OnErr, OnOk, ◌++◌, ◌+◌, ◌≡◌};
 ghost use Rattle.argus_entries.specs.Call.{commit, plain_call};
@@ -20,12 +20,12 @@ use std::sync::Wait;
 use std::sync::ledger::Book;
 
 impl<N: Sharing, R: Wait + Drop> Locked<N, R> {
-    /// Makes a call, as the seat's, and tries to publish what the commit of a topaction left. The
-    /// receipt has the number of the entry, the call that was handed in, and the reply that the
-    /// journal before it gives. A publish that finds no memory leaves the reply as it is and the
-    /// board behind. At `OutOfMemory` all is as before.
+    /// Makes a call for the seat, and tries to publish what the commit of a topaction left. The
+    /// receipt has the number of the entry, the call that was passed in, and the reply that follows
+    /// from the journal before it. If the publish finds no memory, the reply is the same and the
+    /// board is out of date. At `OutOfMemory` nothing has changed.
     ///
-    /// It may wait for lookers that are inside.
+    /// It may wait for lookers that are reading.
     pub fn call(&mut self, seat: &mut Seat<N>, call: Call) -> Result<Receipt, OutOfMemory>
         ensures at { IfOk result (λ receipt. receipt.at ≡ next_entry self.old.journal) }
         ensures call { IfOk result (λ receipt. plain_call receipt.call ≡ plain_call call) }
@@ -41,7 +41,7 @@ impl<N: Sharing, R: Wait + Drop> Locked<N, R> {
         ensures board { FollowsJournal N.opening_contents self.new.journal
             (self.new.board.published ++ self.new.board.pending) }
     {
-        // For the contract alone.
+        // For the contract only.
         self.journal();
         match call {
             Call::BeginTop => self.begin_top(seat),
@@ -58,7 +58,7 @@ impl<N: Sharing, R: Wait + Drop> Locked<N, R> {
         }
     }
 
-    /// A call that has no function of its own, and is no commit.
+    /// A call without a function of its own that isn't a commit.
     #[inline(never)]
     fn call_in_one_go(&mut self, seat: &mut Seat<N>, call: Call) -> Result<Receipt, OutOfMemory>
         requires { IsNoCommit (plain_call call) }
@@ -117,7 +117,7 @@ impl<N: Sharing, R: Wait + Drop> Locked<N, R> {
         publishing.guardian.journal_is_legal();
         let reply = publishing.commit(a)?;
         let at = counted(&publishing.guardian, book, seat);
-        // Where it finds no memory, the effect stays pending.
+        // If it finds no memory, the effect stays pending.
         let _published = publishing.board.publish();
         Ok(Receipt {
             at,
@@ -127,7 +127,8 @@ impl<N: Sharing, R: Wait + Drop> Locked<N, R> {
     }
 }
 
-/// Counts the call that the guardian has just made, as the seat's; the number of its entry.
+/// Counts the call that the guardian has just made for the seat, and returns the number of its
+/// entry.
 pub(crate) fn counted<N: Sharing>(
     guardian: &Guardian,
     book: &mut Book<N>,

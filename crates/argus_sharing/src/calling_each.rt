@@ -1,4 +1,4 @@
-//! Several calls under one lock.
+//! Several calls under one lock of the mutex.
 
 ghost use Rattle.std.specs.Prelude.{[], IfOk, OnErr, OnOk, drop, length, map, ◌++◌, ◌+◌, ◌<◌};
 ghost use Rattle.std.specs.Prelude.{◌∷◌, ◌≡◌, ◌≢◌, ◌⊎◌};
@@ -23,14 +23,13 @@ use std::collections::VecDeque;
 use std::sync::Wait;
 
 impl<N: Sharing, R: Wait + Drop> Locked<N, R> {
-    /// Makes the calls one after another, as the seat's, from the first on, up to the first whose
-    /// reply doesn't meet its demand. Each is made as by `call`. Those that weren't made stay in
-    /// `calls`.
+    /// Makes the calls one after another for the seat, up to the first whose reply doesn't meet its
+    /// demand. Each is made as by `call`. Those that weren't made stay in `calls`.
     ///
     /// `OutOfMemory`: there was no memory for the receipts, and no call was made; or none for the
-    /// call behind the last receipt, and that call is spent.
+    /// call after the last receipt, and that call is consumed.
     ///
-    /// It may wait for lookers that are inside.
+    /// It may wait for lookers that are reading.
     pub fn call_each(
         &mut self,
         seat: &mut Seat<N>,
@@ -58,7 +57,7 @@ impl<N: Sharing, R: Wait + Drop> Locked<N, R> {
             (self.new.board.published ++ self.new.board.pending) }
     {
         let heap = self.heap;
-        // For the contract alone.
+        // For the contract only.
         self.journal();
         let Ok(mut receipts) = Vec::with_capacity(heap.room(), calls.len()) else {
             return CallsMade {

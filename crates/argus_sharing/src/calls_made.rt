@@ -4,7 +4,8 @@ use crate::calls_end::CallsEnd;
 use argus_memory::Room;
 use argus_receipts::Receipt;
 
-/// What came of several calls: the receipts of those that were made, in order, and why no more were.
+/// What came of several calls: the receipts of those that were made, in order, and why no more were
+/// made.
 #[derive(Debug, Drop)]
 pub struct CallsMade {
     pub receipts: Vec<Receipt, Room>,

@@ -1,4 +1,4 @@
-//! Receipts and seats against the journal.
+//! Checks receipts and seats against the journal.
 
 ghost use Rattle.std.specs.Prelude.{◌<◌, ◌^◌, ◌≡◌, All, IfErr, OnOk, length, map, sum_by};
 ghost use Rattle.argus_receipts.specs.Checking.{AreApart, IsSettleAnswer, Stands, entries_since};
@@ -12,10 +12,10 @@ use argus_receipts::{Receipt, SettleFault, check};
 use std::sync::Wait;
 
 impl<N: Sharing, R: Wait + Drop> Locked<N, R> {
-    /// Whether receipts and seats tell the journal: each receipt's entry stands there at its
-    /// number, no two receipts have one number, and the seats made as many calls as came since the
-    /// sharing began. The first fault is answered, as `argus_receipts::check` orders them;
-    /// `OutOfMemory` may come in place of any answer.
+    /// Whether receipts and seats agree with the journal: each receipt's entry is in it at its
+    /// number, no two receipts have the same number, and the seats made as many calls as there are
+    /// entries since the sharing began. It returns the first fault, in the order of
+    /// `argus_receipts::check`. `OutOfMemory` may come in place of any result.
     pub fn check(&self, seats: &[Seat<N>], receipts: &[Receipt]) -> Result<(), SettleFault>
         ensures stand { OnOk result
             (All (Stands self.now.journal.opening self.now.journal.entries)

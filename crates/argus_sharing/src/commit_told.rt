@@ -5,14 +5,14 @@ use argus_board::TellsEffects;
 use argus_core::Guardian;
 use std::snapshot::Snapshot;
 
-/// A commit: the guardian before it, which contracts alone see, and the action.
+/// A commit: the guardian before it, which only contracts see, and the action.
 #[derive(Drop)]
 pub(crate) struct CommitTold {
     pub(crate) before: Snapshot<Guardian>,
     pub(crate) action: ActionId,
 }
 
-/// A commit tells what it adds to the effects.
+/// A commit stands for what it adds to the effects.
 pub(crate) struct Added;
 
 impl TellsEffects<CommitTold> for Added {

@@ -41,7 +41,7 @@ impl Demand {
     }
 }
 
-/// Whether it is no refusal.
+/// Whether it isn't a refusal.
 fn is_no_refusal(reply: &Reply) -> bool
     ensures { result ≡ is_no_refusal (plain_reply reply.now) }
 {
@@ -51,7 +51,7 @@ fn is_no_refusal(reply: &Reply) -> bool
     }
 }
 
-/// Whether it is no refusal and no signal.
+/// Whether it is neither a refusal nor a signal.
 fn is_no_signal(reply: &Reply) -> bool
     ensures { result ≡ is_no_signal (plain_reply reply.now) }
 {

@@ -21,7 +21,7 @@ impl From<Call> for DemandedCall {
 
     ghost from_gives = { λ call demanded. (demanded.call ≡ call) × (demanded.demand ≡ NoRefusal) };
 
-    /// The call, whose reply must be no refusal.
+    /// The call, whose reply mustn't be a refusal.
     fn from(call: Call) -> DemandedCall {
         DemandedCall {
             call,

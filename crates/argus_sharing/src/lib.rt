@@ -1,4 +1,4 @@
-//! A guardian that threads share: calls under one lock, receipts, and readers outside the lock.
+//! A guardian that threads share: calls under one mutex, receipts, and readers outside the mutex.
 #![tactic(auto)]
 
 mod accessing;
@@ -34,7 +34,7 @@ pub use shared::Shared;
 pub use sharing::Sharing;
 pub use unsettled::Unsettled;
 
-/// The value behind the lock, with the clauses of each call.
+/// The value behind the mutex, with the clauses of each call.
 pub mod laws {
     pub use crate::locked::Locked;
 }

@@ -1,4 +1,4 @@
-//! `Locked`: the value behind the lock of a shared guardian.
+//! `Locked`: the value behind the mutex of a shared guardian.
 
 ghost use Rattle.std.specs.Prelude.{◌++◌, ◌≡◌};
 ghost use Rattle.argus_journal.specs.LegalJournal.{entries_in, opening_in};
@@ -15,11 +15,11 @@ use std::marker::Model;
 use std::sync::Wait;
 use std::sync::ledger::Book;
 
-/// The value behind the lock: the guardian, the ledger's book of its seats' calls, and the board's
+/// The value behind the mutex: the guardian, the ledger's book of its seats' calls, and the board's
 /// writer. Contracts see the guardian's journal and the board's effects.
 ///
-/// `Shared` takes the lock and makes the call of the same name here; the clauses stand here, since
-/// a function that takes a lock can't say what it did to the value.
+/// `Shared` locks the mutex and makes the call of the same name here. The clauses are here, since
+/// the contract of a function that locks a mutex can't say what it did to the value.
 ///
 /// ```text
 /// let receipt = locked.call(&mut seat, Call::BeginTop)?;
@@ -52,7 +52,7 @@ impl<N: Sharing, R: Wait + Drop> Model for Locked<N, R> {
 }
 
 impl<N: Sharing, R: Wait + Drop> Locked<N, R> {
-    /// A guardian with a board that has been opened for it, before the first call.
+    /// A guardian with a board that was opened for it, before the first call.
     pub(crate) fn over(
         heap: Heap,
         guardian: Guardian,
@@ -75,7 +75,7 @@ impl<N: Sharing, R: Wait + Drop> Locked<N, R> {
         }
     }
 
-    /// Ends the board, and gives the guardian back.
+    /// Ends the board, and returns the guardian.
     pub(crate) fn ended(self) -> Guardian
         ensures { result ≡ self.journal }
     {
@@ -90,9 +90,9 @@ impl<N: Sharing, R: Wait + Drop> Locked<N, R> {
         guardian
     }
 
-    /// The guardian's journal. Its opening is sound and within the limits, each reply is the one that
-    /// the entries before it give, it is no shorter than when the sharing began, and the board's
-    /// effects follow it: what is published and then what is pending is some list that leaves the
+    /// The guardian's journal. Its opening is sound and within the limits, each reply follows from
+    /// the entries before it, and it is no shorter than when the sharing began. The board's effects
+    /// follow it: the published effects and then the pending ones are a list that leaves the
     /// contents of the journal's opening, and then the effects of its entries.
     pub fn journal(&self) -> &LegalJournal
         ensures opening { opening_in result.now ≡ self.now.journal.opening }

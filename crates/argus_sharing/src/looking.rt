@@ -1,4 +1,4 @@
-//! What lookers get under the lock.
+//! What lookers get under the mutex.
 
 ghost use Rattle.std.specs.Prelude.{OnErr, OnOk, Some, [], false, true, ℕ, ◌++◌, ◌<◌, ◌↔◌, ◌≡◌};
 ghost use Rattle.std.specs.Prelude.{◌≢◌};
@@ -22,10 +22,10 @@ use std::sync::Wait;
 
 impl<N: Sharing, R: Wait + Drop> Locked<N, R> {
     /// Publishes what is pending, and lets the looker see all of it. What the looker saw before is
-    /// a beginning of that, whatever is answered. False: a publish found no memory, and all is as
-    /// before.
+    /// a prefix of that, whatever is returned. False: a publish found no memory, and nothing has
+    /// changed.
     ///
-    /// It may wait for lookers that are inside. The looker came with the same sharing.
+    /// It may wait for lookers that are reading. The looker came with the same sharing.
     pub fn brief(&mut self, looker: &mut Looker<N>) -> bool
         ensures journal { self.new.journal ≡ self.old.journal }
         ensures board { FollowsJournal N.opening_contents self.new.journal
@@ -44,9 +44,9 @@ impl<N: Sharing, R: Wait + Drop> Locked<N, R> {
         publishing.board.brief(looker).is_ok()
     }
 
-    /// Publishes what is pending. False: a publish found no memory, and all is as before.
+    /// Publishes what is pending. False: a publish found no memory, and nothing has changed.
     ///
-    /// It may wait for lookers that are inside.
+    /// It may wait for lookers that are reading.
     pub fn refresh(&mut self) -> bool
         ensures journal { self.new.journal ≡ self.old.journal }
         ensures board { FollowsJournal N.opening_contents self.new.journal
@@ -62,9 +62,9 @@ impl<N: Sharing, R: Wait + Drop> Locked<N, R> {
     }
 
     /// Folds the journal's past into its opening, as `Guardian::checkpoint` does: nothing is lost
-    /// from view, since the board stays as it is, and objects, shapes and what is in them for good
-    /// stay. `Busy`: an action is live; `Full`: none is, but the next entry's number is past the
-    /// limit; both, and `OutOfMemory`, change nothing.
+    /// from view, since the board is unchanged, and objects, shapes and bases stay. `Busy`: an
+    /// action is live; `Full`: none is, but the next entry's number is past the limit; these and
+    /// `OutOfMemory` change nothing.
     pub fn checkpoint(&mut self) -> Result<(), CheckpointError>
         ensures ok { OnOk result (self.new.journal ≡ after_checkpoint self.old.journal) }
         ensures busy { (result_err result ≡ Some Busy) ↔ (is_quiet self.old.journal ≡ false) }
@@ -88,7 +88,7 @@ impl<N: Sharing, R: Wait + Drop> Locked<N, R> {
         publishing.guardian.checkpoint()
     }
 
-    /// Whether the call would be refused `Conflict` now.
+    /// Whether the call would be refused with `Conflict` now.
     pub(crate) fn would_conflict(&self, call: &Call) -> bool {
         self.publishing.guardian.access_refusal(call) == Some(Refusal::Conflict)
     }

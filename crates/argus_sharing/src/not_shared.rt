@@ -2,7 +2,7 @@
 
 use argus_core::Guardian;
 
-/// There was no memory to share the guardian, which is as it was.
+/// There was no memory to share the guardian, which is unchanged.
 ///
 /// ```text
 /// if let Err(NotShared { guardian }) = Shared::new(rt, heap, guardian, 2, 1, blank, keeper) {

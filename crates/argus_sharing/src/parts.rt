@@ -1,4 +1,4 @@
-//! `Parts`: what sharing a guardian gives.
+//! `Parts`: what sharing a guardian returns.
 
 use crate::seat::Seat;
 use crate::shared::Shared;
@@ -7,7 +7,7 @@ use argus_board::Looker;
 use argus_memory::Room;
 use std::sync::Wait;
 
-/// What sharing a guardian gives: the shared guardian, and its seats and lookers.
+/// What sharing a guardian returns: the shared guardian, and its seats and lookers.
 ///
 /// ```text
 /// let parts = Shared::new(rt, heap, guardian, 2, 1, blank, keeper)?;

@@ -25,8 +25,8 @@ pub struct PublishingGuardian<N: Sharing, R: Wait + Drop> {
 }
 
 impl<N: Sharing, R: Wait + Drop> PublishingGuardian<N, R> {
-    /// Commits, once what a topaction leaves is pending on the board; where nobody can look, contracts
-    /// alone see what it leaves. At `OutOfMemory` all is as before.
+    /// Commits, after what a topaction leaves is pending on the board. Without places for lookers
+    /// only contracts see what it leaves. At `OutOfMemory` nothing has changed.
     pub(crate) fn commit(&mut self, a: ActionId) -> Result<Reply, OutOfMemory>
         ensures published { self.new.board.published ≡ self.old.board.published }
         ensures reply { IfOk result (λ reply. plain_reply reply

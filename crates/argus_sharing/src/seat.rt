@@ -1,11 +1,11 @@
-//! `Seat`: who calls a shared guardian.
+//! `Seat`: the right to call a shared guardian.
 
 ghost use Rattle.std.specs.Prelude.{◌≡◌};
 
 use crate::sharing::Sharing;
 use std::sync::ledger::Share;
 
-/// Who calls a shared guardian, with a count of the calls that were journalled.
+/// The right to call a shared guardian, with a count of the calls that were journalled.
 ///
 /// ```text
 /// let receipt = shared.call(&rt, &mut seat, Call::BeginTop)?;

@@ -39,10 +39,11 @@ use std::collections::VecDeque;
 use std::sync::ledger::Blank;
 use std::sync::{Condvar, Mutex, Wait};
 
-/// A guardian under one lock, for threads with seats, and a board for lookers, who take no lock.
+/// A guardian under one mutex, for threads with seats, and a board for lookers, which take no
+/// mutex.
 ///
-/// Each call takes the lock and makes the call of the same name of `laws::Locked`, where the
-/// clauses stand that speak of the locked value.
+/// Each call locks the mutex and makes the call of the same name of `laws::Locked`, which has the
+/// clauses about the value behind it.
 ///
 /// ```text
 /// let parts = Shared::new(rt, heap, guardian, 2, 1, blank, keeper)?;
@@ -54,7 +55,8 @@ pub struct Shared<N: Sharing, R: Wait + Drop> {
     pub(crate) freed: Condvar,
 }
 
-// By hand, so that each place where a sharing ends is one call; a derived one is written out there.
+// Written by hand, so that dropping a sharing is one call; a derived `Drop` is expanded at each
+// place.
 impl<N: Sharing, R: Wait + Drop> Drop for Shared<N, R> {
     fn drop(self) {
         let Shared {
@@ -65,10 +67,10 @@ impl<N: Sharing, R: Wait + Drop> Drop for Shared<N, R> {
 }
 
 impl<N: Sharing, R: Wait + Drop> Shared<N, R> {
-    /// Shares the guardian among so many seats, with places for so many lookers. Each seat has made
-    /// no call, and each looker has seen the effects of the journal so far. Without lookers no
+    /// Shares the guardian among this many seats, with places for this many lookers. No seat has
+    /// made a call, and each looker has seen the effects of the journal so far. Without lookers no
     /// contents are kept for them, and a commit copies none. `NotShared`: there was no memory, and
-    /// the guardian is as it was.
+    /// the guardian is unchanged.
     pub fn new(
         rt: R,
         heap: Heap,
@@ -113,9 +115,9 @@ impl<N: Sharing, R: Wait + Drop> Shared<N, R> {
         })
     }
 
-    /// Makes a call, as the seat's. The receipt has the number of its entry in the journal, the
-    /// call that was handed in, and the reply that the journal before it gives. At `OutOfMemory`
-    /// nothing was journalled, and the call is spent.
+    /// Makes a call for the seat. The receipt has the number of its entry in the journal, the call
+    /// that was passed in, and the reply that follows from the journal before it. At `OutOfMemory`
+    /// nothing was journalled, and the call is consumed.
     ///
     /// It may wait for other threads. The seat came with the same sharing.
     pub fn call(
@@ -139,9 +141,9 @@ impl<N: Sharing, R: Wait + Drop> Shared<N, R> {
         receipt
     }
 
-    /// Makes a call, as the seat's, once it wouldn't be refused `Conflict`, or after so many
-    /// wake-ups: all that wait are woken after each end of actions that was done, and a wake-up
-    /// without cause counts too. Then it is `call`, also in what `OutOfMemory` leaves.
+    /// Makes a call for the seat once it wouldn't be refused with `Conflict`, or after this many
+    /// wake-ups: all waiting threads are woken after each call that ended actions, and a spurious
+    /// wake-up counts too. The rest is as in `call`, also for `OutOfMemory`.
     pub fn call_waiting(
         &self,
         rt: &impl Wait,
@@ -172,13 +174,13 @@ impl<N: Sharing, R: Wait + Drop> Shared<N, R> {
         receipt
     }
 
-    /// Makes the calls one after another under one lock, as the seat's, from the first on, up to the
-    /// first whose reply doesn't meet its demand. Each is a call like `call`, with a receipt of its
-    /// own, and no call of another seat comes between two of them. Those that weren't made stay in
-    /// `calls`. If one of them ended actions, all that wait are woken once, after the last.
+    /// Makes the calls one after another for the seat under one lock of the mutex, up to the first
+    /// whose reply doesn't meet its demand. Each is made as by `call`, with a receipt of its own,
+    /// and no call of another seat comes between two of them. Those that weren't made stay in
+    /// `calls`. If one of them ended actions, all waiting threads are woken once, after the last.
     ///
     /// `OutOfMemory`: there was no memory for the receipts, and no call was made; or none for the
-    /// call behind the last receipt, and that call is spent.
+    /// call after the last receipt, and that call is consumed.
     ///
     /// It may wait for other threads. The seat came with the same sharing.
     ///
@@ -217,7 +219,7 @@ impl<N: Sharing, R: Wait + Drop> Shared<N, R> {
     }
 
     /// Publishes what is pending, and lets the looker see all that is committed. False: there was
-    /// no memory, and the board is behind.
+    /// no memory, and the board is out of date.
     ///
     /// It may wait for other threads. The looker came with the same sharing.
     pub fn brief(&self, rt: &impl Wait, looker: &mut Looker<N>) -> bool
@@ -230,7 +232,7 @@ impl<N: Sharing, R: Wait + Drop> Shared<N, R> {
         self.locked.lock(rt).brief(looker)
     }
 
-    /// Publishes what is pending. False: there was no memory, and the board is behind.
+    /// Publishes what is pending. False: there was no memory, and the board is out of date.
     ///
     /// It may wait for other threads.
     pub fn refresh(&self, rt: &impl Wait) -> bool
@@ -243,8 +245,8 @@ impl<N: Sharing, R: Wait + Drop> Shared<N, R> {
     }
 
     /// Folds the journal's past into its opening, as `Guardian::checkpoint` does. Lookers, board
-    /// and seats stay as they are. `Busy`: an action is live; `Full`: none is, but the next entry's
-    /// number is past the limit; both, and `OutOfMemory`, change nothing.
+    /// and seats are unchanged. `Busy`: an action is live; `Full`: none is, but the next entry's
+    /// number is past the limit; these and `OutOfMemory` change nothing.
     ///
     /// It may wait for other threads.
     pub fn checkpoint(&self, rt: &impl Wait) -> Result<(), CheckpointError>
@@ -254,13 +256,13 @@ impl<N: Sharing, R: Wait + Drop> Shared<N, R> {
         self.locked.lock(rt).checkpoint()
     }
 
-    /// Gives the guardian back and ends the board, if these receipts and seats tell the journal:
-    /// each receipt's call and reply are those of the entry at its number, no number comes twice,
-    /// and the seats made as many calls as entries came since the sharing began. Any part of the
-    /// receipts may be handed in. `Unsettled` has the first fault, or want of memory, and hands all
-    /// back.
+    /// Gives the guardian back and ends the board, if these receipts and seats agree with the
+    /// journal: each receipt's call and reply are those of the entry at its number, no number comes
+    /// twice, and the seats made as many calls as there are entries since the sharing began. Any
+    /// subset of the receipts will do. `Unsettled` has the first fault, or `OutOfMemory`, and
+    /// returns everything.
     ///
-    /// It may wait for lookers that are inside.
+    /// It may wait for lookers that are reading.
     ///
     /// ```text
     /// let guardian = shared.settle(seats, receipts.as_slice())?;
@@ -293,7 +295,7 @@ impl<N: Sharing, R: Wait + Drop> Shared<N, R> {
     }
 }
 
-/// Whether the call ended actions, so that others need wait no longer.
+/// Whether the call ended actions, so that waiting threads should try again.
 fn frees(receipt: &Result<Receipt, OutOfMemory>) -> bool
     ensures { result ≡ has_ended receipt.now }
 {

@@ -4,8 +4,8 @@ use argus_board::Board;
 use std::marker::Brand;
 use std::sync::ledger::Ledger;
 
-/// One sharing of a guardian: its ledger, its board, and where the journal stood at its start. Who
-/// shares a guardian picks these in a proof; code is generic in it.
+/// One sharing of a guardian: its ledger, its board, and how long the journal was at its start. The
+/// caller that shares a guardian picks these in a proof; code is generic in it.
 ///
 /// ```text
 /// fn share<N: Sharing, R: Wait + Drop>(

@@ -18,7 +18,7 @@ use argus_memory::{Heap, OutOfMemory, Room};
 use std::sync::Wait;
 use std::sync::ledger::Share;
 
-/// So many seats, each with one part of the share.
+/// This many seats, each with one part of the share.
 pub(crate) fn seats_over<N: Sharing>(
     heap: Heap,
     mut share: Share<N>,
@@ -35,7 +35,7 @@ pub(crate) fn seats_over<N: Sharing>(
     Ok(seats)
 }
 
-/// So many places at the board, of which each looker has seen what stood there at first.
+/// This many places at the board; each looker has seen what was on it at first.
 pub(crate) fn lookers_at<N: Sharing, R: Wait + Drop>(
     heap: Heap,
     board: &mut BoardWriter<N, R>,
@@ -52,7 +52,7 @@ pub(crate) fn lookers_at<N: Sharing, R: Wait + Drop>(
     Ok(lookers)
 }
 
-/// The board of a sharing, with what is in the guardian's objects for good.
+/// The board of a sharing, with the bases of the guardian's objects.
 pub(crate) fn board_of<N: Sharing, R: Wait + Drop>(
     rt: R,
     heap: Heap,
@@ -78,7 +78,7 @@ pub(crate) fn board_of<N: Sharing, R: Wait + Drop>(
     BoardWriter::<N, R>::new(rt, heap, bases, keeper, lookers)
 }
 
-/// What is in the guardian's objects for good, in the order of their numbers.
+/// The bases of the guardian's objects, in the order of their numbers.
 fn bases_of(heap: Heap, guardian: &Guardian) -> Result<Vec<Option<Content>, Room>, OutOfMemory>
     ensures { IfOk result (λ bases. plain_contents bases.items ≡ journal_bases guardian.now) }
 {
@@ -90,7 +90,7 @@ fn bases_of(heap: Heap, guardian: &Guardian) -> Result<Vec<Option<Content>, Room
     Ok(bases)
 }
 
-/// What is in a declared object for good.
+/// The base of a declared object.
 fn duplicate_base(
     heap: Heap,
     guardian: &Guardian,

@@ -7,7 +7,7 @@ use argus_memory::Room;
 use argus_receipts::SettleFault;
 use std::sync::Wait;
 
-/// Why a shared guardian wasn't settled, with all that was handed in, unchanged.
+/// Why a shared guardian wasn't settled, with all that was passed in, unchanged.
 ///
 /// ```text
 /// if let Err(Unsettled { fault, shared, seats }) = shared.settle(seats, receipts.as_slice()) {

@@ -1,4 +1,4 @@
-//! `FailStop`: a reader or a writer that is never tried again once it failed.
+//! `FailStop`: a reader or a writer that is never tried again after a failure.
 
 ghost use Rattle.std.specs.Prelude.{◌≡◌, ◌≤◌, ◌<◌, length, take, true, false};
 ghost use Rattle.std.specs.Prelude.{IfSome, IfNone, OnSome};
@@ -7,11 +7,10 @@ ghost use Rattle.argus_streams.specs.FailStop.{has_failed, inner_of, unless_fail
 
 use std::io::{Read, Write};
 
-/// A reader or a writer, and whether it has failed. It is called through this alone, and never
-/// again once it has failed: whatever the error, an interruption too, and a write that takes
-/// nothing.
+/// A reader or a writer, and whether it has failed. It is called only through this, and never again
+/// once it has failed. Any error counts, also an interruption and a write that accepts nothing.
 ///
-/// Nothing outside can change what it remembers: a stream that has failed isn't given back.
+/// Nothing outside can change what it remembers: a stream that has failed isn't returned.
 ///
 /// ```text
 /// let mut reader = FailStop::new(rt.stdin());
@@ -34,7 +33,7 @@ impl<T: Drop> FailStop<T> {
         }
     }
 
-    /// The reader or the writer, to be looked at.
+    /// The reader or the writer, for looking at.
     pub fn get_ref(&self) -> &T
         ensures { result.now ≡ inner_of self.now }
     {
@@ -48,7 +47,7 @@ impl<T: Drop> FailStop<T> {
         self.failed
     }
 
-    /// The reader or the writer; None where it has failed.
+    /// The reader or the writer; `None` if it has failed.
     pub fn into_inner(self) -> Option<T>
         ensures { result ≡ unless_failed (has_failed self) (inner_of self) }
     {
@@ -58,7 +57,7 @@ impl<T: Drop> FailStop<T> {
 }
 
 impl<R: Read + Drop> FailStop<R> {
-    /// Reads once: so many bytes lie in the buffer. None where the reader failed.
+    /// Reads once: this many bytes are in the buffer. `None` if the reader failed.
     pub fn read_once(&mut self, buffer: &mut [u8]) -> Option<usize>
         requires { has_failed self.old ≡ false }
         ensures some { IfSome result (λ n. (n ≤ length buffer.new)
@@ -81,7 +80,7 @@ impl<R: Read + Drop> FailStop<R> {
 }
 
 impl<W: Write + Drop> FailStop<W> {
-    /// Writes once: so many bytes were taken, at least one. None where the writer failed.
+    /// Writes once: this many bytes were accepted, at least one. `None` if the writer failed.
     pub fn write_once(&mut self, bytes: &[u8]) -> Option<usize>
         requires { has_failed self.old ≡ false }
         ensures some { IfSome result (λ n. (0 < n) × (n ≤ length bytes.now)

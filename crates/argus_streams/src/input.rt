@@ -15,8 +15,8 @@ const CHUNK: usize = 16_384;
 
 /// All that the reader has, at most `limit` bytes of it. A read that fails isn't tried again.
 ///
-/// `Read`: a read failed. `OutOfMemory`: memory is wanting for the bytes. After both, what was read
-/// is lost.
+/// `Read`: a read failed. `OutOfMemory`: there is no memory for the bytes. After either, what was
+/// read is lost.
 ///
 /// ```text
 /// let mut reader = FailStop::new(rt.stdin());

@@ -6,7 +6,7 @@ use thiserror::Error;
 ///
 /// | Error | Text | When |
 /// |---|---|---|
-/// | `OutOfMemory` | `out of memory` | memory is wanting for the bytes |
+/// | `OutOfMemory` | `out of memory` | there is no memory for the bytes |
 /// | `Read` | `read fault` | a read failed, and only then |
 ///
 /// ```text

@@ -1,4 +1,4 @@
-//! Readers and writers that are never tried again once they failed.
+//! Readers and writers that are never tried again after a failure.
 #![tactic(auto)]
 
 mod fail_stop;

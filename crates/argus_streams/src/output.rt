@@ -17,9 +17,9 @@ use std::io::Write;
 #[derive(Clone, Copy)]
 pub struct NotWritten;
 
-/// Writes all the bytes. A write that fails or takes nothing isn't tried again.
+/// Writes all the bytes. A write that fails or accepts nothing isn't tried again.
 ///
-/// `NotWritten` comes where one did, and only then; what was written is a front of the bytes.
+/// `NotWritten` comes exactly if there was such a write; then a prefix of the bytes was written.
 pub fn write_whole<W: Write + Drop>(
     writer: &mut FailStop<W>,
     bytes: &[u8],

@@ -1,5 +1,4 @@
--- What all workers are given may be looked at from other threads, and what arms left may go
--- there.
+-- What all workers get may be looked at from other threads, and what arms left may go there.
 use denote.RattleType.{RattleType}
 use denote.Ref.{NamedLft}
 use denote.Struct.Declared.{shape}

@@ -1,4 +1,4 @@
-//! `ArmContext`: what all workers of a coenter are given.
+//! `ArmContext`: what all workers of a coenter get.
 
 use crate::arm_running::run_arm;
 use crate::gate::Gate;
@@ -13,9 +13,8 @@ use argus_runs::{Caller, Stopped};
 use argus_sharing::{Seat, Shared, Sharing};
 use std::sync::Wait;
 
-/// What all workers of a coenter are given: what the team has in common, the arms' steps, the
-/// actions that were begun for them, the numbers of the script's objects, and how many workers there
-/// are.
+/// What all workers of a coenter get: what the team has in common, the arms' steps, the actions
+/// that were begun for them, the numbers of the script's objects, and how many workers there are.
 #[derive(Drop)]
 pub(crate) struct ArmContext<'a, N: Sharing, R: Wait + Drop, G: Gate> {
     pub(crate) rt: &'a R,
@@ -31,7 +30,7 @@ pub(crate) struct ArmContext<'a, N: Sharing, R: Wait + Drop, G: Gate> {
 
 impl<N: Sharing, R: Wait + Drop, G: Gate> ArmContext<'_, N, R, G> {
     /// Runs one worker's arms in order, and notes where the receipts of each end. `Stopped`: one of
-    /// them was stopped; the others behind it were run all the same.
+    /// them was stopped; the others after it were run all the same.
     pub(crate) fn run_arms(
         &self,
         number: usize,
@@ -60,7 +59,7 @@ impl<N: Sharing, R: Wait + Drop, G: Gate> ArmContext<'_, N, R, G> {
             if let Some(action) = *action
                 && self.has(number, k)
             {
-                // Where memory is wanting for this, too, the action stays as it is.
+                // If there is no memory for this either, the action stays as it is.
                 let _ = worker.call(Call::Abort(action));
             }
         }
@@ -109,8 +108,8 @@ impl<N: Sharing, R: Wait + Drop, G: Gate> ArmContext<'_, N, R, G> {
                 arm,
             );
             if done.is_err() {
-                // Others may wait for its locks. Where memory is wanting for this, too, they go on
-                // to.
+                // Others may wait for its locks. If there is no memory for this either, they go on
+                // waiting.
                 let _ = worker.call(Call::Abort(action));
                 return Err(Stopped);
             }

@@ -10,7 +10,7 @@ use std::alloc::AllocError;
 pub(crate) struct ArmReceipts {
     /// The receipts of its first arm, of its second one, and so on.
     pub(crate) receipts: Vec<Receipt, Room>,
-    /// For each arm that it has come to, how many receipts there were behind it. There is room for
+    /// For each arm that it has come to, how many receipts there were after it. There is room for
     /// all its arms.
     pub(crate) ends: Vec<usize, Room>,
     /// Whether each arm came to its end. `Stopped`: one was stopped, or the worker hasn't run.
@@ -18,7 +18,7 @@ pub(crate) struct ArmReceipts {
 }
 
 impl ArmReceipts {
-    /// Those of a worker that hasn't run, with room for the ends of so many arms.
+    /// Those of a worker that hasn't run, with room for the ends of this many arms.
     pub(crate) fn new(heap: Heap, arms: usize) -> Result<ArmReceipts, AllocError> {
         Ok(ArmReceipts {
             receipts: Vec::new(heap.room()),

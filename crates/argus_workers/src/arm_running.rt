@@ -8,7 +8,7 @@ use argus_memory::Heap;
 use argus_runs::pieces::finish_block;
 use argus_runs::{Caller, Flow, Stopped, run_steps};
 
-/// Runs the steps of an arm, each once the gate was passed, and ends its action.
+/// Runs the steps of an arm, each after the gate lets it pass, and ends its action.
 pub(crate) fn run_arm<C: Caller, G: Gate>(
     heap: Heap,
     caller: &mut C,

@@ -11,8 +11,8 @@ pub(crate) trait Crew<J> {
     fn work(&self, job: J);
 }
 
-/// Has the jobs done, the last one on this thread and each other one on a thread of its own, and
-/// returns once all threads have ended. A job for which no thread can be made is dropped undone.
+/// Runs the jobs, the last one on this thread and each other one on a thread of its own, and
+/// returns when all threads have ended. A job for which no thread can be made is dropped undone.
 pub(crate) fn do_all<R: Threads + Wait, C: Crew<J> + Sync, J: Send + Drop>(
     rt: &R,
     crew: &C,

@@ -1,6 +1,6 @@
-//! `Gate`: where the arms of a run may be held up.
+//! `Gate`: where the arms of a run may be delayed.
 
-/// Where the arms of a run may be held up, so that a test can force their order.
+/// Where the arms of a run may be delayed, so that a test can force their order.
 ///
 /// ```text
 /// impl Gate for Turns {
@@ -10,7 +10,7 @@
 /// }
 /// ```
 pub trait Gate {
-    /// Is called by an arm's worker before each step that stands directly in an arm of an outermost
+    /// An arm's worker calls it before each step that is directly in an arm of an outermost
     /// coenter. Arms and steps are counted from 0.
     fn pass(&self, arm: u32, step: u32);
 }

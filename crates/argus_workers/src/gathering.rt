@@ -7,8 +7,8 @@ use argus_runs::Stopped;
 use std::alloc::AllocError;
 use std::vec::IntoIter;
 
-/// Adds the receipts of so many arms, arm after arm, of which arm k was run by worker k mod
-/// workers. `Stopped`: one was stopped, or wasn't run, or memory is wanting.
+/// Adds the receipts of this many arms, arm after arm, of which arm k was run by worker k mod
+/// workers. `Stopped`: one was stopped, or wasn't run, or there is no memory.
 pub(crate) fn gather(
     heap: Heap,
     left: Vec<ArmReceipts, Room>,

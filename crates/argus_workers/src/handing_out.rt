@@ -18,9 +18,9 @@ use std::alloc::AllocError;
 use std::sync::Wait;
 use std::thread::Threads;
 
-/// Has the arms that were begun run by the seats' workers, and adds their receipts, arm after arm.
-/// Arm k is run by worker k mod workers, each worker's arms in order. The arms of a worker for which
-/// no thread can be made are stopped.
+/// Lets the seats' workers run the arms that were begun, and adds their receipts, arm after arm.
+/// Arm k is run by worker k mod workers, each worker's arms in order. If no thread can be made for
+/// a worker, its arms are stopped.
 pub(crate) fn hand_out<
     N: Sharing + Send + Sync,
     R: Threads + Wait + Drop + Send + Sync,
@@ -36,7 +36,7 @@ pub(crate) fn hand_out<
     if none_begun(begun) {
         return Ok(());
     }
-    // Where there are fewer arms than workers, the others have nothing to do.
+    // If there are fewer arms than workers, the others have nothing to do.
     let workers = seats.len().min(arms.len());
     let seats = &mut seats[..workers];
     let handed = ArmContext {
@@ -71,7 +71,7 @@ fn run_alone<N: Sharing, R: Wait + Drop, G: Gate>(
     handed.run_arms(0, seat, receipts, &mut ends)
 }
 
-// Several workers run the arms. Their receipts are put into script order behind it.
+// Several workers run the arms. Their receipts are then put into script order.
 fn run_together<N: Sharing + Send + Sync, R: Threads + Wait + Drop + Send + Sync, G: Gate + Sync>(
     handed: &ArmContext<N, R, G>,
     seats: &mut [Seat<N>],
@@ -111,14 +111,14 @@ fn run_all<N: Sharing + Send + Sync, R: Threads + Wait + Drop + Send + Sync, G: 
 }
 
 // Aborts the actions of the arms of workers that weren't started, since others may wait for what
-// they hold up.
+// they block.
 fn abort_unrun<N: Sharing, R: Wait + Drop, G: Gate>(
     handed: &ArmContext<N, R, G>,
     seats: &mut [Seat<N>],
     left: &[ArmReceipts],
 ) {
     for (number, (seat, left)) in seats.iter_mut().zip(left).enumerate() {
-        // A worker that ran has come to an arm, at least.
+        // A worker that ran has come to at least one arm.
         if left.ends.is_empty() {
             handed.abort_arms(number, seat);
         }

@@ -1,4 +1,4 @@
-//! `Job`: what one worker is given.
+//! `Job`: what one worker gets.
 
 use crate::arm_context::ArmContext;
 use crate::arm_receipts::ArmReceipts;
@@ -7,7 +7,7 @@ use crate::gate::Gate;
 use argus_sharing::{Seat, Sharing};
 use std::sync::Wait;
 
-/// What one worker is given: its number, its seat, and where its arms' receipts go.
+/// What one worker gets: its number, its seat, and where its arms' receipts go.
 #[derive(Drop)]
 pub(crate) struct Job<'a, N: Sharing> {
     pub(crate) number: usize,

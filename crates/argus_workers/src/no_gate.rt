@@ -1,8 +1,8 @@
-//! `NoGate`: a gate that holds nothing up.
+//! `NoGate`: a gate that never blocks.
 
 use crate::gate::Gate;
 
-/// Holds nothing up.
+/// Never blocks.
 ///
 /// ```text
 /// run_shared(&rt, heap, &shared, &mut seats, &script, &NoGate, 2, 0)?;

@@ -19,27 +19,26 @@ use std::sync::Wait;
 use std::thread::Threads;
 
 /// Runs a script by workers. Seat 0 makes the calls outside outermost coenters and begins their
-/// arms; arm k of an outermost coenter is run by worker k mod workers, with the seat behind its
+/// arms; arm k of an outermost coenter is run by worker k mod workers, with the seat after its
 /// number, each worker's arms in order. A coenter inside an arm is run by that arm's worker. The
 /// workers that have an arm run at once, one on this thread and each other one on a thread of its
-/// own. Accesses wait for their locks, for at most `patience` wake-ups.
+/// own. Accesses wait for their locks for at most `patience` wake-ups.
 ///
-/// On Ok the receipts, in script order, tell the run, of two calls that aren't made by two arms of
-/// one outermost coenter the earlier has the lower number, and each arm ended as its last call shows
-/// (`checked`); the seats made as many calls as there are receipts (`made`). All this is tested once
-/// the workers are done.
+/// On `Ok` the receipts, in script order, are those of the run. Of two calls that aren't made by
+/// two arms of one outermost coenter the earlier has the lower number. Each arm ended as its last
+/// call shows (`checked`). The seats made as many calls as there are receipts (`made`). All this is
+/// tested when the workers are done.
 ///
 /// | Error | When |
 /// |---|---|
-/// | `Memory` | memory is wanting, for a worker's start too, or a test of the receipts fails |
+/// | `Memory` | there is no memory, for a worker's start too, or a test of the receipts fails |
 ///
-/// Want of memory for seat 0 is answered at once; in an arm it stops that arm, whose action is then
-/// aborted if memory is left for that, and the others go on to their end. What each seat did is
-/// told by its `made`. A worker for which no thread can be made counts as memory refused in its
-/// arms.
+/// Out of memory at seat 0 is returned at once; in an arm it stops that arm, whose action is then
+/// aborted if there is memory for that, and the others go on to their end. Each seat's `made` says
+/// what it did. If no thread can be made for a worker, that counts as memory refused in its arms.
 ///
 /// `RunFault::Write` never comes. There is one seat more than workers, and at least one worker. It
-/// may wait for other threads, for ever where two wait for each other.
+/// may wait for other threads: for ever if two wait for each other.
 ///
 /// ```text
 /// let report = run_shared(&rt, heap, &shared, &mut seats, &script, &NoGate, 2, 0)?;
@@ -87,7 +86,7 @@ pub fn run_shared<N: Sharing + Send + Sync, R: Threads + Wait + Drop + Send + Sy
     }
 }
 
-// How many calls the seats made; None where they are too many to be counted.
+// How many calls the seats made; `None` if they are too many to be counted.
 fn made_by<N: Sharing>(seats: &[Seat<N>]) -> Option<u128>
     ensures { IfSome result (λ n. n ≡ sum_by (λ seat. seat.made) seats.now) }
 {

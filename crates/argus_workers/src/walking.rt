@@ -1,8 +1,8 @@
 //! Seat 0's walk through a script, which hands the arms of outermost coenters to workers.
 //!
-//! It is a walk of its own, of the runner's pieces, since no method of a trait may start threads
-//! over a trait of one's own: so it can't be a `Caller`. The arms are run by the runner, and the
-//! receipts are checked against the definition of a run afterwards.
+//! It is a walk of its own, made of the runner's pieces, since no method of a trait may start
+//! threads over a trait of this repository; so it can't be a `Caller`. The runner runs the arms,
+//! and the receipts are checked against the definition of a run afterwards.
 
 use crate::gate::Gate;
 use crate::handing_out::hand_out;
@@ -121,7 +121,7 @@ fn walk_step<N: Sharing + Send + Sync, R: Threads + Wait + Drop + Send + Sync, G
     }
 }
 
-// How the block goes on after a test; None where it was answered yes.
+// How the block goes on after a test; `None` if it returned yes.
 fn tested<C: Caller>(
     caller: &mut C,
     lock: Lock,

@@ -11,7 +11,7 @@ use argus_runs::{Caller, Flow, Stopped};
 use argus_sharing::{Seat, Shared, Sharing};
 use std::sync::Wait;
 
-/// Makes calls by one seat, and keeps their receipts. Accesses wait for their locks, as long as the
+/// Makes calls by one seat, and keeps their receipts. Accesses wait for their locks as long as the
 /// patience lasts.
 #[derive(Drop)]
 pub(crate) struct Worker<'a, N: Sharing, R: Wait + Drop> {
@@ -23,7 +23,7 @@ pub(crate) struct Worker<'a, N: Sharing, R: Wait + Drop> {
     pub(crate) receipts: &'a mut Vec<Receipt, Room>,
 }
 
-// Its replies come from other threads' calls, too, so no clause can say what a run comes to: the
+// Its replies also depend on other threads' calls, so no clause can say what a run comes to; the
 // receipts show it afterwards.
 impl<N: Sharing, R: Wait + Drop> Caller for Worker<'_, N, R> {
     ghost use Rattle.std.specs.Prelude.{None, false, ⊤};

@@ -20,7 +20,7 @@ pub(crate) struct Kind {
 }
 
 impl Kind {
-    /// The change that the work makes in its turn; `Touch` where it makes none.
+    /// The change that the work makes in its turn; `Touch` if it makes none.
     ///
     /// A store goes to the middle of the array. What one turn adds, the next removes.
     pub(crate) fn change(&self, turn: u32) -> Change

@@ -1,4 +1,4 @@
-//! `KindError`: why a text names no kind of work.
+//! `KindError`: why a text doesn't name a kind of work.
 
 use thiserror::Error;
 

@@ -1,7 +1,7 @@
 //! Times what copies and changes of contents cost: `contents_bench KIND N`.
 //!
-//! It is no test, since the figures are the machine's. `bench/contents.sh` runs it beside the same
-//! copy in Rust.
+//! It isn't a test, since the figures depend on the machine. `bench/contents.sh` runs it beside the
+//! same copy in Rust.
 #![tactic(auto)]
 
 mod kind;

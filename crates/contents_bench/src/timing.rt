@@ -10,9 +10,9 @@ use argus_contents::{Change, Content, Heap, OutOfMemory, alter, alter_in_place};
 use std::alloc::Global;
 use std::time::{CpuClock, Duration};
 
-/// The nanoseconds of processor time that each of so many turns of the work took.
+/// The nanoseconds of processor time that each of this many turns of the work took.
 //
-// Time on the clock would count what other programs take of the machine.
+// Wall-clock time would count what other programs take of the machine.
 pub(crate) fn nanos_each(
     rt: &impl CpuClock,
     alloc: Global,
@@ -46,7 +46,7 @@ fn time_turns(
     Ok(rt.process_cpu_time()?.saturating_sub(before))
 }
 
-// What so many copies take until each is made. The clock stands while they are dropped.
+// The time to make this many copies. The clock is stopped while they are dropped.
 fn time_copies(
     rt: &impl CpuClock,
     heap: Heap,
@@ -97,7 +97,7 @@ fn take_turn(
     }
 }
 
-// What each turn does is a function of its own, so that a turn prepares its own locals alone.
+// What each turn does is a function of its own, so that a turn sets up only its own locals.
 
 fn duplicate(heap: Heap, content: &Option<Content>) -> Result<(), OutOfMemory> {
     if let Some(content) = content {

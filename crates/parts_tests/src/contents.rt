@@ -46,7 +46,7 @@ const TEXT_ROWS: [&str; 4] = [
     "text_memory.rows",
 ];
 
-/// Whether each row of contents and of texts is answered as it says.
+/// Whether each row of contents and of texts gets the answer that it says.
 pub(crate) fn run_rows(rt: HostRuntime) -> Result<bool> {
     call_laws();
     let are_contents_right = run_files::<ContentCalls>(rt, &CONTENT_ROWS)?;

@@ -1,5 +1,5 @@
-//! Entries, journals and receipts: writes, reads and copies entries, fills journals, opens and folds them,
-//! and holds receipts against them. It calls each law of `argus_journal`.
+//! Entries, journals and receipts: writes, reads and copies entries, fills journals, opens and
+//! folds them, and checks receipts against them. It calls each law of `argus_journal`.
 
 mod calling_laws;
 mod calls;
@@ -27,7 +27,7 @@ const JOURNAL_ROWS: [&str; 4] = [
     "receipts.rows",
 ];
 
-/// Whether each row of entries, journals and receipts is answered as it says.
+/// Whether each row of entries, journals and receipts gets the answer that it says.
 pub(crate) fn run_rows(rt: HostRuntime) -> Result<bool> {
     call_laws();
     run_files::<Calls>(rt, &JOURNAL_ROWS)

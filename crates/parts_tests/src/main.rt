@@ -1,7 +1,6 @@
-//! The parts of a guardian worked out: contents and texts, trees of actions and locks, entries,
-//! journals and receipts, by the rows in data/. A row that isn't answered as it says is told, and
-//! the
-//! status is then 1, once all rows are through.
+//! Tests of a guardian's parts: contents and texts, trees of actions and locks, entries, journals
+//! and receipts, by the rows in data/. A row that doesn't get the answer that it says is printed,
+//! and the status is then 1, after all rows have run.
 #![tactic(auto)]
 
 mod contents;

@@ -1,8 +1,6 @@
-//! Actions and locks: begins and ends actions, and asks what has become of them; grants, hands on
-//! and
+//! Actions and locks: begins and ends actions, and asks what became of them; grants, hands on and
 //! drops the locks of a cell, and keeps lists of locks. It calls each law of `argus_objects`; those
-//! of
-//! a tree are called by its rows.
+//! of a tree are called by its rows.
 
 mod beginning;
 mod cell_asking;
@@ -23,7 +21,7 @@ use argus_objects::laws::{ancestors_stay, discards_in_turn, lawful_stays, member
 use tested_objects::TestedObjects;
 use trees::Trees;
 
-// The files in data/ whose rows are told to a tree of actions.
+// The files in data/ whose rows a tree of actions answers.
 const TREE_ROWS: [&str; 5] = [
     "families.rows",
     "siblings.rows",
@@ -32,10 +30,10 @@ const TREE_ROWS: [&str; 5] = [
     "tree_memory.rows",
 ];
 
-// Those whose rows are told to a cell and lists of locks.
+// Those whose rows a cell and lists of locks answer.
 const LOCK_ROWS: [&str; 2] = ["cells.rows", "lists.rows"];
 
-/// Whether each row of trees and of locks is answered as it says.
+/// Whether each row of trees and of locks gets the answer that it says.
 pub(crate) fn run_rows(rt: HostRuntime) -> Result<bool> {
     call_laws();
     let are_trees_right = run_files::<Trees>(rt, &TREE_ROWS)?;

@@ -1,10 +1,10 @@
-//! Files of rows that are told to one subject.
+//! Files of rows that one subject answers.
 
 use anyhow::Result;
 use std::fs;
 use test_rows::{Subject, Tester};
 
-/// Whether each row of these files is answered as it says; what was run is told.
+/// Whether each row of these files gets the answer that it says; what was run is printed.
 pub(crate) fn run_files<S: Subject>(rt: HostRuntime, names: &[&str]) -> Result<bool> {
     let mut tester = Tester::<S>::new(rt.alloc())?;
     for name in names {

@@ -1,12 +1,12 @@
-//! `replay`: checks the journal's listing that standard input has, and lists its guardian to standard
-//! output.
+//! `replay`: checks the journal's listing that standard input has, and lists its guardian to
+//! standard output.
 //!
 //! | Status | Meaning | On standard error |
 //! |---|---|---|
 //! | 0 | done; or help or the version was asked for | nothing; with `--prefix` the faulty line |
 //! | 2 | a mistake in the command line | its text |
-//! | 3 | the text is no journal's listing | `line N: KIND` |
-//! | 4 | want of memory | `out of memory` |
+//! | 3 | the text isn't a journal's listing | `line N: KIND` |
+//! | 4 | out of memory | `out of memory` |
 //! | 5 | a read or a write failed | `read fault` or `write fault` |
 #![tactic(auto)]
 
@@ -27,7 +27,7 @@ fn main(rt: HostRuntime) -> ExitCode {
     }
 }
 
-// What the words behind the program's name ask for.
+// What the words after the program's name ask for.
 fn options_given(rt: &(impl Env + AllocGlobal)) -> Result<ReplayOptions, NoOptions> {
     options_for_replay(rt.alloc(), words_given(rt)?)
 }
@@ -58,7 +58,7 @@ fn replay_listing(
     }
 }
 
-// That standard error can't be written is told by the status alone.
+// If standard error can't be written, only the status says so.
 fn end_with_error(rt: &impl Eprint, heap: Option<Heap>, error: ReplayError) -> ExitCode {
     let status = error.status();
     match (&error, heap) {
@@ -71,7 +71,7 @@ fn end_with_error(rt: &impl Eprint, heap: Option<Heap>, error: ReplayError) -> E
     ExitCode::from(status)
 }
 
-// Without memory for the text of the fault, that is told in its place.
+// Without memory for the text of the fault, `out of memory` is written in its place.
 fn tell_line(rt: &impl Eprint, heap: Heap, faulty: &FaultyLine) {
     let mut text = String::new(heap.room());
     if faulty.write(&mut text).is_ok() {

@@ -1,4 +1,4 @@
--- What rows tell of a flag and of a content.
+-- What rows say of a flag and of a content.
 use Rattle.std.specs.Prelude.{List, Option, None, Some, Bool, true, false, codes, ℕ}
 use Rattle.argus_contents.specs.Content.{PlainContent}
 use Rattle.argus_texts.specs.ContentSpelling.{content_spelling}

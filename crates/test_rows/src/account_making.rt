@@ -1,4 +1,4 @@
-//! The account with which journals and guardians open that go on where another ended.
+//! The account with which journals and guardians begin that go on where another ended.
 
 ghost use Rattle.std.specs.Prelude.{◌≡◌, [], ◌∷◌, IfOk, Some, map, pos};
 ghost use Rattle.argus_contents.specs.Content.{rec};
@@ -22,7 +22,7 @@ fn account(heap: Heap) -> Result<Shape, OutOfMemory>
     Ok(shape)
 }
 
-/// One record, an account with this balance: what a journal or a guardian opens with that goes on
+/// One record, an account with this balance: the opening of a journal or a guardian that goes on
 /// where another ended.
 ///
 /// ```text

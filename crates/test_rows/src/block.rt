@@ -1,6 +1,6 @@
-//! `Block`: a test among rows, or lines that are none.
+//! `Block`: a test among rows, or lines that aren't one.
 
-/// A test among rows, or lines that are none. Blocks are parted by one empty line.
+/// A test among rows, or lines that aren't one. One empty line separates blocks.
 ///
 /// ```text
 /// let block = block_of("test begins\nname acct -> good");     // Block::Test { name: "begins", ..
@@ -8,7 +8,7 @@
 /// ```
 #[derive(Clone, Copy)]
 pub enum Block<'a> {
-    /// Its name, whether it's run with ample memory alone, and its lines.
+    /// Its name, whether it's run only with ample memory, and its lines.
     Test {
         name: &'a str,
         is_large: bool,

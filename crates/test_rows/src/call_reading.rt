@@ -1,5 +1,5 @@
 //! Calls, as a journal's lines spell them. A text that spells none is `NotSpelled`; `OutOfMemory`
-//! comes where there is no memory for a value or a shape of it.
+//! comes if there is no memory for a value or a shape of it.
 
 use crate::operation_reading::{change_of, query_of};
 use crate::row_fault::RowFault;

@@ -15,7 +15,7 @@ pub struct Counted<'a> {
     row: &'a str,
 }
 
-/// The rows that the line stands for; None where it doesn't count.
+/// The rows that the line stands for; `None` if it doesn't count.
 pub fn counted_of<'a>(line: &'a str) -> Option<Counted<'a>> {
     let (range, row) = line.strip_prefix("from ")?.split_once(':')?;
     let (first, last) = range.split_once(" to ")?;
@@ -27,12 +27,12 @@ pub fn counted_of<'a>(line: &'a str) -> Option<Counted<'a>> {
 }
 
 impl Counted<'_> {
-    /// How many rows there are, but one.
+    /// How many rows there are, less one.
     pub fn steps(&self) -> u32 {
         self.first.abs_diff(self.last)
     }
 
-    /// The row, where the number doesn't stand in it.
+    /// The row, if the number isn't in it.
     pub fn same_row(&self) -> Option<&str> {
         if self.row.contains('%') || self.row.contains('^') {
             None
@@ -41,8 +41,8 @@ impl Counted<'_> {
         }
     }
 
-    /// The row so many steps after the first one: `%` stands for the number that is counted, up or
-    /// down, and `^` for the number below it. `OutOfMemory`: there was no memory for its text.
+    /// The row this many steps after the first one: `%` stands for the number that is counted, up
+    /// or down, and `^` for the number below it. `OutOfMemory`: there was no memory for its text.
     pub fn row_at(&self, texts: Heap, step: u32) -> Result<String<Room>, OutOfMemory> {
         let number = if self.first <= self.last {
             self.first.saturating_add(step)

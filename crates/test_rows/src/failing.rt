@@ -1,10 +1,10 @@
-//! `Failing`: a reader that fails once so many reads were made.
+//! `Failing`: a reader that fails after this many reads.
 
 use std::io;
 use std::io::{ErrorKind, Read};
 
-/// Gives seven bytes a read at most, and fails once so many reads were made. It counts the reads
-/// behind that.
+/// Returns at most seven bytes a read, and fails after this many reads. It counts the reads after
+/// that.
 ///
 /// ```text
 /// let mut reader = Failing { rest: text.as_bytes(), reads_left: 3, reads_behind: 0 };

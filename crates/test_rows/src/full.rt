@@ -1,11 +1,11 @@
-//! `Full`: a writer that is full after so many bytes.
+//! `Full`: a writer that is full after this many bytes.
 
 use argus_memory::Room;
 use std::io;
 use std::io::{ErrorKind, Write};
 
-/// Takes so many bytes, two at most a write, and then fails or takes nothing. It counts the writes
-/// that come when it is full.
+/// Accepts this many bytes, at most two a write, and then fails or accepts nothing. It counts the
+/// writes that come when it is full.
 ///
 /// ```text
 /// let mut writer = Full { taken: Vec::new(heap.room()), room: 3, fails: true, writes_behind: 0 };

@@ -1,4 +1,4 @@
-//! Rows of text as tests: how they are parted and read, told to what they test, and counted.
+//! Rows of text as tests: how they are split and read, passed to what they test, and counted.
 #![tactic(auto)]
 
 mod account_making;

@@ -1,5 +1,5 @@
 //! Replies, as a journal's lines spell them. A text that spells none is `NotSpelled`; `OutOfMemory`
-//! comes where there is no memory for a value of it.
+//! comes if there is no memory for a value of it.
 
 use crate::row_fault::RowFault;
 use crate::word_reading::{action, first_word, object, place};

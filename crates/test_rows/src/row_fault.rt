@@ -13,20 +13,20 @@ use std::num::ParseIntError;
 /// ```
 #[derive(Clone, Copy)]
 pub enum RowFault {
-    /// What stands before the arrow asks for nothing.
+    /// What comes before the arrow asks for nothing.
     NotSpelled,
-    /// Memory is wanting.
+    /// There is no memory.
     OutOfMemory,
-    /// After a refused allocation something wasn't as before.
+    /// After a refused allocation something had changed.
     Changed,
-    /// An allocation was refused, and the answer wasn't that memory is out.
+    /// An allocation was refused, and the answer wasn't `OutOfMemory`.
     Hidden,
     /// However many allocations were allowed, one was refused.
     NeverAnswered,
 }
 
 impl RowFault {
-    /// What is told in place of an answer.
+    /// What is printed in place of an answer.
     pub fn as_str(self) -> &'static str {
         match self {
             RowFault::NotSpelled => "it is no row",

@@ -13,7 +13,7 @@ use std::alloc::{AllocError, Global};
 /// ```
 #[derive(Clone, Copy)]
 pub struct Setting {
-    /// Always has memory: for what is read, told and compared.
+    /// Always has memory, for what is read, printed and compared.
     pub texts: Heap,
     /// That of the calls.
     pub heap: Heap,
@@ -33,12 +33,12 @@ impl Setting {
         })
     }
 
-    /// The same heaps, with so many allocations.
+    /// The same heaps, with this many allocations.
     pub fn allowing(self, allowed: u64) -> Setting {
         Setting { allowed, ..self }
     }
 
-    /// From now on allocations are counted, and refused where there are more.
+    /// From now on allocations are counted, and refused when there are more.
     pub fn limit(self) {
         self.budget.allow(self.allowed);
     }

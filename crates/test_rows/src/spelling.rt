@@ -1,5 +1,5 @@
-//! The bytes that lines of rows stand for. A mark that is none, and a row that isn't UTF-8, is
-//! `NotSpelled`; after that and after `OutOfMemory` some of the bytes may have been added.
+//! The bytes that lines of rows stand for. A mark that doesn't exist, and a row that isn't UTF-8,
+//! is `NotSpelled`; after that and after `OutOfMemory` some of the bytes may have been added.
 
 use crate::counting::{Counted, counted_of};
 use crate::row_fault::RowFault;
@@ -39,7 +39,7 @@ pub fn spell(text: &str, out: &mut Vec<u8, Room>) -> Result<(), RowFault> {
     }
 }
 
-// The text begins behind a `<`.
+// The text begins after a `<`.
 fn spell_marked(text: &str, out: &mut Vec<u8, Room>) -> Result<(), RowFault> {
     for piece in text.split('<') {
         match piece.split_once('>') {
@@ -56,7 +56,7 @@ fn spell_marked(text: &str, out: &mut Vec<u8, Room>) -> Result<(), RowFault> {
     Ok(())
 }
 
-// A variant's `<0:5>` is no mark.
+// A variant's `<0:5>` isn't a mark.
 fn is_mark(mark: &str) -> bool {
     mark.contains(" times ") || mark.starts_with(|first: char| first.is_ascii_lowercase())
 }
@@ -74,7 +74,7 @@ fn spell_mark(mark: &str, out: &mut Vec<u8, Room>) -> Result<(), RowFault> {
     }
 }
 
-// A byte by its number, or a text so many times.
+// A byte by its number, or a text this many times.
 fn spell_number(mark: &str, out: &mut Vec<u8, Room>) -> Result<(), RowFault> {
     if let Some(number) = mark.strip_prefix("byte ") {
         out.push(number.parse::<u8>()?)?;

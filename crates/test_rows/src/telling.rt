@@ -1,5 +1,5 @@
-//! What is answered, as text: each item with a space before it. After `OutOfMemory` a front of the
-//! item may have been added.
+//! Answers, as text: each item with a space before it. After `OutOfMemory` a prefix of the item may
+//! have been added.
 
 ghost use Rattle.std.specs.Fmt.{decimal};
 ghost use Rattle.std.specs.Prelude.{◌≡◌, ◌++◌, ◌∷◌, OnOk, codes, string_bytes};
@@ -21,7 +21,7 @@ pub fn tell_word(word: &str, out: &mut String<Room>) -> Result<(), OutOfMemory>
     append(word, out)
 }
 
-/// Adds a number behind this mark.
+/// Adds a number after this mark.
 pub fn tell_marked(mark: &str, number: u64, out: &mut String<Room>) -> Result<(), OutOfMemory>
     ensures { OnOk result (string_bytes out.new
         ≡ string_bytes out.old ++ (mark.now ++ decimal number)) }
@@ -81,7 +81,7 @@ pub fn tell_content(content: &Option<Content>, out: &mut String<Room>) -> Result
     }
 }
 
-/// Adds what an operation answers, as a journal's lines do.
+/// Adds what an operation returns, as a journal's lines do.
 pub fn tell_answer(answer: &Answer, out: &mut String<Room>) -> Result<(), OutOfMemory>
     ensures { OnOk result (string_bytes out.new
         ≡ string_bytes out.old ++ (32 ∷ answer_spelling (plain_answer answer.now))) }
@@ -107,7 +107,7 @@ pub fn tell_answer(answer: &Answer, out: &mut String<Room>) -> Result<(), OutOfM
     }
 }
 
-/// Adds `done`, or the signal where there is one.
+/// Adds `done`, or the signal if there is one.
 pub fn tell_done_or(signal: Option<Signal>, out: &mut String<Room>) -> Result<(), OutOfMemory>
     ensures { OnOk result (string_bytes out.new
         ≡ string_bytes out.old ++ (32 ∷ answer_spelling (done_or signal))) }

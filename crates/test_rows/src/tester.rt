@@ -15,12 +15,11 @@ use std::alloc::{AllocError, Global};
 use std::collections::BTreeSet;
 use std::io::Print;
 
-// No row takes so many allocations.
+// No row takes this many allocations.
 const MOST: u64 = 10_000;
 
-/// Runs the tests of texts, and keeps count. Each test has two subjects of its own. Each row is
-/// told
-/// to one with ample memory; then, but in large tests, to the other one with each allocation
+/// Runs the tests of texts, and keeps count. Each test has two subjects of its own. Each row goes
+/// to one with ample memory; then, except in large tests, to the other one with each allocation
 /// refused in turn.
 ///
 /// ```text
@@ -57,9 +56,9 @@ impl<S: Subject> Tester<S> {
         })
     }
 
-    /// Runs each test of the text, and tells how many rows it has. The text may have one heading of
-    /// rows that come before those of each test below it. An error comes where it can't be told, or
-    /// memory is wanting; a wrong answer is told and counted, and is none.
+    /// Runs each test of the text, and prints how many rows it has. The text may have one heading
+    /// of rows that come before those of each test below it. An error comes if it can't be printed,
+    /// or there is no memory; a wrong answer is printed and counted, and isn't an error.
     pub fn run_text(&mut self, rt: &impl Print, text: &str) -> Result<()> {
         match text.split_once("before each test\n") {
             None => self.run_blocks(rt, "", text),
@@ -176,14 +175,14 @@ impl<S: Subject> Tester<S> {
         Err(RowFault::NeverAnswered)
     }
 
-    // How many allocations what is asked takes. The subject with ample memory is told it, too.
+    // How many allocations the request takes. The subject with ample memory gets it, too.
     fn allocations(&mut self, asked: &str, wanted: &str) -> Result<String<Room>, RowFault> {
         let _told = self.ample_answer(asked)?;
         let answer = self.tight_answer(asked)?;
         self.number_text(answer.refused, wanted)
     }
 
-    // The number; what is wanted, as `2 or more`, where the number is.
+    // The number; or what is wanted, such as `2 or more`, if the number is that.
     fn number_text(&self, number: u64, wanted: &str) -> Result<String<Room>, RowFault> {
         let mut out = String::new(self.setting.texts.room());
         if is_within(wanted, number) {
@@ -246,8 +245,8 @@ impl<S: Subject> Tester<S> {
         Ok(())
     }
 
-    /// Tells which kinds of rows were refused memory, how many tests there are, and how many wrong
-    /// answers. An error comes where it can't be told.
+    /// Reports which kinds of rows were refused memory, how many tests there are, and how many
+    /// wrong answers. An error comes if it can't be printed.
     pub fn tell_counts(&self, rt: &impl Print) -> Result<()> {
         rt.println("refused memory, and then answered as with it:")?;
         for word in self.refused.iter() {
@@ -257,7 +256,7 @@ impl<S: Subject> Tester<S> {
         Ok(())
     }
 
-    /// Whether every row was answered as it says.
+    /// Whether every row got the answer that it says.
     pub fn is_content(&self) -> bool {
         self.wrong == 0
     }

@@ -1,4 +1,4 @@
-//! The words of rows. A text that is no such word is `NotSpelled`.
+//! The words of rows. A text that isn't such a word is `NotSpelled`.
 
 ghost use Rattle.std.specs.Prelude.{◌≡◌, ◌==◌};
 ghost use Rattle.std.specs.Int.{w64};
@@ -9,7 +9,7 @@ use crate::row_fault::RowFault;
 use argus_actions::ActionId;
 use argus_contents::ObjId;
 
-/// The first word, and what comes after it: a space, whose code is 32, parts them.
+/// The first word, and what comes after it: a space, whose code is 32, separates them.
 pub fn first_word<'a>(text: &'a str) -> (&'a str, &'a str)
     ensures word { result.0.now ≡ before_first (λ b. b == 32) text.now }
     ensures rest { result.1.now ≡ after_first (λ b. b == 32) text.now }
@@ -20,7 +20,7 @@ pub fn first_word<'a>(text: &'a str) -> (&'a str, &'a str)
     }
 }
 
-// The number behind this letter.
+// The number after this letter.
 fn number(letter: &str, text: &str) -> Result<u32, RowFault> {
     match text.strip_prefix(letter) {
         Some(digits) => Ok(digits.parse::<u32>()?),

@@ -46,7 +46,7 @@ fn publish_and_look<N: Board + Send + Sync, R: Threads + Wait + Abort + Copy + D
     see_the_last(&rt, heap, published?, looker)
 }
 
-// A looker that is briefed sees what was published last, and nothing once the board has ended.
+// A looker that is briefed sees what was published last, and nothing after the board has ended.
 fn see_the_last<N: Board, R: Wait + Abort + Drop>(
     rt: &R,
     heap: Heap,
@@ -74,7 +74,7 @@ fn publish_often<N: Board, R: Wait + Drop>(
     Ok(board)
 }
 
-// Whether each look gave one number twice.
+// Whether each look returned the same number twice.
 fn look_often<N: Board>(heap: Heap, mut looker: Looker<N>) -> Result<(Looker<N>, bool), LookFault> {
     let mut same = true;
     for _turn in 0..TURNS {
@@ -84,7 +84,7 @@ fn look_often<N: Board>(heap: Heap, mut looker: Looker<N>) -> Result<(Looker<N>,
     Ok((looker, same))
 }
 
-/// A number tells no effect.
+/// A number stands for no effect.
 struct NoEffect;
 
 impl TellsEffects<u8> for NoEffect {

@@ -1,4 +1,4 @@
-//! Effects and what a look gave, for the tests.
+//! Effects and what a look returned, for the tests.
 
 use argus_board::Effect;
 use argus_contents::{Content, ObjId, Value};
@@ -20,7 +20,7 @@ pub(crate) fn effect(heap: Heap, objects: &[u32], number: i64) -> Result<Effect,
     Ok(effect)
 }
 
-/// The number of the record at this place of what a look gave, if there is one.
+/// The number of the record at this place of what a look returned, if there is one.
 pub(crate) fn number_at(found: &[Option<Content>], place: usize) -> Option<i64> {
     let Some(Some(Content::Rec(fields))) = found.get(place) else {
         return None;

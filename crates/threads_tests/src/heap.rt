@@ -1,4 +1,4 @@
-//! What no clause says: that a heap gives memory, that a spent budget refuses, and in which places.
+//! What no clause says: that a heap has memory, that a used-up budget refuses, and in which places.
 
 use argus_memory::{Budget, Heap, OutOfMemory, Room};
 use std::alloc::AllocError;

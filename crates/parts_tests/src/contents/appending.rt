@@ -1,13 +1,13 @@
-//! What is written, behind a text that was there before.
+//! What is written, after a text that was there before.
 
 use argus_memory::{Heap, OutOfMemory, Room};
 use argus_texts::{read_content, read_shape, read_value, write_content, write_shape, write_value};
 use test_rows::{RowFault, Setting};
 
-// Stands in a text before anything is added.
+// Is in a text before anything is added.
 const BEFORE: &str = "before ";
 
-/// `same` where a value that was read is written as it was.
+/// `same` if a value that was read is written as it was.
 pub(crate) fn append_value(setting: Setting, text: &str) -> Result<String<Room>, RowFault> {
     let value = read_value(setting.texts, text)?;
     let mut out = String::from_str(setting.heap.room(), BEFORE)?;
@@ -36,7 +36,7 @@ pub(crate) fn append_shape(setting: Setting, text: &str) -> Result<String<Room>,
     told(setting.texts, text, answer, out.as_str())
 }
 
-// After a refusal the text has to be as it was.
+// After a refusal the text has to be unchanged.
 fn told(
     texts: Heap,
     text: &str,

@@ -1,4 +1,4 @@
-//! Contents that keep the limits of arrays, as operations want them.
+//! Contents that keep the limits of arrays, as operations require.
 
 ghost use Rattle.std.specs.Prelude.{◌≡◌, ◌↔◌, IfOk, Some, true};
 ghost use Rattle.argus_contents.specs.Content.{KeepsBounds, KeepsLimits, plain_content};

@@ -1,4 +1,4 @@
-//! What queries answer, with memory and with none.
+//! What queries return, with memory and without.
 
 use crate::contents::array_limits::kept_of;
 use argus_contents::{ask, ask_small};

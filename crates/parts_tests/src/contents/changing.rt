@@ -1,4 +1,4 @@
-//! What changes answer and leave, in each of the ways in which they can be made.
+//! What changes return and leave, in each of the ways in which they can be made.
 
 ghost use Rattle.argus_contents.specs.Content.{KeepsLimits, plain_option};
 
@@ -12,7 +12,7 @@ use test_rows::{
     tell_word,
 };
 
-/// Whether the change may give a value.
+/// Whether the change may return a value.
 pub(crate) fn answer_gives_value(setting: Setting, text: &str) -> Result<String<Room>, RowFault> {
     let change = change_of(setting.texts, text)?;
     let mut out = String::new(setting.texts.room());
@@ -20,7 +20,7 @@ pub(crate) fn answer_gives_value(setting: Setting, text: &str) -> Result<String<
     Ok(out)
 }
 
-/// What the change in the row answers and leaves, made in the way of this word.
+/// What the change in the row returns and leaves, made in the way of this word.
 pub(crate) fn answer_change(
     setting: Setting,
     way: &str,
@@ -75,7 +75,7 @@ fn in_each_way(
     Ok(out)
 }
 
-// On a content that stays, and its answer alone.
+// On a content that stays, and only its answer.
 fn as_foreseen(
     setting: Setting,
     content: &Option<Content>,
@@ -91,7 +91,7 @@ fn as_foreseen(
     Ok(out)
 }
 
-// By reference, on a copy, where the change gives no value.
+// By reference, on a copy, if the change returns no value.
 fn is_so_by_reference(
     setting: Setting,
     content: &Option<Content>,
@@ -130,7 +130,7 @@ fn tell_other(out: &mut String<Room>) -> Result<(), OutOfMemory> {
     tell_word("and something else where it is made otherwise", out)
 }
 
-// The answer alone.
+// Only the answer.
 fn foreseen(
     setting: Setting,
     content: &Option<Content>,
@@ -166,7 +166,7 @@ fn altered_copy(
     Ok(told(setting.texts, &answer, &left)?)
 }
 
-// Where memory is refused all has to be as before.
+// If memory is refused everything has to be unchanged.
 fn altered_in_place(
     setting: Setting,
     mut content: Option<Content>,
@@ -184,7 +184,7 @@ fn altered_in_place(
     }
 }
 
-// Where memory is refused all has to be as before.
+// If memory is refused everything has to be unchanged.
 fn altered_by_reference(
     setting: Setting,
     mut content: Option<Content>,

@@ -38,7 +38,7 @@ fn copied_content(setting: Setting, text: &str) -> Result<String<Room>, RowFault
     sameness(copy == content, out)
 }
 
-// The second of two copies in one list: want of memory has to leave the first alone.
+// The second of two copies in one list: `OutOfMemory` has to leave the first alone.
 fn appended_copy(setting: Setting, text: &str) -> Result<String<Room>, RowFault> {
     let content = kept_of(setting.texts, text)?;
     let mut copies = Vec::new(setting.texts.room());

@@ -5,7 +5,7 @@ use argus_memory::{Heap, OutOfMemory, Room};
 use argus_texts::{read_content, read_shape, read_value};
 use test_rows::{RowFault, Setting, change_of, first_word, query_of};
 
-/// Whether a value is of a type, which is that of an array's items, where so many are declared.
+/// Whether a value is of a type, which is that of an array's items, with this many declared.
 pub(crate) fn answer_type(setting: Setting, text: &str) -> Result<String<Room>, RowFault> {
     let (shape, rest) = shape_in(setting.texts, text)?;
     let (declared, value) = first_word(rest);
@@ -17,7 +17,7 @@ pub(crate) fn answer_type(setting: Setting, text: &str) -> Result<String<Room>, 
     }
 }
 
-/// Whether a content fits a shape, where so many are declared.
+/// Whether a content fits a shape, with this many declared.
 pub(crate) fn answer_fit(setting: Setting, text: &str) -> Result<String<Room>, RowFault> {
     let (shape, rest) = shape_in(setting.texts, text)?;
     let (declared, content) = first_word(rest);
@@ -33,7 +33,7 @@ pub(crate) fn answer_query_fit(setting: Setting, text: &str) -> Result<String<Ro
     flag_text(setting, query_fits(&shape, &query))
 }
 
-/// Whether a change suits a shape, where so many are declared.
+/// Whether a change suits a shape, with this many declared.
 pub(crate) fn answer_change_fit(setting: Setting, text: &str) -> Result<String<Room>, RowFault> {
     let (shape, rest) = shape_in(setting.texts, text)?;
     let (declared, change) = first_word(rest);
@@ -51,7 +51,7 @@ fn shape_in<'a>(heap: Heap, text: &'a str) -> Result<(Shape, &'a str), RowFault>
     }
 }
 
-// What takes no memory is refused none.
+// A call that takes no memory is refused none.
 fn flag_text(setting: Setting, is_so: bool) -> Result<String<Room>, RowFault> {
     let word = if is_so { "true" } else { "false" };
     Ok(text_of(setting.texts, word)?)

@@ -8,7 +8,7 @@ use test_rows::{RowFault, tell_marked};
 // No row has a deeper type.
 const MOST: u32 = 100;
 
-/// Lists of names that stand in one another, the inmost last.
+/// Nested lists of names, the innermost last.
 ///
 /// ```text
 /// let mut lists = Lists::new(heap);
@@ -33,7 +33,7 @@ impl Lists {
     }
 
     /// A word: `(` begins a list within the list, and `struct:NAME` or `oneof:NAME` ends it as the
-    /// type of this name; `NAME:2` is an int within two sequences; `64` is so many names of ints.
+    /// type of this name; `NAME:2` is an int within two sequences; `64` is this many names of ints.
     pub(crate) fn add(&mut self, word: &str) -> Result<(), RowFault> {
         match word.split_once(':') {
             Some(("struct", name)) => {
@@ -54,7 +54,7 @@ impl Lists {
         }
     }
 
-    /// The list, where each one in it has ended.
+    /// The list, if each one in it has ended.
     pub(crate) fn finish(self) -> Result<Vec<(Name, Ty), Room>, RowFault> {
         if self.outer.is_empty() {
             Ok(self.inmost)
@@ -81,7 +81,7 @@ impl Lists {
         Ok(())
     }
 
-    // So many names that differ, as n0.
+    // This many names that differ, as n0.
     fn add_names(&mut self, count: u32) -> Result<(), RowFault> {
         for number in 0..count {
             let mut name = String::new(self.heap.room());
@@ -92,7 +92,7 @@ impl Lists {
     }
 }
 
-/// An int within so many sequences.
+/// An int within this many sequences.
 pub(crate) fn sequences(heap: Heap, count: &str) -> Result<Ty, RowFault> {
     let count = count.parse::<u32>()?;
     if count > MOST {

@@ -8,7 +8,7 @@ use argus_texts::{
 };
 use test_rows::{RowFault, Setting, tell_number, tell_word};
 
-/// `same` where a value is read and written again as it was, or the place of the fault.
+/// `same` if a value is read and written again as it was, or the place of the fault.
 pub(crate) fn answer_value(setting: Setting, text: &str) -> Result<String<Room>, RowFault> {
     setting.limit();
     match read_value(setting.heap, text) {
@@ -36,7 +36,7 @@ pub(crate) fn answer_content(setting: Setting, text: &str) -> Result<String<Room
     }
 }
 
-/// `same` where a shape is read, and it and its copy are written again as it was; or `none`.
+/// `same` if a shape is read, and it and its copy are written again as it was; or `none`.
 pub(crate) fn answer_shape(setting: Setting, text: &str) -> Result<String<Room>, RowFault> {
     setting.limit();
     match read_shape(setting.heap, text)? {

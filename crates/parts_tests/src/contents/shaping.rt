@@ -1,4 +1,4 @@
-//! What makes a shape, and which fault is answered.
+//! What makes a shape, and which fault is returned.
 
 use crate::contents::lists::{Lists, sequences};
 use argus_contents::{Name, Shape, ShapeFault, ShapeView, Ty};

@@ -15,7 +15,7 @@ pub(crate) fn entry_of(heap: Heap, text: &str) -> Result<Entry, RowFault> {
     }
 }
 
-/// The entry that is spelled behind its number.
+/// The entry that is spelled after its number.
 pub(crate) fn numbered_entry_of(heap: Heap, text: &str) -> Result<(u64, Entry), RowFault> {
     let (number, rest) = first_word(text);
     Ok((number.parse::<u64>()?, entry_of(heap, rest)?))

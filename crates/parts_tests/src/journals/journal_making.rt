@@ -6,8 +6,8 @@ use argus_journal::Journal;
 use argus_memory::{Heap, OutOfMemory, Room};
 use test_rows::{RowFault, Setting, tell_word};
 
-/// The lines of a journal of these entries. Room is made for one after another; where that is
-/// refused the journal has to be as it was.
+/// The lines of a journal of these entries. Room is made for one after another; if that is refused
+/// the journal has to be unchanged.
 pub(crate) fn answer_journal(setting: Setting, text: &str) -> Result<String<Room>, RowFault> {
     let mut journal = Journal::new(setting.heap);
     setting.limit();

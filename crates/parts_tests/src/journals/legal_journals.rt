@@ -11,7 +11,7 @@ use argus_entries::Entry;
 use argus_journal::{LegalJournal, Owner, owner_of};
 use argus_memory::OutOfMemory;
 
-/// Puts an entry at the end whose reply is the answer.
+/// Appends an entry whose reply is the answer.
 pub(crate) fn say(kept: &mut LegalJournal, entry: Entry) -> Result<(), OutOfMemory>
     requires { (plain_entry entry).reply
         ≡ answer (opening_in kept.old) (entries_in kept.old) (plain_entry entry).call }
@@ -24,7 +24,7 @@ pub(crate) fn say(kept: &mut LegalJournal, entry: Entry) -> Result<(), OutOfMemo
     Ok(())
 }
 
-/// Who answers for what the action did.
+/// The owner of what the action did.
 pub(crate) fn owner_in(kept: &LegalJournal, a: ActionId) -> Option<Owner>
     ensures { result ≡ owner_in (opening_in kept.now) (entries_in kept.now) a.0 }
 {

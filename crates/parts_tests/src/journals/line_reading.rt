@@ -5,8 +5,8 @@ use argus_memory::{Heap, OutOfMemory, Room};
 use argus_reading::{ReadEntryError, read_entry};
 use test_rows::{RowFault, Setting, tell_number, tell_word};
 
-/// `same` where a line is read and written again as it was; the place of the fault; or the place
-/// where a shape had to begin.
+/// `same` if a line is read and written again as it was; the place of the fault; or the place where
+/// a shape had to begin.
 pub(crate) fn answer_reading(setting: Setting, text: &str) -> Result<String<Room>, RowFault> {
     setting.limit();
     match read_entry(setting.heap, text) {

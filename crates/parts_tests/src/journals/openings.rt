@@ -1,4 +1,4 @@
-//! Journals that go on where another ended, and what they are asked.
+//! Journals that go on where another ended, and questions to them.
 
 use crate::journals::legal_journals::say;
 use crate::journals::questions::answer_question;
@@ -8,7 +8,7 @@ use argus_journal::LegalJournal;
 use argus_memory::{Heap, OutOfMemory, Room};
 use test_rows::{RowFault, Setting, account_with};
 
-/// What the journal of this word is asked.
+/// A question to the journal of this word.
 pub(crate) fn answer_opening(
     setting: Setting,
     word: &str,

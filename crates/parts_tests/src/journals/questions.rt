@@ -1,4 +1,4 @@
-//! What a legal journal is asked.
+//! Questions to a legal journal.
 
 use crate::journals::legal_journals::owner_in;
 use argus_contents::{Content, Shape};
@@ -11,7 +11,7 @@ use test_rows::{
     tell_word,
 };
 
-/// What the journal is asked: `owner a0`.
+/// A question to the journal: `owner a0`.
 pub(crate) fn answer_question(
     setting: Setting,
     journal: &LegalJournal,

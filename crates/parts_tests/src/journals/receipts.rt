@@ -8,8 +8,8 @@ use argus_memory::{Heap, Room};
 use argus_receipts::{Receipt, SettleFault, check};
 use test_rows::{RowFault, Setting, action, first_word, tell_number, tell_word};
 
-/// What is answered to so many calls of the seats and these receipts, as `3 8:a6 6:a4`: since the
-/// journal's first entry, or, behind `now`, since its last.
+/// The answer to this many calls of the seats and these receipts, such as `3 8:a6 6:a4`: since the
+/// journal's first entry, or, after `now`, since its last.
 pub(crate) fn answer_receipts(setting: Setting, text: &str) -> Result<String<Room>, RowFault> {
     let (word, rest) = first_word(text);
     let journal = three_begun(setting.texts)?;

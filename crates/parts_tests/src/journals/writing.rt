@@ -6,11 +6,11 @@ use argus_entries::write_entry;
 use argus_memory::{Heap, OutOfMemory, Room};
 use test_rows::{RowFault, Setting};
 
-// Stands in a text before the line is added.
+// Is in a text before the line is added.
 const BEFORE: &str = "before ";
 
-/// The line of an entry with its number, added to a text, or `other` where it isn't read back as
-/// that. After a refusal the text has to be as it was.
+/// The line of an entry with its number, added to a text, or `other` if it isn't read back as that.
+/// After a refusal the text has to be unchanged.
 pub(crate) fn answer_line(setting: Setting, text: &str) -> Result<String<Room>, RowFault> {
     let (at, entry) = numbered_entry_of(setting.texts, text)?;
     let mut out = String::from_str(setting.heap.room(), BEFORE)?;

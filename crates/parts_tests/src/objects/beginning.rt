@@ -3,7 +3,7 @@
 use argus_actions::{ActionError, ActionId, ActionTree};
 use test_rows::{RowFault, action};
 
-/// Begins an action as the word says, under the one that comes behind it.
+/// Begins an action as the word says, under the one that comes after it.
 pub(crate) fn begun(
     tree: &mut ActionTree,
     word: &str,
@@ -17,7 +17,7 @@ pub(crate) fn begun(
     }
 }
 
-/// The same of an action that nothing refuses, in room that is made first.
+/// The same for an action that nothing refuses, in room that is made first.
 pub(crate) fn begun_reserved(
     tree: &mut ActionTree,
     word: &str,

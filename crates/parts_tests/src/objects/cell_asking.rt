@@ -6,7 +6,7 @@ use argus_memory::Room;
 use argus_objects::Cell;
 use test_rows::{RowFault, action, tell_content, tell_flag};
 
-/// Adds what the question that begins with this word is answered.
+/// Adds the answer to the question that begins with this word.
 pub(crate) fn answer_question(
     cell: &Cell,
     tree: &ActionTree,
@@ -31,7 +31,7 @@ pub(crate) fn answer_question(
     Ok(())
 }
 
-// Asked of a lawful cell.
+// The cell has to be lawful.
 fn tell_readable(
     cell: &Cell,
     tree: &ActionTree,
@@ -45,7 +45,7 @@ fn tell_readable(
     Ok(())
 }
 
-// Asked of a lawful cell, too.
+// The cell has to be lawful here, too.
 fn tell_writable(
     cell: &Cell,
     tree: &ActionTree,
@@ -59,7 +59,7 @@ fn tell_writable(
     Ok(())
 }
 
-// Asked of an action that may read.
+// The action has to be one that may read.
 fn tell_held(
     cell: &Cell,
     tree: &ActionTree,

@@ -21,7 +21,7 @@ pub(crate) fn ended(
     }
 }
 
-/// The same where nothing refuses it, with no further test.
+/// The same if nothing refuses it, without another test.
 pub(crate) fn ended_ready(tree: &mut ActionTree, word: &str, a: ActionId) -> Result<(), RowFault> {
     match word {
         "commit_ready" => commit_ready(tree, a),

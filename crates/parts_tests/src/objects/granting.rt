@@ -10,8 +10,8 @@ use test_rows::{
     RowFault, Setting, action, change_of, first_word, tell_answer, tell_done_or, tell_word,
 };
 
-/// Makes room, or grants a lock, as the row says. After a refused allocation the cell has to be as
-/// before.
+/// Makes room, or grants a lock, as the row says. After a refused allocation the cell has to be
+/// unchanged.
 pub(crate) fn answer_grant(
     cell: &mut Cell,
     tree: &ActionTree,
@@ -139,7 +139,7 @@ fn grant_change(
     }
 }
 
-// Of a record, too, and a change that gives no value.
+// Of a record, too, and a change that returns no value.
 fn grant_change_by_reference(
     cell: &mut Cell,
     tree: &ActionTree,

@@ -10,7 +10,7 @@ use argus_memory::Room;
 use argus_objects::Holdings;
 use test_rows::{RowFault, Setting, action, first_word, pair, tell_number, tell_word};
 
-/// Tells or changes lists as the row says. After a refused allocation they have to be as before.
+/// Prints or changes lists as the row says. After a refused allocation they have to be unchanged.
 pub(crate) fn answer_list(
     lists: &mut Holdings,
     setting: Setting,
@@ -116,7 +116,7 @@ fn hand_up(
     Ok(())
 }
 
-// Makes room for a pass, and passes the list on where the word says so, which takes no memory.
+// Makes room for a pass, and passes the list on if the word says so, which takes no memory.
 fn pass(
     lists: &mut Holdings,
     setting: Setting,

@@ -1,4 +1,4 @@
-//! How a cell is told that an action ends.
+//! How a cell learns that an action ends.
 
 use argus_actions::{ActionId, ActionTree};
 use argus_memory::Room;

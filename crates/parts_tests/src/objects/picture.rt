@@ -6,7 +6,7 @@ use argus_memory::{Heap, OutOfMemory, Room};
 use argus_objects::{Cell, Holdings, Version};
 use test_rows::{tell_action, tell_content, tell_object, tell_word};
 
-/// All that the cell tells.
+/// All that the cell says.
 pub(crate) fn cell_picture(cell: &Cell, texts: Heap) -> Result<String<Room>, OutOfMemory> {
     let mut out = String::new(texts.room());
     tell_content(cell.base(), &mut out)?;

@@ -1,4 +1,4 @@
-//! `TestedObjects`: a tree, a cell and lists of locks, which rows are told to.
+//! `TestedObjects`: a tree, a cell and lists of locks, which answer rows.
 
 use crate::objects::cell_asking::answer_question;
 use crate::objects::granting::answer_grant;
@@ -10,7 +10,7 @@ use argus_objects::{Cell, Holdings};
 use argus_texts::read_content;
 use test_rows::{RowFault, Setting, Subject, action, first_word, tell_action, tell_word};
 
-/// A tree, a cell and lists of locks, which rows are told to.
+/// A tree, a cell and lists of locks, which answer rows.
 ///
 /// ```text
 /// let mut parts = TestedObjects::new(setting);
@@ -69,7 +69,7 @@ impl Subject for TestedObjects {
 }
 
 impl TestedObjects {
-    // A topaction, or a subaction of the one that comes behind the word.
+    // A topaction, or a subaction of the one that comes after the word.
     fn begin(&mut self, word: &str, rest: &str) -> Result<ActionId, RowFault> {
         let begun = if word == "begin_top" {
             self.tree.begin_top()

@@ -5,7 +5,7 @@ use argus_actions::{ActionId, ActionRefusal, ActionTree};
 use argus_memory::Room;
 use test_rows::{RowFault, action, first_word, tell_flag, tell_number, tell_word};
 
-/// Adds what the question that begins with this word is answered.
+/// Adds the answer to the question that begins with this word.
 pub(crate) fn answer_question(
     tree: &ActionTree,
     word: &str,

@@ -4,7 +4,7 @@ use argus_actions::{ActionId, ActionTree, Status};
 use argus_memory::Room;
 use test_rows::{RowFault, action, first_word, tell_word};
 
-/// Calls the law of this name, of the actions that come behind it.
+/// Calls the law of this name, of the actions that come after it.
 pub(crate) fn call_law(
     tree: &ActionTree,
     text: &str,

@@ -1,10 +1,10 @@
-//! What a tree answers, as text.
+//! What a tree returns, as text.
 
 use argus_actions::{ActionError, ActionId, ActionRefusal, Status};
 use argus_memory::{OutOfMemory, Room};
 use test_rows::{RowFault, tell_action, tell_word};
 
-/// Adds `refused Over`; want of memory is told by the tester.
+/// Adds `refused Over`; the tester reports `OutOfMemory`.
 pub(crate) fn tell_error(error: ActionError, out: &mut String<Room>) -> Result<(), RowFault> {
     tell_word("refused", out)?;
     tell_name(error, out)
@@ -47,7 +47,7 @@ fn refusal_name(refusal: ActionRefusal) -> &'static str {
     }
 }
 
-/// What has become of an action.
+/// What became of an action.
 pub(crate) fn status_name(status: Option<Status>) -> &'static str {
     match status {
         None => "unbegun",

@@ -1,4 +1,4 @@
-//! `Trees`: a tree of actions that rows are told to.
+//! `Trees`: a tree of actions that answers rows.
 
 use crate::objects::beginning::{begun, begun_reserved};
 use crate::objects::ending::{ended, ended_ready};
@@ -10,7 +10,7 @@ use argus_contents::limits::MAX_ACTIONS;
 use argus_memory::{OutOfMemory, Room};
 use test_rows::{RowFault, Setting, Subject, action, first_word, tell_action, tell_word};
 
-/// A tree of actions that rows are told to.
+/// A tree of actions that answers rows.
 ///
 /// ```text
 /// let mut trees = Trees::new(setting);
@@ -57,7 +57,7 @@ impl Subject for Trees {
 }
 
 impl Trees {
-    // Begins anew, with so many actions folded.
+    // Starts over, with this many actions folded.
     fn start(
         &mut self,
         setting: Setting,
@@ -117,7 +117,7 @@ impl Trees {
         (self.tree.len(), self.tree.has_live_child(ActionId(0)))
     }
 
-    // After a refusal all has to be as before.
+    // After a refusal everything has to be unchanged.
     fn compare(&self, before: (u32, bool)) -> Result<(), RowFault> {
         if self.picture() == before {
             Ok(())

@@ -1,4 +1,3 @@
-use Rattle.std.proofs.Common.{◌≡◌}
 use Rattle.argus_embed.proofs.KeptObjects.{declared_without_base, object_copied, undeclared}
 use Rattle.argus_embed.proofs.renewing.kept_object.Goals as goal
 

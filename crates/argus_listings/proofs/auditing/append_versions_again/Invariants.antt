@@ -1,6 +1,5 @@
 -- What is left completes the text.
-use Rattle.std.proofs.Common.{List, drop, map, string_bytes, ℕ, ◌++◌, ◌≡◌}
-use Rattle.argus_contents.specs.Content.{PlainContent}
+use Rattle.std.proofs.Common.{drop, map, string_bytes, ◌++◌, ◌≡◌}
 use Rattle.argus_journal.specs.Journal.{entries_of, opening_of}
 use Rattle.argus_journal.specs.JournalFacts.{visible_to}
 use Rattle.argus_objects.specs.declared.version.Version.{Version}

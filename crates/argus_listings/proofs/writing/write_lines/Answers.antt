@@ -1,5 +1,5 @@
 -- The parts of a listing, one after the other.
-use Rattle.std.proofs.Common.{List, OnErr, OnOk, ap, subst, string_bytes, sym, ℕ, ◌++◌, ◌∙◌, ◌≡◌}
+use Rattle.std.proofs.Common.{List, ap, subst, string_bytes, sym, ℕ, ◌++◌, ◌∙◌, ◌≡◌}
 use Rattle.std.proofs.lemmas.Result.{on_err_weaker, on_ok_weaker}
 use Rattle.argus_entries.specs.Entry.{PlainEntry}
 use Rattle.argus_journal.specs.Journal.{entries_of, opening_of}

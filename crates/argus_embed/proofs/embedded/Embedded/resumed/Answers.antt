@@ -1,4 +1,4 @@
-use Rattle.std.proofs.Common.{ap, sym, ◌∙◌, ◌≡◌}
+use Rattle.std.proofs.Common.{ap, ◌≡◌}
 use Rattle.argus_embed.specs.Embedded.{EmbeddedState}
 use Rattle.argus_embed.proofs.Dropped.{dropped_is}
 use Rattle.argus_embed.proofs.embedded.Embedded.resumed.Goals as goal
