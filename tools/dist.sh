@@ -5,15 +5,18 @@
 #
 #   [ARGUS_ARCHIVE=FOLDER] tools/dist.sh [DIST]
 #
-#   DIST/lib/libargus.a             the archive, with the kit's part that maps its allocator to malloc
+#   DIST/lib/libargus.a             the archive, with the kit's part that maps its allocator to malloc, and with
+#                                   crates/argus_c/c/argus.c, which isn't proved
 #   DIST/lib/libargus.so.0          the same as a shared object, which exports argus_* alone
 #   DIST/lib/libargus.so            a link to that
 #   DIST/lib/pkgconfig/argus.pc     what pkg-config says of them, wherever DIST is moved
 #   DIST/include/argus.h            the header
+#   DIST/include/argus_values.h     that for values, which includes it
 #   DIST/share/doc/argus/LICENSE    the license
 #
 # FOLDER is that of libargus_c.a, else where `rt lib` in crates/argus_c leaves it. DIST is the folder dist
 # at the repository's top where nothing is said; make -C hosts/c install PREFIX=.. installs what is in it.
+# It needs a compiler for C (Debian: gcc).
 # tools/archive.sh calls this once it has built the archive. The line that is printed says in which logic the
 # archive says it was proved: `rattle build` writes that into a section of the object, .comment.
 set -euo pipefail
@@ -23,7 +26,8 @@ name=dist
 most=
 . "$top/tools/program.sh"
 archive=${ARGUS_ARCHIVE:-$top/crates/argus_c/out}/libargus_c.a
-header=$top/crates/argus_c/include/argus.h
+headers=$top/crates/argus_c/include
+header=$headers/argus.h
 dist=${1:-$top/dist}
 kit=${RATTLE_KIT:-$(dirname "$("$(find_kit)" doc)")}
 version=$(sed -n 's/^#define ARGUS_VERSION "\(.*\)"$/\1/p' "$header")
@@ -31,9 +35,15 @@ object=libargus.so.${version%%.*}
 room=$(mktemp -d)
 trap 'rm -r "$room"' EXIT
 
-# One archive: the objects of both, as they are.
+# The functions of the headers that aren't in the archive: they are inline in C, and real ones for other languages.
+compile_functions() {
+    cc -std=c99 -D_POSIX_C_SOURCE=200809L -O2 -fPIC -Wall -Wextra -Wpedantic -Werror -I "$headers" \
+        -c -o "$room/argus.o" "$top/crates/argus_c/c/argus.c"
+}
+
+# One archive: the objects of both, as they are, and what was compiled.
 merge() {
-    "$kit/toolchain/bin/llvm-ar" qcLDs "$room/libargus.a" "$archive" "$kit/c/liblibc_c.a"
+    "$kit/toolchain/bin/llvm-ar" qcLDs "$room/libargus.a" "$archive" "$kit/c/liblibc_c.a" "$room/argus.o"
 }
 
 # The shared object. Code that isn't position-independent is refused by the linker, whose words are shown.
@@ -81,21 +91,20 @@ if [ ! -f "$archive" ]; then
     say "no archive $archive: tools/archive.sh builds it after .ci/run, or rt lib in crates/argus_c"
     exit 1
 fi
-merge
-if cc --version > /dev/null 2>&1; then
-    link_object
-else
-    say "$object LEFT OUT: no cc"
+if ! cc --version > /dev/null 2>&1; then
+    say "no cc, which compiles the functions of argus.h for other languages"
+    exit 1
 fi
+compile_functions
+merge
+link_object
 describe > "$room/argus.pc"
 mkdir -p "$dist/lib/pkgconfig" "$dist/include" "$dist/share/doc/argus"
 rm -f "$dist"/lib/libargus.*
 install -m 644 "$room/libargus.a" "$dist/lib/"
-if [ -f "$room/$object" ]; then
-    install -m 755 "$room/$object" "$dist/lib/"
-    ln -s "$object" "$dist/lib/libargus.so"
-fi
+install -m 755 "$room/$object" "$dist/lib/"
+ln -s "$object" "$dist/lib/libargus.so"
 install -m 644 "$room/argus.pc" "$dist/lib/pkgconfig/"
-install -m 644 "$header" "$dist/include/"
+install -m 644 "$header" "$headers/argus_values.h" "$dist/include/"
 install -m 644 "$top/LICENSE" "$dist/share/doc/argus/"
 echo "dist: $(cd "$dist" && pwd) has argus $version, $(origin)"

@@ -1,5 +1,5 @@
-/* A host of a guardian in C: host [bank [ORDERS] | each | statuses | stress [CALLS] | flat [TURNS] |
- * listed [TURNS] | test]. */
+/* A host of a guardian in C: host [bank [ORDERS] | each | statuses | values | stress [CALLS] | flat [TURNS] |
+ * listed [TURNS] | careless | test]. */
 #include "modes.h"
 
 #include <errno.h>
@@ -8,7 +8,8 @@
 #include <string.h>
 
 static int usage(void) {
-    fprintf(stderr, "host [bank [ORDERS] | each | statuses | stress [CALLS] | flat [TURNS] | listed [TURNS] | test]\n");
+    fprintf(stderr, "host [bank [ORDERS] | each | statuses | values | stress [CALLS] | flat [TURNS] | listed [TURNS] | "
+                    "careless | test]\n");
     return 2;
 }
 
@@ -28,6 +29,8 @@ int main(int count, char **words) {
     if (strcmp(mode, "listed") == 0) return flat(count == 3 ? (uint32_t)number : 90000, 1);
     if (strcmp(mode, "each") == 0 && count <= 2) return each();
     if (strcmp(mode, "statuses") == 0 && count == 2) return statuses();
+    if (strcmp(mode, "values") == 0 && count == 2) return values();
+    if (strcmp(mode, "careless") == 0 && count == 2) return careless();
     if (strcmp(mode, "test") == 0 && count == 2) return tests();
     return usage();
 }

@@ -20,6 +20,13 @@ int each(void);
 /* Each status of the header, returned once. */
 int statuses(void);
 
+/* Values and contents, written and read by argus_values.h, each looked at. */
+int values(void);
+
+/* Two threads in one guardian without a mutex, one after the other: a program's mistake, which ThreadSanitizer reports.
+ * 0 where it doesn't. */
+int careless(void);
+
 /* Tests of the store and of the header; 0 where all pass. */
 int tests(void);
 

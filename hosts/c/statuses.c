@@ -219,6 +219,11 @@ static void commit_in_two_steps(void) {
     want_line(&ready, "2 commit a0 -> refused Over\n");
     want_answer(argus_make_ready(&ready, &bank), ARGUS_REFUSED, ARGUS_OVER, "its refusal");
     want_answer(argus_entries(&bank), ARGUS_NUMBER, 3, "which is an entry");
+    want_answer(argus_begin_top(&bank), ARGUS_ACTION, 1, "another action");
+    want_answer(argus_ready_commit(&bank, &ready, 1), ARGUS_DONE, 0, "its commit is ready");
+    want_line(&ready, "4 commit a1 -> done\n");
+    want_answer(argus_cancel_ready(&ready, &bank), ARGUS_DONE, 0, "its commit is cancelled");
+    want_answer(argus_status_of(&bank, 1), ARGUS_NUMBER, ARGUS_LIVE, "it is live");
     want(argus_close(&bank).status == ARGUS_DONE && argus_close(&other).status == ARGUS_DONE, "both are closed");
 }
 

@@ -1,9 +1,10 @@
-/* A guardian of atomic objects under nested transactions, for programs in C and in whatever calls C.
+/* A guardian of atomic objects under nested transactions, for programs in C and in any language that calls C.
  *
- * The functions argus_c_* are exported by libargus.a and libargus.so, which are made of the proved archive; that the
+ * The functions argus_c_* are those of the proved archive, from which libargus.a and libargus.so are made. That the
  * declarations below are those of its source isn't proved: hosts/declarations.py compares the texts. They take no null
- * pointer. The inline functions after them are what a C program calls: they answer ARGUS_NULL to a null pointer, and
- * give each answer as a status and a number.
+ * pointer. The functions after them are what a program calls: they return ARGUS_NULL for a null pointer, and each
+ * answer as a status and a number. In C they are inline; both libraries also export them, for bindings of other
+ * languages.
  *
  *     // An account of so much, or 0: and why.
  *     int open_account(argus_guardian *bank, const char *content) {
@@ -23,19 +24,22 @@
  *     open_account(&bank, "{5}");
  *     argus_close(&bank);
  *
- * Test each status before you use its number: that of a refused begin is the refusal's, and would read as the action
- * of somebody else.
+ * Test each status before you use its number: that of a refused begin is the refusal's, and would be read as
+ * another action's.
  *
- * Threads: a guardian is given to one call at a time. Threads that share one hold a mutex of their own around each
+ * Threads: only one call at a time may have a guardian. Threads that share one hold a mutex of their own around each
  * call and the reply that belongs to it. A guardian may be opened on one thread, used on others, and closed on another.
  *
- * Processes: a forked process has a copy of each guardian, of which from then on each goes its own way; so let one
- * process alone use it. No thread is in a call while another one forks, unless the child only calls exec. Nothing is
- * saved when a process ends; a guardian that wasn't closed ends with it.
+ * Processes: a forked process has a copy of each guardian, and the copies go their own ways; so let only one process
+ * use it. No thread may be in a call while another one forks, unless the child only calls exec. Nothing is saved when a
+ * process ends; a guardian that wasn't closed ends with it.
  *
  * Memory: all of it comes from malloc. What a guardian takes grows with its journal until a checkpoint. argus_close
- * gives all of it back but for one word of 8 bytes, which each argus_open leaves for good; argus_open_beside leaves
- * none. Where malloc answers NULL the status is ARGUS_NO_MEMORY, and the guardian is as before.
+ * frees all of it. The first argus_open of a process allocates some 600 bytes more, which all guardians share. They are
+ * never freed but stay reachable, so a leak checker reports nothing. If malloc returns NULL the status is
+ * ARGUS_NO_MEMORY, and the guardian is unchanged.
+ *
+ * Values are written and read by the functions of argus_values.h, which includes this file.
  *
  * Texts are UTF-8, without spaces, and each thing has one written form:
  *
@@ -44,14 +48,14 @@
  *               declared), sequence, struct (its fields in order) and oneof (tag 1, counted from 0, with its value)
  *     content   {5,"a"} of a record, 1[10,20] of an array (its low bound before its items), <0:5> of a variant
  *     shape     atomic_record[balance:int,owner:text]  atomic_array[int]  atomic_variant[no:null,yes:int]
- *               with types as null bool int text atomic sequence[int] struct[a:int,b:text] oneof[no:null,yes:int]
+ *               with types such as null bool int text atomic sequence[int] struct[a:int,b:text] oneof[no:null,yes:int]
  *
  * In a text a quote, a backslash and a line feed are written \" \\ and \n, all other characters as they are. An
  * integer has no +, no -0 and no leading zero.
  *
  * Limits: a value and a type have a depth of at most 16 (a scalar has 1); a list of names 1 to 64, all distinct, of 1
  * to 32 bytes a-z, 0-9 and _ each; an array at most 65,535 items, at indexes from -2^31 to 2^31 - 1; an action at most
- * 64 ancestors, itself counted. A guardian declares 65,535 objects, and begins 1,000,000 actions until it is renewed.
+ * 64 ancestors, itself included. A guardian declares 65,535 objects, and begins 1,000,000 actions until it is renewed.
  */
 #ifndef ARGUS_H
 #define ARGUS_H
@@ -64,27 +68,33 @@
 extern "C" {
 #endif
 
+/* How the functions that aren't part of the proved archive are compiled: inline. The file argus.c, which goes into both
+ * libraries, compiles them again, as functions that other languages can call. */
+#ifndef ARGUS_API
+#define ARGUS_API static inline
+#endif
+
 /* The version of this header. */
 #define ARGUS_VERSION_MAJOR 0
 #define ARGUS_VERSION_MINOR 1
 #define ARGUS_VERSION_PATCH 0
 #define ARGUS_VERSION "0.1.0"
-/* The same in one number, which argus_version() of the library that belongs to this header gives. */
+/* The same in one number, which argus_version() of this header's library returns. */
 #define ARGUS_VERSION_NUMBER 100
 
-/* A guardian, or none. It lies in the program's memory and begins as ARGUS_CLOSED (all bytes zero will do).
+/* A guardian, or none. It is in the program's memory and begins as ARGUS_CLOSED (all bytes zero will do).
  * Both fields are the library's: a program writes neither. One that is open is moved, never copied: of two copies
  * that are both used or closed, the second is a use of freed memory. */
 typedef struct argus_guardian {
-    uint32_t mark; /* 1 where a guardian is open; any other number: closed */
-    void *at;      /* what the library keeps, where it is open */
+    uint32_t mark; /* 1 if a guardian is open; any other number: closed */
+    void *at;      /* what the library keeps, if it is open */
 } argus_guardian;
 
 /* A guardian whose commit is ready (argus_ready_commit), or none. It begins as ARGUS_NOTHING_READY (all bytes zero will
  * do), both fields are the library's, and it is moved, never copied, as argus_guardian. */
 typedef struct argus_ready {
-    uint32_t mark; /* 1 where a commit is ready; any other number: none */
-    void *at;      /* what the library keeps, where one is */
+    uint32_t mark; /* 1 if a commit is ready; any other number: none */
+    void *at;      /* what the library keeps, if one is */
 } argus_ready;
 
 #ifdef __cplusplus
@@ -95,57 +105,57 @@ typedef struct argus_ready {
 #define ARGUS_NOTHING_READY {0, NULL}
 #endif
 
-/* What came of a call. From ARGUS_DONE to ARGUS_REFUSED the call was made: a journalled call is one entry longer in the
- * journal. From ARGUS_NO_MEMORY on nothing was made, and the guardian is as before; of a list that is so of the call
- * that failed, and of a listing (argus_resume) of the line that wasn't taken. */
+/* What came of a call. From ARGUS_DONE to ARGUS_REFUSED the call was made: a journalled call is one more entry of the
+ * journal. From ARGUS_NO_MEMORY on nothing was made, and the guardian is unchanged; in a list that holds of the call
+ * that failed, and in a listing (argus_resume) of the line that wasn't taken. */
 typedef enum argus_status {
-    ARGUS_DONE = 0,        /* made; there is no more to say. The number is 0 */
+    ARGUS_DONE = 0,        /* made; there is nothing more to say. The number is 0 */
     ARGUS_OBJECT = 1,      /* an object was declared; the number is its own, from 0 */
     ARGUS_ACTION = 2,      /* an action was begun; the number is its own, from 0 */
     ARGUS_NUMBER = 3,      /* an integer, which is the number: a bound, a size, a count, or a value of type int */
     ARGUS_FLAG = 4,        /* the number is 1 for true, 0 for false: of a test, or a value of type bool */
-    ARGUS_VALUE = 5,       /* a value of another type; argus_reply gives its written form */
-    ARGUS_CONTENT = 6,     /* a content; argus_reply gives its written form */
-    ARGUS_TEXT = 7,        /* a text, of argus_tell; argus_reply gives it */
+    ARGUS_VALUE = 5,       /* a value of another type; argus_reply returns its written form */
+    ARGUS_CONTENT = 6,     /* a content; argus_reply returns its written form */
+    ARGUS_TEXT = 7,        /* a text, of argus_tell; argus_reply returns it */
     ARGUS_SIGNAL = 8,      /* the operation signalled: its lock was granted, the content is unchanged. The number says
                               which signal, as argus_signal has them */
     ARGUS_REFUSED = 9,     /* the call was refused and took no lock; it is in the journal. The number says which
                               refusal, as argus_refusal has them */
-    ARGUS_NO_MEMORY = 10,  /* memory was wanting */
+    ARGUS_NO_MEMORY = 10,  /* there was no memory */
     ARGUS_NOT_OPEN = 11,   /* the handle has no guardian: never opened, or closed */
-    ARGUS_NOT_UTF8 = 12,   /* the text isn't UTF-8; of a listing the line isn't, and the number is the length in bytes
-                              of its longest front that is */
-    ARGUS_BAD_TEXT = 13,   /* the text is no written form of a value (or of a content, for ARGUS_CREATE). The number is
-                              the length in bytes of its longest front that some written form begins with */
-    ARGUS_BAD_SHAPE = 14,  /* the text is no written form of a shape that can be made */
+    ARGUS_NOT_UTF8 = 12,   /* the text isn't UTF-8; for a listing the line isn't, and the number is the length in bytes
+                              of its longest prefix that is */
+    ARGUS_BAD_TEXT = 13,   /* the text isn't a written form of a value (or of a content, for ARGUS_CREATE). The number
+                              is the length in bytes of its longest prefix that some written form begins with */
+    ARGUS_BAD_SHAPE = 14,  /* the text isn't the written form of a shape that can be made */
     ARGUS_BAD_NUMBER = 15, /* a field's or tag's number isn't within 0 to 255 */
     ARGUS_BAD_KIND = 16,   /* no call, query, change or question has this number */
     ARGUS_TOO_SMALL = 17,  /* the room is too small for the reply, or for the journal's first line, and unchanged. The
                               number is the size of that in bytes: ask again with more room. The reply stays */
     ARGUS_NOT_THERE = 18,  /* the object isn't declared; no entry has this number (or only one before the last
-                              checkpoint had); the action isn't begun; none is live; there is no reply with a text */
+                              checkpoint had); the action wasn't begun; none is live; there is no reply with a text */
     ARGUS_BUSY = 19,       /* a checkpoint, or a renewal, while an action is live */
     ARGUS_FULL = 20,       /* a checkpoint, or a renewal, whose next entry's number would be above 2^63 - 1 */
-    ARGUS_NULL = 21,       /* a pointer was null. Only the inline functions answer it */
-    ARGUS_UNMET = 22,      /* of a list alone: the outcome of the last call that was made isn't as demanded */
+    ARGUS_NULL = 21,       /* a pointer was null. Only the inline functions return it */
+    ARGUS_UNMET = 22,      /* of a list only: the outcome of the last call that was made isn't as demanded */
     ARGUS_NOT_BEGUN = 23,  /* of a call of a list: begun_by names no earlier call, or one that began no action */
     ARGUS_BAD_DEMAND = 24, /* of a call of a list: no demand has this number */
     /* why a line of a listing isn't the next one of the journal whose lines were taken: the first that applies */
-    ARGUS_NOT_AN_OPENING = 25, /* it begins as one of an opening, and can't be its next one */
-    ARGUS_NO_LINE = 26,        /* it is the line of no entry. The number is the length in bytes of its longest front
-                                  that begins one, or of what stands before a shape that can't be made */
+    ARGUS_NOT_AN_OPENING = 25, /* it begins like one of an opening, and can't be its next one */
+    ARGUS_NO_LINE = 26,        /* it isn't the line of an entry. The number is the length in bytes of its longest prefix
+                                  that begins one, or of what comes before a shape that can't be made */
     ARGUS_NOT_NEXT = 27,       /* it is the line of an entry, and another one comes next: the number is that one's */
     ARGUS_NOT_SOUND = 28,      /* it is the next entry's line, and the opening refers to objects that aren't there */
-    ARGUS_NOT_THE_REPLY = 29,  /* it is the next entry's line, and the journal gives its call another reply:
-                                  argus_reply gives that one, as it stands behind the arrow of an entry's line */
-    ARGUS_OCCUPIED = 30    /* the handle that a guardian is to go to has one already. Both handles are as before */
+    ARGUS_NOT_THE_REPLY = 29,  /* it is the next entry's line, but another reply to its call follows from the journal:
+                                  argus_reply returns that one, as it is after the arrow of an entry's line */
+    ARGUS_OCCUPIED = 30    /* the handle that a guardian should go to has one already. Both handles are unchanged */
 } argus_status;
 
 /* The signals of operations. An operation of another kind than the content signals ARGUS_ABSENT; the guardian refuses
  * it before as ARGUS_ILL_TYPED. */
 typedef enum argus_signal {
     ARGUS_ABSENT = 1,        /* there is no content yet */
-    ARGUS_EXISTS = 2,        /* ARGUS_CREATE where there is a content */
+    ARGUS_EXISTS = 2,        /* ARGUS_CREATE of an object that has a content */
     ARGUS_BOUNDS = 3,        /* an index outside the array, or an end of an empty one */
     ARGUS_WRONG_TAG = 4,     /* the variant has another tag */
     ARGUS_NEGATIVE_SIZE = 5, /* ARGUS_TRIM to a negative number of items */
@@ -154,30 +164,30 @@ typedef enum argus_signal {
 
 /* Why a call was refused: the first of these that applies. */
 typedef enum argus_refusal {
-    ARGUS_NO_ACTION = 1,  /* the action isn't begun */
+    ARGUS_NO_ACTION = 1,  /* the action wasn't begun */
     ARGUS_OVER = 2,       /* the action has committed or was aborted */
     ARGUS_SUSPENDED = 3,  /* the action has a live child */
     ARGUS_NO_OBJECT = 4,  /* the object isn't declared */
     ARGUS_ILL_TYPED = 5,  /* the operation, or its value, doesn't suit the object's shape */
     ARGUS_CONFLICT = 6,   /* another action holds the object: wait for its end, or abort */
-    ARGUS_TOO_DEEP = 7,   /* the parent has 64 ancestors, itself counted */
+    ARGUS_TOO_DEEP = 7,   /* the parent has 64 ancestors, itself included */
     ARGUS_TOO_MANY = 8,   /* 1,000,000 actions were begun, or 65,535 objects declared; a checkpoint frees none, and a
                              renewal (argus_renew) the numbers of actions */
     ARGUS_NO_SIBLINGS = 9 /* ARGUS_ABORT_OTHERS of an action with neither parent nor creator */
 } argus_refusal;
 
-/* The journalled calls, with what each takes beside the guardian and what it answers where it isn't refused. What a
+/* The journalled calls, with what each takes besides the guardian and what it returns if it isn't refused. What a
  * call doesn't take is ignored. A field or a tag is a number from 0, in the order of the shape's names. */
 typedef enum argus_kind {
-    ARGUS_DECLARE = 0,      /* text: a shape, as atomic_record[balance:int]. ARGUS_OBJECT */
+    ARGUS_DECLARE = 0,      /* text: a shape, such as atomic_record[balance:int]. ARGUS_OBJECT */
     ARGUS_BEGIN_TOP = 1,    /* nothing. ARGUS_ACTION */
     ARGUS_BEGIN_SUB = 2,    /* action: the parent. ARGUS_ACTION */
     ARGUS_BEGIN_NESTED = 3, /* action: the creator of a nested topaction. ARGUS_ACTION */
     ARGUS_COMMIT = 4,       /* action. ARGUS_DONE */
     ARGUS_ABORT = 5,        /* action. ARGUS_DONE */
     ARGUS_ABORT_OTHERS = 6, /* action: its live siblings are aborted. ARGUS_DONE */
-    ARGUS_TEST_READ = 7,    /* action, object: the read lock where it may be had. ARGUS_FLAG */
-    ARGUS_TEST_WRITE = 8,   /* action, object: the write lock where it may be had. ARGUS_FLAG */
+    ARGUS_TEST_READ = 7,    /* action, object: the read lock if it is free. ARGUS_FLAG */
+    ARGUS_TEST_WRITE = 8,   /* action, object: the write lock if it is free. ARGUS_FLAG */
     /* queries: action, object and what the line says; each needs a read lock */
     ARGUS_WHOLE = 9,       /* the content. ARGUS_CONTENT */
     ARGUS_FIELD = 10,      /* first: a field of a record. ARGUS_VALUE */
@@ -190,24 +200,24 @@ typedef enum argus_kind {
     ARGUS_IS_TAG = 17,     /* first: a tag of a variant. ARGUS_FLAG */
     ARGUS_TAG_VALUE = 18,  /* first: a tag of a variant. ARGUS_VALUE */
     /* changes: action, object and what the line says; each needs a write lock */
-    ARGUS_CREATE = 19,     /* text: a content, as {5}, 1[10,20] or <0:"a">. ARGUS_DONE */
+    ARGUS_CREATE = 19,     /* text: a content, such as {5}, 1[10,20] or <0:"a">. ARGUS_DONE */
     ARGUS_SET_FIELD = 20,  /* first: a field; text: its value. ARGUS_DONE */
     ARGUS_STORE = 21,      /* first: an index; text: the item's value. ARGUS_DONE */
     ARGUS_ADDH = 22,       /* text: the value of an item that becomes the last. ARGUS_DONE */
     ARGUS_ADDL = 23,       /* text: the value of an item that becomes the first. ARGUS_DONE */
-    ARGUS_REMH = 24,       /* the last item leaves. ARGUS_VALUE */
-    ARGUS_REML = 25,       /* the first item leaves. ARGUS_VALUE */
-    ARGUS_SET_LOW = 26,    /* first: the low bound to be. ARGUS_DONE */
+    ARGUS_REMH = 24,       /* the last item is removed. ARGUS_VALUE */
+    ARGUS_REML = 25,       /* the first item is removed. ARGUS_VALUE */
+    ARGUS_SET_LOW = 26,    /* first: the new low bound. ARGUS_DONE */
     ARGUS_TRIM = 27,       /* first: where the items that stay begin; second: how many at most. ARGUS_DONE */
     ARGUS_CHANGE_TAG = 28, /* first: a tag; text: its value. ARGUS_DONE */
-    ARGUS_TOUCH = 29       /* nothing changes, and the write lock is had: argus_lock. ARGUS_DONE */
+    ARGUS_TOUCH = 29       /* takes the write lock, and changes nothing: argus_lock. ARGUS_DONE */
 } argus_kind;
 
 /* What the outcome of a call of a list must be for the calls after it to be made. */
 typedef enum argus_demand {
     ARGUS_NO_REFUSAL = 0, /* no refusal */
     ARGUS_NOTHING = 1,    /* it may be anything */
-    ARGUS_NO_SIGNAL = 2   /* no refusal and no signal */
+    ARGUS_NO_SIGNAL = 2   /* neither a refusal nor a signal */
 } argus_demand;
 
 /* One call of a list: what a call takes, and what came of it. What an initialiser leaves out is 0:
@@ -223,10 +233,10 @@ typedef enum argus_demand {
 typedef struct argus_listed_call {
     uint32_t kind;     /* which call: argus_kind */
     uint32_t demand;   /* what its outcome must be for the calls after it to be made: argus_demand */
-    uint32_t action;   /* the action, where begun_by is 0 */
+    uint32_t action;   /* the action, if begun_by is 0 */
     uint32_t begun_by; /* 1, 2 and so on: the action is the one that this call of the list began, counted from 1 */
     uint32_t object;
-    uint32_t status;   /* written once it was made, or failed: the status that a single call would have had */
+    uint32_t status;   /* written after it was made, or failed: the status that a single call would have had */
     int64_t first;
     int64_t second;
     int64_t number;    /* written with the status: the number that goes with it */
@@ -236,14 +246,14 @@ typedef struct argus_listed_call {
 
 /* The questions, which aren't journalled and change nothing. */
 typedef enum argus_question {
-    ARGUS_CAN_READ = 0,     /* action, object: whether ARGUS_TEST_READ would answer true now. ARGUS_FLAG */
-    ARGUS_CAN_WRITE = 1,    /* action, object: whether ARGUS_TEST_WRITE would answer true now. ARGUS_FLAG */
+    ARGUS_CAN_READ = 0,     /* action, object: whether ARGUS_TEST_READ would return true now. ARGUS_FLAG */
+    ARGUS_CAN_WRITE = 1,    /* action, object: whether ARGUS_TEST_WRITE would return true now. ARGUS_FLAG */
     ARGUS_OBJECTS = 2,      /* how many objects are declared. ARGUS_NUMBER */
     ARGUS_ACTIONS = 3,      /* how many actions are begun: the next one's number. ARGUS_NUMBER */
     ARGUS_ENTRIES = 4,      /* how many entries the journal has had: the next one's number. ARGUS_NUMBER */
-    ARGUS_BASE = 5,         /* object: what it holds for good, or absent. ARGUS_TEXT */
-    ARGUS_READERS = 6,      /* object: who holds it for reading, in increasing number, a line each, as a1. ARGUS_TEXT */
-    ARGUS_VERSIONS = 7,     /* object: who holds it for writing, from ancestor to descendant, a line each with what it
+    ARGUS_BASE = 5,         /* object: its base, its committed content, or absent. ARGUS_TEXT */
+    ARGUS_READERS = 6,      /* object: its read holders, in increasing number, a line each, as a1. ARGUS_TEXT */
+    ARGUS_VERSIONS = 7,     /* object: its write holders, from ancestor to descendant, a line each with what it
                                sees, as a1 {7}. ARGUS_TEXT */
     ARGUS_ENTRY = 8,        /* entry: its line without an end, as 3 commit a0 -> done. ARGUS_TEXT */
     ARGUS_LIST_BASES = 9,   /* the listing of bases; objects are named o0, o1 and so on. ARGUS_TEXT */
@@ -251,13 +261,13 @@ typedef enum argus_question {
     ARGUS_LIST_JOURNAL = 11, /* the listing of the journal. ARGUS_TEXT */
     ARGUS_LIST_AUDIT = 12,  /* the listing of the audit, made from the journal. ARGUS_TEXT */
     ARGUS_SHAPE = 13,       /* object: the shape with which it was declared. ARGUS_TEXT */
-    ARGUS_ACTION_STATUS = 14, /* action: what has become of it, as argus_action_status has it. ARGUS_NUMBER */
-    ARGUS_FIRST_LIVE = 15,  /* action: the first live action, of those from this number on. ARGUS_ACTION */
+    ARGUS_ACTION_STATUS = 14, /* action: what became of it, as argus_action_status has it. ARGUS_NUMBER */
+    ARGUS_FIRST_LIVE = 15,  /* action: the first live action from this number on. ARGUS_ACTION */
     ARGUS_FIRST_ENTRY = 16  /* the number of the journal's first entry: that which was next at the last checkpoint.
                                ARGUS_NUMBER */
 } argus_question;
 
-/* What has become of an action that was begun. */
+/* What became of an action that was begun. */
 typedef enum argus_action_status {
     ARGUS_LIVE = 1,      /* neither it nor an ancestor of it has ended */
     ARGUS_COMMITTED = 2, /* it has committed, and none of its ancestors was aborted */
@@ -271,7 +281,7 @@ typedef enum argus_action_status {
     case it: \
         return #it
 
-static inline const char *argus_signal_name(int64_t signal) {
+ARGUS_API const char *argus_signal_name(int64_t signal) {
     switch (signal) {
         ARGUS_NAMED(ARGUS_ABSENT);
         ARGUS_NAMED(ARGUS_EXISTS);
@@ -284,7 +294,7 @@ static inline const char *argus_signal_name(int64_t signal) {
     }
 }
 
-static inline const char *argus_refusal_name(int64_t refusal) {
+ARGUS_API const char *argus_refusal_name(int64_t refusal) {
     switch (refusal) {
         ARGUS_NAMED(ARGUS_NO_ACTION);
         ARGUS_NAMED(ARGUS_OVER);
@@ -300,7 +310,7 @@ static inline const char *argus_refusal_name(int64_t refusal) {
     }
 }
 
-static inline const char *argus_status_name(uint32_t status) {
+ARGUS_API const char *argus_status_name(uint32_t status) {
     switch (status) {
         ARGUS_NAMED(ARGUS_DONE);
         ARGUS_NAMED(ARGUS_OBJECT);
@@ -340,85 +350,85 @@ static inline const char *argus_status_name(uint32_t status) {
 
 #undef ARGUS_NAMED
 
-/* ---- What the library exports. No pointer is null, but that of a text of size 0; no two lie in one another. ---- */
+/* ---- What the library exports. No pointer is null, except that of an empty text; no two overlap. ---- */
 
 /* Opens a guardian without objects, actions and entries. What was open in the handle is closed before, but stays at
- * ARGUS_NO_MEMORY. Where `beside` is open, both take their memory by one word; where it isn't, the new one leaves
- * 8 bytes for good. `beside` is another handle, and stays as it is. ARGUS_DONE, ARGUS_NO_MEMORY. */
+ * ARGUS_NO_MEMORY. If `beside` is open, both share one word for their memory; if it isn't, the new one leaves 8 bytes
+ * behind. `beside` is another handle, and is unchanged. ARGUS_DONE, ARGUS_NO_MEMORY. */
 uint32_t argus_c_open(argus_guardian *guardian, argus_guardian *beside);
 
-/* Closes the guardian and gives its memory back. ARGUS_DONE; ARGUS_NOT_OPEN where it is closed already. */
+/* Closes the guardian and frees its memory. ARGUS_DONE; ARGUS_NOT_OPEN if it is closed already. */
 uint32_t argus_c_close(argus_guardian *guardian);
 
 /* Makes one call. Every reply, refusals included, is one entry of the journal. The reply is kept until the next call
- * that is made, or the next question that is answered by a text. `number` is written at each status: by what the
- * status says, else 0. It is another memory than the handle.
+ * that is made, or the next question whose answer is a text. `number` is written at each status: as the status says,
+ * otherwise 0. It doesn't overlap the handle.
  * What `kind` says, or ARGUS_SIGNAL, ARGUS_REFUSED, ARGUS_NO_MEMORY, ARGUS_NOT_OPEN, ARGUS_NOT_UTF8, ARGUS_BAD_TEXT,
  * ARGUS_BAD_SHAPE, ARGUS_BAD_NUMBER, ARGUS_BAD_KIND. */
 uint32_t argus_c_call(argus_guardian *guardian, uint32_t kind, uint32_t action, uint32_t object, int64_t first,
                       int64_t second, const uint8_t *text, size_t text_size, int64_t *number);
 
-/* Makes so many calls one after another, from the first on, up to the first whose outcome isn't as demanded. Each is a
- * call of its own: one entry of the journal. `made` is written at each status: how many were made. Of the calls, each
- * that was made gets its status and its number, and so does the one that failed; the others stay as they are.
+/* Makes `count` calls one after another, up to the first whose outcome isn't as demanded. Each is a call of its own:
+ * one entry of the journal. `made` is written at each status: how many were made. Each call that was made gets its
+ * status and its number, and so does the one that failed; the others are unchanged.
  * ARGUS_DONE: all were made. ARGUS_UNMET: the last one that was made isn't as demanded. Any other status is that of the
- * call after those that were made, which failed: it changes nothing, and what has come of those before it stays.
- * It is ARGUS_NO_MEMORY (of the first call, too, where there is no memory for so many replies), ARGUS_NOT_UTF8,
+ * call after those that were made, which failed: it changes nothing, and the outcomes of those before it stay.
+ * It is ARGUS_NO_MEMORY (also of the first call, if there is no memory for as many replies), ARGUS_NOT_UTF8,
  * ARGUS_BAD_TEXT, ARGUS_BAD_SHAPE, ARGUS_BAD_NUMBER, ARGUS_BAD_KIND, ARGUS_NOT_BEGUN, ARGUS_BAD_DEMAND. ARGUS_NOT_OPEN
  * is that of the handle: no call gets a status.
  * What is kept for argus_c_reply is a line, with its line feed, for each reply that has a text, in their order; no
- * written form has a line feed in it. Where no call was made, what was kept stays. */
+ * written form has a line feed in it. If no call was made, what was kept stays. */
 uint32_t argus_c_call_each(argus_guardian *guardian, argus_listed_call *calls, size_t count, size_t *made);
 
-/* Answers a question. A text is kept in the place of the reply, as a reply is. `number` is written at each status.
+/* Answers a question. A text is kept in place of the reply, as a reply is. `number` is written at each status.
  * What `question` says, or ARGUS_NO_MEMORY, ARGUS_NOT_OPEN, ARGUS_BAD_KIND, ARGUS_NOT_THERE. */
 uint32_t argus_c_tell(argus_guardian *guardian, uint32_t question, uint32_t action, uint32_t object, uint64_t entry,
                       int64_t *number);
 
-/* Aborts all that is live: one call ARGUS_ABORT for each live topaction, nested ones too, in increasing number, each an
- * entry of the journal. What is kept stays. ARGUS_DONE; ARGUS_NOT_OPEN; ARGUS_NO_MEMORY: some of them were aborted, from
- * the first one on, and a further call aborts the others. */
+/* Aborts all live actions: one call ARGUS_ABORT for each live topaction, nested ones too, in increasing number, each an
+ * entry of the journal. What is kept stays. ARGUS_DONE; ARGUS_NOT_OPEN; ARGUS_NO_MEMORY: the first ones were aborted,
+ * and another call aborts the others. */
 uint32_t argus_c_abort_live(argus_guardian *guardian);
 
-/* Folds the journal's entries away: objects keep what they hold for good, and entries and actions their numbers.
+/* Folds the journal's entries away: objects keep their bases, and entries and actions their numbers.
  * ARGUS_DONE, ARGUS_NO_MEMORY, ARGUS_NOT_OPEN, ARGUS_BUSY, ARGUS_FULL. */
 uint32_t argus_c_checkpoint(argus_guardian *guardian);
 
-/* Begins anew: objects keep their numbers, their shapes and what they hold for good, and entries their numbers; actions
- * are numbered from 0 again. The entries are folded away, as by a checkpoint. So the number of an action that was begun
- * before is, from then on, that of another one or of none. ARGUS_DONE, ARGUS_NO_MEMORY, ARGUS_NOT_OPEN, ARGUS_BUSY,
+/* Starts over: objects keep their numbers, their shapes and their bases, and entries their numbers; actions are
+ * numbered from 0 again. The entries are folded away, as by a checkpoint. So the number of an earlier action is, from
+ * then on, that of another one or of none. ARGUS_DONE, ARGUS_NO_MEMORY, ARGUS_NOT_OPEN, ARGUS_BUSY,
  * ARGUS_FULL. */
 uint32_t argus_c_renew(argus_guardian *guardian);
 
 /* Takes whole lines of a journal's listing from the front of the text, up to the first that isn't the next one. The
  * listing is that of ARGUS_LIST_JOURNAL: after a checkpoint it begins with lines of what the objects hold, and then
- * come those of the entries, which argus_c_lines gives. Lines add to those that were taken before, and argus_c_resumed
- * makes a guardian of them; until then the guardian that is held stays as it is, and answers as ever. `bytes` and
- * `lines` are how much was taken: what is left may be handed in again, with more behind it. They are written at each
- * status, and so is `number`: by what the status says, else 0. Handle, text, `bytes`, `lines` and `number` are five
- * memories.
+ * come those of the entries, which argus_c_lines returns. Lines add to those that were taken before, and
+ * argus_c_resumed makes a guardian from them; until then the guardian that is held is unchanged, and can be used.
+ * `bytes` and `lines` are how much was taken: what is left may be passed in again, with more after it. They are written
+ * at each status, and so is `number`: as the status says, otherwise 0. Handle, text, `bytes`, `lines` and `number`
+ * don't overlap.
  * ARGUS_DONE: all whole lines of the text were taken; what is left, if anything is, has no line feed. ARGUS_NO_MEMORY:
- * the same text goes on from there. ARGUS_NOT_OPEN. The other statuses say what is wrong with the line behind those
+ * the same text goes on from there. ARGUS_NOT_OPEN. The other statuses say what is wrong with the line after those
  * that were taken: ARGUS_NOT_UTF8, ARGUS_NOT_AN_OPENING, ARGUS_NO_LINE, ARGUS_NOT_NEXT, ARGUS_NOT_SOUND,
- * ARGUS_NOT_THE_REPLY. What is kept for argus_c_reply stays, but at the last of these. The first line that is taken
+ * ARGUS_NOT_THE_REPLY. What is kept for argus_c_reply stays, except at the last of these. The first line that is taken
  * after that one costs the time and the memory of all entries before it. */
 uint32_t argus_c_resume(argus_guardian *guardian, const uint8_t *text, size_t text_size, size_t *bytes, size_t *lines,
                         int64_t *number);
 
 /* Puts the guardian whose journal's listing was taken in place of the one that is held; what comes next is taken for
- * another one, from its first line on. No text is kept. Where the opening came without entries and refers to objects
- * that didn't come, the guardian has as many of its objects as refer to none of these, and `dropped` is how many bytes
- * the lines of the others have; else it is 0. `dropped` is another memory than the handle.
- * ARGUS_DONE; ARGUS_NO_MEMORY: all is as before; ARGUS_NOT_OPEN. */
+ * another one, from its first line on. No text is kept. If the opening came without entries and refers to objects that
+ * didn't come, the guardian has as many of its objects as refer to none of these, and `dropped` is how many bytes the
+ * lines of the others have; otherwise it is 0. `dropped` doesn't overlap the handle.
+ * ARGUS_DONE; ARGUS_NO_MEMORY: nothing has changed; ARGUS_NOT_OPEN. */
 uint32_t argus_c_resumed(argus_guardian *guardian, uint64_t *dropped);
 
 /* Puts as many whole lines of the journal's listing at the front of the room as fit, from the entry with this number
  * on, each with its line feed. `size` is how many bytes they have, and `count` of how many entries they are: the next
  * number to ask for is from + count. At the end of the journal both are 0. What is kept for argus_c_reply stays.
- * Handle, room, `size` and `count` are four memories.
- * ARGUS_DONE; ARGUS_TOO_SMALL, with the size that the first line needs; ARGUS_NOT_THERE, where `from` is below the
+ * Handle, room, `size` and `count` don't overlap.
+ * ARGUS_DONE; ARGUS_TOO_SMALL, with the size that the first line needs; ARGUS_NOT_THERE, if `from` is below the
  * number of the first entry (ARGUS_FIRST_ENTRY), or above that of the next one (ARGUS_ENTRIES); ARGUS_NO_MEMORY,
- * ARGUS_NOT_OPEN. Where it isn't ARGUS_DONE the room stays as it was, the count is 0, and so is the size but at
+ * ARGUS_NOT_OPEN. If it isn't ARGUS_DONE the room is unchanged, the count is 0, and so is the size except at
  * ARGUS_TOO_SMALL. */
 uint32_t argus_c_lines(argus_guardian *guardian, uint64_t from, uint8_t *room, size_t room_size, size_t *size,
                        uint64_t *count);
@@ -427,33 +437,33 @@ uint32_t argus_c_lines(argus_guardian *guardian, uint64_t from, uint8_t *room, s
 uint32_t argus_c_version(void);
 
 /* Puts the text of the reply that is kept at the front of the room, without an end of its own, and writes its size.
- * It can be had again as long as it is kept. `size` is another memory than the handle and the room.
+ * It can be read again as long as it is kept. `size` overlaps neither the handle nor the room.
  * ARGUS_DONE; ARGUS_TOO_SMALL, with the size that it needs; ARGUS_NO_MEMORY, ARGUS_NOT_OPEN, ARGUS_NOT_THERE (which
- * every status but ARGUS_VALUE, ARGUS_CONTENT and ARGUS_TEXT has), with the size 0. */
+ * comes after every status except ARGUS_VALUE, ARGUS_CONTENT and ARGUS_TEXT), with the size 0. */
 uint32_t argus_c_reply(argus_guardian *guardian, uint8_t *room, size_t room_size, size_t *size);
 
-/* Makes all ready for the commit of an action, but for the commit itself: so that a program can log it before anybody
- * can see what it leaves. The guardian goes from its handle to `ready`. Until it is back its handle is closed, and each
- * call of it answers ARGUS_NOT_OPEN. A commit that is going to be refused is made ready, too.
- * ARGUS_DONE; ARGUS_NO_MEMORY; ARGUS_NOT_OPEN; ARGUS_OCCUPIED where `ready` has a guardian already. Where it isn't
- * ARGUS_DONE both handles are as before. */
+/* Prepares the commit of an action, so that a program can log it before anybody can see what it leaves. The guardian
+ * goes from its handle to `ready`. Until it is back its handle is closed, and each call of it returns ARGUS_NOT_OPEN. A
+ * commit that will be refused is prepared, too.
+ * ARGUS_DONE; ARGUS_NO_MEMORY; ARGUS_NOT_OPEN; ARGUS_OCCUPIED if `ready` has a guardian already. If it isn't ARGUS_DONE
+ * both handles are unchanged. */
 uint32_t argus_c_ready_commit(argus_guardian *guardian, argus_ready *ready, uint32_t action);
 
-/* Puts the line that the commit is going to be in the journal's listing, with its line feed, at the front of the room,
- * and writes its size. A room that is too small stays as it is. `size` is another memory than the handle and the room.
- * ARGUS_DONE; ARGUS_TOO_SMALL, with the size that it needs; ARGUS_NO_MEMORY, and ARGUS_NOT_OPEN where nothing is ready,
+/* Puts the line that the commit will have in the journal's listing, with its line feed, at the front of the room, and
+ * writes its size. A room that is too small is unchanged. `size` overlaps neither the handle nor the room.
+ * ARGUS_DONE; ARGUS_TOO_SMALL, with the size that it needs; ARGUS_NO_MEMORY, and ARGUS_NOT_OPEN if nothing is ready,
  * with the size 0. */
 uint32_t argus_c_ready_line(argus_ready *ready, uint8_t *room, size_t room_size, size_t *size);
 
 /* Makes the commit that is ready, which takes no memory. The guardian goes back to the handle, and the commit is the
- * newest entry of its journal. `number` is written at each status: by the refusal, else 0. Handles and `number` are
- * three memories.
- * ARGUS_DONE; ARGUS_REFUSED; ARGUS_NOT_OPEN where nothing is ready; ARGUS_OCCUPIED where the handle has a guardian. At
- * the last two both handles are as before. */
+ * newest entry of its journal. `number` is written at each status: the refusal's, otherwise 0. Handles and `number`
+ * don't overlap.
+ * ARGUS_DONE; ARGUS_REFUSED; ARGUS_NOT_OPEN if nothing is ready; ARGUS_OCCUPIED if the handle has a guardian. At the
+ * last two both handles are unchanged. */
 uint32_t argus_c_make_ready(argus_ready *ready, argus_guardian *guardian, int64_t *number);
 
-/* Gives the guardian back to the handle as it was, without the commit; it takes no memory. ARGUS_DONE; ARGUS_NOT_OPEN
- * where nothing is ready, and ARGUS_OCCUPIED where the handle has a guardian: both handles are as before. */
+/* Puts the guardian back into the handle unchanged, without the commit; it takes no memory. ARGUS_DONE; ARGUS_NOT_OPEN
+ * if nothing is ready, and ARGUS_OCCUPIED if the handle has a guardian: both handles are unchanged. */
 uint32_t argus_c_cancel_ready(argus_ready *ready, argus_guardian *guardian);
 
 /* ---- What a C program calls. ---- */
@@ -471,40 +481,59 @@ static inline argus_answer argus_answer_of(uint32_t status, int64_t number) {
     return answer;
 }
 
-/* What an answer says: the name of its refusal or signal where it is one, else of its status. */
-static inline const char *argus_answer_name(argus_answer answer) {
+/* What an answer says: the name of its refusal or signal if it is one, otherwise of its status. */
+ARGUS_API const char *argus_answer_name(argus_answer answer) {
     if (answer.status == ARGUS_REFUSED) return argus_refusal_name(answer.number);
     if (answer.status == ARGUS_SIGNAL) return argus_signal_name(answer.number);
     return argus_status_name(answer.status);
 }
 
-/* Opens a guardian that leaves a word of 8 bytes for good. */
-static inline argus_answer argus_open(argus_guardian *guardian) {
-    argus_guardian none = ARGUS_CLOSED;
-    if (guardian == NULL) return argus_answer_of(ARGUS_NULL, 0);
-    return argus_answer_of(argus_c_open(guardian, &none), 0);
+/* If a program is compiled for ThreadSanitizer, each call writes its handle's mark, unchanged. So two threads that are
+ * in one guardian at the same time are a race that the sanitizer sees, though the library isn't compiled for it. */
+#if defined(__SANITIZE_THREAD__)
+#define ARGUS_SANITIZES_THREADS 1
+#elif defined(__has_feature)
+#if __has_feature(thread_sanitizer)
+#define ARGUS_SANITIZES_THREADS 1
+#endif
+#endif
+static inline void argus_enter(argus_guardian *guardian) {
+#ifdef ARGUS_SANITIZES_THREADS
+    volatile uint32_t *mark = &guardian->mark;
+    *mark = *mark;
+#else
+    (void)guardian;
+#endif
 }
 
-/* Opens a guardian that shares the word of another one, which is open. At ARGUS_NOT_OPEN the other one isn't. */
-static inline argus_answer argus_open_beside(argus_guardian *guardian, argus_guardian *other) {
+/* Opens a guardian without objects, actions and entries. A guardian that is open in the handle is closed first, but
+ * stays open at ARGUS_NO_MEMORY. This isn't an inline function, and several threads may call it at the same time. */
+argus_answer argus_open(argus_guardian *guardian);
+
+/* The same, but the new guardian shares with `other`, which is open, what argus_open lets all guardians share. At
+ * ARGUS_NOT_OPEN the other one isn't open. */
+ARGUS_API argus_answer argus_open_beside(argus_guardian *guardian, argus_guardian *other) {
     if (guardian == NULL || other == NULL) return argus_answer_of(ARGUS_NULL, 0);
+    argus_enter(guardian);
     if (guardian == other || other->mark != 1) return argus_answer_of(ARGUS_NOT_OPEN, 0);
     return argus_answer_of(argus_c_open(guardian, other), 0);
 }
 
 /* Closes a guardian. */
-static inline argus_answer argus_close(argus_guardian *guardian) {
+ARGUS_API argus_answer argus_close(argus_guardian *guardian) {
     if (guardian == NULL) return argus_answer_of(ARGUS_NULL, 0);
+    argus_enter(guardian);
     return argus_answer_of(argus_c_close(guardian), 0);
 }
 
-/* Makes one call, with a text of so many bytes; a size of 0 may come with a null text. */
-static inline argus_answer argus_call(argus_guardian *guardian, uint32_t kind, uint32_t action, uint32_t object,
+/* Makes one call, with a text of this size in bytes; a size of 0 may come with a null text. */
+ARGUS_API argus_answer argus_call(argus_guardian *guardian, uint32_t kind, uint32_t action, uint32_t object,
                                       int64_t first, int64_t second, const void *text, size_t text_size) {
     int64_t number = 0;
     uint32_t status;
     static const uint8_t empty[1] = {0};
     if (guardian == NULL || (text == NULL && text_size != 0)) return argus_answer_of(ARGUS_NULL, 0);
+    argus_enter(guardian);
     status = argus_c_call(guardian, kind, action, object, first, second,
                           text == NULL ? empty : (const uint8_t *)text, text_size, &number);
     return argus_answer_of(status, number);
@@ -521,13 +550,14 @@ static inline size_t argus_texts_given(argus_listed_call *calls, size_t count) {
     return at;
 }
 
-/* Makes so many calls one after another, as argus_c_call_each does; the number is how many were made. A text of size 0
+/* Makes `count` calls one after another, as argus_c_call_each does; the number is how many were made. A text of size 0
  * may be null: then it is pointed at an empty one. A null text with a size fails as ARGUS_NULL. */
-static inline argus_answer argus_call_each(argus_guardian *guardian, argus_listed_call *calls, size_t count) {
+ARGUS_API argus_answer argus_call_each(argus_guardian *guardian, argus_listed_call *calls, size_t count) {
     static argus_listed_call none;
     size_t made = 0, given;
     uint32_t status;
     if (guardian == NULL || (calls == NULL && count != 0)) return argus_answer_of(ARGUS_NULL, 0);
+    argus_enter(guardian);
     given = argus_texts_given(calls, count);
     status = argus_c_call_each(guardian, calls == NULL ? &none : calls, given, &made);
     if (status == ARGUS_DONE && given < count) {
@@ -539,37 +569,41 @@ static inline argus_answer argus_call_each(argus_guardian *guardian, argus_liste
 }
 
 /* Answers a question. */
-static inline argus_answer argus_tell(argus_guardian *guardian, uint32_t question, uint32_t action, uint32_t object,
+ARGUS_API argus_answer argus_tell(argus_guardian *guardian, uint32_t question, uint32_t action, uint32_t object,
                                       uint64_t entry) {
     int64_t number = 0;
     uint32_t status;
     if (guardian == NULL) return argus_answer_of(ARGUS_NULL, 0);
+    argus_enter(guardian);
     status = argus_c_tell(guardian, question, action, object, entry, &number);
     return argus_answer_of(status, number);
 }
 
-/* Aborts all that is live. */
-static inline argus_answer argus_abort_live(argus_guardian *guardian) {
+/* Aborts all live actions. */
+ARGUS_API argus_answer argus_abort_live(argus_guardian *guardian) {
     if (guardian == NULL) return argus_answer_of(ARGUS_NULL, 0);
+    argus_enter(guardian);
     return argus_answer_of(argus_c_abort_live(guardian), 0);
 }
 
 /* Folds the journal's entries away. */
-static inline argus_answer argus_checkpoint(argus_guardian *guardian) {
+ARGUS_API argus_answer argus_checkpoint(argus_guardian *guardian) {
     if (guardian == NULL) return argus_answer_of(ARGUS_NULL, 0);
+    argus_enter(guardian);
     return argus_answer_of(argus_c_checkpoint(guardian), 0);
 }
 
-/* Begins anew, with action numbers from 0 and the same objects. */
-static inline argus_answer argus_renew(argus_guardian *guardian) {
+/* Starts over, with action numbers from 0 and the same objects. */
+ARGUS_API argus_answer argus_renew(argus_guardian *guardian) {
     if (guardian == NULL) return argus_answer_of(ARGUS_NULL, 0);
+    argus_enter(guardian);
     return argus_answer_of(argus_c_renew(guardian), 0);
 }
 
-/* Takes whole lines of a journal's listing from the front of the text: so many bytes and so many lines, all that are
+/* Takes whole lines of a journal's listing from the front of the text: `bytes` bytes and `lines` lines, all that are
  * whole at ARGUS_DONE. A size of 0 may come with a null text.
  *
- *     // The guardian of a journal that a file keeps, in `bank`, which is open. What stands behind the last line feed
+ *     // The guardian of a journal that a file keeps, in `bank`, which is open. What comes after the last line feed
  *     // was cut off as it was written.
  *     int read_bank(argus_guardian *bank, FILE *file) {
  *         char text[4096];
@@ -584,49 +618,53 @@ static inline argus_answer argus_renew(argus_guardian *guardian) {
  *         return argus_resumed(bank).status == ARGUS_DONE;
  *     }
  */
-static inline argus_answer argus_resume(argus_guardian *guardian, const void *text, size_t text_size, size_t *bytes,
+ARGUS_API argus_answer argus_resume(argus_guardian *guardian, const void *text, size_t text_size, size_t *bytes,
                                         size_t *lines) {
     int64_t number = 0;
     uint32_t status;
     static const uint8_t empty[1] = {0};
     if (guardian == NULL || bytes == NULL || lines == NULL || (text == NULL && text_size != 0))
         return argus_answer_of(ARGUS_NULL, 0);
+    argus_enter(guardian);
     status = argus_c_resume(guardian, text == NULL ? empty : (const uint8_t *)text, text_size, bytes, lines, &number);
     return argus_answer_of(status, number);
 }
 
-/* Puts the guardian of what was taken in place of the one that is held; the number is how many bytes were let go. */
-static inline argus_answer argus_resumed(argus_guardian *guardian) {
+/* Puts the guardian of what was taken in place of the one that is held; the number is how many bytes were dropped. */
+ARGUS_API argus_answer argus_resumed(argus_guardian *guardian) {
     uint64_t dropped = 0;
     uint32_t status;
     if (guardian == NULL) return argus_answer_of(ARGUS_NULL, 0);
+    argus_enter(guardian);
     status = argus_c_resumed(guardian, &dropped);
     return argus_answer_of(status, (int64_t)dropped);
 }
 
 /* Puts as many whole lines of the journal into the room as fit, from this entry on; the number is their size in bytes,
  * and `count` of how many entries they are. No zero is put after them. */
-static inline argus_answer argus_lines(argus_guardian *guardian, uint64_t from, void *room, size_t room_size,
+ARGUS_API argus_answer argus_lines(argus_guardian *guardian, uint64_t from, void *room, size_t room_size,
                                        uint64_t *count) {
     size_t size = 0;
     uint32_t status;
     uint8_t none[1];
     if (guardian == NULL || count == NULL || (room == NULL && room_size != 0)) return argus_answer_of(ARGUS_NULL, 0);
+    argus_enter(guardian);
     status = argus_c_lines(guardian, from, room == NULL ? none : (uint8_t *)room, room_size, &size, count);
     return argus_answer_of(status, (int64_t)size);
 }
 
 /* The version of the library: a program that was built with this header compares it with ARGUS_VERSION_NUMBER. */
-static inline uint32_t argus_version(void) {
+ARGUS_API uint32_t argus_version(void) {
     return argus_c_version();
 }
 
 /* Puts the reply's text into the room; the number is its size in bytes. No zero is put after it. */
-static inline argus_answer argus_reply(argus_guardian *guardian, void *room, size_t room_size) {
+ARGUS_API argus_answer argus_reply(argus_guardian *guardian, void *room, size_t room_size) {
     size_t size = 0;
     uint32_t status;
     uint8_t none[1];
     if (guardian == NULL || (room == NULL && room_size != 0)) return argus_answer_of(ARGUS_NULL, 0);
+    argus_enter(guardian);
     status = argus_c_reply(guardian, room == NULL ? none : (uint8_t *)room, room_size, &size);
     return argus_answer_of(status, (int64_t)size);
 }
@@ -651,14 +689,15 @@ static inline argus_answer argus_reply(argus_guardian *guardian, void *room, siz
  * then closes the guardian, which gives its memory back. */
 
 /* Makes all ready for the commit of an action. The guardian is in `ready` from then on, and its handle is closed. */
-static inline argus_answer argus_ready_commit(argus_guardian *guardian, argus_ready *ready, uint32_t action) {
+ARGUS_API argus_answer argus_ready_commit(argus_guardian *guardian, argus_ready *ready, uint32_t action) {
     if (guardian == NULL || ready == NULL) return argus_answer_of(ARGUS_NULL, 0);
+    argus_enter(guardian);
     return argus_answer_of(argus_c_ready_commit(guardian, ready, action), 0);
 }
 
 /* Puts the line that the commit is going to be into the room; the number is its size in bytes. No zero is put after
  * it. */
-static inline argus_answer argus_ready_line(argus_ready *ready, void *room, size_t room_size) {
+ARGUS_API argus_answer argus_ready_line(argus_ready *ready, void *room, size_t room_size) {
     size_t size = 0;
     uint32_t status;
     uint8_t none[1];
@@ -668,68 +707,70 @@ static inline argus_answer argus_ready_line(argus_ready *ready, void *room, size
 }
 
 /* Makes the commit that is ready, and gives the guardian back to the handle. */
-static inline argus_answer argus_make_ready(argus_ready *ready, argus_guardian *guardian) {
+ARGUS_API argus_answer argus_make_ready(argus_ready *ready, argus_guardian *guardian) {
     int64_t number = 0;
     uint32_t status;
     if (ready == NULL || guardian == NULL) return argus_answer_of(ARGUS_NULL, 0);
+    argus_enter(guardian);
     status = argus_c_make_ready(ready, guardian, &number);
     return argus_answer_of(status, number);
 }
 
 /* Gives the guardian back to the handle as it was. */
-static inline argus_answer argus_cancel_ready(argus_ready *ready, argus_guardian *guardian) {
+ARGUS_API argus_answer argus_cancel_ready(argus_ready *ready, argus_guardian *guardian) {
     if (ready == NULL || guardian == NULL) return argus_answer_of(ARGUS_NULL, 0);
+    argus_enter(guardian);
     return argus_answer_of(argus_c_cancel_ready(ready, guardian), 0);
 }
 
 /* The calls by name. A text ends at its first zero byte. */
 
-static inline argus_answer argus_declare(argus_guardian *guardian, const char *shape) {
+ARGUS_API argus_answer argus_declare(argus_guardian *guardian, const char *shape) {
     if (shape == NULL) return argus_answer_of(ARGUS_NULL, 0);
     return argus_call(guardian, ARGUS_DECLARE, 0, 0, 0, 0, shape, strlen(shape));
 }
 
-static inline argus_answer argus_begin_top(argus_guardian *guardian) {
+ARGUS_API argus_answer argus_begin_top(argus_guardian *guardian) {
     return argus_call(guardian, ARGUS_BEGIN_TOP, 0, 0, 0, 0, NULL, 0);
 }
 
-static inline argus_answer argus_begin_sub(argus_guardian *guardian, uint32_t parent) {
+ARGUS_API argus_answer argus_begin_sub(argus_guardian *guardian, uint32_t parent) {
     return argus_call(guardian, ARGUS_BEGIN_SUB, parent, 0, 0, 0, NULL, 0);
 }
 
-static inline argus_answer argus_begin_nested(argus_guardian *guardian, uint32_t creator) {
+ARGUS_API argus_answer argus_begin_nested(argus_guardian *guardian, uint32_t creator) {
     return argus_call(guardian, ARGUS_BEGIN_NESTED, creator, 0, 0, 0, NULL, 0);
 }
 
-static inline argus_answer argus_commit(argus_guardian *guardian, uint32_t action) {
+ARGUS_API argus_answer argus_commit(argus_guardian *guardian, uint32_t action) {
     return argus_call(guardian, ARGUS_COMMIT, action, 0, 0, 0, NULL, 0);
 }
 
-static inline argus_answer argus_abort(argus_guardian *guardian, uint32_t action) {
+ARGUS_API argus_answer argus_abort(argus_guardian *guardian, uint32_t action) {
     return argus_call(guardian, ARGUS_ABORT, action, 0, 0, 0, NULL, 0);
 }
 
-static inline argus_answer argus_abort_others(argus_guardian *guardian, uint32_t action) {
+ARGUS_API argus_answer argus_abort_others(argus_guardian *guardian, uint32_t action) {
     return argus_call(guardian, ARGUS_ABORT_OTHERS, action, 0, 0, 0, NULL, 0);
 }
 
-static inline argus_answer argus_test_read(argus_guardian *guardian, uint32_t action, uint32_t object) {
+ARGUS_API argus_answer argus_test_read(argus_guardian *guardian, uint32_t action, uint32_t object) {
     return argus_call(guardian, ARGUS_TEST_READ, action, object, 0, 0, NULL, 0);
 }
 
-static inline argus_answer argus_test_write(argus_guardian *guardian, uint32_t action, uint32_t object) {
+ARGUS_API argus_answer argus_test_write(argus_guardian *guardian, uint32_t action, uint32_t object) {
     return argus_call(guardian, ARGUS_TEST_WRITE, action, object, 0, 0, NULL, 0);
 }
 
 /* A query: ARGUS_WHOLE to ARGUS_TAG_VALUE, with its number where it takes one. */
-static inline argus_answer argus_ask(argus_guardian *guardian, uint32_t action, uint32_t object, uint32_t query,
+ARGUS_API argus_answer argus_ask(argus_guardian *guardian, uint32_t action, uint32_t object, uint32_t query,
                                      int64_t first) {
     if (query < ARGUS_WHOLE || query > ARGUS_TAG_VALUE) return argus_answer_of(ARGUS_BAD_KIND, 0);
     return argus_call(guardian, query, action, object, first, 0, NULL, 0);
 }
 
 /* A change: ARGUS_CREATE to ARGUS_TOUCH, with its numbers and its text where it takes them (else 0 and NULL). */
-static inline argus_answer argus_alter(argus_guardian *guardian, uint32_t action, uint32_t object, uint32_t change,
+ARGUS_API argus_answer argus_alter(argus_guardian *guardian, uint32_t action, uint32_t object, uint32_t change,
                                        int64_t first, int64_t second, const char *text) {
     if (change < ARGUS_CREATE || change > ARGUS_TOUCH) return argus_answer_of(ARGUS_BAD_KIND, 0);
     return argus_call(guardian, change, action, object, first, second, text, text == NULL ? 0 : strlen(text));
@@ -737,67 +778,67 @@ static inline argus_answer argus_alter(argus_guardian *guardian, uint32_t action
 
 /* Takes the write lock, and changes nothing. Of two topactions that have read an object, and both want to change it,
  * each is refused ARGUS_CONFLICT as long as the other one is live. So it comes before reading what will be changed. */
-static inline argus_answer argus_lock(argus_guardian *guardian, uint32_t action, uint32_t object) {
+ARGUS_API argus_answer argus_lock(argus_guardian *guardian, uint32_t action, uint32_t object) {
     return argus_alter(guardian, action, object, ARGUS_TOUCH, 0, 0, NULL);
 }
 
 /* The questions by name. */
 
-static inline argus_answer argus_can_read(argus_guardian *guardian, uint32_t action, uint32_t object) {
+ARGUS_API argus_answer argus_can_read(argus_guardian *guardian, uint32_t action, uint32_t object) {
     return argus_tell(guardian, ARGUS_CAN_READ, action, object, 0);
 }
 
-static inline argus_answer argus_can_write(argus_guardian *guardian, uint32_t action, uint32_t object) {
+ARGUS_API argus_answer argus_can_write(argus_guardian *guardian, uint32_t action, uint32_t object) {
     return argus_tell(guardian, ARGUS_CAN_WRITE, action, object, 0);
 }
 
-static inline argus_answer argus_objects(argus_guardian *guardian) {
+ARGUS_API argus_answer argus_objects(argus_guardian *guardian) {
     return argus_tell(guardian, ARGUS_OBJECTS, 0, 0, 0);
 }
 
-static inline argus_answer argus_actions(argus_guardian *guardian) {
+ARGUS_API argus_answer argus_actions(argus_guardian *guardian) {
     return argus_tell(guardian, ARGUS_ACTIONS, 0, 0, 0);
 }
 
-static inline argus_answer argus_entries(argus_guardian *guardian) {
+ARGUS_API argus_answer argus_entries(argus_guardian *guardian) {
     return argus_tell(guardian, ARGUS_ENTRIES, 0, 0, 0);
 }
 
-static inline argus_answer argus_base(argus_guardian *guardian, uint32_t object) {
+ARGUS_API argus_answer argus_base(argus_guardian *guardian, uint32_t object) {
     return argus_tell(guardian, ARGUS_BASE, 0, object, 0);
 }
 
-static inline argus_answer argus_readers(argus_guardian *guardian, uint32_t object) {
+ARGUS_API argus_answer argus_readers(argus_guardian *guardian, uint32_t object) {
     return argus_tell(guardian, ARGUS_READERS, 0, object, 0);
 }
 
-static inline argus_answer argus_versions(argus_guardian *guardian, uint32_t object) {
+ARGUS_API argus_answer argus_versions(argus_guardian *guardian, uint32_t object) {
     return argus_tell(guardian, ARGUS_VERSIONS, 0, object, 0);
 }
 
-static inline argus_answer argus_entry(argus_guardian *guardian, uint64_t entry) {
+ARGUS_API argus_answer argus_entry(argus_guardian *guardian, uint64_t entry) {
     return argus_tell(guardian, ARGUS_ENTRY, 0, 0, entry);
 }
 
-static inline argus_answer argus_shape(argus_guardian *guardian, uint32_t object) {
+ARGUS_API argus_answer argus_shape(argus_guardian *guardian, uint32_t object) {
     return argus_tell(guardian, ARGUS_SHAPE, 0, object, 0);
 }
 
-static inline argus_answer argus_status_of(argus_guardian *guardian, uint32_t action) {
+ARGUS_API argus_answer argus_status_of(argus_guardian *guardian, uint32_t action) {
     return argus_tell(guardian, ARGUS_ACTION_STATUS, action, 0, 0);
 }
 
 /* With the number after the one that is found it leads to all live actions. */
-static inline argus_answer argus_first_live(argus_guardian *guardian, uint32_t from) {
+ARGUS_API argus_answer argus_first_live(argus_guardian *guardian, uint32_t from) {
     return argus_tell(guardian, ARGUS_FIRST_LIVE, from, 0, 0);
 }
 
-static inline argus_answer argus_first_entry(argus_guardian *guardian) {
+ARGUS_API argus_answer argus_first_entry(argus_guardian *guardian) {
     return argus_tell(guardian, ARGUS_FIRST_ENTRY, 0, 0, 0);
 }
 
 /* A listing: ARGUS_LIST_BASES to ARGUS_LIST_AUDIT. */
-static inline argus_answer argus_list(argus_guardian *guardian, uint32_t listing) {
+ARGUS_API argus_answer argus_list(argus_guardian *guardian, uint32_t listing) {
     if (listing < ARGUS_LIST_BASES || listing > ARGUS_LIST_AUDIT) return argus_answer_of(ARGUS_BAD_KIND, 0);
     return argus_tell(guardian, listing, 0, 0, 0);
 }

@@ -9,7 +9,7 @@ use Rattle.argus_c.specs.Held.{box_if_any}
 use Rattle.argus_c.specs.contracts.ready_guardian.ReadyGuardian.{the_row}
 use Rattle.argus_embed.specs.ReadyEmbedded.{ReadyState, ready_state_coded}
 
--- the handle owns the box at its pointer, where it has one
+-- the handle owns the box at its pointer, if it has one
 abbrev pub held_ready_owns : Global → Ptr → Option ReadyState → Fml
 held_ready_owns = box_if_any the_row
 

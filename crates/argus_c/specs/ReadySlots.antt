@@ -4,7 +4,7 @@ use Rattle.argus_embed.specs.Codes.{outcome_codes}
 use Rattle.argus_embed.specs.Embedded.{EmbeddedState}
 use Rattle.argus_embed.specs.ReadyEmbedded.{ReadyState, after_commit, commit_outcome}
 
--- the guardian that was in the slot is in the ready slot, where the commit of this action is ready
+-- the guardian that was in the slot is in the ready slot, and the commit of this action is ready
 abbrev pub IsReadied : Option EmbeddedState → ℕ → Option ReadyState → Type 0
 IsReadied None action ready = ⊥
 IsReadied (Some state) action ready = ready ≡ Some (record { guardian = state; action = action })
@@ -15,7 +15,7 @@ IsCommitted None slot codes = ⊥
 IsCommitted (Some ready) slot codes =
     (slot ≡ Some (after_commit ready)) × (codes ≡ outcome_codes (commit_outcome ready))
 
--- the slot has the guardian that was ready, as it was
+-- the slot has the guardian that was ready, unchanged
 abbrev pub IsBack : Option ReadyState → Option EmbeddedState → Type 0
 IsBack None slot = ⊥
 IsBack (Some ready) slot = slot ≡ Some ready.guardian

@@ -38,7 +38,7 @@ end_status Whole = 0
 end_status Unmet = 22
 end_status (Failed e) = (error_codes e).0
 
--- so many calls of the list were made, and it has their outcomes; or the slot is closed
+-- this many calls of the list were made, and it has their outcomes; or the slot is closed
 abbrev pub IsListAnswered : Option EmbeddedState → Option EmbeddedState → List ListedCall
     → List ListedCall → ℕ → ℕ → Type 0
 IsListAnswered (Some old) (Some new) listed after count status =
@@ -59,28 +59,28 @@ IsAnswered kind a o n codes old new =
 abbrev pub IsUncalled : Request → List ℕ → ℕ × ℤ → Type 0
 IsUncalled r text codes = (e : EmbedError) × IsUnread r text e × (codes ≡ error_codes e)
 
--- the guardian hasn't what the question is asked of
+-- the guardian doesn't have what the question asks about
 abbrev pub IsNotThere : Option EmbeddedState → ℕ → ℕ → ℕ → ℕ → Type 0
 IsNotThere None kind a o n = ⊥
 IsNotThere (Some state) kind a o n =
     (question : Question) × Asks kind a o n question × HasNothing state.journal question
 
--- a text so long is at the front of the room
+-- a text of this size is at the front of the room
 abbrev pub IsFront : Option (List ℕ) → ℕ → List ℕ → Type 0
 IsFront None size room = ⊥
 IsFront (Some text) size room = (size ≡ length text) × (take size room ≡ text)
 
--- so long a text is kept and at the front of the room
+-- a text of this size is kept and at the front of the room
 abbrev pub IsGiven : Option EmbeddedState → ℕ → List ℕ → Type 0
 IsGiven None size room = ⊥
 IsGiven (Some state) size room = IsFront state.text size room
 
--- so long a text is longer than the room
+-- a text of this size is longer than the room
 abbrev pub IsPast : Option (List ℕ) → ℕ → List ℕ → Type 0
 IsPast None size room = ⊥
 IsPast (Some text) size room = (size ≡ length text) × (length room < size)
 
--- a text is kept that is so long, and longer than the room
+-- a text of this size is kept, and is longer than the room
 abbrev pub IsTooLong : Option EmbeddedState → ℕ → List ℕ → Type 0
 IsTooLong None size room = ⊥
 IsTooLong (Some state) size room = IsPast state.text size room
@@ -91,14 +91,14 @@ AreLinesGiven None from old new lines = ⊥
 AreLinesGiven (Some state) from old new lines =
     AreLines state.journal from old new lines × (lines.size ≤ length old)
 
--- the line of the entry has so many bytes, and is longer than the room
+-- the line of the entry has this many bytes, and is longer than the room
 abbrev pub IsLineTooLong : Option EmbeddedState → ℕ → List ℕ → ℕ → Type 0
 IsLineTooLong None from room size = ⊥
 IsLineTooLong (Some state) from room size =
     (size ≡ length (line_at state.journal from)) × (length room < size)
 
--- the status for a host that asks for lines: 18 exactly where the journal has no place for the
--- number; else it has them, there is no memory for them, or the room is too small for the first; or
+-- the status for a host that asks for lines: 18 exactly if the number isn't in the journal's range;
+-- otherwise it has them, there is no memory for them, or the room is too small for the first; or
 -- the slot is closed
 abbrev pub IsStatusOfLines : Option EmbeddedState → ℕ → ℕ → Type 0
 IsStatusOfLines None from status = status ≡ 11
@@ -106,9 +106,9 @@ IsStatusOfLines (Some state) from status =
     ((status ≡ 18) ↔ HasNoPlace state.journal from)
     × ((status ≡ 0) ⊎ (status ≡ 10) ⊎ (status ≡ 17) ⊎ (status ≡ 18))
 
--- the status of a checkpoint, and of a renewal: 19 exactly where an action is live; else 20 exactly where the next
--- entry's number is past the greatest that a first entry may have; else it is made, or there is no
--- memory for it; or the slot is closed
+-- the status of a checkpoint, and of a renewal: 19 exactly if an action is live; otherwise 20 exactly if the next
+-- entry's number is past the greatest that a first entry may have; otherwise it is made, or there is no memory for it;
+-- or the slot is closed
 abbrev pub IsStatusOfFold : Option EmbeddedState → ℕ → Type 0
 IsStatusOfFold None status = status ≡ 11
 IsStatusOfFold (Some state) status =
@@ -122,13 +122,13 @@ IsStatusOfReply None status = status ≡ 11
 IsStatusOfReply (Some state) status =
     (status ≡ 0) ⊎ (status ≡ 10) ⊎ (status ≡ 17) ⊎ ((status ≡ 18) × (state.text ≡ None))
 
--- so many bytes and lines of the text were taken, and these are the codes of the end
+-- this many bytes and lines of the text were taken, and these are the codes of the end
 abbrev pub AreTaken : List ℕ → ℕ → ℕ → ℕ × ℤ → EmbeddedState → EmbeddedState → Type 0
 AreTaken text bytes lines codes old new =
     (taken : TextTaken) × IsTextTaken old new text taken × (bytes ≡ taken.bytes)
     × (lines ≡ taken.lines) × (codes ≡ text_end_codes taken.end)
 
--- the guardian is that of the lines that were taken, but for so many bytes
+-- the guardian is that of the lines that were taken, except for this many bytes
 abbrev pub IsResumed : ℕ → EmbeddedState → EmbeddedState → Type 0
 IsResumed dropped old new = (new ≡ after_resumption old) × IsDropped dropped old new
 

@@ -12,8 +12,8 @@ use std::marker::Model;
 /// The address of a guardian whose commit is ready, which is owned while `store` has one. C sees
 /// an untyped pointer: no owner of Rattle's crosses to it.
 ///
-/// It is `Held` for another type, and a copy of it: a struct with a type parameter can't stand in
-/// the signature of an export (`unsupported-generic-in-c`), and so neither in a slot.
+/// It is `Held` for another type, and a copy of it: the signature of an export can't have a struct
+/// with a type parameter (`unsupported-generic-in-c`), so a slot can't either.
 #[repr(C)]
 #[derive(Drop)]
 pub struct HeldReady {

@@ -1,8 +1,8 @@
-//! A guardian for programs in C and in whatever calls C: the exports of `include/argus.h`, which
-//! says what each takes and answers. The inline functions there look for null pointers; here there
-//! are none.
+//! A guardian for programs in C and in any language that calls C: the exports of `include/argus.h`,
+//! which says what each takes and returns. The inline functions there test for null pointers; here
+//! there are none.
 //!
-//! A host gives each slot to one call at a time.
+//! A host passes each slot to one call at a time.
 #![tactic(auto)]
 
 ghost use Rattle.std.specs.Prelude.{IfErr, IsSome, None, OnOk, Some, length, pos, ◌<◌, ◌≡◌, ◌≢◌};
@@ -32,7 +32,7 @@ use slot::Slot;
 use std::alloc::Global;
 use std::str::from_utf8;
 
-// The statuses of argus.h that are no outcome's and no error's.
+// The statuses of argus.h that are neither an outcome's nor an error's.
 const DONE: u32 = 0;
 
 const NO_MEMORY: u32 = 10;
@@ -49,11 +49,11 @@ const NOT_THERE: u32 = 18;
 
 const UNMET: u32 = 22;
 
-// 10,000 times the first number of the version, and 100 times the second one, and the third.
+// 10,000 times the first number of the version, plus 100 times the second, plus the third.
 const VERSION_NUMBER: u32 = 100;
 
-/// Opens a guardian in the slot, in the heap of the one beside it where that is open. What was open
-/// in the slot is closed.
+/// Opens a guardian in the slot, in the heap of the one in the other slot if that is open. What was
+/// open in the slot is closed.
 #[unsafe(no_mangle)]
 pub extern "C" fn argus_c_open(alloc: Global, slot: &mut Slot, beside: &mut Slot) -> u32
     ensures done { result ≡ 0 → slot.new.held.store ≡ Some empty_state }
@@ -69,7 +69,7 @@ pub extern "C" fn argus_c_open(alloc: Global, slot: &mut Slot, beside: &mut Slot
     }
 }
 
-/// Closes the guardian and gives its memory back.
+/// Closes the guardian and frees its memory.
 #[unsafe(no_mangle)]
 pub extern "C" fn argus_c_close(alloc: Global, slot: &mut Slot) -> u32
     ensures closed { slot.new.held.store ≡ None }
@@ -207,7 +207,7 @@ pub extern "C" fn argus_c_tell(
     status
 }
 
-/// The status of what was made, or of the error with which it wasn't.
+/// The status of what was made, or of the error because of which it wasn't.
 fn status_of(made: Result<(), EmbedError>) -> u32
     ensures done { OnOk made (result ≡ 0) }
     ensures error { IfErr made (λ e. result ≡ (error_codes e).0) }
@@ -253,7 +253,7 @@ pub extern "C" fn argus_c_checkpoint(alloc: Global, slot: &mut Slot) -> u32
     status
 }
 
-/// Begins anew with the same objects, and action numbers from 0.
+/// Starts over with the same objects, and action numbers from 0.
 #[unsafe(no_mangle)]
 pub extern "C" fn argus_c_renew(alloc: Global, slot: &mut Slot) -> u32
     ensures done { result ≡ 0 → Becomes slot.old.held.store slot.new.held.store
@@ -269,7 +269,7 @@ pub extern "C" fn argus_c_renew(alloc: Global, slot: &mut Slot) -> u32
     status
 }
 
-/// Takes whole lines of a journal's listing from the front of the text, and tells how many bytes and
+/// Takes whole lines of a journal's listing from the front of the text, and says how many bytes and
 /// lines these are.
 #[unsafe(no_mangle)]
 pub extern "C" fn argus_c_resume(
@@ -301,8 +301,8 @@ pub extern "C" fn argus_c_resume(
     status
 }
 
-/// Makes the guardian of the lines that were taken, in place of the one that is held, and tells how
-/// many bytes were let go.
+/// Makes the guardian of the lines that were taken, in place of the one that is held, and says how
+/// many bytes were dropped.
 #[unsafe(no_mangle)]
 pub extern "C" fn argus_c_resumed(alloc: Global, slot: &mut Slot, dropped: &mut u64) -> u32
     ensures done { result ≡ 0 → Becomes slot.old.held.store slot.new.held.store
@@ -328,7 +328,7 @@ pub extern "C" fn argus_c_resumed(alloc: Global, slot: &mut Slot, dropped: &mut 
 }
 
 /// Puts as many whole lines of the journal as fit at the front of the room, from an entry on, and
-/// tells of how many entries and of what size they are.
+/// says of how many entries and of what size they are.
 #[unsafe(no_mangle)]
 pub extern "C" fn argus_c_lines(
     alloc: Global,
@@ -377,7 +377,7 @@ pub extern "C" fn argus_c_version() -> u32
     VERSION_NUMBER
 }
 
-/// Puts the text that is kept at the front of the room, and tells its size.
+/// Puts the text that is kept at the front of the room, and says its size.
 #[unsafe(no_mangle)]
 pub extern "C" fn argus_c_reply(
     alloc: Global,

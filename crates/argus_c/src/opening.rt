@@ -8,8 +8,8 @@ use argus_embed::Embedded;
 use argus_values::{Heap, OutOfMemory};
 use std::alloc::Global;
 
-/// A guardian with no object, no action and no entry: in the heap of the one that is beside it, or
-/// else in a heap of its own, whose word of 8 bytes is never given back.
+/// A guardian without objects, actions and entries: in the heap of the one in the other slot, or
+/// otherwise in a heap of its own, whose word of 8 bytes is never freed.
 pub(crate) fn opened_beside(
     alloc: Global,
     beside: &mut Slot,

@@ -1,4 +1,4 @@
-//! `RawBox`: a `Box` with its fields in sight of the modules beside it.
+//! `RawBox`: a `Box` whose fields the modules beside it can see.
 
 ghost use Rattle.std.specs.Prelude.{◌≡◌};
 ghost use Rattle.std.specs.Box.Ownership.{box_owns};

@@ -29,8 +29,8 @@ impl Model for ReadyGuardian {
 }
 
 impl ReadyGuardian {
-    /// A guardian in which the commit of the action with this number is ready. At `Err` there was
-    /// no memory, and the guardian is as it was.
+    /// A guardian in which the commit of the action with this number is ready. `Err`: out of
+    /// memory, and the guardian is unchanged.
     pub(crate) fn boxed(
         alloc: Global,
         guardian: Box<Embedded, Global>,
@@ -62,8 +62,8 @@ impl ReadyGuardian {
         }
     }
 
-    /// The size of the line that the commit is going to be, which is put at the front of the room
-    /// where it fits.
+    /// The size of the line that the commit will make, which is put at the front of the room if it
+    /// fits.
     pub(crate) fn line(&self, room: &mut [u8]) -> Result<usize, OutOfMemory>
         ensures size { IfOk result (λ size. size ≡ length (commit_line self.now)) }
         ensures put { IfOk result (λ _. IsPut (commit_line self.now) room.old room.new) }
@@ -83,7 +83,7 @@ impl ReadyGuardian {
         (put_back(home, guardian), outcome)
     }
 
-    /// Gives the guardian back as it was. It takes no memory.
+    /// Returns the guardian unchanged. It takes no memory.
     pub(crate) fn cancel(self) -> Box<Embedded, Global>
         ensures { result.value ≡ self.guardian }
     {

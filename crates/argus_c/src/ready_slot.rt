@@ -10,9 +10,9 @@ use std::mem::replace;
 
 const READY: u32 = 1;
 
-/// A guardian whose commit is ready, where `mark` is 1; with any other number there is none. All
-/// bytes zero is none. This is `argus_ready` of the C header. Contracts see what is ready, or None,
-/// as `held.store`. It is `Slot` for another type, and a copy of it, as `HeldReady` is.
+/// A guardian whose commit is ready if `mark` is 1; with any other number there is none. All bytes
+/// zero is none. This is `argus_ready` of the C header. Contracts see what is ready, or `None`, as
+/// `held.store`. It is `Slot` for another type, and a copy of it, as `HeldReady` is.
 #[repr(C)]
 pub struct ReadySlot {
     mark: u32,

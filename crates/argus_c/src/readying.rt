@@ -1,4 +1,4 @@
-//! The exports for a commit in two steps: what makes it ready, and then makes or cancels it.
+//! The exports for a commit in two steps: one makes it ready, others then make or cancel it.
 
 ghost use Rattle.std.specs.Option.{option_map};
 ghost use Rattle.std.specs.Prelude.{None, length, pos, ◌<◌, ◌≡◌, ◌≢◌, ◌≤◌};
@@ -13,10 +13,10 @@ use crate::slot::Slot;
 use crate::{DONE, NO_MEMORY, NOT_OPEN, TOO_SMALL};
 use std::alloc::Global;
 
-// The slot that a guardian was to go to has one.
+// The slot that a guardian should go to has one already.
 const OCCUPIED: u32 = 30;
 
-/// Makes all ready for the commit of an action. The guardian goes to the ready slot.
+/// Prepares the commit of an action. The guardian goes to the ready slot.
 #[unsafe(no_mangle)]
 pub extern "C" fn argus_c_ready_commit(
     alloc: Global,
@@ -50,8 +50,7 @@ pub extern "C" fn argus_c_ready_commit(
     }
 }
 
-/// Puts the journal's line that the commit is going to be at the front of the room, and tells its
-/// size.
+/// Puts the journal's line that the commit will make at the front of the room, and says its size.
 #[unsafe(no_mangle)]
 pub extern "C" fn argus_c_ready_line(
     alloc: Global,
@@ -119,7 +118,7 @@ pub extern "C" fn argus_c_make_ready(
     status
 }
 
-/// Gives the guardian back to the slot as it was, without the commit.
+/// Puts the guardian back into the slot unchanged, without the commit.
 #[unsafe(no_mangle)]
 pub extern "C" fn argus_c_cancel_ready(alloc: Global, ready: &mut ReadySlot, slot: &mut Slot) -> u32
     ensures done { result ≡ 0 → IsBack ready.old.held.store slot.new.held.store

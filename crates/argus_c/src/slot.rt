@@ -10,8 +10,8 @@ use std::mem::replace;
 
 const OPEN: u32 = 1;
 
-/// A guardian, where `mark` is 1; with any other number it is closed. All bytes zero is a closed
-/// one. This is `argus_guardian` of the C header. Contracts see the guardian, or None, as
+/// A guardian if `mark` is 1; with any other number the slot is closed. All bytes zero is a closed
+/// one. This is `argus_guardian` of the C header. Contracts see the guardian, or `None`, as
 /// `held.store`.
 #[repr(C)]
 pub struct Slot {
