@@ -2,6 +2,9 @@
 
 The library is `libargus.so.0`, in the folder that `ARGUS_LIB_DIR` names, or else in `dist/lib` of the repository,
 where `tools/archive.sh` or `tools/dist.sh` makes it.
+
+`_call.c` is built where a compiler and Python's headers are there (Debian: python3-dev); else ctypes does what it
+does. It needs no more of Python than each version from 3.10 on has.
 """
 
 from __future__ import annotations
@@ -10,7 +13,7 @@ import os
 import shutil
 from pathlib import Path
 
-from setuptools import Distribution, setup
+from setuptools import Extension, setup
 from setuptools.command.build_py import build_py
 
 try:
@@ -57,11 +60,6 @@ class WheelOfMachine(bdist_wheel):
         return "py3", "none", super().get_tag()[2]
 
 
-class Machine(Distribution):
-    """A distribution that has code of a machine in it."""
+CALL = Extension("argus_guardian._call", ["argus_guardian/_call.c"], py_limited_api=True, optional=True)
 
-    def has_ext_modules(self) -> bool:
-        return True
-
-
-setup(distclass=Machine, cmdclass={"build_py": BuildWithLibrary, "bdist_wheel": WheelOfMachine})
+setup(ext_modules=[CALL], cmdclass={"build_py": BuildWithLibrary, "bdist_wheel": WheelOfMachine})

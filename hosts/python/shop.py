@@ -8,10 +8,11 @@ others doesn't. shop_in_sqlite.py is the same over SQLite, shop_service.py what 
 
 from __future__ import annotations
 
-from argus_guardian import Action, Busy, Conflict, Guardian
+from argus_guardian import Action, Busy, Conflict, Guardian, write_content
 from shop_service import PATIENCE, SEATS, Card, Order, Taken, serve
 
 HOLDER = 0
+FREE = write_content(("",))
 FOLD_AFTER = 20_000
 
 
@@ -52,18 +53,24 @@ class GuardianShop:
         raise Taken
 
     def states(self) -> list[str]:
-        return [self._state(seat) for seat in self._seats]
-
-    def _state(self, seat: int) -> str:
-        if self._guardian.versions(seat):
-            return "held"
-        return "sold" if self._guardian.base(seat)[HOLDER] else "free"
+        states = {}
+        # A listing is of one moment. It has the base of each object, and then who holds it.
+        for line in self._guardian.list("stacks").split("\n")[:-1]:
+            seat, what, content = line.split(" ", 2)
+            if what == "base":
+                states[seat] = "free" if content == FREE else "sold"
+            elif what == "version":
+                states[seat] = "held"
+        return list(states.values())
 
     def sold(self) -> int:
         def work(top: Action) -> int:
             return sum(top.field(seat, HOLDER) != "" for seat in self._seats)
 
         return self._guardian.run(work)
+
+    def journal(self) -> str | None:
+        return self._guardian.list("journal")
 
     def close(self) -> None:
         self._guardian.close()

@@ -90,6 +90,9 @@ class SqliteShop:
             count: int = database.execute("SELECT count(*) FROM seat WHERE holder != ''").fetchone()[0]
         return count
 
+    def journal(self) -> str | None:
+        return None
+
     def close(self) -> None:
         self._database.close()
 

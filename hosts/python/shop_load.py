@@ -114,6 +114,15 @@ class Load:
             await asyncio.sleep(0.01)
         self.expect(self.shown == wanted, f"the page was shown {self.shown} at last")
         self.expect("<title>Seats</title>" in await self.get("/"), "there is no page")
+        await self.look_at_picture()
+
+    async def look_at_picture(self) -> None:
+        """Looks whether the journal is drawn, if it may be: a program draws it that needn't be there."""
+        async with self.session.get(self.url + "/picture") as answer:
+            text = await answer.text()
+            is_drawn = answer.status == 200 and text.startswith("<svg ")
+            self.expect(is_drawn or answer.status == 404, f"the picture is {answer.status}: {text[:80]}")
+            print("the journal is drawn" if is_drawn else text, file=sys.stderr)
 
 
 def tell(load: Load, taken: float) -> None:

@@ -5,8 +5,12 @@
     GET /seats       the seats as they are
     POST /orders     {"customer": "Ann", "wishes": [[4, 5], [11, 12]]}: the first wish that can be had
     GET /audit       how many seats are sold, and for how many the card was charged
+    GET /picture     what happened since the journal was folded, drawn: where there is a journal
 
-It stands on aiohttp (Debian: python3-aiohttp). A seat is free, or held by an order that is being paid, or sold.
+It stands on aiohttp (Debian: python3-aiohttp). The picture is drawn by the program that ARGUS_PICTURE names, or else
+by that of the repository, which `./picture --prove` leaves.
+
+A seat is free, or held by an order that is being paid, or sold.
 """
 
 from __future__ import annotations
@@ -14,17 +18,19 @@ from __future__ import annotations
 import asyncio
 import itertools
 import json
+import os
 import sys
 import threading
 import time
 from collections.abc import AsyncIterator, Callable
 from concurrent.futures import ThreadPoolExecutor
 from dataclasses import dataclass
+from pathlib import Path
 from typing import Protocol
 
 from aiohttp import web
 
-SEATS = 60
+SEATS = int(os.environ.get("SHOP_SEATS", "60"))
 PORT = 8080
 # How long an order waits for a seat that another one is paying for, and how long paying takes, in seconds.
 PATIENCE = 0.5
@@ -32,6 +38,9 @@ PAYING = 0.01
 # So many orders are carried out at once; each is a thread, which mostly waits for the card.
 THREADS = 32
 LOOK_EVERY = 0.05
+# The program that draws a journal, and how long a journal it is handed, in bytes of its listing.
+PICTURE = os.environ.get("ARGUS_PICTURE", str(Path(__file__).resolve().parents[2] / "crates/picture/out/picture"))
+MOST_DRAWN = 1 << 18
 
 
 class Taken(Exception):
@@ -88,6 +97,9 @@ class Shop(Protocol):
     def sold(self) -> int:
         """How many seats are sold."""
 
+    def journal(self) -> str | None:
+        """The listing of its journal, if it has one."""
+
     def close(self) -> None:
         """Is called once, after the last order."""
 
@@ -102,6 +114,7 @@ span { padding: .6em 0; text-align: center; border-radius: .3em }
 <h1>Seats</h1><div id="seats"></div>
 <p><span class="free"> free </span> <span class="held"> being paid </span> <span class="sold"> sold </span></p>
 <p><input id="customer" value="Ann"> buys the seat that is clicked. <b id="told"></b></p>
+<p><a href="/picture">What happened</a></p>
 <script>
 const byId = name => document.getElementById(name)
 new EventSource("/live").onmessage = event => byId("seats").replaceChildren(
@@ -174,6 +187,20 @@ class Service:
             await asyncio.sleep(LOOK_EVERY)
         return answer
 
+    async def picture(self, _: web.Request) -> web.Response:
+        """Draws the journal."""
+        journal = await asyncio.to_thread(self._shop.journal)
+        if journal is None or not os.access(PICTURE, os.X_OK):
+            return web.Response(status=404, text="there is no journal, or no program that draws it")
+        if len(journal) > MOST_DRAWN:
+            return web.Response(status=404, text="the journal is too long to be drawn")
+        pipe = asyncio.subprocess.PIPE
+        program = await asyncio.create_subprocess_exec(PICTURE, stdin=pipe, stdout=pipe)
+        drawn = (await program.communicate(journal.encode()))[0]
+        if program.returncode != 0:
+            return web.Response(status=500, text=f"the program that draws it has ended by {program.returncode}")
+        return web.Response(body=drawn, content_type="image/svg+xml")
+
     async def audit(self, _: web.Request) -> web.Response:
         sold = await asyncio.to_thread(self._shop.sold)
         return web.json_response({"sold": sold, "charged": self._card.seats()})
@@ -193,7 +220,8 @@ def application(make: Callable[[Card], Shop]) -> web.Application:
     app = web.Application()
     app.cleanup_ctx.append(open_and_close)
     routes = [web.get("/", service.page), web.get("/seats", service.seats), web.get("/live", service.live)]
-    app.add_routes([*routes, web.get("/audit", service.audit), web.post("/orders", service.order)])
+    routes += [web.get("/audit", service.audit), web.get("/picture", service.picture)]
+    app.add_routes([*routes, web.post("/orders", service.order)])
     return app
 
 

@@ -9,9 +9,9 @@
                 sub.set_field(account, 0, 7)
         guardian.base(account)                # (7,)
 
-An action commits at the end of its `with` block, and aborts where an exception leaves it. What is
-proved is the library, by which each reply is the answer that the journal before the call gives. This
-package isn't: it calls the library, writes and reads its texts, and waits.
+An action commits at the end of its `with` block, and aborts if an exception leaves it. The library is
+proved: each reply follows from the journal before the call. This package isn't: it calls the library,
+writes and reads its texts, and waits.
 """
 
 from .action import Action

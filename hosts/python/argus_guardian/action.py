@@ -8,25 +8,28 @@ from typing import TYPE_CHECKING, Any, NoReturn
 
 from .errors import ArgusError
 from .library import Kind
-from .ranges import U32, u32
+from .ranges import U32, i64, u32
 from .ready_commit import ReadyCommit, ready_commit
-from .values import Content, Object, Value, write_content, write_value
+from .values import Content, Object, Value, write_content, written
 
 if TYPE_CHECKING:
-    from .guardian import Guardian
+    from .calling import Calling
+
+# The most frequent kinds, as globals, which are looked up faster than attributes.
+_FIELD, _SET_FIELD, _TOUCH = Kind.FIELD, Kind.SET_FIELD, Kind.TOUCH
+_BEGIN_SUB, _COMMIT = Kind.BEGIN_SUB, Kind.COMMIT
 
 
 class Action:
-    """An action. In a `with` block it commits at the block's end, and aborts where an exception leaves it.
+    """An action. In a `with` block it commits at the block's end, and aborts if an exception leaves it.
 
-    An access raises a Signal where the operation says one, and a Refused where the guardian refuses it;
+    An access raises a Signal if the operation returns one, and a Refused if the guardian refuses it;
     both may be caught, and the action goes on.
 
-    Each access takes its lock, and the action keeps it to its end: a reading one a read lock, which
-    others may have too, a changing one the write lock. It waits for the lock as long as the
-    guardian's patience lasts, and then raises Conflict. Two that have read an object, and both want
-    to write it, wait for each other: the second raises Conflict at once. So who reads and then writes
-    takes the write lock first:
+    Each access takes its lock, and the action keeps it to its end: to read, a read lock, which others
+    may have too; to change, the write lock. It waits for the lock until the guardian's patience ends,
+    and then raises Conflict. Two that have both read an object and both want to write it wait for each
+    other: the second raises Conflict at once. So if you read and then write, take the write lock first:
 
         with guardian.topaction() as top:
             top.lock(seat)
@@ -35,19 +38,26 @@ class Action:
     """
 
     def __init__(
-        self, guardian: Guardian, number: int, parent: Action | None = None, is_nested: bool = False
+        self,
+        guardian: Calling,
+        number: int,
+        parent: Action | None = None,
+        is_nested: bool = False,
+        renewals: int | None = None,
     ) -> None:
         if type(number) is not int or not 0 <= number <= U32:
             number = u32(number, "action")
-        self.guardian, self.number = guardian, number
+        self.guardian = guardian
+        self.number = number
         # The parent, or the creator of a nested topaction: neither ends before this one does.
-        self.parent, self._is_nested = parent, is_nested
+        self.parent = parent
+        self._is_nested = is_nested
         self._is_ended = False
-        # How often the guardian had been renewed when it was begun; None where its number alone counts.
-        self._renewals: int | None = None
+        # How often the guardian had been renewed when it was begun; None if only its number counts.
+        self._renewals = renewals
 
     def _lineage(self) -> set[int]:
-        """The numbers of itself and its ancestors, whose locks are none against it."""
+        """The numbers of itself and its ancestors, whose locks don't conflict with its own."""
         numbers, action = {self.number}, self
         while action.parent and not action._is_nested:
             action = action.parent
@@ -63,7 +73,12 @@ class Action:
     def __enter__(self) -> Action:
         return self
 
-    def __exit__(self, kind: type[BaseException] | None, *_: BaseException | TracebackType | None) -> None:
+    def __exit__(
+        self,
+        kind: type[BaseException] | None,
+        error: BaseException | None = None,
+        trace: TracebackType | None = None,
+    ) -> None:
         if self._is_ended:
             return
         if kind is None:
@@ -72,7 +87,7 @@ class Action:
             self._abort_quietly()
 
     def _abort_quietly(self) -> None:
-        # It may be over already, by a sibling or an ancestor, or the guardian may be closed.
+        # A sibling or an ancestor may have ended it already, or the guardian may be closed.
         try:
             self.abort()
         except ArgusError:
@@ -81,73 +96,69 @@ class Action:
     def commit(self) -> None:
         """Commits. After an error it aborts.
 
-        Where an interrupt (Ctrl-C) comes while it commits, it may have committed or not.
+        If an interrupt (Ctrl-C) comes during the commit, it may have committed or not.
         """
         try:
-            self.guardian._make_of(self, Kind.COMMIT)
+            self.guardian._end(self, _COMMIT)
         except BaseException:
             self._abort_quietly()
             raise
         self._is_ended = True
 
     def ready_commit(self) -> AbstractContextManager[ReadyCommit]:
-        """Makes all ready for its commit, for a `with` block that logs the commit and then makes it:
+        """Prepares its commit, for a `with` block that logs the commit and then makes it:
 
             with top.ready_commit() as ready:
                 log.write(ready.line)
                 log.flush()
                 ready.make()
 
-        Where the block ends without `make`, by an exception too, all is as before, and the action live.
-        In the block the guardian's lock is held: calls of other threads wait, and one of this thread
-        would wait for itself, so make none. OutOfMemory, Closed.
+        If the block ends without `make`, by an exception too, nothing has changed, and the action is
+        live. In the block the guardian's mutex is held: calls of other threads wait, and a call of this
+        thread would wait for itself, so make none. May raise OutOfMemory or Closed.
         """
         return ready_commit(self)
 
     def abort(self) -> None:
-        """Aborts it and all subactions below it."""
-        self.guardian._make_of(self, Kind.ABORT)
+        """Aborts it and all subactions under it."""
+        self.guardian._end(self, Kind.ABORT)
         self._is_ended = True
 
     def abort_others(self) -> None:
-        """Aborts all live siblings: who is done first ends the others."""
+        """Aborts all live siblings: the first that is done ends the others."""
         self.guardian._make_of(self, Kind.ABORT_OTHERS)
 
     def subaction(self) -> Action:
-        """Begins a subaction: what it leaves counts only as its ancestors do."""
-        return self.guardian._begin_below(Kind.BEGIN_SUB, self)
+        """Begins a subaction: what it leaves counts only if its ancestors commit."""
+        return self.guardian._begin(_BEGIN_SUB, self)
 
     def nested(self) -> Action:
-        """Begins a nested topaction: what it leaves counts, whatever becomes of this action.
+        """Begins a nested topaction: what it leaves stays, even if this action aborts.
 
-        It has no privilege from this action, and so waits in vain for what this one has locked.
+        It has no privilege from this action, so it waits in vain for a lock that this one has.
         """
-        return self.guardian._begin_below(Kind.BEGIN_NESTED, self)
+        return self.guardian._begin(Kind.BEGIN_NESTED, self)
 
     def test_read(self, obj: Object) -> bool:
-        """Takes a read lock; False where it isn't to be had. It doesn't wait."""
+        """Takes a read lock; False if it isn't free. It doesn't wait."""
         return self.guardian._make_of(self, Kind.TEST_READ, obj)
 
     def test_write(self, obj: Object) -> bool:
-        """Takes a write lock; False where it isn't to be had. It doesn't wait."""
+        """Takes a write lock; False if it isn't free. It doesn't wait."""
         return self.guardian._make_of(self, Kind.TEST_WRITE, obj)
-
-    def _access(self, kind: int, obj: Object, first: int = 0, second: int = 0, text: str = "") -> Any:
-        number, since = self.number, self._renewals
-        return self.guardian.access(kind, number, obj, first, second, text, self._lineage, since)
 
     def whole(self, obj: Object) -> Any:
         """The whole content."""
-        return self._access(Kind.WHOLE, obj)
+        return self.guardian._access_of(self, Kind.WHOLE, obj)
 
     def field(self, obj: Object, field: int) -> Any:
         """A field of a record."""
-        return self._access(Kind.FIELD, obj, field)
+        return self.guardian._access_of(self, _FIELD, obj, field)
 
     def get(self, obj: Object, name: str | None = None) -> Any:
-        """A record with its fields by name, as `top.get(seat).taken`; or one field of it, by its name.
+        """A record with its fields by name, as in `top.get(seat).taken`; or one field of it, by its name.
 
-        AttributeError where the record's shape hasn't the name.
+        AttributeError if the record's shape hasn't the name.
         """
         shape = self.guardian.shape_of(obj)
         if name is None:
@@ -155,9 +166,9 @@ class Action:
         return self.field(obj, shape.number(name))
 
     def set(self, obj: Object, **fields: Value) -> None:
-        """Fields of a record become these values, by their names: `top.set(seat, taken=True)`.
+        """Sets fields of a record by their names: `top.set(seat, taken=True)`.
 
-        AttributeError where the record's shape hasn't a name; then nothing was set.
+        AttributeError if the record's shape hasn't one of the names; then nothing was set.
         """
         shape = self.guardian.shape_of(obj)
         numbered = [(shape.number(name), value) for name, value in fields.items()]
@@ -166,79 +177,79 @@ class Action:
 
     def low(self, obj: Object) -> int:
         """An array's low bound."""
-        return self._access(Kind.LOW, obj)
+        return self.guardian._access_of(self, Kind.LOW, obj)
 
     def high(self, obj: Object) -> int:
         """An array's high bound."""
-        return self._access(Kind.HIGH, obj)
+        return self.guardian._access_of(self, Kind.HIGH, obj)
 
     def size(self, obj: Object) -> int:
         """How many elements an array has."""
-        return self._access(Kind.SIZE, obj)
+        return self.guardian._access_of(self, Kind.SIZE, obj)
 
     def fetch(self, obj: Object, place: int) -> Any:
         """The element at this place, or Bounds."""
-        return self._access(Kind.FETCH, obj, place)
+        return self.guardian._access_of(self, Kind.FETCH, obj, place)
 
     def bottom(self, obj: Object) -> Any:
         """The first element, or Bounds."""
-        return self._access(Kind.BOTTOM, obj)
+        return self.guardian._access_of(self, Kind.BOTTOM, obj)
 
     def top(self, obj: Object) -> Any:
         """The last element, or Bounds."""
-        return self._access(Kind.TOP, obj)
+        return self.guardian._access_of(self, Kind.TOP, obj)
 
     def is_tag(self, obj: Object, tag: int) -> bool:
         """Whether a variant has this tag."""
-        return self._access(Kind.IS_TAG, obj, tag)
+        return self.guardian._access_of(self, Kind.IS_TAG, obj, tag)
 
     def tag_value(self, obj: Object, tag: int) -> Any:
-        """What goes with this tag, or WrongTag."""
-        return self._access(Kind.TAG_VALUE, obj, tag)
+        """The value that goes with this tag, or WrongTag."""
+        return self.guardian._access_of(self, Kind.TAG_VALUE, obj, tag)
 
     def create(self, obj: Object, content: Content) -> None:
-        """Makes the content, or Exists."""
-        self._access(Kind.CREATE, obj, text=write_content(content))
+        """Gives the object its first content, or raises Exists."""
+        self.guardian._access_of(self, Kind.CREATE, obj, text=write_content(content).encode())
 
     def set_field(self, obj: Object, field: int, value: Value) -> None:
-        """A field of a record becomes the value."""
-        self._access(Kind.SET_FIELD, obj, field, text=write_value(value))
+        """Sets a field of a record."""
+        self.guardian._access_of(self, _SET_FIELD, obj, field, text=written(value))
 
     def store(self, obj: Object, place: int, value: Value) -> None:
-        """The element at this place becomes the value, or Bounds."""
-        self._access(Kind.STORE, obj, place, text=write_value(value))
+        """Sets the element at this place, or raises Bounds."""
+        self.guardian._access_of(self, Kind.STORE, obj, place, text=written(value))
 
     def addh(self, obj: Object, value: Value) -> None:
-        """The value becomes the last element, or Limits."""
-        self._access(Kind.ADDH, obj, text=write_value(value))
+        """Adds the value after the last element, or raises Limits."""
+        self.guardian._access_of(self, Kind.ADDH, obj, text=written(value))
 
     def addl(self, obj: Object, value: Value) -> None:
-        """The value becomes the first element, or Limits."""
-        self._access(Kind.ADDL, obj, text=write_value(value))
+        """Adds the value before the first element, or raises Limits."""
+        self.guardian._access_of(self, Kind.ADDL, obj, text=written(value))
 
     def remh(self, obj: Object) -> Any:
-        """Takes the last element away, or Bounds."""
-        return self._access(Kind.REMH, obj)
+        """Removes the last element and returns it, or raises Bounds."""
+        return self.guardian._access_of(self, Kind.REMH, obj)
 
     def reml(self, obj: Object) -> Any:
-        """Takes the first element away, or Bounds, or Limits."""
-        return self._access(Kind.REML, obj)
+        """Removes the first element and returns it, or raises Bounds or Limits."""
+        return self.guardian._access_of(self, Kind.REML, obj)
 
     def set_low(self, obj: Object, low: int) -> None:
-        """The low bound becomes this one, or Limits."""
-        self._access(Kind.SET_LOW, obj, low)
+        """Sets the low bound, or raises Limits."""
+        self.guardian._access_of(self, Kind.SET_LOW, obj, low)
 
     def trim(self, obj: Object, low: int, count: int) -> None:
-        """Keeps the elements from a place on, at most so many, or NegativeSize, Bounds, Limits."""
-        self._access(Kind.TRIM, obj, low, count)
+        """Keeps at most `count` elements, from the place `low` on, or raises NegativeSize, Bounds or Limits."""
+        self.guardian._access_of(self, Kind.TRIM, obj, low, i64(count, "number"))
 
     def change_tag(self, obj: Object, tag: int, value: Value) -> None:
-        """The tag becomes this one, with the value."""
-        self._access(Kind.CHANGE_TAG, obj, tag, text=write_value(value))
+        """Sets the tag, with its value."""
+        self.guardian._access_of(self, Kind.CHANGE_TAG, obj, tag, text=written(value))
 
     def lock(self, obj: Object) -> None:
-        """Takes the write lock, and changes nothing. It comes before reading what will be written."""
-        self._access(Kind.TOUCH, obj)
+        """Takes the write lock, and changes nothing. Call it before you read what you will write."""
+        self.guardian._access_of(self, _TOUCH, obj)
 
     def touch(self, obj: Object) -> None:
         """Another name of `lock`."""

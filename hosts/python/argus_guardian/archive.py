@@ -7,26 +7,27 @@ from collections.abc import Iterator
 from typing import Any
 
 from .errors import Refused, Signal
-from .library import Handle, Question, Ready, Status, bare, load
+from .library import Handle, Question, Ready, Status, address, bare, load, opening, quick
 from .telling import Call, error_of, error_of_call, error_of_question
 from .values import read_content, read_value
 
-# The two that come most often.
+# The two most frequent ones.
 NUMBER, DONE = Status.NUMBER, Status.DONE
-# The line of a commit has no more bytes: two numbers of 20 and 10 digits, and the longest refusal.
+# The most bytes that the line of a commit has: two numbers of 20 and 10 digits, and the longest refusal.
 LINE = 61
 
 
 class Archive:
-    """A guardian, its handle, and what its replies are copied to. Who has it makes one call at a time.
+    """A guardian, its handle, and the buffers for its replies. Its owner makes one call at a time.
 
-    Numbers are as large as the library takes them: ctypes would cut off what is past that.
+    The caller checks that numbers are in the library's range: ctypes would cut off what is beyond it.
     """
 
     def __init__(self) -> None:
         library = load()
-        self._call, self._tell = bare(library, "argus_c_call"), bare(library, "argus_c_tell")
-        self._reply = bare(library, "argus_c_reply")
+        # The call in two forms; the quick one takes `at`.
+        self.call, self._call = quick(library), bare(library, "argus_c_call")
+        self._tell, self._reply = bare(library, "argus_c_tell"), bare(library, "argus_c_reply")
         self._checkpoint, self._close = library.argus_c_checkpoint, library.argus_c_close
         self._abort_live, self._renew = library.argus_c_abort_live, library.argus_c_renew
         self._lines, self._count = library.argus_c_lines, ctypes.c_uint64()
@@ -37,12 +38,13 @@ class Archive:
         # What the calls take, of the types that library.py declares.
         self._handle, self._number, self._size = Handle(), ctypes.c_int64(), ctypes.c_size_t()
         self._ready = Ready()
-        self._handle_at, self._number_at = ctypes.byref(self._handle), ctypes.byref(self._number)
+        self.at, self._handle_at = address(self._handle), ctypes.byref(self._handle)
+        self._number_at = ctypes.byref(self._number)
         self._size_at = ctypes.byref(self._size)
         self._first, self._second, self._entry = ctypes.c_int64(), ctypes.c_int64(), ctypes.c_uint64()
         self._text_size = ctypes.c_size_t()
         self._make_room(256)
-        status = library.argus_c_open(self._handle_at, ctypes.byref(Handle()))
+        status = opening(library)(self._handle_at).status
         if status != Status.DONE:
             raise error_of(status)
 
@@ -50,9 +52,9 @@ class Archive:
         self._close(self._handle_at)
 
     def leave_behind(self) -> None:
-        """Is closed, and its memory is left as it is."""
+        """Closes it without touching its memory."""
         self._handle, self._ready = Handle(), Ready()
-        self._handle_at = ctypes.byref(self._handle)
+        self.at, self._handle_at = address(self._handle), ctypes.byref(self._handle)
 
     def make(
         self, kind: int, action: int = 0, obj: int = 0, first: int = 0, second: int = 0, text: bytes = b""
@@ -75,7 +77,7 @@ class Archive:
         return self._tell(self._handle_at, *given), self._number.value
 
     def abort_live(self) -> int:
-        """The status of an abort of all that is live."""
+        """The status of aborting all live actions."""
         return self._abort_live(self._handle_at)
 
     def fold(self) -> int:
@@ -87,11 +89,11 @@ class Archive:
         return self._renew(self._handle_at)
 
     def ready_commit(self, action: int) -> int:
-        """The status of making the commit of an action ready. Until it is made or cancelled it is closed."""
+        """The status of preparing an action's commit. Until that is made or cancelled the guardian is closed."""
         return self._ready_commit(self._handle_at, self._ready, action)
 
     def ready_line(self) -> str:
-        """The line that the commit is going to be, with its line feed."""
+        """The line that the commit will have, with its line feed."""
         room = ctypes.create_string_buffer(LINE)
         status = self._ready_line(self._ready, room, LINE, self._size_at)
         if status != Status.DONE:
@@ -103,11 +105,11 @@ class Archive:
         return self._make_ready(self._ready, self._handle_at, self._number_at), self._number.value
 
     def cancel_ready(self) -> int:
-        """The status of cancelling the commit that is ready; NOT_OPEN where none is."""
+        """The status of cancelling the commit that is ready; NOT_OPEN if none is."""
         return self._cancel_ready(self._ready, self._handle_at)
 
     def lines(self, entry: int, size: int) -> list[str]:
-        """The journal's lines from an entry on, as many as fit into so many bytes; one at least, if there is one."""
+        """The journal's lines from an entry on, as many as fit into `size` bytes; at least one, if there is one."""
         while True:
             room = ctypes.create_string_buffer(size)
             status = self._lines(self._handle_at, entry, room, size, self._size_at, ctypes.byref(self._count))
@@ -119,14 +121,14 @@ class Archive:
         return room.raw[: self._size.value].decode().split("\n")[:-1]
 
     def take(self, text: bytes) -> tuple[int, int, int]:
-        """The status and the number with which lines of a journal are taken, and how many were."""
+        """Takes lines of a journal: the status, its number, and how many lines were taken."""
         lines = ctypes.c_size_t()
         given = text, len(text), self._size_at, ctypes.byref(lines), self._number_at
         status = self._resume(self._handle_at, *given)
         return status, self._number.value, lines.value
 
     def resumed(self) -> tuple[int, int]:
-        """The status with which the guardian of these lines is made, and how many bytes of them were let go."""
+        """Makes the guardian of these lines: the status, and how many bytes of them were dropped."""
         status = self._resumed(self._handle_at, ctypes.byref(self._count))
         return status, self._count.value
 
@@ -135,7 +137,7 @@ class Archive:
         return self._text().decode()
 
     def answer(self, status: int, number: int, call: Call) -> Any:
-        """What a call answers, by its status and its number. Raises what they say."""
+        """The result of a call, from its status and its number. Raises the exception that they mean."""
         if status == NUMBER:
             return number
         if status == DONE:
@@ -151,16 +153,16 @@ class Archive:
         raise error_of_call(status, number, call)
 
     def answers(self, outcomes: list[tuple[int, int]], calls: list[Call]) -> list[Any]:
-        """What the calls of a list that were made answer, a Refused and a Signal among them.
+        """The results of the calls of a list that were made; a Refused or a Signal is a result here.
 
-        The outcomes are statuses with their numbers. What they say is kept until the next call.
+        The outcomes are statuses with their numbers. The library keeps their texts until the next call.
         """
         has_text = any(status in (Status.VALUE, Status.CONTENT) for status, _ in outcomes)
         lines = iter(self._text().split(b"\n") if has_text else [])
         return [self._answer_in(lines, *it, call) for it, call in zip(outcomes, calls)]
 
     def _answer_in(self, lines: Iterator[bytes], status: int, number: int, call: Call) -> Any:
-        """What a call of a list answers, of which the next of these lines may be the text."""
+        """The result of a call of a list; its text, if it has one, is the next of these lines."""
         if status == Status.VALUE:
             return _value(next(lines))
         if status == Status.CONTENT:
@@ -171,7 +173,7 @@ class Archive:
             return error.with_traceback(None)
 
     def told(self, question: int, action: int = 0, obj: int = 0, entry: int = 0) -> Any:
-        """What a question tells: a text, a number, an action or a flag. Raises what its status says."""
+        """The result of a question: a text, a number, an action or a flag. Raises the exception of its status."""
         status, number = self.ask(question, action, obj, entry)
         if status == Status.TEXT:
             return self._text().decode()
@@ -182,7 +184,7 @@ class Archive:
         raise error_of_question(status, number, question, entry, obj)
 
     def _text(self) -> bytes:
-        """The text that the library keeps. OutOfMemory here comes after a call that was made."""
+        """The text that the library keeps. OutOfMemory here is raised after a call that was made."""
         status = self._reply(self._handle_at, self._room, self._room_size, self._size_at)
         if status == Status.TOO_SMALL:
             self._make_room(self._size.value)
@@ -197,7 +199,7 @@ class Archive:
 
 
 def _value(written: bytes) -> Any:
-    """The value that the library has written so. Most are short texts."""
+    """The value of this written form, which the library wrote. Most are short texts."""
     if written[:1] == b'"' and b"\\" not in written:
         return written[1:-1].decode()
     return None if written == b"null" else read_value(written.decode())

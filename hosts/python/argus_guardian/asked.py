@@ -1,4 +1,4 @@
-"""`Asked`: what a guardian is asked without an entry in the journal."""
+"""`Asked`: questions to a guardian, which make no entry in the journal."""
 
 from __future__ import annotations
 
@@ -20,17 +20,17 @@ _STATUSES = "live", "committed", "aborted", "folded"
 
 
 class Asked:
-    """What a guardian is asked without an entry in the journal. A `Guardian` tells it."""
+    """Questions to a guardian, which make no entry in the journal. A `Guardian` implements `_tell`."""
 
     # How many actions a guardian begins until it is renewed.
     MAX_ACTIONS = 1_000_000
 
     def __init__(self) -> None:
-        # The shapes of objects, by their numbers, as far as they were asked for.
+        # The shapes of objects, by their numbers; those that were asked for.
         self._shapes: dict[int, Shape] = {}
 
     def _tell(self, question: int, obj: int = 0, entry: int = 0, action: int = 0) -> Any:
-        """What a question tells."""
+        """The result of a question."""
         raise NotImplementedError
 
     @property
@@ -49,7 +49,7 @@ class Asked:
         return self.MAX_ACTIONS - self.actions
 
     def status(self, action: int) -> str | None:
-        """What has become of an action: `live`, `committed`, `aborted` or `folded`; None where it isn't begun.
+        """The state of an action: `live`, `committed`, `aborted` or `folded`; None if it isn't begun.
 
         One that was over at the last checkpoint is `folded`.
         """
@@ -59,7 +59,7 @@ class Asked:
             return None
 
     def live(self, start: int = 0) -> int | None:
-        """The first live action, of those from this number on."""
+        """The first live action from this number on; None if there is none."""
         try:
             return self._tell(Question.FIRST_LIVE, action=u32(start, "action"))
         except errors.NotThere:
@@ -67,7 +67,7 @@ class Asked:
 
     @property
     def first_entry(self) -> int:
-        """The number of the journal's first entry: that which was next at the last checkpoint."""
+        """The number of the journal's first entry: the number that was next at the last checkpoint."""
         return self._tell(Question.FIRST_ENTRY)
 
     @property
@@ -76,7 +76,7 @@ class Asked:
         return self._tell(Question.ENTRIES)
 
     def base(self, obj: Object) -> Any:
-        """What is in the object for good; None where it has no content yet."""
+        """The object's base: what the committed topactions have left in it; None if it has no content yet."""
         return read_content(self._tell(Question.BASE, obj=object_number(obj)))
 
     def shape(self, obj: Object) -> str:
@@ -84,29 +84,29 @@ class Asked:
         return self._tell(Question.SHAPE, obj=object_number(obj))
 
     def shape_of(self, obj: Object) -> Shape:
-        """The same, read: its kind and its names. An object keeps its shape, so it is asked for once."""
+        """The same, parsed: its kind and its names. An object keeps its shape, so it is asked for once."""
         number = object_number(obj)
         if number not in self._shapes:
             self._shapes[number] = read_shape(self.shape(number))
         return self._shapes[number]
 
     def get(self, obj: Object) -> Any:
-        """What is in a record for good, with its fields by name: `guardian.get(seat).taken`; None as of `base`."""
+        """A record's base, with its fields by name: `guardian.get(seat).taken`; None as for `base`."""
         content = self.base(obj)
         return content if content is None else self.shape_of(obj).named(content)
 
     def readers(self, obj: Object) -> list[int]:
-        """Who holds the object for reading, in increasing number."""
+        """The actions that hold the object for reading, in increasing number."""
         return actions_of(self._tell(Question.READERS, obj=object_number(obj)))
 
     def versions(self, obj: Object) -> list[tuple[int, Any]]:
-        """Who holds the object for writing, from ancestor to descendant, each with what it sees."""
+        """The actions that hold the object for writing, from ancestor to descendant, each with what it sees."""
         lines = _lines(self._tell(Question.VERSIONS, obj=object_number(obj)))
         pairs = (line.split(" ", 1) for line in lines)
         return [(int(holder[1:]), read_content(content)) for holder, content in pairs]
 
     def entry(self, number: int) -> str:
-        """The line of a journal's entry. NotThere where a checkpoint has folded it."""
+        """The line of a journal's entry. NotThere if a checkpoint has folded it."""
         return self._tell(Question.ENTRY, entry=within(number, 0, U64, "entry"))
 
     def list(self, listing: str) -> str:
@@ -115,10 +115,10 @@ class Asked:
 
 
 def actions_of(text: str) -> list[int]:
-    """The numbers of actions, of which each begins a line, as a7."""
+    """The numbers of the actions with which the lines begin, as in a7."""
     return [int(line.split(" ", 1)[0][1:]) for line in _lines(text)]
 
 
 def _lines(text: str) -> list[str]:
-    """The lines of a text. A line feed alone ends one: texts in values may hold other ends of lines."""
+    """The lines of a text. Only a line feed ends one: texts in values may have other ends of lines."""
     return [line for line in text.split("\n") if line]

@@ -1,8 +1,8 @@
-"""The exceptions: why a call didn't give what it was asked for."""
+"""The exceptions: why a call failed."""
 
 
 class ArgusError(Exception):
-    """Of all that this package raises. `str` says what was wanted, and why that isn't so."""
+    """The base of all exceptions of this package. `str` says what the call wanted, and why it failed."""
 
     why = "not as wanted"
 
@@ -11,13 +11,13 @@ class ArgusError(Exception):
 
 
 class OutOfMemory(ArgusError, MemoryError):
-    """Memory was wanted that isn't there. Nothing has changed, and nothing was journalled."""
+    """Out of memory. Nothing has changed, and nothing was journalled."""
 
     why = "out of memory"
 
 
 class BadText(ArgusError, ValueError):
-    """A text is no written form; `at` is how many of its bytes could be read. Nothing was journalled."""
+    """A text isn't a written form; `at` is how many of its bytes could be read. Nothing was journalled."""
 
     def __init__(self, at: int) -> None:
         super().__init__(at)
@@ -28,7 +28,7 @@ class BadText(ArgusError, ValueError):
 
 
 class BadShape(ArgusError, ValueError):
-    """A text is no written form of a shape that can be made. Nothing was journalled."""
+    """A text isn't the written form of a shape that can be made. Nothing was journalled."""
 
     why = "no written form of a shape"
 
@@ -46,7 +46,7 @@ class BadKind(ArgusError, ValueError):
 
 
 class BadLine(ArgusError, ValueError):
-    """A line isn't the next one of a guardian's journal; `line` is how many came before it, `reason` why it isn't."""
+    """A line isn't the next one of a guardian's journal; `line` is how many came before it, `reason` says why."""
 
     def __init__(self, line: int, reason: str) -> None:
         super().__init__(line, reason)
@@ -57,13 +57,13 @@ class BadLine(ArgusError, ValueError):
 
 
 class NotBegun(ArgusError, LookupError):
-    """Of a call of a list: `begun_by` names no earlier one, or one that began no action. It wasn't journalled."""
+    """For a call of a list: `begun_by` names no earlier one, or one that began no action. It wasn't journalled."""
 
     why = "no earlier call of the list began this action"
 
 
 class BadDemand(ArgusError, ValueError):
-    """Of a call of a list: no demand has this number. It wasn't journalled."""
+    """For a call of a list: no demand has this number. It wasn't journalled."""
 
     why = "no demand has this number"
 
@@ -75,7 +75,7 @@ class NotThere(ArgusError, LookupError):
 
 
 class Closed(ArgusError):
-    """The guardian is closed, or was opened by a process from which this one was forked."""
+    """The guardian is closed, or was opened by a process that this one was forked from."""
 
     why = "the guardian is closed, or it is that of the process from which this one was forked"
 
@@ -93,7 +93,7 @@ class Full(ArgusError):
 
 
 class UnknownStatus(ArgusError):
-    """The library answered a number that this package doesn't know: they are of two versions."""
+    """The library returned a status that this package doesn't know: their versions differ."""
 
     def __str__(self) -> str:
         return "the library answered {}".format(*self.args)
@@ -136,7 +136,7 @@ class IllTyped(Refused):
 
 
 class Conflict(Refused):
-    """An action that is no ancestor holds a lock against this one."""
+    """An action that isn't an ancestor holds a lock that conflicts with this one's."""
 
     why = "another action holds the object"
 
@@ -160,7 +160,7 @@ class NoSiblings(Refused):
 
 
 class Signal(ArgusError):
-    """What an operation says in place of its answer. The content is as before; the lock was granted."""
+    """Why an operation changed nothing, in place of its answer. The lock was granted all the same."""
 
     why = "signalled"
 

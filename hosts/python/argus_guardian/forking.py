@@ -1,7 +1,7 @@
-"""What becomes of guardians in a forked process.
+"""Guardians in a forked process.
 
-The child has a copy of each, maybe in the midst of a call of a thread that it hasn't got. So they are
-closed there, and their memory is left as it is.
+The child has a copy of each, maybe in the middle of a call of a thread that the child hasn't got. So
+they are closed there, and their memory isn't touched.
 """
 
 from __future__ import annotations
@@ -17,7 +17,7 @@ _OPEN: weakref.WeakSet[Guardian] = weakref.WeakSet()
 
 
 def add(guardian: Guardian) -> None:
-    """From now on the guardian is closed in each process that is forked."""
+    """From now on each forked process closes the guardian."""
     _OPEN.add(guardian)
 
 
@@ -26,6 +26,6 @@ def _close_all() -> None:
         guardian._leave_behind()
 
 
-# Where there is no fork, there is nothing to do.
+# Without fork, there is nothing to do.
 if hasattr(os, "register_at_fork"):
     os.register_at_fork(after_in_child=_close_all)

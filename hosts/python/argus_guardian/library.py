@@ -1,4 +1,4 @@
-"""The library, as `argus.h` has it: what it exports, and the numbers that it speaks in."""
+"""The library, as `argus.h` declares it: its exports, and the numbers of statuses, calls and questions."""
 
 from __future__ import annotations
 
@@ -6,7 +6,21 @@ import ctypes
 import os
 from collections.abc import Callable
 from pathlib import Path
-from typing import Any
+from typing import Any, TypeAlias
+
+from .ranges import U32, i64, u32
+
+try:
+    from . import _call
+except ImportError:
+    _call = None  # type: ignore[assignment]
+
+QuickCall: TypeAlias = "Callable[[Any, int, int, int, int, int, bytes], int | tuple[int, int] | None]"
+
+# Numbers and sizes as ctypes passes them: making one takes longer than finding it here.
+_MANY = 256
+_NUMBERS = tuple(map(ctypes.c_int64.from_param, range(_MANY)))
+_SIZES = tuple(map(ctypes.c_size_t.from_param, range(_MANY)))
 
 NAME = "libargus.so.0"
 # The version of the library that belongs to this package, in one number.
@@ -14,19 +28,25 @@ VERSION_NUMBER = 100
 
 
 class Handle(ctypes.Structure):
-    """The handle of a guardian, which the library fills in. All zero is a closed one."""
+    """The handle of a guardian, which the library fills in. All zero: closed."""
 
     _fields_ = [("mark", ctypes.c_uint32), ("at", ctypes.c_void_p)]
 
 
+class Answer(ctypes.Structure):
+    """A status with its number."""
+
+    _fields_ = [("status", ctypes.c_uint32), ("number", ctypes.c_int64)]
+
+
 class Ready(ctypes.Structure):
-    """The handle of a guardian whose commit is ready. All zero is none."""
+    """The handle of a guardian whose commit is ready. All zero: none."""
 
     _fields_ = [("mark", ctypes.c_uint32), ("at", ctypes.c_void_p)]
 
 
 class ListedCall(ctypes.Structure):
-    """One call of a list, with what came of it."""
+    """One call of a list, with its outcome."""
 
     _fields_ = [
         ("kind", ctypes.c_uint32),
@@ -44,7 +64,7 @@ class ListedCall(ctypes.Structure):
 
 
 class Status:
-    """What came of a call."""
+    """The outcome of a call."""
 
     DONE, OBJECT, ACTION, NUMBER, FLAG, VALUE, CONTENT, TEXT, SIGNAL, REFUSED = range(10)
     NO_MEMORY, NOT_OPEN, NOT_UTF8, BAD_TEXT, BAD_SHAPE, BAD_NUMBER, BAD_KIND = range(10, 17)
@@ -55,7 +75,7 @@ class Status:
 
 
 class Demand:
-    """What the answer of a call of a list must be for the calls after it to be made."""
+    """What the reply to a call of a list must be for the list to go on."""
 
     NO_REFUSAL, NOTHING, NO_SIGNAL = range(3)
 
@@ -78,14 +98,14 @@ class Question:
 
 
 class ActionStatus:
-    """What has become of an action."""
+    """The state of an action."""
 
     LIVE, COMMITTED, ABORTED, FOLDED = range(1, 5)
 
 
 def where() -> str:
-    """The shared object that `ARGUS_LIBRARY` names; or else the one in this folder, where pip puts it, that of
-    the repository's dist/, or that which the system's loader finds."""
+    """The shared object that `ARGUS_LIBRARY` names; otherwise the one in this folder, where pip puts it, or in
+    the repository's dist/, or the one that the system's loader finds."""
     here = Path(__file__).resolve().parent
     places = [here, *(above / "dist/lib" for above in here.parents[2:3])]
     found = (str(place / NAME) for place in places if (place / NAME).is_file())
@@ -93,7 +113,7 @@ def where() -> str:
 
 
 def load() -> ctypes.CDLL:
-    """The library, with what its calls take. OSError where it isn't to be had, or is of another version."""
+    """The library, with the types of its calls' arguments. OSError if it can't be loaded, or has another version."""
     try:
         library = ctypes.CDLL(where())
     except OSError as error:
@@ -131,12 +151,57 @@ def load() -> ctypes.CDLL:
     return library
 
 
-def bare(library: ctypes.CDLL, name: str) -> Callable[..., Any]:
-    """A call to which ctypes hands what it is given as it is: whoever calls it gives the declared types.
+def opening(library: ctypes.CDLL) -> Callable[..., Answer]:
+    """argus_open. It keeps the interpreter's lock, so that no Python thread forks while it holds a mutex."""
+    call = ctypes.PyDLL(library._name).argus_open
+    call.argtypes, call.restype = (ctypes.POINTER(Handle),), Answer
+    return call
 
-    Kinds, actions and objects are an int of 32 bits, all else is of a type of ctypes. To turn each into
-    what is declared takes longer than most calls.
+
+def bare(library: ctypes.CDLL, name: str) -> Callable[..., Any]:
+    """A call whose arguments ctypes passes on unchanged: the caller passes the declared types.
+
+    Kinds, actions and objects are an int of 32 bits, all others are of a ctypes type. To convert each
+    to its declared type would take longer than most calls.
     """
     call = library[name]
     call.restype = ctypes.c_uint32
+    return call
+
+
+def address(handle: Handle) -> Any:
+    """The address of a handle, as the quick call takes it."""
+    return ctypes.byref(handle) if _call is None else ctypes.addressof(handle)
+
+
+def quick(library: ctypes.CDLL) -> QuickCall:
+    """argus_c_call, fast: by `_call.c`, which pip builds if it can, otherwise by ctypes.
+
+    It takes a guardian as `address` returns it, a kind, an action and an object, two numbers and a text.
+    It returns None if the call is done, an integer if that is the reply, otherwise the status with its
+    number. OverflowError and TypeError as in `u32` and `i64`: then no call was made.
+    """
+    if _call is None:
+        return _by_ctypes(library)
+    return _call.of(ctypes.cast(library.argus_c_call, ctypes.c_void_p).value or 0)
+
+
+def _by_ctypes(library: ctypes.CDLL) -> QuickCall:
+    """The same by ctypes. Other Python threads may go on during a call with a long text."""
+    short, long = bare(ctypes.PyDLL(library._name), "argus_c_call"), bare(library, "argus_c_call")
+    told = ctypes.c_int64()
+    told_at, zero, done, number = ctypes.byref(told), _NUMBERS[0], Status.DONE, Status.NUMBER
+
+    def call(guardian: Any, kind: int, action: int, obj: int, first: int, second: int, text: bytes) -> Any:
+        if len(text) < _MANY and 0 <= obj <= U32 and type(first) is int and 0 <= first < _MANY and second == 0:
+            size = _SIZES[len(text)]
+            status = short(guardian, kind, action, obj, _NUMBERS[first], zero, text, size, told_at)
+        else:
+            numbers = ctypes.c_int64(i64(first, "number")), ctypes.c_int64(i64(second, "number"))
+            size = ctypes.c_size_t(len(text))
+            status = long(guardian, kind, action, u32(obj, "object"), *numbers, text, size, told_at)
+        if status == done:
+            return None
+        return told.value if status == number else (status, told.value)
+
     return call

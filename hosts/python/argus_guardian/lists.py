@@ -12,10 +12,10 @@ from .values import Object, object_number
 
 
 class Listed(NamedTuple):
-    """One call of a list: a Kind, and what goes with it.
+    """One call of a list: a Kind, and its arguments.
 
     With `begun_by` its action is the one that the call at this place of the list, from 0, began. The
-    calls after it are made where its answer is as demanded: no refusal, or by another Demand.
+    list goes on if the reply is what the demand says: by default, no refusal.
     """
 
     kind: int
@@ -29,10 +29,11 @@ class Listed(NamedTuple):
 
 
 class CallsMade(NamedTuple):
-    """What came of a list of calls.
+    """The outcome of a list of calls.
 
-    What each call that was made answers, a Refused or a Signal among them; and why no more were made:
-    None where all were, else the last answer, or the exception of the call that failed.
+    `answers` has the result of each call that was made; a Refused or a Signal is a result here. `end` is
+    why no more were made: None if all were, otherwise the last answer, or the exception of the call that
+    failed.
     """
 
     answers: list[Any]
@@ -40,7 +41,7 @@ class CallsMade(NamedTuple):
 
 
 def array_of(calls: list[Listed]) -> Any:
-    """The calls as the library takes them, each with its text. Raises as `Guardian.call` does."""
+    """The calls as the library takes them, each with its text. Raises what `Guardian.call` does."""
     array = (ListedCall * len(calls))()
     for place, call in enumerate(calls):
         array[place] = _listed_call(call)
@@ -63,7 +64,7 @@ def _listed_call(call: Listed) -> ListedCall:
 
 
 def calls_of(made: Any) -> list[Call]:
-    """Of the calls that were made, each with its action's number, as `Guardian.call` makes it."""
+    """The calls that were made, each with its action's number, as `Guardian.call` has them."""
     return [(it.kind, _action_of(it, made), it.object, it.first, it.second) for it in made]
 
 

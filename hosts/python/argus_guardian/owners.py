@@ -1,53 +1,36 @@
-"""`Owners`: which actions of a guardian somebody still has."""
+"""`Owners`: which actions of a guardian the program still has a reference to."""
 
 from __future__ import annotations
 
 import collections
-import weakref
-from collections.abc import Callable, Iterator
-from typing import TYPE_CHECKING, Any
+from collections.abc import Iterator
+from typing import TYPE_CHECKING
+from weakref import ref
 
 if TYPE_CHECKING:
     from .action import Action
 
 
-class _Owner(weakref.ref["Action"]):
-    """A reference to an `Action` that doesn't keep it, with the action's number."""
-
-    __slots__ = ("number",)
-    number: int
-
-
 class Owners:
-    """The live actions of a guardian, and those that nobody has any more and nobody has ended.
+    """The live actions of a guardian, and those that were dropped without an end.
 
-    An `Action` may go without its end: forgotten, or where an interrupt (Ctrl-C) comes between its
-    begin and its `with` block. Then its number is `dropped`. This is noted by a function of the
-    interpreter, not by a `__del__`, in which an interrupt would be lost.
+    The program may drop an `Action` without ending it: it forgot it, or an interrupt (Ctrl-C) came
+    between its begin and its `with` block. Then the weak reference to it goes to `dropped`. A function of
+    the interpreter puts it there, not a `__del__`, in which an interrupt would be lost.
     """
 
     def __init__(self) -> None:
-        self._live: dict[int, _Owner] = {}
-        self.dropped: collections.deque[_Owner] = collections.deque()
-
-    def add(self, action: Action) -> None:
-        drop: Callable[[Any], None] = self.dropped.append
-        owner = _Owner(action, drop)
-        owner.number = action.number
-        self._live[action.number] = owner
-
-    def remove(self, number: int) -> None:
-        self._live.pop(number, None)
-
-    def forget(self) -> None:
-        """Nobody has any: those that were begun are over, and their numbers are given anew."""
-        self._live.clear()
+        # By their numbers. `drop` is called for each weak reference when its action is dropped.
+        self.live: dict[int, ref[Action]] = {}
+        self.dropped: collections.deque[ref[Action]] = collections.deque()
+        self.drop = self.dropped.append
 
     def take_dropped(self) -> Iterator[int]:
-        """The numbers that were dropped. Each is told until it is removed."""
+        """The numbers of the dropped actions. Each is yielded until it is removed."""
+        numbers = {id(owner): number for number, owner in self.live.items()}
         while self.dropped:
-            owner = self.dropped[0]
-            if self._live.get(owner.number) is owner:
-                yield owner.number
-            self.remove(owner.number)
+            number = numbers.get(id(self.dropped[0]))
+            if number is not None:
+                yield number
+                self.live.pop(number, None)
             self.dropped.popleft()

@@ -1,4 +1,4 @@
-"""Which numbers the library takes. ctypes would cut off what is past them."""
+"""Which numbers the library takes. ctypes would cut off what is beyond them."""
 
 from operator import index
 from typing import SupportsIndex
@@ -12,7 +12,7 @@ BYTE = 2**8 - 1
 
 
 def within(number: SupportsIndex, low: int, high: int, what: str) -> int:
-    """The number, an int. OverflowError where it isn't within these bounds, TypeError where it is none."""
+    """The number as an int. OverflowError if it isn't within these bounds, TypeError if it isn't an integer."""
     plain = index(number)
     if low <= plain <= high:
         return plain

@@ -1,4 +1,4 @@
-"""`ReadyCommit`: a commit for which all is at hand."""
+"""`ReadyCommit`: a prepared commit."""
 
 from __future__ import annotations
 
@@ -15,9 +15,9 @@ if TYPE_CHECKING:
 
 
 class ReadyCommit:
-    """A commit for which all is at hand, so that it is in a log before anybody can see what it leaves.
+    """A prepared commit, so that it is in a log before anybody can see what it leaves.
 
-    `Action.ready_commit` gives it to a `with` block. `line` is the line that it is going to be in the
+    `Action.ready_commit` makes one for a `with` block. `line` is the line that the commit will have in the
     journal's listing, with its line feed.
     """
 
@@ -25,9 +25,9 @@ class ReadyCommit:
         self._action, self.line = action, line
 
     def make(self) -> None:
-        """Makes the commit, which takes no memory. Where it is refused it raises that: the journal keeps it.
+        """Makes the commit, which takes no memory. If it is refused, raises that; the journal has the refusal.
 
-        Once it was made, Closed.
+        A second call raises Closed.
         """
         action = self._action
         guardian = action.guardian
@@ -40,7 +40,7 @@ class ReadyCommit:
 
 @contextmanager
 def ready_commit(action: Action) -> Iterator[ReadyCommit]:
-    """The commit of the action, ready as long as the block lasts. The guardian's lock is held."""
+    """The commit of the action, ready as long as the block lasts. The guardian's mutex is held."""
     guardian = action.guardian
     archive = guardian._archive
     with guardian._lock:
@@ -52,5 +52,5 @@ def ready_commit(action: Action) -> Iterator[ReadyCommit]:
                 raise error_of(status)
             yield ReadyCommit(action, archive.ready_line())
         finally:
-            # Once it was made there is nothing to cancel, and this does nothing.
+            # If it was made there is nothing to cancel, and this does nothing.
             archive.cancel_ready()

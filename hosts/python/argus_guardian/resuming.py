@@ -1,4 +1,4 @@
-"""`resume`: a guardian, made again from the lines of its journal."""
+"""`resume`: restores a guardian from the lines of its journal."""
 
 from __future__ import annotations
 
@@ -10,7 +10,7 @@ from .guardian import Guardian
 from .library import Status
 from .telling import error_of
 
-# So many bytes of lines are handed over at once, or one more line.
+# A piece ends with the line that reaches so many bytes.
 _PIECE = 65536
 _WHYS = {
     Status.NOT_UTF8: "not UTF-8 from byte {} on",
@@ -22,22 +22,23 @@ _WHYS = {
 
 
 def resume(lines: Iterable[str], patience: float = 1.0) -> Guardian:
-    """The guardian whose journal's listing has these lines, with their line feeds or without.
+    """The guardian whose journal's listing has these lines, with or without their line feeds.
 
         with open("bank.journal", encoding="utf-8", newline="\\n") as listing:
             guardian = resume(listing)
 
-    The listing is that of `Guardian.list("journal")`: after a checkpoint it begins with lines of what the
-    objects hold, and then come those of the entries, which `Guardian.lines` gives. Each entry's call is
-    made again, and its reply compared with the line's: so the guardian's journal has these lines.
-    Actions that are live in it have nobody who ends them; `abort_live` does.
+    The listing is that of `Guardian.list("journal")`: after a checkpoint it begins with lines that say what
+    the objects hold, and then come the lines of the entries, which `Guardian.lines` returns. Each entry's
+    call is made again, and its reply compared with the line's: so the guardian's journal has these lines.
+    Actions that are live in it stay live until `abort_live`.
 
-    BadLine where a line isn't the next one of a guardian's journal, or has a line feed within it;
-    OutOfMemory. No guardian is left then.
+    Raises BadLine if a line isn't the next one of a guardian's journal, or has a line feed within it, or
+    OutOfMemory. Then there is no guardian.
     """
     guardian = Guardian(patience)
     try:
         _take_all(guardian._archive, lines)
+        guardian._begun = guardian.actions
     except BaseException:
         guardian.close()
         raise
@@ -63,7 +64,7 @@ def _take_all(archive: Archive, lines: Iterable[str]) -> None:
 
 
 def _pieces(lines: Iterable[str]) -> Iterator[bytes]:
-    """The lines with their line feeds, many at once."""
+    """The lines with their line feeds, many in each piece."""
     piece = bytearray()
     for number, line in enumerate(lines):
         text = line.removesuffix("\n")

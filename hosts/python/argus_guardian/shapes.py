@@ -7,13 +7,13 @@ from typing import Any, NamedTuple
 
 
 class Shape(NamedTuple):
-    """A `record`, an `array` or a `variant`; of a record the names of its fields, of a variant those of its tags."""
+    """A `record`, an `array` or a `variant`, with the names of a record's fields or of a variant's tags."""
 
     kind: str
     names: tuple[str, ...]
 
     def number(self, name: str) -> int:
-        """The number of a field or tag. AttributeError where there is none of this name."""
+        """The number of a field or tag. AttributeError if none has this name."""
         if name in self.names:
             return self.names.index(name)
         raise AttributeError(f"no {name!r} among {', '.join(self.names) or 'no names'}")
@@ -25,14 +25,14 @@ class Shape(NamedTuple):
 
 
 def read_shape(text: str) -> Shape:
-    """The shape of a written form that the library has given, as `atomic_record[balance:int]`."""
+    """The shape of a written form from the library, such as `atomic_record[balance:int]`."""
     word, _, inside = text.removeprefix("atomic_").partition("[")
     names = [] if word == "array" else [part.partition(":")[0] for part in _parted(inside[:-1])]
     return Shape(word, tuple(names))
 
 
 def _parted(text: str) -> list[str]:
-    """The parts between commas that stand in no bracket."""
+    """The parts between commas that aren't in brackets."""
     parts, depth, start = [], 0, 0
     for at, character in enumerate(text):
         depth += (character == "[") - (character == "]")

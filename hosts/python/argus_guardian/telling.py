@@ -1,4 +1,4 @@
-"""What an exception says of the call that it comes of."""
+"""What an exception says about the call that raised it."""
 
 from __future__ import annotations
 
@@ -7,7 +7,7 @@ from typing import Any, TypeAlias
 from . import errors
 from .library import Kind, Question, Status
 
-# A kind, and in their order what comes behind it of an action, an object, two numbers and a text.
+# A kind, and after it, in this order, as many as are needed of an action, an object, two numbers and a text.
 Call: TypeAlias = "tuple[Any, ...]"
 
 _NAMES: dict[int, str] = {number: name.lower() for name, number in vars(Kind).items() if name.isupper()}
@@ -39,21 +39,21 @@ _ERRORS: dict[int, type[errors.ArgusError]] = {
 
 
 def deed(kind: int, action: int = 0, obj: int = 0, *_: object) -> str:
-    """What the call wants, as `a7 wants to write o3`."""
+    """What the call wants, as in `a7 wants to write o3`."""
     if kind > Kind.TEST_WRITE:
         kind = Kind.TEST_READ if kind < Kind.CREATE else Kind.TEST_WRITE
     return _DEEDS[kind].format(action, obj)
 
 
 def _operation(kind: int, action: int, obj: int, first: int = 0, second: int = 0, *_: object) -> str:
-    """The operation of an access, as `set_field 0`."""
+    """The operation of an access, as in `set_field 0`."""
     if kind in _NUMBERED:
         return f"{_NAMES[kind]} {first}"
     return f"trim {first} {second}" if kind == Kind.TRIM else _NAMES[kind]
 
 
 def error_of_call(status: int, number: int, call: Call) -> errors.ArgusError:
-    """What the status and the number of a call say, as an exception."""
+    """The exception for the status and the number of a call."""
     if status == Status.REFUSED and 1 <= number <= len(errors.REFUSALS):
         refused = errors.REFUSALS[number - 1]
         operation = f" by {_operation(*call)}" if refused is errors.IllTyped else ""
@@ -67,7 +67,7 @@ def error_of_call(status: int, number: int, call: Call) -> errors.ArgusError:
 def error_of_question(
     status: int, number: int, question: int, entry: int = 0, obj: int = 0
 ) -> errors.ArgusError:
-    """What the status and the number of a question say, as an exception."""
+    """The exception for the status and the number of a question."""
     if status == Status.NOT_THERE and question == Question.ENTRY:
         return errors.NotThere(f"entry {entry} isn't there, or not any more")
     if status == Status.NOT_THERE:
@@ -76,7 +76,7 @@ def error_of_question(
 
 
 def error_of(status: int, number: int = 0) -> errors.ArgusError:
-    """What a status and a number say of themselves, as an exception."""
+    """The exception for a status and a number alone."""
     if status == Status.BAD_TEXT:
         return errors.BadText(number)
     if status in _ERRORS:

@@ -1,4 +1,4 @@
-"""Values and contents, written and read.
+"""Values and contents, and how they are written and read.
 
     null     None              a struct      a tuple
     bool     bool              a sequence    a list
@@ -6,7 +6,7 @@
     text     str               a reference   Ref(number)
 
 A record's content is a tuple, an array's an Array(low, items), a variant's a Choice. Fields and tags
-are numbered from 0, in the order of their type.
+are numbered from 0, in the order in which their type has them.
 """
 
 from __future__ import annotations
@@ -21,7 +21,7 @@ from .ranges import BYTE, LEAST, MOST, U32, i64, u32, within
 
 MAX_DEPTH = 16
 
-# What is taken as a value, a content and an object. What is given back is Any: its type is the shape's.
+# What is accepted as a value, a content and an object. What is returned is Any: its type depends on the shape.
 Value: TypeAlias = "None | bool | int | str | Ref | Choice | tuple[Value, ...] | list[Any]"
 Content: TypeAlias = "Choice | Array | tuple[Value, ...]"
 Object: TypeAlias = "int | Ref"
@@ -30,18 +30,18 @@ _Read = TypeVar("_Read")
 
 @dataclass(frozen=True, order=True)
 class Ref:
-    """A reference to an object. A call takes it in place of the object's number."""
+    """A reference to an object. A call accepts it in place of the object's number."""
 
     number: int
 
 
 def _is_same(one: tuple[Any, ...], other: object) -> bool:
-    """Whether both are of one kind and equal. A tuple is a struct, and neither a choice nor an array."""
+    """Whether both are of the same kind and equal. A tuple is a struct, not a choice or an array."""
     return type(one) is type(other) and tuple.__eq__(one, other)
 
 
 class Choice(NamedTuple):
-    """A tag of a oneof or of a variant, and what goes with it."""
+    """A tag of a oneof or of a variant, and its value."""
 
     tag: int
     value: Any
@@ -70,14 +70,14 @@ class Array(NamedTuple):
 
 
 def object_number(obj: Object) -> int:
-    """The number of an object, which may be named by a Ref. TypeError and OverflowError where it is none."""
+    """The number of an object, which may be given as a Ref. TypeError or OverflowError if it isn't one."""
     return u32(obj.number if isinstance(obj, Ref) else obj, "object")
 
 
 def write_value(value: Value) -> str:
-    """The written form of a value. TypeError where it is of no type that a value has.
+    """The written form of a value. TypeError if no value has its type.
 
-    OverflowError where an integer has more than 64 bits, or a number is none of a tag or an object.
+    OverflowError if an integer has more than 64 bits, or if the number of a tag or an object is out of range.
     """
     if value is None:
         return "null"
@@ -98,8 +98,15 @@ def write_value(value: Value) -> str:
     raise TypeError(f"no value: {value!r}")
 
 
+def written(value: Value) -> bytes:
+    """The written form of a value, in UTF-8. Integers are the most frequent."""
+    if type(value) is int and LEAST <= value <= MOST:
+        return b"%d" % value
+    return write_value(value).encode()
+
+
 def write_content(content: Content) -> str:
-    """The written form of a content. TypeError and OverflowError as of `write_value`."""
+    """The written form of a content. TypeError and OverflowError as in `write_value`."""
     if isinstance(content, Array):
         return f"{i64(content.low, 'low bound')}[{_joined(content.items)}]"
     if isinstance(content, tuple):
@@ -112,23 +119,23 @@ def _joined(values: Iterable[Value]) -> str:
 
 
 def read_value(text: str) -> Any:
-    """The value of a written form. BadText where it is none."""
+    """The value of a written form. BadText if it isn't one."""
     return _Reader(text).whole(lambda it: it.value(1))
 
 
 def read_content(text: str) -> Any:
-    """The content of a written form, None for `absent`. BadText where it is neither."""
+    """The content of a written form, None for `absent`. BadText if it is neither."""
     return _Reader(text).whole(_Reader.content)
 
 
 class _Reader:
-    """What is left to read of a text. A reading call raises _Stop where it can't go on."""
+    """The rest of a text that is being read. A method that can't go on raises _Stop."""
 
     INT = re.compile(r"0|-?[1-9][0-9]*")
     NAT = re.compile(r"0|[1-9][0-9]*")
-    # Each character is taken in one way alone, so there is nothing to try again.
+    # Each character can be matched in one way only, so the match never backtracks.
     TEXT = re.compile(r'"[^"\\\n]*(?:\\["\\n][^"\\\n]*)*"')
-    # No number of 64 bits has more, its sign among them.
+    # No number of 64 bits has more, including its sign.
     DIGITS = 20
     ESCAPED = re.compile(r'\\(["\\n])')
     WORDS = {"null": None, "true": True, "false": False}
@@ -147,7 +154,7 @@ class _Reader:
         raise BadText(len(self.text[: self.at].encode()))
 
     def take(self, word: str) -> bool:
-        """Whether the rest begins so; then it is taken."""
+        """Whether the rest begins with this word; if so, takes it."""
         is_there = self.text.startswith(word, self.at)
         self.at += len(word) * is_there
         return is_there
@@ -164,7 +171,7 @@ class _Reader:
         return found.group()
 
     def number(self, pattern: re.Pattern[str], low: int, high: int) -> int:
-        """An integer within these bounds. Where it is past them, it stops at the digit that is."""
+        """An integer within these bounds. If it is beyond them, stops at the digit that makes it so."""
         written = self.match(pattern)
         kept = written[: self.DIGITS]
         while not low <= int(kept) <= high:
@@ -198,7 +205,7 @@ class _Reader:
         return self.number(self.INT, LEAST, MOST)
 
     def values(self, level: int, close: str) -> list[Any]:
-        """What stands before the closing bracket, which is taken too."""
+        """The values before the closing bracket, which is taken too."""
         if self.take(close):
             return []
         values = [self.value(level + 1)]

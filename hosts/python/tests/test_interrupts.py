@@ -62,30 +62,49 @@ class Interrupts(unittest.TestCase):
 
     def test_where_the_begin_alone_is_interrupted(self):
         for begin in self.guardian.topaction, self.guardian.topaction().subaction:
-            archive, make = self.guardian._archive, self.guardian._archive.make
+            archive, call = self.guardian._archive, self.guardian._archive.call
 
-            def interrupted_after(*given, archive=archive, make=make):
-                archive.make = make
-                make(*given)
+            def interrupted_after(*given, archive=archive, call=call):
+                archive.call = call
+                call(*given)
                 raise KeyboardInterrupt
 
-            archive.make = interrupted_after
+            archive.call = interrupted_after
             with self.assertRaises(KeyboardInterrupt):
                 begin()
             entries = self.guardian.entries
             self.assertIn("abort", self.guardian.entry(entries - 1))
 
+    def test_others_stay_where_a_begin_is_interrupted(self):
+        # One of a guardian that is made again, one that has a number alone, one of a list, and one that somebody has.
+        guardian = argus.resume(["0 begin_top -> a0"])
+        self.addCleanup(guardian.close)
+        guardian.call(argus.Kind.BEGIN_TOP)
+        guardian.call_each([argus.Listed(argus.Kind.BEGIN_TOP)])
+        top, call = guardian.topaction(), guardian._archive.call
+
+        def interrupted_after(*given):
+            guardian._archive.call = call
+            call(*given)
+            raise KeyboardInterrupt
+
+        guardian._archive.call = interrupted_after
+        with self.assertRaises(KeyboardInterrupt):
+            guardian.topaction()
+        statuses = [guardian.status(number) for number in range(top.number + 2)]
+        self.assertEqual(statuses, 4 * ["live"] + ["aborted"])
+
     def test_where_the_commit_is_interrupted(self):
-        end = self.guardian._make_of
+        end = self.guardian._end
 
         def interrupted_before(*_):
-            self.guardian._make_of = end
+            self.guardian._end = end
             raise KeyboardInterrupt
 
         with self.assertRaises(KeyboardInterrupt):
             with self.guardian.topaction() as top:
                 top.set_field(self.record, 0, 7)
-                self.guardian._make_of = interrupted_before
+                self.guardian._end = interrupted_before
         self.guardian.checkpoint()
         self.assertEqual(self.guardian.base(self.record), (0,))
 

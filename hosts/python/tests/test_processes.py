@@ -10,10 +10,12 @@ import unittest
 import warnings
 from pathlib import Path
 
-FOLDER = str(Path(__file__).resolve().parents[1])
-sys.path.insert(0, FOLDER)
+sys.path.insert(0, str(Path(__file__).resolve().parents[1]))
 
 import argus_guardian as argus  # noqa: E402
+
+# That of the package, which may be installed elsewhere.
+FOLDER = str(Path(argus.__file__).resolve().parents[1])
 
 
 def in_child(work):

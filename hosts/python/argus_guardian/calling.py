@@ -1,0 +1,292 @@
+"""`Calling`: the calls of actions, behind a guardian's mutex, and the waits for objects.
+
+Begins, accesses and ends are most of a program's calls. Each passes its arguments to the library here,
+in one function: another function, or an argument that ctypes has to convert, would cost as much as the
+call.
+"""
+
+from __future__ import annotations
+
+import threading
+import time
+from collections.abc import Callable
+from typing import Any
+from weakref import ref
+
+from . import errors
+from .action import Action
+from .archive import Archive
+from .asked import Asked, actions_of
+from .library import Kind, Question, Status
+from .owners import Owners
+from .ranges import i64
+from .telling import Call, deed, error_of_call
+from .values import Object, object_number
+
+_DONE = Status.DONE, 0
+_TRUE = Status.FLAG, 1
+_OVER = Status.REFUSED, errors.REFUSALS.index(errors.Over) + 1
+_CONFLICT = Status.REFUSED, errors.REFUSALS.index(errors.Conflict) + 1
+# The most frequent ones, as globals, which are looked up faster than attributes.
+_IS_ACTION, _COMMIT, _BEGIN_NESTED = Status.ACTION, Kind.COMMIT, Kind.BEGIN_NESTED
+# After at most this many seconds a wait looks again.
+_LOOK_AFTER = 0.05
+
+
+class Calling(Asked):
+    """The calls of actions. What begins with `_` and doesn't take the lock itself is called with the lock held."""
+
+    def __init__(self, patience: float) -> None:
+        super().__init__()
+        self.patience = patience
+        self._archive = Archive()
+        self._make_lock()
+        # How often actions were aborted; such an abort may have ended the action that waits, too.
+        self._aborts = 0
+        self._owners = Owners()
+        # How many actions were begun that the program has, or had.
+        self._begun = 0
+        # How often the numbers of actions began at 0 again.
+        self._renewals = 0
+
+    def _make_lock(self) -> None:
+        # The lock is held around each call with its reply. The condition is notified when actions end.
+        self._lock = threading.Lock()
+        self._ended = threading.Condition(self._lock)
+        # How many threads wait for that, and how many of them in `checkpoint`.
+        self._waiting = 0
+        self._folding = 0
+        # For each object the lineages of the actions that wait to write it.
+        self._writing: dict[int, list[set[int]]] = {}
+
+    def _begin(self, kind: int, parent: Action | None = None) -> Action:
+        """Begins an action. If an interrupt comes before the caller has it, it is aborted. Takes the lock itself."""
+        archive = self._archive
+        with self._lock:
+            above = 0
+            if parent is not None:
+                above = parent.number
+                if parent._renewals != self._renewals:
+                    self._be_since(parent, kind)
+            while self._folding and parent is None:
+                self._wait_until(time.monotonic() + _LOOK_AFTER)
+            owners = self._owners
+            if owners.dropped:
+                self._abort_dropped()
+            try:
+                answer = archive.call(archive.at, kind, above, 0, 0, 0, b"")
+                status, number = answer  # type: ignore[misc]
+                if status != _IS_ACTION:
+                    raise error_of_call(status, number, (kind, above))
+                action = Action(self, number, parent, kind == _BEGIN_NESTED, self._renewals)
+                owners.live[number] = ref(action, owners.drop)
+                self._begun = number + 1
+                return action
+            except BaseException:
+                self._abort_from(self._begun)
+                raise
+
+    def _abort_from(self, number: int) -> None:
+        """Aborts the actions from this number on, which no caller has got."""
+        self._begun = self._archive.told(Question.ACTIONS)
+        for it in range(number, self._begun):
+            self._archive.make(Kind.ABORT, it)
+
+    def _be_since(self, action: Action, kind: int, obj: int = 0) -> None:
+        """Raises Over for an action from before a renewal: its number now names another one or none."""
+        if action._renewals not in (None, self._renewals):
+            raise error_of_call(*_OVER, (kind, action.number, obj))
+
+    def _access_of(
+        self, action: Action, kind: int, obj: Object, first: int = 0, second: int = 0, text: bytes = b""
+    ) -> Any:
+        """Makes an access of an `Action`, as `access` does. Takes the lock itself."""
+        if type(obj) is not int:
+            obj = object_number(obj)
+        archive = self._archive
+        with self._lock:
+            if self._owners.dropped:
+                self._abort_dropped()
+            if action._renewals != self._renewals:
+                self._be_since(action, kind, obj)
+            answer = archive.call(archive.at, kind, action.number, obj, first, second, text)
+            # An integer, or nothing.
+            if type(answer) is not tuple:
+                return answer
+            call = kind, action.number, obj, first, second, text
+            return self._answered(answer, call, action._lineage, action._renewals)
+
+    def _end(self, action: Action, kind: int) -> None:
+        """Ends an `Action` by a commit or an abort. Takes the lock itself."""
+        archive, number = self._archive, action.number
+        with self._lock:
+            owners = self._owners
+            if owners.dropped:
+                self._abort_dropped()
+            if action._renewals != self._renewals:
+                self._be_since(action, kind)
+            answer = archive.call(archive.at, kind, number, 0, 0, 0, b"")
+            if type(answer) is tuple:
+                self._note_end(kind, number, answer)
+                raise error_of_call(*answer, (kind, number))
+            owners.live.pop(number, None)
+            if kind != _COMMIT:
+                self._aborts += 1
+            if self._waiting:
+                self._ended.notify_all()
+
+    def _make_of(self, action: Action, kind: int, obj: Object = 0) -> Any:
+        """Makes another call of an `Action`: a test, or an abort of its siblings. Takes the lock itself."""
+        call = kind, action.number, object_number(obj)
+        with self._lock:
+            self._be_since(action, kind, call[2])
+            answer = self._make(*call)
+            if kind == Kind.ABORT_OTHERS:
+                self._note_end(kind, action.number, answer)
+            return self._archive.answer(*answer, call)
+
+    def _note_end(self, kind: int, action: int, answer: tuple[int, int]) -> None:
+        if answer == _DONE:
+            if kind != Kind.ABORT_OTHERS:
+                self._owners.live.pop(action, None)
+            if kind != _COMMIT:
+                self._aborts += 1
+            if self._waiting:
+                self._ended.notify_all()
+        elif answer == _OVER and kind != Kind.ABORT_OTHERS:
+            self._owners.live.pop(action, None)
+
+    def _abort_dropped(self) -> None:
+        """Aborts the actions to which no reference is left."""
+        for number in self._owners.take_dropped():
+            answer = self._archive.make(Kind.ABORT, number)
+            self._note_end(Kind.ABORT, number, answer)
+            if answer[0] == Status.NO_MEMORY:
+                # The next call tries again.
+                break
+
+    def access(
+        self,
+        kind: int,
+        action: int,
+        obj: Object,
+        first: int = 0,
+        second: int = 0,
+        text: str = "",
+        lineage: Callable[[], set[int]] | None = None,
+        renewals: int | None = None,
+    ) -> Any:
+        """Makes an access, which waits for its object until the patience ends.
+
+        It is made, with an entry of the journal, at first, when the lock is free, when other actions were
+        aborted (and maybe its own), and when the patience is over. `lineage` returns the numbers of the
+        action and its ancestors. `renewals` is how often the guardian had been renewed when the action was
+        begun: if it was renewed since, the action is over.
+        """
+        named = kind, action, object_number(obj), i64(first, "number"), i64(second, "number")
+        call = *named, text.encode()
+        with self._lock:
+            if renewals is None:
+                renewals = self._renewals
+            answer = self._make_since(renewals, *call)
+            return self._answered(answer, call, lineage or (lambda: {action}), renewals)
+
+    def _answered(
+        self, answer: tuple[int, int], call: Call, lineage: Callable[[], set[int]], renewals: int | None
+    ) -> Any:
+        """The result of an access. If it is refused with Conflict, it waits and is made again."""
+        if answer == _CONFLICT:
+            return self._access_refused(call, lineage(), self._renewals if renewals is None else renewals)
+        return self._archive.answer(*answer, call)
+
+    def _access_refused(self, call: Call, lineage: set[int], renewals: int) -> Any:
+        """Waits for the object of a refused access, and makes it again."""
+        answer, is_reading = _CONFLICT, call[0] < Kind.CREATE
+        is_in_vain = not is_reading and self._is_in_vain(call[2], lineage)
+        if is_reading:
+            answer = self._make_once_had(call, Question.CAN_READ, renewals)
+        elif not is_in_vain:
+            answer = self._make_waiting_to_write(call, lineage, renewals)
+        if answer == _CONFLICT:
+            raise errors.Conflict(self._conflict(call, lineage, is_in_vain))
+        return self._archive.answer(*answer, call)
+
+    def _make_waiting_to_write(self, call: Call, lineage: set[int], renewals: int) -> tuple[int, int]:
+        waiting = self._writing.setdefault(call[2], [])
+        waiting.append(lineage)
+        try:
+            return self._make_once_had(call, Question.CAN_WRITE, renewals)
+        finally:
+            waiting.remove(lineage)
+            if not waiting:
+                del self._writing[call[2]]
+
+    def _make_once_had(self, call: Call, question: int, renewals: int) -> tuple[int, int]:
+        """Makes a refused access again each time that its lock is free, until the patience is over."""
+        limit, answer = time.monotonic() + self.patience, _CONFLICT
+        while answer == _CONFLICT and time.monotonic() < limit:
+            aborts = self._aborts
+            while self._aborts == aborts and time.monotonic() < limit:
+                if self._ask(question, *call[1:3]) == _TRUE:
+                    break
+                self._wait_until(limit)
+            answer = self._make_since(renewals, *call)
+        return answer
+
+    def _is_in_vain(self, obj: int, lineage: set[int]) -> bool:
+        """Whether another one that waits to write the object waits for this one's read lock, and this one for its."""
+        if obj not in self._writing:
+            return False
+        readers = self._holders(obj, Question.READERS)
+        mine = readers & lineage
+        others = self._writing[obj]
+        return any(mine - other and readers & other - lineage for other in others)
+
+    def _holders(self, obj: int, *questions: int) -> set[int]:
+        """The numbers of the actions that hold the object, by these questions. Empty if there is no memory for them."""
+        try:
+            texts = [self._archive.told(question, obj=obj) for question in questions]
+        except errors.OutOfMemory:
+            return set()
+        return {number for text in texts for number in actions_of(text)}
+
+    def _conflict(self, call: Call, lineage: set[int], is_in_vain: bool) -> str:
+        """Which actions hold the object that an access wants, as in `a7 wants to write o3, held by a5`."""
+        holders = self._holders(call[2], Question.READERS, Question.VERSIONS) - lineage
+        named = ", ".join(f"a{number}" for number in sorted(holders))
+        too = ", and one of them has read it and waits to write it, too" if is_in_vain else ""
+        return f"{deed(*call)}, held by {named or 'another one'}{too}"
+
+    def _wait_until(self, limit: float) -> None:
+        # A dropped action notifies nobody, so it looks from time to time.
+        self._waiting += 1
+        try:
+            self._ended.wait(min(limit - time.monotonic(), _LOOK_AFTER))
+        finally:
+            self._waiting -= 1
+
+    def _wake(self) -> None:
+        if self._waiting:
+            self._ended.notify_all()
+
+    def _make(self, *call: Any) -> tuple[int, int]:
+        """The status and the number of a call."""
+        if self._owners.dropped:
+            self._abort_dropped()
+        return self._archive.make(*call)
+
+    def _make_since(self, renewals: int | None, *call: Any) -> tuple[int, int]:
+        """The same for an action that was begun after so many renewals. If there were more since, it is over."""
+        return self._make(*call) if renewals in (None, self._renewals) else _OVER
+
+    def _ask(self, question: int, action: int, obj: int) -> tuple[int, int]:
+        """The status and the number of a question."""
+        if self._owners.dropped:
+            self._abort_dropped()
+        return self._archive.ask(question, action, obj)
+
+    def _tell(self, question: int, obj: int = 0, entry: int = 0, action: int = 0) -> Any:
+        with self._lock:
+            if self._owners.dropped:
+                self._abort_dropped()
+            return self._archive.told(question, action, obj, entry)

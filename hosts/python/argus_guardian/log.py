@@ -1,0 +1,234 @@
+"""`Log`: a guardian whose journal is in files, so that it outlives its process.
+
+The files are those of the Rust crate's log, by `libargus_log.so`, which `cargo build --release` makes in
+hosts/rust/log_c. None of this is proved; docs/OUTLIVING.md says what a log promises.
+"""
+
+from __future__ import annotations
+
+import ctypes
+import os
+import time
+from collections.abc import Callable, Iterator
+from contextlib import contextmanager
+from pathlib import Path
+from typing import Any, TypeVar
+
+from .action import Action
+from .errors import ArgusError, Busy
+from .guardian import Guardian
+from .library import Question, Status
+
+_Done = TypeVar("_Done")
+
+NAME = "libargus_log.so"
+
+_DONE, _LOCKED, _DAMAGED, _UNREAD, _BROKEN, _BUSY = range(6)
+
+_TAKE = ctypes.CFUNCTYPE(ctypes.c_int64, ctypes.c_void_p, ctypes.c_void_p, ctypes.c_size_t)
+_GIVE = ctypes.CFUNCTYPE(
+    ctypes.c_size_t, ctypes.c_void_p, ctypes.c_uint64, ctypes.c_void_p, ctypes.c_size_t
+)
+_FOLD = ctypes.CFUNCTYPE(
+    ctypes.c_uint32,
+    ctypes.c_void_p,
+    ctypes.c_uint64,
+    ctypes.POINTER(ctypes.c_char_p),
+    ctypes.POINTER(ctypes.c_size_t),
+)
+
+
+class LogError(ArgusError):
+    """The log isn't open, or has failed; `str` says why."""
+
+
+class LogLocked(LogError):
+    """Another process has the log, or another part of this one."""
+
+
+class LogDamaged(LogError):
+    """The log isn't as it was written, or this guardian gives another reply. Its files are unchanged."""
+
+
+class LogBroken(LogError):
+    """A write or a sync failed earlier, and nothing is tried again: end the process, and open the log again."""
+
+
+class InDoubt(LogError):
+    """The log failed during a wait: what was waited for is in the log, or it isn't."""
+
+
+_ERRORS = {_LOCKED: LogLocked, _DAMAGED: LogDamaged, _BROKEN: LogBroken}
+
+
+class Log:
+    """A guardian whose journal is in the files of a folder.
+
+        with Log("/var/lib/bank") as log:
+            if log.guardian.objects == 0:
+                log.guardian.declare("atomic_record[balance:int]")
+            with log.topaction() as top:
+                top.create(0, (5,))
+            # here it is on disk
+
+    It makes each call in the files again and compares its reply; actions that were live are aborted.
+    `found` says what was there. A topaction of the log is acknowledged when its `with` block has ended
+    without an exception: its commit, and all before it, are on disk. Threads may share the log; their
+    commits wait together.
+
+    Other calls are the guardian's. Their results may come from commits that aren't on disk yet: `barrier`
+    returns when all earlier ones are. Raises LogError, and OSError if there is no library.
+    """
+
+    def __init__(self, folder: str | os.PathLike[str], patience: float = 1.0) -> None:
+        self._library = _load()
+        self._log = ctypes.c_void_p()
+        self.guardian = Guardian(patience)
+        # The library may call these as long as this object lives.
+        self._give = _GIVE(self._give_lines)
+        self._fold = _FOLD(self._fold_journal)
+        self._opening = b""
+        try:
+            self.found = self._open(os.fsencode(folder))
+        except BaseException:
+            self.close()
+            raise
+
+    def _open(self, folder: bytes) -> str:
+        words = ctypes.create_string_buffer(1024)
+        take, log = _TAKE(self._take_lines), ctypes.byref(self._log)
+        status = self._library.argus_log_open(folder, take, None, log, words, len(words))
+        said = words.value.decode(errors="replace")
+        if status != _DONE:
+            raise _ERRORS.get(status, LogError)(said)
+        status, dropped = self.guardian._archive.resumed()
+        if status != Status.DONE or dropped:
+            raise LogDamaged("the guardian can't be made of the log's lines")
+        self.guardian.abort_live()
+        self.barrier()
+        return said
+
+    def _take_lines(self, _host: Any, lines: int, size: int) -> int:
+        status, _, taken = self.guardian._archive.take(ctypes.string_at(lines, size))
+        if status == Status.NO_MEMORY:
+            return -2
+        return -1 if status == Status.DONE else taken
+
+    def _give_lines(self, _host: Any, entry: int, room: int, size: int) -> int:
+        lines = self.guardian.lines(entry, size)
+        text = "".join(f"{line}\n" for line in lines).encode()
+        if len(text) <= size:
+            ctypes.memmove(room, text, len(text))
+        return len(text)
+
+    def _fold_journal(self, _host: Any, entry: int, opening: Any, size: Any) -> int:
+        # 1: the log hasn't got all entries. 2: an action is live. 3: folded, and the log is broken.
+        archive, result = self.guardian._archive, 2
+        try:
+            with self.guardian._lock:
+                if archive.told(Question.ENTRIES) != entry:
+                    result = 1
+                elif self.guardian._fold() == Status.DONE:
+                    result = 3
+                    self._opening = archive.told(Question.LIST_JOURNAL).encode()
+                    opening[0], size[0] = self._opening, len(self._opening)
+                    result = 0
+        except ArgusError:
+            pass
+        return result
+
+    def close(self) -> None:
+        """Closes the log and the guardian. What isn't on disk is lost."""
+        self._library.argus_log_close(self._log)
+        self._log = ctypes.c_void_p()
+        self.guardian.close()
+
+    def __enter__(self) -> Log:
+        return self
+
+    def __exit__(self, *_: object) -> None:
+        self.close()
+
+    def broken(self) -> str | None:
+        """Why the log is broken; None if it isn't."""
+        words = ctypes.create_string_buffer(1024)
+        if not self._library.argus_log_broken(self._log, words, len(words)):
+            return None
+        return words.value.decode(errors="replace")
+
+    def barrier(self) -> None:
+        """Returns when all entries that the journal has now are on disk. InDoubt if that isn't known."""
+        if self._library.argus_log_wait(self._log, self.guardian.entries, self._give, None) != _DONE:
+            raise InDoubt(self.broken())
+
+    @contextmanager
+    def topaction(self) -> Iterator[Action]:
+        """A topaction for a `with` block, which ends when the commit is on disk.
+
+        LogBroken if the log had failed earlier: nothing is begun. InDoubt if the topaction has committed
+        in this process and the log failed. Any other exception is as without a log, and nothing is left
+        of the topaction.
+        """
+        broken = self.broken()
+        if broken is not None:
+            raise LogBroken(broken)
+        with self.guardian.topaction() as top:
+            yield top
+        self.barrier()
+
+    def run(self, work: Callable[[Action], _Done], tries: int = 20) -> _Done:
+        """`Guardian.run`, which returns when the commit is on disk."""
+        broken = self.broken()
+        if broken is not None:
+            raise LogBroken(broken)
+        done = self.guardian.run(work, tries)
+        self.barrier()
+        return done
+
+    def checkpoint(self, patience: float = 1.0) -> None:
+        """Folds the journal when no action is live, and starts the files again; Busy when patience is over.
+
+        Meanwhile it holds back each topaction, so don't wait here in a thread that has a live action.
+        """
+        limit, guardian = time.monotonic() + patience, self.guardian
+        with guardian._lock:
+            guardian._folding += 1
+        try:
+            status = self._checkpoint()
+            while status == _BUSY and time.monotonic() < limit:
+                with guardian._lock:
+                    guardian._wait_until(limit)
+                status = self._checkpoint()
+        finally:
+            with guardian._lock:
+                guardian._folding -= 1
+                guardian._wake()
+        if status == _BUSY:
+            raise Busy("an action is live")
+        if status != _DONE:
+            raise LogBroken(self.broken())
+
+    def _checkpoint(self) -> int:
+        return int(self._library.argus_log_checkpoint(self._log, self._give, self._fold, None))
+
+
+def _load() -> ctypes.CDLL:
+    """The library for logs: the one that `ARGUS_LOG_LIBRARY` names, otherwise in this folder, or the system's."""
+    beside = Path(__file__).resolve().parent / NAME
+    named = os.environ.get("ARGUS_LOG_LIBRARY", "") or (str(beside) if beside.is_file() else NAME)
+    try:
+        library = ctypes.CDLL(named)
+    except OSError as error:
+        words = "cargo build --release in hosts/rust/log_c makes it, ARGUS_LOG_LIBRARY names it"
+        raise OSError(f"no library {NAME} is to be had: {words} ({error})") from None
+    log, host, text, size = ctypes.c_void_p, ctypes.c_void_p, ctypes.c_char_p, ctypes.c_size_t
+    calls: dict[str, tuple[Any, ...]] = {
+        "argus_log_open": (ctypes.c_char_p, _TAKE, host, ctypes.POINTER(log), text, size),
+        "argus_log_wait": (log, ctypes.c_uint64, _GIVE, host),
+        "argus_log_checkpoint": (log, _GIVE, _FOLD, host),
+        "argus_log_broken": (log, text, size),
+    }
+    for name, given in calls.items():
+        getattr(library, name).argtypes, getattr(library, name).restype = given, ctypes.c_uint32
+    library.argus_log_close.argtypes, library.argus_log_close.restype = (log,), None
+    return library

@@ -1,0 +1,61 @@
+"""What a binding gets of the library beside the proved calls: the functions of its headers, by their names."""
+
+import ctypes
+import sys
+import unittest
+from pathlib import Path
+
+sys.path.insert(0, str(Path(__file__).resolve().parents[1]))
+
+from argus_guardian.library import Answer, Handle, Kind, Status, load  # noqa: E402
+
+# What argus.h has and no answer of this package can be.
+NULL = 21
+
+
+class Bindings(unittest.TestCase):
+    """Functions that are inline in C."""
+
+    def setUp(self):
+        self.library = load()
+
+    def answer(self, name, *given):
+        call = self.library[name]
+        call.restype = Answer
+        answer = call(*given)
+        return answer.status, answer.number
+
+    def name(self, name, number):
+        call = self.library[name]
+        call.restype = ctypes.c_char_p
+        return call(ctypes.c_int64(number))
+
+    def test_null_pointers(self):
+        for name in "open", "close", "begin_top", "objects", "checkpoint", "renew", "abort_live", "resumed":
+            self.assertEqual(self.answer(f"argus_{name}", None), (NULL, 0), name)
+        handle = Handle()
+        self.assertEqual(self.answer("argus_declare", ctypes.byref(handle), None), (NULL, 0))
+        self.assertEqual(self.answer("argus_begin_top", ctypes.byref(handle)), (Status.NOT_OPEN, 0))
+
+    def test_calls(self):
+        handle = Handle()
+        at = ctypes.byref(handle)
+        self.assertEqual(self.answer("argus_open", at), (Status.DONE, 0))
+        self.assertEqual(self.answer("argus_declare", at, b"atomic_record[n:int]"), (Status.OBJECT, 0))
+        self.assertEqual(self.answer("argus_begin_top", at), (Status.ACTION, 0))
+        zero, room = ctypes.c_int64(0), ctypes.create_string_buffer(21)
+        self.assertEqual(self.answer("argus_alter", at, 0, 0, Kind.CREATE, zero, zero, b"{5}"), (Status.DONE, 0))
+        self.assertEqual(self.library.argus_value_int(room, ctypes.c_size_t(21), ctypes.c_int64(-7)), 2)
+        self.assertEqual(self.answer("argus_alter", at, 0, 0, Kind.SET_FIELD, zero, zero, room), (Status.DONE, 0))
+        self.assertEqual(self.answer("argus_ask", at, 0, 0, Kind.FIELD, zero), (Status.NUMBER, -7))
+        self.assertEqual(self.answer("argus_commit", at, 0), (Status.DONE, 0))
+        self.assertEqual(self.answer("argus_close", at), (Status.DONE, 0))
+
+    def test_names(self):
+        self.assertEqual(self.name("argus_status_name", NULL), b"ARGUS_NULL")
+        self.assertEqual(self.name("argus_refusal_name", 6), b"ARGUS_CONFLICT")
+        self.assertEqual(self.name("argus_signal_name", 0), b"?")
+
+
+if __name__ == "__main__":
+    unittest.main()

@@ -1,0 +1,205 @@
+"""A guardian that outlives its process, by libargus_log.so, which ARGUS_LOG_LIBRARY names."""
+
+from __future__ import annotations
+
+import os
+import random
+import resource
+import signal
+import subprocess
+import sys
+import tempfile
+import threading
+import time
+import unittest
+from pathlib import Path
+
+sys.path.insert(0, str(Path(__file__).resolve().parents[1]))
+
+from argus_guardian import Action, Busy  # noqa: E402
+from argus_guardian.log import InDoubt, Log, LogBroken, LogDamaged, LogLocked  # noqa: E402
+
+CLIENTS = 3
+
+
+def open_bank(folder: str) -> Log:
+    """Accounts 0 to 2, which have 100 at first, and for each client the number of its last order."""
+    log = Log(folder)
+    for _ in range(log.guardian.objects, 3 + CLIENTS):
+        log.guardian.declare("atomic_record[n:int]")
+    if log.guardian.base(0) is None:
+        with log.topaction() as top:
+            for number in range(3 + CLIENTS):
+                top.create(number, (100 if number < 3 else 0,))
+    return log
+
+
+def number_in(log: Log, obj: int) -> int:
+    return int(log.guardian.base(obj)[0])
+
+
+def carry_out(log: Log, client: int, number: int) -> None:
+    """An order pays 1 from one account to the next; `number` says which."""
+
+    def work(top: Action) -> None:
+        top.lock(3 + client)
+        for obj in sorted((number % 3, (number + 1) % 3)):
+            top.lock(obj)
+        with top.subaction() as sub:
+            sub.set_field(number % 3, 0, sub.field(number % 3, 0) - 1)
+            sub.set_field((number + 1) % 3, 0, sub.field((number + 1) % 3, 0) + 1)
+        top.set_field(3 + client, 0, number)
+
+    log.run(work)
+
+
+def serve(folder: str) -> None:
+    """The process that is killed: it says which orders are acknowledged."""
+    log, said = open_bank(folder), threading.Lock()
+
+    def serve_client(client: int) -> None:
+        number = number_in(log, 3 + client)
+        while True:
+            number += 1
+            carry_out(log, client, number)
+            with said:
+                print(client, number, flush=True)
+
+    for client in range(CLIENTS):
+        threading.Thread(target=serve_client, args=(client,), daemon=True).start()
+    while True:
+        time.sleep(0.05)
+        log.checkpoint(patience=5)
+
+
+def break_log(folder: str) -> None:
+    """A process whose files may have 64 KiB from now on, as if the disk were full."""
+    log = open_bank(folder)
+    signal.signal(signal.SIGXFSZ, signal.SIG_IGN)
+    resource.setrlimit(resource.RLIMIT_FSIZE, (65536, 65536))
+    acknowledged = 0
+    try:
+        while True:
+            carry_out(log, 0, acknowledged + 1)
+            acknowledged += 1
+    except InDoubt as error:
+        print(error)
+    assert log.broken() is not None
+    try:
+        carry_out(log, 0, acknowledged + 2)
+    except LogBroken:
+        print(acknowledged, flush=True)
+
+
+@unittest.skipUnless(os.environ.get("ARGUS_LOG_LIBRARY"), "ARGUS_LOG_LIBRARY names no library")
+class LogTest(unittest.TestCase):
+    def setUp(self) -> None:
+        room = tempfile.TemporaryDirectory()
+        self.addCleanup(room.cleanup)
+        self.folder = str(Path(room.name) / "log")
+
+    def run_child(self, what: str) -> subprocess.Popen[str]:
+        words = [sys.executable, __file__, what, self.folder]
+        return subprocess.Popen(words, stdout=subprocess.PIPE, text=True)
+
+    def test_opened_again(self) -> None:
+        with open_bank(self.folder) as log:
+            carry_out(log, 1, 1)
+            top = log.guardian.topaction()
+            top.set_field(0, 0, 7)
+            log.barrier()
+        with open_bank(self.folder) as log:
+            # What was live is aborted.
+            self.assertEqual([number_in(log, obj) for obj in range(6)], [100, 99, 101, 0, 1, 0])
+            self.assertTrue(log.found.endswith(f"the next one is {log.guardian.entries - 1}"), log.found)
+
+    def test_new(self) -> None:
+        with Log(self.folder) as log:
+            self.assertEqual(log.found, "0 entries in 0 batches, the next one is 0")
+            with self.assertRaises(LogLocked):
+                Log(self.folder)
+
+    def test_checkpoint(self) -> None:
+        with open_bank(self.folder) as log:
+            carry_out(log, 0, 1)
+            entries = log.guardian.entries
+            log.checkpoint()
+            with log.guardian.topaction(), self.assertRaises(Busy):
+                log.checkpoint(patience=0)
+            log.barrier()
+        with open_bank(self.folder) as log:
+            self.assertEqual([number_in(log, obj) for obj in range(3)], [100, 99, 101])
+            self.assertEqual(log.found, f"2 entries in 3 batches, the next one is {entries + 2}")
+
+    def test_nothing_is_left_of_what_raises(self) -> None:
+        with open_bank(self.folder) as log, self.assertRaises(KeyError):
+            with log.topaction() as top:
+                top.set_field(0, 0, 7)
+                raise KeyError
+        with open_bank(self.folder) as log:
+            self.assertEqual(number_in(log, 0), 100)
+
+    def test_damaged(self) -> None:
+        with open_bank(self.folder) as log:
+            carry_out(log, 0, 1)
+            carry_out(log, 0, 2)
+        (segment,) = Path(self.folder).glob("segment-*.log")
+        text = segment.read_bytes()
+        at = text.index(b"{100}")
+        segment.write_bytes(text[:at] + b"{900}" + text[at + 5 :])
+        with self.assertRaises(LogDamaged) as caught:
+            Log(self.folder)
+        self.assertIn("checksum", str(caught.exception))
+
+    def test_another_reply(self) -> None:
+        with Log(self.folder) as log, log.guardian.topaction():
+            # In place of the line that the journal has.
+            log.guardian.lines = lambda *_: ["0 begin_top -> a1"]  # type: ignore[method-assign]
+            log.barrier()
+        with self.assertRaises(LogDamaged) as caught:
+            Log(self.folder)
+        self.assertIn("`0 begin_top -> a1`", str(caught.exception))
+
+    def test_killed(self) -> None:
+        last = [0] * CLIENTS
+        for _ in range(6):
+            child = self.run_child("serve")
+            assert child.stdout is not None
+            lines = [child.stdout.readline()]
+            time.sleep(random.uniform(0, 0.3))
+            child.kill()
+            lines += child.stdout.readlines()
+            child.wait()
+            child.stdout.close()
+            for client, number in (map(int, line.split()) for line in lines if line.endswith("\n") and line.strip()):
+                last[client] = number
+            with open_bank(self.folder) as log:
+                last = self.check(log, last)
+        self.assertTrue(any(last))
+
+    def check(self, log: Log, last: list[int]) -> list[int]:
+        """No acknowledged order is lost, and none is there in part. What stands."""
+        standing = [number_in(log, 3 + client) for client in range(CLIENTS)]
+        wanted = [100] * 3
+        for client, number in enumerate(standing):
+            self.assertIn(number, (last[client], last[client] + 1))
+            for order in range(1, number + 1):
+                wanted[order % 3] -= 1
+                wanted[(order + 1) % 3] += 1
+        self.assertEqual([number_in(log, obj) for obj in range(3)], wanted)
+        return standing
+
+    def test_broken(self) -> None:
+        child = self.run_child("break")
+        said, _ = child.communicate(timeout=60)
+        why, acknowledged = said.splitlines()
+        self.assertIn("the log couldn't", why)
+        with open_bank(self.folder) as log:
+            self.assertIn(number_in(log, 3) - int(acknowledged), (0, 1))
+
+
+if __name__ == "__main__":
+    if sys.argv[1:2] in (["serve"], ["break"]):
+        {"serve": serve, "break": break_log}[sys.argv[1]](sys.argv[2])
+    else:
+        unittest.main()
