@@ -12,7 +12,7 @@ use crate::{ActionId, ObjId};
 use std::mem;
 
 /// A live action of a guardian that has one caller. It aborts when it is dropped, unless it has
-/// committed; where memory is wanting even for that, it stays live.
+/// committed; if there isn't even memory for that, it stays live.
 ///
 /// A subaction or a nested topaction borrows it, as it is suspended while one of these is live.
 ///
@@ -86,7 +86,7 @@ impl<'g> Action<'g> {
     ///
     /// # Errors
     ///
-    /// As of [`ask`](Self::ask); [`Error::BadText`] where a value is deeper than 16.
+    /// As for [`ask`](Self::ask); [`Error::BadText`] if a value is deeper than 16.
     ///
     /// ```
     /// use argus_guardian::{Answer, Change, Guardian};
@@ -105,7 +105,7 @@ impl<'g> Action<'g> {
     ///
     /// # Errors
     ///
-    /// As of [`ask`](Self::ask); [`Error::Signal`] where the record has no content yet.
+    /// As for [`ask`](Self::ask); [`Error::Signal`] if the record has no content yet.
     ///
     /// ```
     /// use argus_guardian::{Error, Guardian, Signal};
@@ -119,11 +119,11 @@ impl<'g> Action<'g> {
         self.ask(object, Query::Field(field))?.value()
     }
 
-    /// A field of a record becomes the value.
+    /// Sets a field of a record.
     ///
     /// # Errors
     ///
-    /// As of [`alter`](Self::alter); [`Error::Signal`] where the record has no content yet.
+    /// As for [`alter`](Self::alter); [`Error::Signal`] if the record has no content yet.
     ///
     /// ```
     /// use argus_guardian::{Change, Guardian, Value};
@@ -144,7 +144,8 @@ impl<'g> Action<'g> {
     ///
     /// # Errors
     ///
-    /// [`Error::NoName`] where the record's shape hasn't the name; else as of [`get`](Self::get).
+    /// [`Error::NoName`] if the record's shape hasn't the name; otherwise as for
+    /// [`get`](Self::get).
     ///
     /// ```
     /// use argus_guardian::{Change, Guardian, Value};
@@ -160,11 +161,12 @@ impl<'g> Action<'g> {
         self.get(object.id(), object.number(name)?)
     }
 
-    /// A field of a record becomes the value, by its name.
+    /// Sets a field of a record, by its name.
     ///
     /// # Errors
     ///
-    /// [`Error::NoName`] where the record's shape hasn't the name; else as of [`set`](Self::set).
+    /// [`Error::NoName`] if the record's shape hasn't the name; otherwise as for
+    /// [`set`](Self::set).
     ///
     /// ```
     /// use argus_guardian::{Change, Guardian, Value};
@@ -186,11 +188,11 @@ impl<'g> Action<'g> {
         self.set(object.id(), object.number(name)?, value)
     }
 
-    /// Takes the write lock, and changes nothing. It comes before reading what will be written.
+    /// Takes the write lock, and changes nothing. Call it before you read what you will write.
     ///
     /// # Errors
     ///
-    /// As of [`ask`](Self::ask).
+    /// As for [`ask`](Self::ask).
     ///
     /// ```
     /// let mut guardian = argus_guardian::Guardian::new()?;
@@ -202,7 +204,7 @@ impl<'g> Action<'g> {
         self.alter(object, Change::Touch)?.done()
     }
 
-    /// Takes a read lock; false where it isn't to be had.
+    /// Takes a read lock; false if it isn't free.
     ///
     /// # Errors
     ///
@@ -219,7 +221,7 @@ impl<'g> Action<'g> {
         self.guardian.call(&call)?.answer()?.flag()
     }
 
-    /// Takes a write lock; false where it isn't to be had.
+    /// Takes a write lock; false if it isn't free.
     ///
     /// # Errors
     ///
@@ -239,7 +241,7 @@ impl<'g> Action<'g> {
         self.guardian.call(&call)?.answer()?.flag()
     }
 
-    /// Begins a subaction: what it leaves counts only as its ancestors do.
+    /// Begins a subaction: what it leaves counts only if its ancestors commit.
     ///
     /// # Errors
     ///
@@ -256,7 +258,7 @@ impl<'g> Action<'g> {
         Action::begun(self.guardian, &Call::BeginSub(self.id))
     }
 
-    /// Begins a nested topaction: what it leaves counts, whatever becomes of this action.
+    /// Begins a nested topaction: what it leaves stays, even if this action aborts.
     ///
     /// # Errors
     ///
@@ -292,11 +294,11 @@ impl<'g> Action<'g> {
         self.end(Call::Commit)
     }
 
-    /// Aborts, and says so.
+    /// Aborts, and returns an error if that fails, which a drop can't.
     ///
     /// # Errors
     ///
-    /// [`Error::OutOfMemory`]; then it is tried once more, without a word.
+    /// [`Error::OutOfMemory`]; then the drop tries again, and reports nothing.
     ///
     /// ```
     /// argus_guardian::Guardian::new()?.topaction()?.abort()?;
@@ -306,8 +308,8 @@ impl<'g> Action<'g> {
         self.end(Call::Abort)
     }
 
-    /// Its number alone. It stays live, and nothing aborts it when this guard is gone: for a commit
-    /// that is [made ready](Guardian::ready_commit).
+    /// Only its number. The action stays live, and nothing aborts it when this guard is gone: for a
+    /// [prepared commit](Guardian::ready_commit).
     ///
     /// ```
     /// use argus_guardian::{Guardian, Status};
@@ -333,7 +335,7 @@ impl<'g> Action<'g> {
 
 impl Drop for Action<'_> {
     fn drop(&mut self) {
-        // What comes of it can't be told here.
+        // A drop can't report an error.
         let _ = self.guardian.call(&Call::Abort(self.id));
     }
 }

@@ -1,4 +1,4 @@
-//! `Answer`: what an operation answers.
+//! `Answer`: what an operation returns.
 
 use crate::content::Content;
 use crate::error::Error;
@@ -6,9 +6,9 @@ use crate::signal::Signal;
 use crate::value::Value;
 use std::fmt;
 
-/// What an operation answers. `Display` gives the words that stand in a journal's line.
+/// What an operation returns. `Display` writes the words of a journal's line.
 ///
-/// It may be a signal, and so it has to be looked at:
+/// It may be a signal, so a program has to look at it:
 ///
 /// ```compile_fail
 /// #![deny(unused_must_use)]
@@ -32,20 +32,20 @@ pub enum Answer {
     Val(Value),
     /// A bound, or a size.
     Num(i64),
-    /// Whether it is so.
+    /// A truth value.
     Flag(bool),
     /// A whole content.
     Body(Content),
-    /// The operation says this in place of an answer.
+    /// A signal, in place of an answer.
     Signal(Signal),
 }
 
 impl Answer {
-    /// Nothing, where it is done.
+    /// Nothing, if it is done.
     ///
     /// # Errors
     ///
-    /// [`Error::Signal`] where it is a signal, [`Error::OtherAnswer`] where it is of another kind.
+    /// [`Error::Signal`] if it is a signal, [`Error::OtherAnswer`] if it is of another kind.
     ///
     /// ```
     /// use argus_guardian::{Answer, Error, Signal};
@@ -63,7 +63,7 @@ impl Answer {
     ///
     /// # Errors
     ///
-    /// As of [`Answer::done`].
+    /// As for [`Answer::done`].
     ///
     /// ```
     /// use argus_guardian::{Answer, Value};
@@ -80,7 +80,7 @@ impl Answer {
     ///
     /// # Errors
     ///
-    /// As of [`Answer::done`].
+    /// As for [`Answer::done`].
     ///
     /// ```
     /// use argus_guardian::{Answer, Value};
@@ -94,11 +94,11 @@ impl Answer {
         }
     }
 
-    /// Whether it is so.
+    /// A truth value.
     ///
     /// # Errors
     ///
-    /// As of [`Answer::done`].
+    /// As for [`Answer::done`].
     ///
     /// ```
     /// use argus_guardian::Answer;
@@ -115,7 +115,7 @@ impl Answer {
     ///
     /// # Errors
     ///
-    /// As of [`Answer::done`].
+    /// As for [`Answer::done`].
     ///
     /// ```
     /// use argus_guardian::{Answer, Content};

@@ -1,13 +1,13 @@
-//! `Call`: what a guardian is asked.
+//! `Call`: one call of a guardian.
 
 use crate::change::Change;
 use crate::query::Query;
 use crate::{ActionId, ObjId};
 use std::fmt;
 
-/// What a guardian is asked: one step, which its journal keeps with the reply.
+/// One call of a guardian, which its journal keeps with the reply.
 ///
-/// `Display` gives the words that stand in a journal's line, and `FromStr` reads them.
+/// `Display` writes the words of a journal's line, and `FromStr` reads them.
 ///
 /// ```
 /// use argus_guardian::{ActionId, Call, ObjId, Query};
@@ -17,7 +17,7 @@ use std::fmt;
 /// ```
 #[derive(Debug, Clone, PartialEq, Eq, Hash)]
 pub enum Call {
-    /// Declares an object of this shape, as `atomic_record[balance:int]`: `Reply::Object`.
+    /// Declares an object of this shape, such as `atomic_record[balance:int]`: `Reply::Object`.
     Declare(String),
     /// Begins a topaction: `Reply::Begun`.
     BeginTop,
@@ -25,10 +25,11 @@ pub enum Call {
     BeginSub(ActionId),
     /// Begins a nested topaction, of which this action is the creator: `Reply::Begun`.
     BeginNested(ActionId),
-    /// Commits: `Answer::Done`. A subaction hands its locks and versions to its parent; what a
+    /// Commits: `Answer::Done`. A subaction passes its locks and versions to its parent; what a
     /// topaction leaves is there for good.
     Commit(ActionId),
-    /// Aborts the action and all subactions below it: `Answer::Done`. Their locks and versions go.
+    /// Aborts the action and all subactions under it: `Answer::Done`. Their locks are freed, and
+    /// their versions discarded.
     Abort(ActionId),
     /// Aborts all live siblings of the action: `Answer::Done`.
     AbortOthers(ActionId),
@@ -36,9 +37,9 @@ pub enum Call {
     Ask(ActionId, ObjId, Query),
     /// The action changes the object.
     Alter(ActionId, ObjId, Change),
-    /// Takes a read lock where it is to be had: `Answer::Flag`.
+    /// Takes a read lock if it is free: `Answer::Flag`.
     TestRead(ActionId, ObjId),
-    /// Takes a write lock where it is to be had: `Answer::Flag`.
+    /// Takes a write lock if it is free: `Answer::Flag`.
     TestWrite(ActionId, ObjId),
 }
 

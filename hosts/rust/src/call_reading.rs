@@ -1,4 +1,4 @@
-//! Reads calls, as they stand in a journal's lines.
+//! Reads calls, as they are in a journal's lines.
 
 use crate::call::Call;
 use crate::change::Change;
@@ -38,7 +38,7 @@ impl Call {
 impl FromStr for Call {
     type Err = Error;
 
-    /// Reads the words that [`Display`](std::fmt::Display) gives.
+    /// Reads the words that [`Display`](std::fmt::Display) writes.
     fn from_str(text: &str) -> Result<Call, Error> {
         Reader::whole(text, Reader::call)
     }

@@ -12,13 +12,13 @@ use crate::sys::{self, status};
 use crate::words::Words;
 
 impl Guardian {
-    /// Makes the calls one after another, up to the first whose reply isn't as demanded: one way into
-    /// the library for all of them. Each is a call of its own, one entry of the journal. A call that
-    /// fails ends the list, too; what came of those before it stays.
+    /// Makes the calls one after another, up to the first whose reply isn't what its demand says:
+    /// one call into the library for all of them. Each has its own entry in the journal. A call
+    /// that fails ends the list, too; the calls before it stay.
     ///
     /// # Errors
     ///
-    /// [`Error::NoRoom`]: calls were made, but memory for their values wasn't there.
+    /// [`Error::NoRoom`]: calls were made, but there was no memory for their values.
     ///
     /// ```
     /// use argus_guardian::{Call, Change, Guardian, ListEnd, ListedCall, Query, Value};
@@ -48,8 +48,8 @@ impl Guardian {
             .map(|(each, words)| each.with(words));
         let mut listed: Vec<sys::ListedCall> = listed.collect();
         let mut count = 0;
-        // SAFETY: the handle is this guardian's alone; handle, calls and count are three memories, no
-        // pointer is null, and each text is UTF-8 of words that are there until the end.
+        // SAFETY: no other guardian has the handle; handle, calls and count don't overlap, no
+        // pointer is null, and each text is UTF-8 of words that live until the end of the call.
         let status = unsafe {
             sys::argus_c_call_each(
                 &raw mut self.handle,
@@ -84,7 +84,7 @@ impl Guardian {
     }
 }
 
-// The value or the content that a line says.
+// The value or the content that a line has.
 fn answer_of(status: u32, line: &str) -> Result<Answer, Error> {
     if status == status::CONTENT {
         read_as(status, line).map(Answer::Body)

@@ -1,10 +1,10 @@
-//! `CallsMade`: what came of a list of calls.
+//! `CallsMade`: the outcome of a list of calls.
 
 use crate::list_end::ListEnd;
 use crate::reply::Reply;
 
-/// What came of a list of calls: the replies of those that were made, from the first one on, and why
-/// no more were.
+/// The outcome of a list of calls: the replies of those that were made, from the first one on, and
+/// why no more were.
 ///
 /// ```
 /// use argus_guardian::{ActionId, Answer, Call, Guardian, ListEnd, ListedCall, Reply};

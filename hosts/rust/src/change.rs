@@ -4,10 +4,10 @@ use crate::content::Content;
 use crate::value::Value;
 use std::fmt;
 
-/// An operation that changes an object, and needs a write lock. Fields and tags are numbered from 0.
-/// Where nothing else is said the answer is `Answer::Done`.
+/// An operation that changes an object, and needs a write lock. Fields and tags are numbered from
+/// 0. If nothing else is said, the answer is `Answer::Done`.
 ///
-/// `Display` gives the words that stand in a journal's line.
+/// `Display` writes the words of a journal's line.
 ///
 /// ```
 /// use argus_guardian::{Change, Value};
@@ -15,28 +15,28 @@ use std::fmt;
 /// ```
 #[derive(Debug, Clone, PartialEq, Eq, Hash)]
 pub enum Change {
-    /// Makes the content, or `Signal::Exists`.
+    /// Gives the object its first content, or `Signal::Exists`.
     Create(Content),
-    /// The field becomes the value.
+    /// Sets the field.
     SetField(u8, Value),
-    /// The element at this place becomes the value, or `Signal::Bounds`.
+    /// Sets the element at this place, or `Signal::Bounds`.
     Store(i64, Value),
-    /// The value becomes the last element, or `Signal::Limits`.
+    /// Adds the value after the last element, or `Signal::Limits`.
     Addh(Value),
-    /// The value becomes the first element, or `Signal::Limits`.
+    /// Adds the value before the first element, or `Signal::Limits`.
     Addl(Value),
-    /// Takes the last element away: `Answer::Val` of it, or `Signal::Bounds`.
+    /// Removes the last element: `Answer::Val` of it, or `Signal::Bounds`.
     Remh,
-    /// Takes the first element away: `Answer::Val` of it, `Signal::Bounds`, or `Signal::Limits`.
+    /// Removes the first element: `Answer::Val` of it, `Signal::Bounds`, or `Signal::Limits`.
     Reml,
-    /// The low bound becomes this one, or `Signal::Limits`.
+    /// Sets the low bound, or `Signal::Limits`.
     SetLow(i64),
-    /// Keeps the elements from a place on, and at most so many: or `Signal::NegativeSize`,
+    /// Keeps the elements from a place on, at most this many; or `Signal::NegativeSize`,
     /// `Signal::Bounds`, `Signal::Limits`.
     Trim(i64, i64),
-    /// The tag becomes this one, with the value.
+    /// Sets the tag, with its value.
     ChangeTag(u8, Value),
-    /// Changes nothing; the write lock is had. An action's `lock` makes it.
+    /// Changes nothing, but takes the write lock. An action's `lock` makes this change.
     Touch,
 }
 

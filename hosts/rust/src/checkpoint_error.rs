@@ -3,7 +3,7 @@
 use std::error;
 use std::fmt;
 
-/// Why the journal wasn't folded. All is as before.
+/// Why the journal wasn't folded. Nothing has changed.
 ///
 /// ```
 /// use argus_guardian::CheckpointError;
@@ -15,7 +15,7 @@ pub enum CheckpointError {
     Busy,
     /// The next entry's number is above 9,223,372,036,854,775,807.
     Full,
-    /// Memory was wanted that isn't there.
+    /// Out of memory.
     OutOfMemory,
 }
 

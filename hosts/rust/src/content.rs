@@ -7,7 +7,8 @@ use crate::writer::Writer;
 use std::fmt;
 use std::str::FromStr;
 
-/// What an object holds once it is created. `Display` gives the written form, and `FromStr` reads it.
+/// What an object holds when it is created. `Display` writes the written form, and `FromStr` reads
+/// it.
 ///
 /// ```
 /// use argus_guardian::{Content, Value};
@@ -27,11 +28,11 @@ pub enum Content {
         /// The elements, in order.
         items: Vec<Value>,
     },
-    /// An `atomic_variant`: its tag, and what goes with it.
+    /// An `atomic_variant`: its tag, and the tag's value.
     Variant {
         /// The number of the tag.
         tag: u8,
-        /// What goes with it.
+        /// Its value.
         value: Value,
     },
 }
@@ -52,7 +53,7 @@ impl fmt::Display for Content {
 impl FromStr for Content {
     type Err = Error;
 
-    /// Reads a written form; what is none gives [`Error::BadText`].
+    /// Reads a written form; [`Error::BadText`] if the text isn't one.
     fn from_str(text: &str) -> Result<Content, Error> {
         Reader::whole(text, Reader::content)
     }

@@ -1,4 +1,4 @@
-//! What the library's numbers and texts stand for.
+//! What the library's numbers and texts mean.
 
 use crate::answer::Answer;
 use crate::error::Error;
@@ -10,7 +10,7 @@ use crate::value::Value;
 use crate::{ActionId, ObjId};
 use std::str::FromStr;
 
-/// What the library has written, at this status.
+/// What the library has written with this status.
 pub(crate) fn read_as<T: FromStr>(status: u32, text: &str) -> Result<T, Error> {
     text.parse().map_err(|_| Error::Unknown(status))
 }
@@ -20,15 +20,15 @@ pub(crate) fn number_of(status: u32, number: i64) -> Result<u32, Error> {
     u32::try_from(number).map_err(|_| Error::Unknown(status))
 }
 
-/// The one of these that the library numbers so, from 1.
+/// The one of these with this number, which the library counts from 1.
 pub(crate) fn one_of<T: Copy>(all: &[T], status: u32, number: i64) -> Result<T, Error> {
     let place = usize::try_from(number).ok().and_then(|n| n.checked_sub(1));
     let one = place.and_then(|place| all.get(place));
     one.copied().ok_or(Error::Unknown(status))
 }
 
-/// The reply to a call of this kind, by its status and its number; its value or content is asked for
-/// where the number doesn't say it.
+/// The reply to a call of this kind, from its status and its number; if the number doesn't say the
+/// value or content, it is asked for.
 pub(crate) fn reply_of(
     kind: u32,
     status: u32,
@@ -53,7 +53,7 @@ pub(crate) fn reply_of(
     Ok(Reply::Answered(answer))
 }
 
-// Whether a call of this kind answers a value, where it is answered and doesn't signal.
+// Whether a call of this kind returns a value, if it is accepted and returns no signal.
 fn gives_value(kind: u32) -> bool {
     matches!(
         kind,
@@ -67,7 +67,7 @@ fn gives_value(kind: u32) -> bool {
     )
 }
 
-/// Why nothing was called.
+/// Why no call was made.
 pub(crate) fn error_of(status: u32, number: i64) -> Error {
     match status {
         status::NO_MEMORY => Error::OutOfMemory,

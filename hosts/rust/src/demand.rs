@@ -1,6 +1,6 @@
-//! `Demand`: what a reply must be for the calls after it to be made.
+//! `Demand`: what a reply must be for a list to go on.
 
-/// What a reply must be for the calls after it in a list to be made.
+/// What a reply must be for a list of calls to go on.
 ///
 /// ```
 /// use argus_guardian::Demand;

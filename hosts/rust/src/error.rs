@@ -1,60 +1,64 @@
-//! `Error`: why a call of this crate didn't give what it was asked for.
+//! `Error`: why a call of this crate failed.
 
 use crate::checkpoint_error::CheckpointError;
+use crate::line_fault::LineFault;
 use crate::refusal::Refusal;
 use crate::signal::Signal;
 use std::error;
 use std::fmt;
 
-/// Why a call of this crate didn't give what it was asked for. All other errors of the crate convert
-/// into it. `Display` says all there is to say: no error has a source.
+/// Why a call of this crate failed. All other errors of the crate convert into it. `Display` says
+/// everything: no error has a source.
 ///
 /// ```
-/// use argus_guardian::{CheckpointError, Error, Refusal};
+/// use argus_guardian::{CheckpointError, Error, LineFault, Refusal};
 /// assert_eq!(Error::from(Refusal::Conflict).to_string(), "refused: Conflict");
+/// let line = Error::from(LineFault::NotNext { next: 1 });
+/// assert_eq!(line.to_string(), "not the next line of a journal: not the number of the next entry, 1");
 /// assert_eq!(Error::from(CheckpointError::Busy).to_string(), "no checkpoint: an action is live");
 /// ```
 #[derive(Debug, Clone, PartialEq, Eq)]
 #[non_exhaustive]
 pub enum Error {
-    /// Memory was wanted that isn't there. Nothing has changed, and nothing was journalled.
+    /// Out of memory. Nothing has changed, and nothing was journalled.
     OutOfMemory,
-    /// A text is no written form of a value or content. Nothing has changed, and nothing was
+    /// A text isn't the written form of a value or content. Nothing has changed, and nothing was
     /// journalled.
     BadText {
         /// How many of its bytes could be read.
         at: usize,
     },
-    /// A text is no written form of a shape that can be made. Nothing has changed, and nothing was
-    /// journalled.
+    /// A text isn't the written form of a shape that can be made. Nothing has changed, and nothing
+    /// was journalled.
     BadShape,
-    /// The object isn't declared, or no entry has this number, or none but one that a checkpoint has
-    /// folded.
+    /// The object isn't declared, or no entry has this number, or a checkpoint has folded it.
     NotThere,
     /// The object's shape has no field or tag of this name. Nothing was journalled.
     NoName(String),
-    /// The call of the list that is to have begun the action isn't an earlier one, or began none.
+    /// The call of the list that should have begun the action isn't an earlier one, or began none.
     /// Nothing has changed, and nothing was journalled.
     NotBegun,
-    /// The call was made and stands in the journal, but memory for what it answered wasn't there.
-    /// `Guardian::answer_again` asks for it once more.
+    /// The call was made and is in the journal, but there was no memory for its answer.
+    /// `Guardian::answer_again` asks for the answer again.
     NoRoom,
-    /// The guardian has refused the call; its journal keeps that.
+    /// The guardian has refused the call; the journal has the refusal.
     Refused(Refusal),
-    /// The operation gave a signal; the action keeps the lock that it has got for it.
+    /// The operation returned a signal; the action keeps the lock that it got.
     Signal(Signal),
-    /// The journal wasn't folded. All is as before.
+    /// The journal wasn't folded. Nothing has changed.
     Checkpoint(CheckpointError),
-    /// The answer is of another kind than was asked for. It stands in the journal.
+    /// A line isn't the next one of a journal's listing.
+    Line(LineFault),
+    /// The answer isn't of the kind that was asked for. It is in the journal.
     OtherAnswer,
-    /// The library answered a number that this crate doesn't know: they are of two versions.
+    /// The library returned a number that this crate doesn't know: their versions differ.
     Unknown(u32),
-    /// The library is of another version, with this number, than the crate.
+    /// The library has another version than the crate: this one.
     OtherVersion(u32),
 }
 
 impl Error {
-    /// Whether it is a refusal with `Conflict`: the topaction may be aborted, and begun anew.
+    /// Whether it is a refusal with `Conflict`: abort the topaction, and begin it again.
     ///
     /// ```
     /// use argus_guardian::{Error, Refusal};
@@ -80,6 +84,7 @@ impl fmt::Display for Error {
             Error::Refused(refusal) => write!(f, "refused: {refusal}"),
             Error::Signal(signal) => write!(f, "signal: {signal}"),
             Error::Checkpoint(error) => write!(f, "no checkpoint: {error}"),
+            Error::Line(fault) => write!(f, "not the next line of a journal: {fault}"),
             Error::OtherAnswer => f.write_str("an answer of another kind"),
             Error::Unknown(status) => write!(f, "the library answered {status}"),
             Error::OtherVersion(number) => write!(f, "the library is of version {number}"),
@@ -95,6 +100,12 @@ impl From<CheckpointError> for Error {
             CheckpointError::OutOfMemory => Error::OutOfMemory,
             CheckpointError::Busy | CheckpointError::Full => Error::Checkpoint(error),
         }
+    }
+}
+
+impl From<LineFault> for Error {
+    fn from(fault: LineFault) -> Error {
+        Error::Line(fault)
     }
 }
 

@@ -12,12 +12,12 @@ use crate::sys::{self, Handle, status};
 use crate::words::Words;
 use std::fmt;
 
-/// Atomic objects and the actions that use them, for one caller at a time; threads share one by a
+/// Atomic objects and the actions that use them, for one caller at a time; threads share a guardian by a
 /// [`Shared`](crate::Shared), or by a mutex of their own.
 ///
-/// Its journal keeps each call with its reply, and so grows until a [`checkpoint`](Self::checkpoint).
-/// A guardian begins [`MAX_ACTIONS`](Self::MAX_ACTIONS) actions, until it is [renewed](Self::renew),
-/// and declares 65,535 objects.
+/// Its journal keeps each call with its reply, and so grows until a
+/// [`checkpoint`](Self::checkpoint). A guardian begins at most [`MAX_ACTIONS`](Self::MAX_ACTIONS)
+/// actions until it is [renewed](Self::renew), and declares at most 65,535 objects.
 ///
 /// ```
 /// use argus_guardian::{Call, Guardian, Reply, ObjId};
@@ -30,38 +30,39 @@ pub struct Guardian {
     pub(crate) handle: Handle,
     // Where replies are copied to.
     room: Vec<u8>,
-    // What came of the last call: of which kind the text is that the library keeps.
+    // The outcome of the last call: of which kind the text is that the library keeps.
     pub(crate) kept: u32,
-    // How often the numbers of actions began anew.
+    // How often the numbers of actions began at 0 again.
     pub(crate) renewals: u64,
 }
 
-// SAFETY: the archive's handle is proved to be such as may go to another thread, and all calls that
-// use it take `&mut self`.
+// SAFETY: it is proved that the archive's handle may go to another thread, and all calls that use
+// it take `&mut self`.
 unsafe impl Send for Guardian {}
 
 impl Guardian {
     /// How many actions a guardian begins until it is [renewed](Self::renew).
     pub const MAX_ACTIONS: u32 = 1_000_000;
 
-    /// A guardian without objects. It leaves a word of 8 bytes for good where it is dropped; one that
-    /// is made [beside](Self::beside) another one leaves none.
+    /// A guardian without objects. The first one of a process also allocates some 600 bytes that
+    /// all share and that are never freed.
     ///
     /// # Errors
     ///
-    /// [`Error::OutOfMemory`]; [`Error::OtherVersion`] where the library that was linked isn't the one
-    /// that belongs to this crate.
+    /// [`Error::OutOfMemory`]; [`Error::OtherVersion`] if the linked library isn't the one that
+    /// belongs to this crate.
     ///
     /// ```
     /// assert_eq!(argus_guardian::Guardian::new()?.objects(), 0);
     /// # Ok::<(), argus_guardian::Error>(())
     /// ```
     pub fn new() -> Result<Guardian, Error> {
-        let mut none = Handle::CLOSED;
-        Guardian::opened(&mut none)
+        // SAFETY: the handle is borrowed for the call.
+        Guardian::opened(|handle| unsafe { sys::argus_open(handle) }.status)
     }
 
-    /// A guardian without objects, which shares this one's word of memory, and nothing else.
+    /// A guardian without objects, which shares with this one the bytes that [`new`](Self::new)
+    /// speaks of.
     ///
     /// # Errors
     ///
@@ -76,18 +77,20 @@ impl Guardian {
     /// # Ok::<(), argus_guardian::Error>(())
     /// ```
     pub fn beside(&mut self) -> Result<Guardian, Error> {
-        Guardian::opened(&mut self.handle)
+        let beside = &raw mut self.handle;
+        // SAFETY: both handles are borrowed for the call, and they are different ones.
+        Guardian::opened(|handle| unsafe { sys::argus_c_open(handle, beside) })
     }
 
-    fn opened(beside: &mut Handle) -> Result<Guardian, Error> {
+    // Opens a handle by this call, which returns a status.
+    fn opened(open: impl FnOnce(&mut Handle) -> u32) -> Result<Guardian, Error> {
         let mut handle = Handle::CLOSED;
-        // SAFETY: it takes nothing.
+        // SAFETY: it has no parameters.
         let version = unsafe { sys::argus_c_version() };
         if version != sys::VERSION_NUMBER {
             return Err(Error::OtherVersion(version));
         }
-        // SAFETY: both handles are borrowed for the call, and are two.
-        match unsafe { sys::argus_c_open(&raw mut handle, beside) } {
+        match open(&mut handle) {
             status::DONE => Ok(Guardian {
                 handle,
                 room: Vec::new(),
@@ -99,12 +102,12 @@ impl Guardian {
         }
     }
 
-    /// Makes one call. Its reply, a refusal too, is journalled with it.
+    /// Makes one call. The journal keeps it with its reply, also if that is a refusal.
     ///
     /// # Errors
     ///
     /// [`Error::OutOfMemory`], [`Error::BadText`] (a value deeper than 16) and [`Error::BadShape`]:
-    /// then nothing was called and nothing has changed. [`Error::NoRoom`]: the call was made.
+    /// then no call was made and nothing has changed. [`Error::NoRoom`]: the call was made.
     ///
     /// ```
     /// use argus_guardian::{ActionId, Call, Guardian, Refusal, Reply};
@@ -117,8 +120,8 @@ impl Guardian {
     pub fn call(&mut self, call: &Call) -> Result<Reply, Error> {
         let words = Words::of(call);
         let mut number = 0;
-        // SAFETY: the handle is this guardian's alone, the text is UTF-8 and never null, and the
-        // number is another memory.
+        // SAFETY: no other guardian has the handle, the text is UTF-8 and never null, and the
+        // number is other memory.
         let status = unsafe {
             sys::argus_c_call(
                 &raw mut self.handle,
@@ -142,14 +145,14 @@ impl Guardian {
         decoding::reply_of(kind, status, number, || self.answer_again())
     }
 
-    /// The value or the content that the last call answered, once more: for a caller that had no room
-    /// for it ([`Error::NoRoom`]), since a second call would be a second entry. An integer and a truth
-    /// value take no room, and aren't kept.
+    /// The value or the content that the last call returned, again: for a caller that had no memory
+    /// for it ([`Error::NoRoom`]), since a second call would be a second entry. Integers and truth
+    /// values take no memory, and aren't kept.
     ///
     /// # Errors
     ///
-    /// [`Error::NoRoom`] again; [`Error::OtherAnswer`] where the last call answered neither, or a
-    /// question with a text has come since.
+    /// [`Error::NoRoom`] again; [`Error::OtherAnswer`] if the last call returned neither, or if
+    /// there was a question with a text since.
     ///
     /// ```
     /// use argus_guardian::{Answer, Change, Content, Guardian, Query, Value};
@@ -173,8 +176,8 @@ impl Guardian {
     pub(crate) fn text(&mut self) -> Result<&str, Error> {
         let mut size = 0;
         loop {
-            // SAFETY: the handle is this guardian's alone; handle, room and size are three memories,
-            // and no pointer is null (that of an empty room dangles, and nothing is put there).
+            // SAFETY: no other guardian has the handle; handle, room and size don't overlap, and no
+            // pointer is null (that of an empty room dangles, and nothing is written there).
             let status = unsafe {
                 sys::argus_c_reply(
                     &raw mut self.handle,
@@ -203,7 +206,7 @@ impl Guardian {
         Ok(())
     }
 
-    /// Declares an object of this shape, as `atomic_record[balance:int]`.
+    /// Declares an object of this shape, such as `atomic_record[balance:int]`.
     ///
     /// # Errors
     ///
@@ -238,13 +241,12 @@ impl Guardian {
         Action::begun(self, &Call::BeginTop)
     }
 
-    /// Aborts all that is live: each topaction, nested ones too, in increasing number, with its
-    /// subactions. For actions that nobody has any more, as after a panic or `mem::forget`.
+    /// Aborts all live actions: each topaction, nested ones too, in increasing number, with its
+    /// subactions. For actions whose guards are gone, as after a panic or `mem::forget`.
     ///
     /// # Errors
     ///
-    /// [`Error::OutOfMemory`]: some were aborted, from the first one on; a further call aborts the
-    /// others.
+    /// [`Error::OutOfMemory`]: some were aborted, from the first one on; another call aborts the others.
     ///
     /// ```
     /// use argus_guardian::{Call, Guardian};
@@ -255,20 +257,20 @@ impl Guardian {
     /// # Ok::<(), argus_guardian::Error>(())
     /// ```
     pub fn abort_live(&mut self) -> Result<(), Error> {
-        // SAFETY: the handle is this guardian's alone.
+        // SAFETY: no other guardian has the handle.
         match unsafe { sys::argus_c_abort_live(&raw mut self.handle) } {
             status::DONE => Ok(()),
             other => Err(error_of(other, 0)),
         }
     }
 
-    /// Folds the journal's entries away: objects keep what they hold for good, and entries and
-    /// actions their numbers. Its memory is given back.
+    /// Folds the journal's entries: objects keep their bases, and entries and actions their
+    /// numbers. The memory of the entries is freed.
     ///
     /// # Errors
     ///
-    /// [`CheckpointError::Busy`] where an action is live, [`CheckpointError::Full`] past 2^63 - 1
-    /// entries, [`CheckpointError::OutOfMemory`]; then all is as before.
+    /// [`CheckpointError::Busy`] if an action is live, [`CheckpointError::Full`] beyond 2^63 - 1
+    /// entries, [`CheckpointError::OutOfMemory`]; then nothing has changed.
     ///
     /// ```
     /// use argus_guardian::{CheckpointError, Guardian};
@@ -281,7 +283,7 @@ impl Guardian {
     /// # Ok::<(), argus_guardian::Error>(())
     /// ```
     pub fn checkpoint(&mut self) -> Result<(), CheckpointError> {
-        // SAFETY: the handle is this guardian's alone.
+        // SAFETY: no other guardian has the handle.
         match unsafe { sys::argus_c_checkpoint(&raw mut self.handle) } {
             status::DONE => Ok(()),
             status::BUSY => Err(CheckpointError::Busy),
@@ -290,16 +292,15 @@ impl Guardian {
         }
     }
 
-    /// Begins anew: objects keep their numbers, their shapes and what they hold for good, and entries
-    /// their numbers; actions are numbered from 0 again. The entries are folded away, as by a
-    /// checkpoint.
+    /// Numbers actions from 0 again. Objects keep their numbers, their shapes and their bases, and
+    /// entries their numbers. The entries are folded, as by a checkpoint.
     ///
-    /// From then on an [`ActionId`] of before names another action, or none. A [`Shared`](crate::Shared)
-    /// renews by itself.
+    /// From then on an earlier [`ActionId`] names another action, or none. A
+    /// [`Shared`](crate::Shared) renews by itself.
     ///
     /// # Errors
     ///
-    /// As of [`checkpoint`](Self::checkpoint).
+    /// As for [`checkpoint`](Self::checkpoint).
     ///
     /// ```
     /// use argus_guardian::{ActionId, Guardian};
@@ -314,7 +315,7 @@ impl Guardian {
     /// # Ok::<(), argus_guardian::Error>(())
     /// ```
     pub fn renew(&mut self) -> Result<(), CheckpointError> {
-        // SAFETY: the handle is this guardian's alone.
+        // SAFETY: no other guardian has the handle.
         match unsafe { sys::argus_c_renew(&raw mut self.handle) } {
             status::DONE => {
                 self.renewals += 1;
@@ -329,7 +330,7 @@ impl Guardian {
 
 impl Drop for Guardian {
     fn drop(&mut self) {
-        // SAFETY: the handle is this guardian's alone, and isn't used again.
+        // SAFETY: no other guardian has the handle, and it isn't used again.
         unsafe { sys::argus_c_close(&raw mut self.handle) };
     }
 }

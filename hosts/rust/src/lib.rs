@@ -2,7 +2,7 @@
 //!
 //! A [`Guardian`] keeps records, arrays and variants for many actions. Each access is made by an
 //! action: a topaction, a subaction of one, or a nested topaction. An action that aborts leaves no
-//! trace, and committed topactions can't be told from topactions run one after another.
+//! trace, and committed topactions can't be distinguished from topactions run one after another.
 //!
 //! ```
 //! use argus_guardian::{Change, Content, Error, Guardian, Value};
@@ -22,10 +22,10 @@
 //! # Ok::<(), Error>(())
 //! ```
 //!
-//! What is proved is the archive: each reply is the answer that the journal before the call gives
-//! (the repository's README says it in full). This crate is not proved: it calls the archive, reads
-//! its texts, and keeps actions in guards. [`Shared`] adds std's `Mutex` and `Condvar`; that its
-//! waits end, or wait for nothing else than they say, isn't proved either.
+//! The archive is proved: each reply follows from the journal before the call (the repository's
+//! README says it in full). This crate isn't proved: it calls the archive, reads its texts, and
+//! keeps actions in guards. [`Shared`] adds std's `Mutex` and `Condvar`; it isn't proved either,
+//! neither that its waits end nor that they wait only for what they say.
 
 #![deny(missing_docs)]
 

@@ -20,27 +20,27 @@ pub enum LineFault {
         /// How many bytes its longest prefix has that is.
         at: usize,
     },
-    /// It begins as a line of an opening, and can't be its next one: entries came before it, its
+    /// It begins like a line of an opening, but can't be the next one: entries came before it, its
     /// number isn't the next one, a number is above its limit, no entry went before the opening, a
-    /// shape can't be made, or a content wouldn't fit its shape however many objects there were.
+    /// shape can't be made, or a content doesn't fit its shape, whatever objects there are.
     NotAnOpening,
-    /// It is the line of no entry.
+    /// It isn't the line of an entry.
     NoLine {
-        /// How many bytes its longest prefix has that begins one, or, in a declaration, what stands
-        /// before a shape that can't be made.
+        /// How many bytes of it could be read: its longest prefix that begins an entry's line, or,
+        /// in a declaration, the text before a shape that can't be made.
         at: usize,
     },
-    /// It is the line of an entry, with another number than the next one.
+    /// It is the line of an entry, but not with the next number.
     NotNext {
         /// The number of the next entry.
         next: u64,
     },
-    /// It is the next entry's line, and the opening before it refers to objects that aren't there.
+    /// It is the next entry's line, but the opening before it refers to objects that aren't there.
     NotSound,
-    /// It is the next entry's line, and the journal before it gives its call another reply.
+    /// It is the next entry's line, but by the journal before it, its call has another reply.
     NotTheReply {
-        /// The reply that the journal gives, as it stands behind the arrow of an entry's line; None
-        /// where there is no memory for it.
+        /// The reply by the journal, as after the arrow of an entry's line; None if there is no
+        /// memory for it.
         reply: Option<String>,
     },
 }

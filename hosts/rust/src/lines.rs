@@ -1,12 +1,13 @@
-//! `Lines`: how many lines of the journal a room has taken.
+//! `Lines`: how many lines of the journal were put into a room.
 
-/// How many whole lines of the journal a room has taken: [`Guardian::lines`](crate::Guardian::lines).
+/// How many whole lines of the journal were put into a room:
+/// [`Guardian::lines`](crate::Guardian::lines).
 #[derive(Debug, Clone, Copy, PartialEq, Eq)]
 pub struct Lines {
-    /// Of so many entries; 0 where there is none from that number on, or the room is too small for
-    /// the first line.
+    /// How many entries' lines they are; 0 if there is none from that number on, or if the room is
+    /// too small for the first line.
     pub count: u64,
-    /// So many bytes are at the front of the room. Where `count` is 0, so many the first line has, 0
-    /// where there is none.
+    /// How many bytes they have, at the beginning of the room. If `count` is 0, how many bytes the
+    /// first line has, or 0 if there is none.
     pub size: usize,
 }

@@ -14,10 +14,10 @@ use crate::error::Error;
 #[derive(Debug, Clone, PartialEq, Eq)]
 #[must_use = "it says whether all calls of the list were made"]
 pub enum ListEnd {
-    /// All were made, and each reply is as demanded.
+    /// All were made, and each reply is what its demand says.
     Whole,
-    /// The last reply isn't as demanded.
+    /// The last reply isn't what its demand says.
     Unmet,
-    /// The call after those that were made wasn't made, and has changed nothing.
+    /// The next call failed: it wasn't made, and has changed nothing.
     Failed(Error),
 }

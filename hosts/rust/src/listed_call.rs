@@ -7,7 +7,7 @@ use crate::sys;
 use crate::words::Words;
 use std::ptr;
 
-/// One call of a list, and what its reply must be for the calls after it to be made.
+/// One call of a list, and what its reply must be for the list to go on.
 ///
 /// ```
 /// use argus_guardian::{Call, ListedCall};
@@ -18,12 +18,13 @@ use std::ptr;
 pub struct ListedCall {
     call: Call,
     demand: Demand,
-    // At which place of the list its action was begun, counted from 1; 0: the action is the call's.
+    // The place in the list, counted from 1, of the call that begins its action; 0: the action is
+    // in the call.
     begun_by: u32,
 }
 
 impl ListedCall {
-    /// A call of the action that the call at this place of the list, counted from 0, begins.
+    /// A call by the action that the call at this place of the list, counted from 0, begins.
     ///
     /// ```
     /// use argus_guardian::{Call, ListedCall, ObjId, Query};
@@ -79,7 +80,7 @@ impl ListedCall {
 }
 
 impl From<Call> for ListedCall {
-    /// The call itself, whose reply must be no refusal.
+    /// The call itself, whose reply must not be a refusal.
     fn from(call: Call) -> ListedCall {
         ListedCall {
             call,

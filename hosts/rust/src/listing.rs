@@ -1,6 +1,6 @@
-//! `Listing`: what of a guardian is listed.
+//! `Listing`: what is listed of a guardian.
 
-/// What of a guardian is listed, a line each. Objects come in order of their numbers.
+/// What is listed of a guardian, one line each. Objects come in the order of their numbers.
 ///
 /// ```
 /// use argus_guardian::{Guardian, Listing};
@@ -11,12 +11,12 @@
 /// ```
 #[derive(Debug, Clone, Copy, PartialEq, Eq, Hash)]
 pub enum Listing {
-    /// What is in each object for good.
+    /// The base of each object.
     Bases,
     /// The same, with each object's readers, and its versions from ancestor to descendant.
     Stacks,
     /// The journal's entries.
     Journal,
-    /// Bases and versions as the journal's writes leave them, computed anew.
+    /// Bases and versions, computed again from the journal's writes.
     Audit,
 }

@@ -1,7 +1,7 @@
 //! A log: a guardian's journal in files (the feature `log`; Unix, Rust 1.89).
 //!
-//! [`FileLog`] keeps the lines of a journal, batch by batch. What it has appended is on disk. When it is read
-//! again, what is torn is cut off, and what is damaged is named.
+//! [`FileLog`] keeps the lines of a journal, batch by batch. What it has appended is on disk. When it is read again,
+//! what is torn is cut off, and what is damaged is reported with its place.
 //!
 //! ```
 //! use argus_guardian::log::{EntryLines, FileLog, Folder, OpenError};
@@ -22,15 +22,15 @@
 //! # Ok::<(), OpenError>(())
 //! ```
 //!
-//! With the feature `logged`, `Logged` is a [`Shared`](crate::Shared) each of whose entries goes to a log, and
-//! whose commits return once the log has them. `Logged::open` makes it again of its log: each call is made again,
-//! and each reply compared.
+//! With the feature `logged`, `Logged` is a [`Shared`](crate::Shared) whose entries go to a log, and whose commits
+//! return when the log has them. `Logged::open` restores it from its log: it makes each call again, and compares each
+//! reply.
 //!
 //! # Files
 //!
-//! A log is a folder with one writer, by a lock. In it are segments, files that begin with a line of their
-//! own; then come batches, each with a head, whole lines of the journal as they are, and a seal. Behind the
-//! last one there are zeros, at least one: they were laid out before the batch was begun.
+//! A log is a folder with one writer, by a lock. It has segments, files that begin with a line of their own. Then come
+//! batches, each with a head, whole lines of the journal, and a seal. After the last batch there are zeros, at least
+//! one: they were laid out before the batch was begun.
 //!
 //! ```text
 //! #segment format=1 version=0.1.0 epoch=1 segment=1 batch=0 first=0 begins=entries check=841b3263
@@ -39,17 +39,16 @@
 //! #seal batch=0 body=cea98ee1 check=63a1eaaa
 //! ```
 //!
-//! `body` is the CRC-32 of a batch's lines, `check` that of the words before it on its own line. An epoch is
-//! one opening of the log by a writer. A seal is written once its batch is on disk, and before the next one
-//! is begun. So the first thing that isn't as it was written is a torn write, if no seal, later batch or
-//! later segment is behind it, and the file has its zeros; else it is [`Damage`]. A full segment ends with
-//! `#continued segment=2`. After a checkpoint a segment begins with a batch `#opening`, whose lines are the
-//! opening of the journal's listing, and the segments before it go.
+//! `body` is the CRC-32 of a batch's lines, `check` that of the words before it on its own line. An epoch is one
+//! opening of the log by a writer. A seal is written when its batch is on disk, and before the next one is begun. So
+//! the first thing that isn't as it was written is a torn write, if no seal, later batch or later segment follows it,
+//! and the file has its zeros; otherwise it is [`Damage`]. A full segment ends with `#continued segment=2`. After a
+//! checkpoint a segment begins with a batch `#opening`, whose lines are the opening of the journal's listing, and the
+//! segments before it are removed.
 //!
-//! [`Storage`] is what a log asks of the system, and [`BatchLog`] what a guardian asks of a log.
+//! [`Storage`] is what a log needs from the system, and [`BatchLog`] what a guardian needs from a log.
 //!
-//! **Nothing here is proved.** What is tested, and what is promised by whom, says the repository's page
-//! docs/OUTLIVING.md.
+//! **Nothing here is proved.** The repository's page docs/OUTLIVING.md says what is tested, and who promises what.
 
 mod batch;
 mod batch_log;

@@ -3,8 +3,8 @@
 use crate::error::Error;
 use std::error;
 
-/// An error by which [`Shared::run`](crate::Shared::run) knows whether to try again. A program's own
-/// error says so of the [`Error`] that it carries:
+/// An error by which [`Shared::run`](crate::Shared::run) knows whether to try again. A program's
+/// own error asks the [`Error`] that it carries:
 ///
 /// ```
 /// use argus_guardian::{Error, MayConflict, Refusal};

@@ -1,12 +1,12 @@
-//! `NotReady`: why a commit wasn't made ready, with the guardian.
+//! `NotReady`: why a commit wasn't prepared, with the guardian.
 
 use crate::error::Error;
 use crate::guardian::Guardian;
 use std::error;
 use std::fmt;
 
-/// Why a commit wasn't made ready, with the guardian, which is as it was. It converts into the
-/// [`Error`], and then the guardian ends.
+/// Why a commit wasn't prepared, with the unchanged guardian. If it is converted into the
+/// [`Error`], the guardian is dropped.
 ///
 /// ```
 /// use argus_guardian::{ActionId, Guardian};
@@ -19,9 +19,9 @@ use std::fmt;
 /// ```
 #[derive(Debug)]
 pub struct NotReady {
-    /// As it was.
+    /// The guardian, unchanged.
     pub guardian: Guardian,
-    /// Why.
+    /// Why the commit wasn't prepared.
     pub error: Error,
 }
 

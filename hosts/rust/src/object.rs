@@ -3,9 +3,9 @@
 use crate::ObjId;
 use crate::error::Error;
 
-/// An object with the names of its fields or tags, which its shape has:
-/// [`Guardian::object`](crate::Guardian::object) makes it. It stays right as long as the guardian is
-/// there, since an object keeps its shape.
+/// An object with the names of its fields or tags, from its shape:
+/// [`Guardian::object`](crate::Guardian::object) makes it. It stays right as long as the guardian
+/// exists, since an object keeps its shape.
 ///
 /// ```
 /// use argus_guardian::{Change, Guardian, Value};
@@ -47,8 +47,8 @@ impl Object {
         self.id
     }
 
-    /// The names of a record's fields, or of a variant's tags, in the order of their numbers; none of an
-    /// array.
+    /// The names of a record's fields, or of a variant's tags, in the order of their numbers; none
+    /// for an array.
     ///
     /// ```
     /// use argus_guardian::Guardian;
@@ -66,7 +66,7 @@ impl Object {
     ///
     /// # Errors
     ///
-    /// [`Error::NoName`] where there is none.
+    /// [`Error::NoName`] if there is none.
     ///
     /// ```
     /// use argus_guardian::{Error, Guardian};
@@ -85,7 +85,7 @@ impl Object {
     }
 }
 
-// The names right inside the brackets of a record or a variant: `atomic_record[balance:int]`.
+// The names directly inside the brackets of a record or a variant: `atomic_record[balance:int]`.
 fn names_in(shape: &str) -> Vec<String> {
     let inside = shape
         .strip_prefix("atomic_record[")

@@ -4,7 +4,7 @@ use std::fmt;
 
 /// An operation that looks at an object, and needs a read lock. Fields and tags are numbered from 0.
 ///
-/// `Display` gives the words that stand in a journal's line.
+/// `Display` writes the words of a journal's line.
 ///
 /// ```
 /// use argus_guardian::Query;
@@ -30,7 +30,7 @@ pub enum Query {
     Top,
     /// Whether a variant has this tag: `Answer::Flag`.
     IsTag(u8),
-    /// What goes with this tag: `Answer::Val`, or `Signal::WrongTag`.
+    /// The value of this tag: `Answer::Val`, or `Signal::WrongTag`.
     TagValue(u8),
 }
 

@@ -1,4 +1,4 @@
-//! What a guardian is asked without an entry in the journal.
+//! Questions to a guardian, which make no entry in the journal.
 
 use crate::content::Content;
 use crate::decoding::{error_of, one_of};
@@ -13,7 +13,7 @@ use crate::sys::{self, question, status};
 use crate::{ActionId, ObjId};
 
 impl Guardian {
-    /// Whether the action could have a read lock on the object now. It isn't journalled.
+    /// Whether the action could get a read lock on the object now. The question isn't journalled.
     ///
     /// ```
     /// use argus_guardian::{Guardian, ObjId};
@@ -27,7 +27,7 @@ impl Guardian {
         self.tell(question::CAN_READ, action, object, 0) == (status::FLAG, 1)
     }
 
-    /// Whether the action could have a write lock on the object now. It isn't journalled.
+    /// Whether the action could get a write lock on the object now. The question isn't journalled.
     ///
     /// ```
     /// use argus_guardian::Guardian;
@@ -79,7 +79,7 @@ impl Guardian {
         Guardian::MAX_ACTIONS.saturating_sub(self.actions())
     }
 
-    /// What has become of an action; `None` where it isn't begun.
+    /// The state of an action; `None` if it isn't begun.
     ///
     /// ```
     /// use argus_guardian::{ActionId, Guardian, Status};
@@ -96,8 +96,8 @@ impl Guardian {
         }
     }
 
-    /// The first live action, of those from this number on. With the number after the one that it
-    /// finds it leads to all live actions.
+    /// The first live action from this number on. Called again with the number after the one that
+    /// it found, it leads to all live actions.
     ///
     /// ```
     /// use argus_guardian::{ActionId, Call, Guardian};
@@ -115,7 +115,7 @@ impl Guardian {
         }
     }
 
-    /// The number of the journal's first entry: that which was the next one at the last checkpoint.
+    /// The number of the journal's first entry: the number that was next at the last checkpoint.
     ///
     /// ```
     /// let mut guardian = argus_guardian::Guardian::new()?;
@@ -132,7 +132,7 @@ impl Guardian {
     ///
     /// # Errors
     ///
-    /// As of [`base`](Self::base).
+    /// As for [`base`](Self::base).
     ///
     /// ```
     /// let mut guardian = argus_guardian::Guardian::new()?;
@@ -149,7 +149,7 @@ impl Guardian {
     ///
     /// # Errors
     ///
-    /// As of [`base`](Self::base).
+    /// As for [`base`](Self::base).
     ///
     /// ```
     /// let mut guardian = argus_guardian::Guardian::new()?;
@@ -162,8 +162,8 @@ impl Guardian {
         Ok(Object::of(object, shape))
     }
 
-    /// How many entries the journal has had, those that a checkpoint has folded too: the next one's
-    /// number.
+    /// How many entries the journal has had, including those that a checkpoint has folded: the next
+    /// one's number.
     ///
     /// ```
     /// let mut guardian = argus_guardian::Guardian::new()?;
@@ -180,11 +180,12 @@ impl Guardian {
         u64::try_from(number).unwrap_or(0)
     }
 
-    /// What is in the object for good; `None` where it has no content yet.
+    /// The object's base: what the committed topactions have left in it; `None` if it has no
+    /// content yet.
     ///
     /// # Errors
     ///
-    /// [`Error::NotThere`] where no object of that number is declared; [`Error::OutOfMemory`].
+    /// [`Error::NotThere`] if no object of this number is declared; [`Error::OutOfMemory`].
     ///
     /// ```
     /// use argus_guardian::{Error, Guardian, ObjId};
@@ -199,11 +200,11 @@ impl Guardian {
         Reader::whole(text, Reader::content_or_absent)
     }
 
-    /// Who holds the object for reading, in increasing number.
+    /// The actions that hold the object for reading, in increasing number.
     ///
     /// # Errors
     ///
-    /// As of [`base`](Self::base).
+    /// As for [`base`](Self::base).
     ///
     /// ```
     /// let mut guardian = argus_guardian::Guardian::new()?;
@@ -218,11 +219,12 @@ impl Guardian {
             .collect()
     }
 
-    /// Who holds the object for writing, from ancestor to descendant, each with what it sees there.
+    /// The actions that hold the object for writing, from ancestor to descendant, each with what it
+    /// sees there.
     ///
     /// # Errors
     ///
-    /// As of [`base`](Self::base).
+    /// As for [`base`](Self::base).
     ///
     /// ```
     /// use argus_guardian::{ActionId, Change, Content, Guardian};
@@ -245,7 +247,7 @@ impl Guardian {
     ///
     /// # Errors
     ///
-    /// [`Error::NotThere`] where no entry has this number, or a checkpoint has folded it;
+    /// [`Error::NotThere`] if no entry has this number, or a checkpoint has folded it;
     /// [`Error::OutOfMemory`].
     ///
     /// ```
@@ -259,15 +261,15 @@ impl Guardian {
         Ok(text.to_owned())
     }
 
-    /// Puts as many whole lines of the journal's listing as fit at the front of the room, each with its
-    /// line feed, from the entry `from` on. The next number to ask for is `from + count`. Where the
-    /// room is too small for the first line, it stays as it is, and `size` is what that line wants. What
-    /// [`answer_again`](Self::answer_again) gives stays.
+    /// Puts as many whole lines of the journal's listing as fit at the beginning of the room, each
+    /// with its line feed, from the entry `from` on. The next number to ask for is `from + count`.
+    /// If the room is too small for the first line, it isn't changed, and `size` is what that line
+    /// needs. It doesn't change what [`answer_again`](Self::answer_again) returns.
     ///
     /// # Errors
     ///
-    /// [`Error::NotThere`] where `from` is below [`first_entry`](Self::first_entry), or above
-    /// [`entries`](Self::entries); [`Error::OutOfMemory`]. The room is as it was.
+    /// [`Error::NotThere`] if `from` is below [`first_entry`](Self::first_entry), or above
+    /// [`entries`](Self::entries); [`Error::OutOfMemory`]. The room isn't changed.
     ///
     /// ```
     /// use argus_guardian::{Guardian, Lines};
@@ -282,8 +284,8 @@ impl Guardian {
     /// ```
     pub fn lines(&mut self, from: u64, room: &mut [u8]) -> Result<Lines, Error> {
         let (mut size, mut count) = (0, 0);
-        // SAFETY: the handle is this guardian's alone; it, the room, size and count are four memories,
-        // and no pointer is null (that of an empty room dangles, and nothing is put there).
+        // SAFETY: no other guardian has the handle; it, the room, size and count don't overlap, and
+        // no pointer is null (that of an empty room dangles, and nothing is written there).
         let status = unsafe {
             sys::argus_c_lines(
                 &raw mut self.handle,
@@ -327,7 +329,7 @@ impl Guardian {
     // A question's status and number.
     fn tell(&mut self, question: u32, action: ActionId, object: ObjId, entry: u64) -> (u32, i64) {
         let mut number = 0;
-        // SAFETY: the handle is this guardian's alone, and the number is another memory.
+        // SAFETY: no other guardian has the handle, and the number is other memory.
         let status = unsafe {
             sys::argus_c_tell(
                 &raw mut self.handle,
@@ -344,7 +346,7 @@ impl Guardian {
         (status, number)
     }
 
-    // What a question tells as a text.
+    // The text that a question returns.
     fn told(&mut self, question: u32, object: ObjId, entry: u64) -> Result<&str, Error> {
         match self.tell(question, ActionId(0), object, entry) {
             (status::TEXT, _) => self.text().map_err(|error| match error {

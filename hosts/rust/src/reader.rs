@@ -9,15 +9,15 @@ use std::ops::RangeInclusive;
 // How deep a value may be.
 const MAX_DEPTH: u8 = 16;
 
-/// What is left to read of a text. Each `take` and each reading call takes what it reads from the
-/// front; where it answers `None`, it has stopped at what can't be read.
+/// The rest of a text that is being read. Each `take` and each reading call takes what it reads
+/// from the beginning; if it returns `None`, it has stopped at what can't be read.
 pub(crate) struct Reader<'t> {
     left: &'t str,
 }
 
 impl<'t> Reader<'t> {
-    /// Reads the whole text by `read`. What is left over, or can't be read, is a bad text, with the
-    /// place where the reading stopped.
+    /// Reads the whole text by `read`. If something is left over or can't be read, it is a bad
+    /// text, with the place where the reading stopped.
     pub(crate) fn whole<T>(
         text: &'t str,
         read: impl FnOnce(&mut Reader<'t>) -> Option<T>,
@@ -31,13 +31,13 @@ impl<'t> Reader<'t> {
         }
     }
 
-    /// Takes this beginning, where the rest has it.
+    /// Takes this beginning, if the rest has it.
     pub(crate) fn take(&mut self, beginning: &str) -> Option<()> {
         self.left = self.left.strip_prefix(beginning)?;
         Some(())
     }
 
-    /// What stands before the next space, or before the end.
+    /// The text before the next space, or before the end.
     pub(crate) fn word(&mut self) -> &'t str {
         let end = self.left.find(' ').unwrap_or(self.left.len());
         let (word, left) = self.left.split_at(end);
@@ -50,7 +50,7 @@ impl<'t> Reader<'t> {
         self.left = "";
     }
 
-    // A number of this sign, within these bounds: as many digits as make one.
+    // A number with this sign, within these bounds: as many digits as still make one.
     fn number(&mut self, sign: i64, within: RangeInclusive<i64>) -> Option<i64> {
         let mut number = None;
         for digit in self.left.bytes() {
@@ -89,7 +89,7 @@ impl<'t> Reader<'t> {
         self.number(1, 0..=i64::MAX)
     }
 
-    // What stands before the closing quote, which is taken too.
+    // The text before the closing quote, which is taken too.
     fn text(&mut self) -> Option<String> {
         let mut text = String::new();
         while self.take("\"").is_none() {
@@ -143,7 +143,7 @@ impl<'t> Reader<'t> {
         self.int().map(Value::Int)
     }
 
-    // What stands before the closing bracket, which is taken too.
+    // The values before the closing bracket, which is taken too.
     fn values(&mut self, level: u8, close: &str) -> Option<Vec<Value>> {
         let mut values = Vec::new();
         if self.take(close).is_some() {
@@ -166,7 +166,7 @@ impl<'t> Reader<'t> {
         Some((tag, value))
     }
 
-    /// A content. Its parts are values, and may be as deep as those.
+    /// A content. Its parts are values, and may be as deep as values.
     pub(crate) fn content(&mut self) -> Option<Content> {
         if self.take("{").is_some() {
             return self.values(0, "}").map(Content::Record);
@@ -200,13 +200,13 @@ impl<'t> Reader<'t> {
         Some((holder, self.content_or_absent()?))
     }
 
-    /// The number of an action, as `a7`.
+    /// The number of an action, such as `a7`.
     pub(crate) fn action(&mut self) -> Option<ActionId> {
         self.take("a")?;
         self.nat().map(ActionId)
     }
 
-    /// The number of an object, as `o7`.
+    /// The number of an object, such as `o7`.
     pub(crate) fn object(&mut self) -> Option<ObjId> {
         self.take("o")?;
         self.nat().map(ObjId)

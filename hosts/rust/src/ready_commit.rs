@@ -1,4 +1,4 @@
-//! `ReadyCommit`: a guardian with a commit for which all is at hand.
+//! `ReadyCommit`: a guardian with a prepared commit.
 
 use crate::ActionId;
 use crate::answer::Answer;
@@ -10,12 +10,12 @@ use crate::reply::Reply;
 use crate::sys::{self, Handle, Ready, kind, status};
 use std::fmt;
 
-// A line of a commit, with its line feed, has no more bytes: two numbers of 20 and 10 digits, and the
-// longest refusal, `Suspended`.
+// The most bytes that a commit's line has, with its line feed: two numbers of 20 and 10 digits, and
+// the longest refusal, `Suspended`.
 const LINE: usize = 61;
 
-/// A guardian with a commit for which all is at hand, so that it can't fail. It is made or cancelled,
-/// and then the guardian is there again. Where it is dropped, so is the guardian, without the commit.
+/// A guardian with a prepared commit, which can't fail any more. Make it or cancel it, and the
+/// guardian is returned. If it is dropped, so is the guardian, without the commit.
 ///
 /// So a commit is in a log before anybody can see what it leaves:
 ///
@@ -39,17 +39,16 @@ pub struct ReadyCommit {
     guardian: Guardian,
 }
 
-// SAFETY: the archive's handle is proved to be such as may go to another thread, and all calls that
-// use it take `&mut self` or `self`.
+// SAFETY: it is proved that the archive's handle may go to another thread, and all calls that use
+// it take `&mut self` or `self`.
 unsafe impl Send for ReadyCommit {}
 
 impl Guardian {
-    /// Makes all ready for the commit of an action, but for the commit itself. A commit that is going
-    /// to be refused is made ready, too.
+    /// Prepares the commit of an action. A commit that will be refused is prepared, too.
     ///
     /// # Errors
     ///
-    /// [`NotReady`], with the guardian as it was, and [`Error::OutOfMemory`].
+    /// [`NotReady`], with the unchanged guardian, and [`Error::OutOfMemory`].
     ///
     /// ```
     /// use argus_guardian::{ActionId, Error, Guardian};
@@ -60,7 +59,7 @@ impl Guardian {
     /// ```
     pub fn ready_commit(mut self, action: ActionId) -> Result<ReadyCommit, NotReady> {
         let mut ready = Ready::NOTHING;
-        // SAFETY: both handles are borrowed for the call, and are two.
+        // SAFETY: both handles are borrowed for the call, and they are different ones.
         let status =
             unsafe { sys::argus_c_ready_commit(&raw mut self.handle, &raw mut ready, action.0) };
         match status {
@@ -77,7 +76,7 @@ impl Guardian {
 }
 
 impl ReadyCommit {
-    /// The line that the commit is going to be in the journal's listing, with its line feed.
+    /// The line that the commit will have in the journal's listing, with its line feed.
     ///
     /// # Errors
     ///
@@ -91,8 +90,8 @@ impl ReadyCommit {
     /// ```
     pub fn line(&mut self) -> Result<String, Error> {
         let (mut room, mut size) = ([0; LINE], 0);
-        // SAFETY: the handle is this one's alone; handle, room and size are three memories, and no
-        // pointer is null.
+        // SAFETY: nothing else has the handle; handle, room and size don't overlap, and no pointer
+        // is null.
         let status = unsafe {
             sys::argus_c_ready_line(
                 &raw mut self.ready,
@@ -109,8 +108,8 @@ impl ReadyCommit {
         Ok(line.to_owned())
     }
 
-    /// Makes the commit: the guardian with it as the journal's newest entry, and whether it was
-    /// refused ([`Error::Refused`]). It takes no memory.
+    /// Makes the commit, which takes no memory. Returns the guardian, with the commit as the
+    /// journal's newest entry, and whether it was refused ([`Error::Refused`]).
     ///
     /// ```
     /// use argus_guardian::{Error, Guardian, Refusal};
@@ -129,7 +128,7 @@ impl ReadyCommit {
             mut guardian,
         } = self;
         let mut number = 0;
-        // SAFETY: both handles are this one's alone, and handles and number are three memories.
+        // SAFETY: nothing else has these handles, and handles and number don't overlap.
         let status = unsafe {
             sys::argus_c_make_ready(&raw mut ready, &raw mut guardian.handle, &raw mut number)
         };
@@ -139,14 +138,14 @@ impl ReadyCommit {
         (guardian, committed)
     }
 
-    /// Gives the guardian back as it was; nothing was journalled, and the action is live.
+    /// Returns the guardian unchanged; nothing was journalled, and the action is live.
     #[must_use]
     pub fn cancel(self) -> Guardian {
         let ReadyCommit {
             mut ready,
             mut guardian,
         } = self;
-        // SAFETY: both handles are this one's alone, and are two.
+        // SAFETY: nothing else has these handles, and they are different ones.
         unsafe { sys::argus_c_cancel_ready(&raw mut ready, &raw mut guardian.handle) };
         guardian
     }
@@ -155,7 +154,7 @@ impl ReadyCommit {
 impl Drop for Ready {
     fn drop(&mut self) {
         let mut handle = Handle::CLOSED;
-        // SAFETY: this handle isn't used again, and the other one is closed before it ends. Where
+        // SAFETY: this handle isn't used again, and the other one is closed before it ends. If
         // nothing is ready, both calls do nothing.
         unsafe {
             sys::argus_c_cancel_ready(self, &raw mut handle);

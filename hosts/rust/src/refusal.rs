@@ -3,8 +3,8 @@
 use std::error;
 use std::fmt;
 
-/// Why a call was refused, in order of checking. A refused call takes no lock and changes nothing,
-/// but the journal keeps it and its reply.
+/// Why a call was refused, in the order of checking. A refused call takes no lock and changes
+/// nothing, but the journal keeps it and its reply.
 ///
 /// ```
 /// use argus_guardian::Refusal;
@@ -22,7 +22,7 @@ pub enum Refusal {
     NoObject,
     /// The operation doesn't suit the object's shape, or its value isn't of the type there.
     IllTyped,
-    /// An action that is no ancestor holds a lock against this one.
+    /// An action that isn't an ancestor holds a lock that conflicts with this one's.
     Conflict,
     /// The parent has depth 64.
     TooDeep,

@@ -1,4 +1,4 @@
-//! `Reply`: what a guardian answers.
+//! `Reply`: what a guardian returns.
 
 use crate::answer::Answer;
 use crate::error::Error;
@@ -10,8 +10,8 @@ use crate::{ActionId, ObjId};
 use std::fmt;
 use std::str::FromStr;
 
-/// What a guardian answers to a call. `Display` gives the words that stand in a journal's line, and
-/// `FromStr` reads them.
+/// What a guardian returns to a call. `Display` writes the words of a journal's line, and `FromStr`
+/// reads them.
 ///
 /// ```
 /// use argus_guardian::{Answer, Reply, Value};
@@ -26,7 +26,7 @@ pub enum Reply {
     Object(ObjId),
     /// The action that was begun.
     Begun(ActionId),
-    /// The call is accepted, and answered.
+    /// The call is accepted, and has this answer.
     Answered(Answer),
     /// The call is refused.
     Refused(Refusal),
@@ -37,7 +37,7 @@ impl Reply {
     ///
     /// # Errors
     ///
-    /// [`Error::Refused`] where the call was refused, [`Error::OtherAnswer`] where it was no
+    /// [`Error::Refused`] if the call was refused, [`Error::OtherAnswer`] if it wasn't a
     /// declaration.
     ///
     /// ```
@@ -57,7 +57,7 @@ impl Reply {
     ///
     /// # Errors
     ///
-    /// [`Error::Refused`] where the call was refused, [`Error::OtherAnswer`] where it began nothing.
+    /// [`Error::Refused`] if the call was refused, [`Error::OtherAnswer`] if it began nothing.
     ///
     /// ```
     /// use argus_guardian::{ActionId, Reply};
@@ -70,12 +70,12 @@ impl Reply {
         }
     }
 
-    /// The answer, a signal too.
+    /// The answer, which may be a signal.
     ///
     /// # Errors
     ///
-    /// [`Error::Refused`] where the call was refused, [`Error::OtherAnswer`] where it was a
-    /// declaration or began an action.
+    /// [`Error::Refused`] if the call was refused, [`Error::OtherAnswer`] if it was a declaration
+    /// or began an action.
     ///
     /// ```
     /// use argus_guardian::{Answer, Reply};
@@ -154,7 +154,7 @@ impl fmt::Display for Reply {
 impl FromStr for Reply {
     type Err = Error;
 
-    /// Reads the words of a reply; other words give [`Error::BadText`].
+    /// Reads the words of a reply; [`Error::BadText`] if they aren't one.
     fn from_str(text: &str) -> Result<Reply, Error> {
         Reader::whole(text, Reply::read)
     }

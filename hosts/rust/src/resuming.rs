@@ -1,4 +1,4 @@
-//! `Resuming`: a guardian that is being made from the lines of its journal.
+//! `Resuming`: a guardian that is being restored from the lines of its journal.
 
 use crate::error::Error;
 use crate::guardian::Guardian;
@@ -8,9 +8,9 @@ use crate::sys::{self, status};
 use crate::taken::Taken;
 use crate::taken_end::TakenEnd;
 
-/// A guardian that is being made from the lines of its journal's listing, a piece of text at a time.
-/// Each entry's call is made again, and its reply compared with the line's: so the guardian's listing
-/// is what was taken.
+/// A guardian that is being restored from the lines of its journal's listing, a piece of text at a
+/// time. Each entry's call is made again, and its reply compared with the line's: so the guardian's
+/// listing is what was taken.
 ///
 /// ```
 /// use argus_guardian::{Guardian, Listing, Resuming, TakenEnd};
@@ -30,19 +30,19 @@ pub struct Resuming {
 }
 
 impl Resuming {
-    /// Of no line so far. As [`Guardian::new`] it leaves a word of 8 bytes for good.
+    /// A new one, which has taken no line.
     ///
     /// # Errors
     ///
-    /// As of [`Guardian::new`].
+    /// As for [`Guardian::new`].
     pub fn new() -> Result<Resuming, Error> {
         Ok(Resuming {
             guardian: Guardian::new()?,
         })
     }
 
-    /// Takes whole lines from the front of the text, up to the first that isn't the next one of the
-    /// listing. What is left may be handed in again, with more behind it.
+    /// Takes whole lines from the beginning of the text, up to the first that isn't the next one of
+    /// the listing. What is left may be passed again, with more text after it.
     ///
     /// ```
     /// use argus_guardian::{LineFault, Resuming, TakenEnd};
@@ -56,8 +56,8 @@ impl Resuming {
     pub fn take(&mut self, text: impl AsRef<[u8]>) -> Taken {
         let text = text.as_ref();
         let (mut bytes, mut lines, mut number) = (0, 0, 0);
-        // SAFETY: the handle is this guardian's alone, the text is never null, and the three numbers
-        // are other memories.
+        // SAFETY: no other guardian has the handle, the text is never null, and the three numbers
+        // are other memory.
         let status = unsafe {
             sys::argus_c_resume(
                 &raw mut self.guardian.handle,
@@ -86,12 +86,13 @@ impl Resuming {
         Taken { bytes, lines, end }
     }
 
-    /// The guardian of what was taken: of an opening without entries with as many of its objects as
-    /// refer to none that didn't come.
+    /// The guardian of what was taken. If an opening came without entries, it has as many of the
+    /// opening's objects as refer to none that didn't come.
     ///
     /// # Errors
     ///
-    /// Where memory is wanting it comes back as it was; by `?` that is [`Error::OutOfMemory`].
+    /// If there is no memory, the error has this value, unchanged; `?` turns it into
+    /// [`Error::OutOfMemory`].
     ///
     /// ```
     /// use argus_guardian::{ActionId, Resuming, Status};
@@ -103,7 +104,7 @@ impl Resuming {
     /// ```
     pub fn into_guardian(mut self) -> Result<Opened, Resuming> {
         let mut dropped = 0;
-        // SAFETY: the handle is this guardian's alone, and the number is another memory.
+        // SAFETY: no other guardian has the handle, and the number is other memory.
         let status =
             unsafe { sys::argus_c_resumed(&raw mut self.guardian.handle, &raw mut dropped) };
         if status != status::DONE {

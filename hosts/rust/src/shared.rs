@@ -17,21 +17,21 @@ use std::time::{Duration, Instant};
 
 const CONFLICT: Reply = Reply::Refused(Refusal::Conflict);
 
-/// A guardian that threads share: std's `Mutex` around each call, and a `Condvar` that wakes who
-/// waits for a lock on an object.
+/// A guardian that threads share: std's `Mutex` around each call, and a `Condvar` that wakes the
+/// threads that wait for a lock on an object.
 ///
-/// What one call answers is proved, as of a [`Guardian`]. **This type isn't**: not that a wait ends,
-/// who is woken first, or what a call finds after a wait.
+/// The reply to one call is proved, as for a [`Guardian`]. **This type isn't**: not that a wait
+/// ends, which thread is woken first, or what a call finds after a wait.
 ///
-/// An access waits for its lock as long as the sharing's patience lasts, and is then refused
-/// `Conflict`: abort the topaction, and begin it anew, as [`run`](Self::run) does. Two topactions
-/// wait for each other in one of two ways.
+/// An access waits for its lock until its patience ends, and is then refused with `Conflict`: abort
+/// the topaction, and begin it again, as [`run`](Self::run) does. Two topactions wait for each
+/// other in one of two ways.
 ///
-/// - Both have read an object, and both want to write it. The second is refused `Conflict` at once.
-///   Who will write what it reads calls [`lock`](SharedAction::lock) before it reads, and then
-///   they take turns.
-/// - Each has locked what the other wants. Take locks in one order, as by the number of the object.
-///   Where that can't be, both wait as long as patience lasts.
+/// - Both have read an object, and both want to write it. The second is refused with `Conflict` at
+///   once. If an action will write what it reads, call [`lock`](SharedAction::lock) before it
+///   reads; then they take turns.
+/// - Each has locked what the other wants. Take locks in one order, such as by the number of the
+///   object. If that isn't possible, both wait until their patience ends.
 ///
 /// ```
 /// use argus_guardian::{Change, Guardian, Shared};
@@ -70,21 +70,21 @@ pub(crate) struct Kept {
     pub(crate) guardian: Guardian,
     // How many threads wait on the condition.
     waiting: u32,
-    // How often actions were aborted, by which others than the one that waits may be over.
+    // How often actions were aborted; such an abort may have ended the action that waits, too.
     aborts: u64,
-    // How many threads wait until no action is live, to fold the journal: no topaction begins then.
+    // How many threads wait until no action is live, to fold the journal: meanwhile no topaction begins.
     pub(crate) folding: u32,
-    // Who waits to write.
+    // The actions that wait to write.
     writing: Vec<WaitingWriter>,
 }
 
 impl Kept {
-    // Whether this one would wait for one that waits to write, and that for this one.
+    // Whether this action would wait for one that waits to write, and that one for this one.
     fn is_in_vain(&mut self, writer: &WaitingWriter) -> bool {
         if self.writing.is_empty() {
             return false;
         }
-        // Where memory is wanting for the list, it waits.
+        // If there is no memory for the list, it waits.
         let readers = self.guardian.readers(writer.object).unwrap_or_default();
         self.writing
             .iter()
@@ -100,7 +100,7 @@ impl From<Guardian> for Shared {
 }
 
 impl Shared {
-    /// How long accesses wait at the most where nothing else is said: a second.
+    /// How long accesses wait at most by default: a second.
     ///
     /// ```
     /// use argus_guardian::{Guardian, Shared};
@@ -109,7 +109,7 @@ impl Shared {
     /// ```
     pub const PATIENCE: Duration = Duration::from_secs(1);
 
-    /// Shares a guardian. An access by a [`SharedAction`] waits for its lock so long at the most.
+    /// Shares a guardian. An access by a [`SharedAction`] waits for its lock at most for this patience.
     ///
     /// ```
     /// use argus_guardian::{Guardian, Shared};
@@ -132,12 +132,12 @@ impl Shared {
         }
     }
 
-    // A thread that panics leaves a guardian between two calls, so its lock is as good as any.
+    // A thread that panics leaves the guardian between two calls, so a poisoned lock is as good as any.
     pub(crate) fn lock(&self) -> MutexGuard<'_, Kept> {
         self.kept.lock().unwrap_or_else(PoisonError::into_inner)
     }
 
-    // Waits while it is so, for so long at the most.
+    // Waits while this holds, at most for this time.
     pub(crate) fn wait_while<'s>(
         &'s self,
         mut kept: MutexGuard<'s, Kept>,
@@ -151,19 +151,20 @@ impl Shared {
         kept
     }
 
-    // Wakes who waits. Where nobody does, the condition isn't told: that is a call of the system.
+    // Wakes the threads that wait. If there are none, the condition isn't notified, since that is a
+    // system call.
     pub(crate) fn wake(&self, kept: &Kept) {
         if kept.waiting > 0 {
             self.ended.notify_all();
         }
     }
 
-    /// Makes one call, and waits for nothing but the mutex. All who wait are woken after a commit, an
-    /// abort or an end of siblings that was done.
+    /// Makes one call, and waits only for the mutex. After a commit, an abort or an abort of
+    /// siblings that was done, all waiting threads are woken.
     ///
     /// # Errors
     ///
-    /// As of [`Guardian::call`].
+    /// As for [`Guardian::call`].
     ///
     /// ```
     /// use argus_guardian::{ActionId, Call, Guardian, Reply, Shared};
@@ -176,8 +177,8 @@ impl Shared {
         self.call_in(&mut self.lock(), call)
     }
 
-    // The same of an action that was begun before so many renewals: where there were more, its number
-    // is another's, and it is over.
+    // The same for an action that was begun after so many renewals: if there were more since, its
+    // number is another's, and it is over.
     pub(crate) fn call_since(&self, renewals: u64, call: &Call) -> Result<Reply, Error> {
         self.call_in_since(&mut self.lock(), renewals, call)
     }
@@ -200,17 +201,18 @@ impl Shared {
         Ok(reply)
     }
 
-    /// Makes a call that may wait: while it is refused `Conflict`, it waits until its lock may be had,
-    /// for so long at the most, and is then made again. Each time that it is made is one entry in the
-    /// journal, and there are few: it is made again where the lock may be had, where other actions
-    /// were aborted (and maybe its own), and when the patience is over.
+    /// Makes a call that may wait: while it is refused with `Conflict`, it waits until its lock is
+    /// free, at most for this patience, and is then made again. The journal has an entry each time
+    /// that the call is made. These are few: it is made again when the lock is free, when other
+    /// actions were aborted (and maybe its own), and when the patience is over.
     ///
-    /// Where the call's action reads the object and wants to write it, and so does one that waits, it
-    /// is refused at once. Locks of its ancestors count where a [`SharedAction`] makes the call.
+    /// If the call's action has read the object and wants to write it, and so does an action that
+    /// waits, the call is refused at once. Locks of its ancestors count as its own if a
+    /// [`SharedAction`] makes the call.
     ///
     /// # Errors
     ///
-    /// As of [`Guardian::call`].
+    /// As for [`Guardian::call`].
     ///
     /// ```
     /// use argus_guardian::{Call, Change, Guardian, Refusal, Reply, Shared};
@@ -230,8 +232,8 @@ impl Shared {
         self.access(call, renewals, patience, |action| vec![action])
     }
 
-    // The same of an action that was begun before so many renewals; the last one gives an action with
-    // its ancestors.
+    // The same for an action that was begun after so many renewals; the last argument returns an
+    // action with its ancestors.
     pub(crate) fn access(
         &self,
         call: &Call,
@@ -262,7 +264,7 @@ impl Shared {
         reply
     }
 
-    // Makes a refused call again each time that its lock may be had, until the patience is over.
+    // Makes a refused call again each time that its lock is free, until the patience is over.
     fn call_once_had<'s>(
         &'s self,
         mut kept: MutexGuard<'s, Kept>,
@@ -284,11 +286,11 @@ impl Shared {
     }
 
     /// Begins a topaction. It aborts when it is dropped, unless it has committed. While a thread is in
-    /// [`checkpoint_waiting`](Self::checkpoint_waiting), it waits for that.
+    /// [`checkpoint_waiting`](Self::checkpoint_waiting), this waits for that thread.
     ///
     /// # Errors
     ///
-    /// As of [`Guardian::topaction`].
+    /// As for [`Guardian::topaction`].
     ///
     /// ```
     /// use argus_guardian::{Guardian, Shared};
@@ -306,21 +308,22 @@ impl Shared {
         Ok(SharedAction::of(self, id, kept.guardian.renewals))
     }
 
-    /// How often [`run`](Self::run) tries at the most.
+    /// How often [`run`](Self::run) tries at most.
     pub const TRIES: usize = 20;
 
-    /// Carries out the work as a topaction, which commits where it returns `Ok`. At a refusal with
-    /// `Conflict` the topaction is aborted, and tried again after a wait: up to a millisecond at first,
-    /// up to twice as much each time, and no more than 100, [`Shared::TRIES`] times in all.
+    /// Carries out the work as a topaction, which commits if the work returns `Ok`. At a refusal
+    /// with `Conflict` the topaction is aborted, and tried again after a wait: up to a millisecond
+    /// at first, up to twice as much each time, and no more than 100, [`Shared::TRIES`] times in
+    /// all.
     ///
-    /// **The work may run more than once**, so it does nothing outside the guardian that mustn't be done
-    /// twice.
+    /// **The work may run more than once**, so it must do nothing outside the guardian that mustn't
+    /// be done twice.
     ///
     /// # Errors
     ///
-    /// What the work returns, after which the topaction is aborted; a `Conflict` of the last try; as of
-    /// [`topaction`](Self::topaction) and [`SharedAction::commit`]. An error of a program's own says by
-    /// [`MayConflict`] whether to try again.
+    /// The error that the work returns, after which the topaction is aborted; the `Conflict` of the
+    /// last try; as for [`topaction`](Self::topaction) and [`SharedAction::commit`]. A program's
+    /// own error says by [`MayConflict`] whether to try again.
     ///
     /// ```
     /// use argus_guardian::{Change, Error, Guardian, Shared};
@@ -359,17 +362,17 @@ impl Shared {
         Ok(result)
     }
 
-    // Lends the guardian for questions alone: nobody is woken.
+    // Lends the guardian for questions only: no thread is woken.
     #[cfg(all(feature = "logged", unix))]
     pub(crate) fn lend<T>(&self, what: impl FnOnce(&mut Guardian) -> T) -> T {
         what(&mut self.lock().guardian)
     }
 
-    /// Does something with the guardian while no other thread has it, and then wakes all who wait,
-    /// after a panic too.
+    /// Does something with the guardian while no other thread has it, and then wakes all waiting
+    /// threads, after a panic too.
     ///
-    /// The mutex is held meanwhile. So nothing of this `Shared` or of its actions may be called inside,
-    /// nor may one of its actions be dropped there: it would wait for the mutex for ever.
+    /// The mutex is held meanwhile. So inside, call nothing of this `Shared` or of its actions, and
+    /// drop none of its actions: that would wait for the mutex for ever.
     ///
     /// ```
     /// use argus_guardian::{Guardian, Shared};
@@ -386,7 +389,7 @@ impl Shared {
         what(&mut held.kept.guardian)
     }
 
-    /// How long an access by a [`SharedAction`] waits for its lock at the most.
+    /// How long an access by a [`SharedAction`] waits for its lock at most.
     ///
     /// ```
     /// use argus_guardian::{Guardian, Shared};
@@ -400,7 +403,7 @@ impl Shared {
         self.patience
     }
 
-    /// The guardian, which nobody shares any more.
+    /// The guardian, which is no longer shared.
     ///
     /// ```
     /// use argus_guardian::{Guardian, Shared};
@@ -430,7 +433,7 @@ impl Drop for Held<'_> {
     }
 }
 
-// Whether the lock that the call wants may be had now.
+// Whether the lock that the call wants is free now.
 fn may_be_had(kept: &mut Kept, call: &Call) -> bool {
     match *call {
         Call::Ask(action, object, _) => kept.guardian.can_read(action, object),

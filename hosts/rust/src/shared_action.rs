@@ -13,16 +13,16 @@ use crate::{ActionId, ObjId};
 use std::{iter, mem};
 
 /// A live action of a guardian that threads share. It aborts when it is dropped, unless it has
-/// committed; where memory is wanting even for that, it stays live.
+/// committed; if there isn't even memory for that, it stays live.
 ///
-/// Each access takes its lock, and the action keeps it to its end: a query a read lock, which others
-/// may have too, a change the write lock. It waits for the lock as long as the sharing's patience
-/// lasts, and is then refused `Conflict`. Two that have read an object, and both want to write it,
-/// wait for each other: the second is refused `Conflict` at once. So who reads and then writes takes
-/// the write lock first, by [`lock`](Self::lock).
+/// Each access takes its lock, and the action keeps it to its end: a query takes a read lock, which
+/// others may have too, a change takes the write lock. It waits for the lock until the patience of
+/// the [`Shared`] ends, and is then refused with `Conflict`. Two that have both read an object and
+/// both want to write it wait for each other: the second is refused with `Conflict` at once. So if
+/// you read and then write, take the write lock first, by [`lock`](Self::lock).
 ///
-/// Several threads may begin subactions of one action, and run them side by side. It
-/// can't commit or abort while one of these is there.
+/// Several threads may begin subactions of one action, and run them at the same time. The action
+/// can't commit or abort while one of these exists.
 ///
 /// ```
 /// use argus_guardian::{Change, Guardian, Shared};
@@ -53,7 +53,7 @@ use std::{iter, mem};
 pub struct SharedAction<'s> {
     shared: &'s Shared,
     id: ActionId,
-    // Whose subaction it is.
+    // The action whose subaction it is.
     parent: Option<&'s SharedAction<'s>>,
     // How often the guardian had been renewed when it was begun.
     renewals: u64,
@@ -144,7 +144,7 @@ impl<'s> SharedAction<'s> {
     ///
     /// # Errors
     ///
-    /// As of [`ask`](Self::ask); [`Error::BadText`] where a value is deeper than 16.
+    /// As for [`ask`](Self::ask); [`Error::BadText`] if a value is deeper than 16.
     ///
     /// ```
     /// # use argus_guardian::{Answer, Change, Error, Guardian, Shared};
@@ -163,7 +163,7 @@ impl<'s> SharedAction<'s> {
     ///
     /// # Errors
     ///
-    /// As of [`ask`](Self::ask); [`Error::Signal`] where the record has no content yet.
+    /// As for [`ask`](Self::ask); [`Error::Signal`] if the record has no content yet.
     ///
     /// ```
     /// # use argus_guardian::{Error, Guardian, Shared, Signal};
@@ -178,11 +178,11 @@ impl<'s> SharedAction<'s> {
         self.ask(object, Query::Field(field))?.value()
     }
 
-    /// A field of a record becomes the value.
+    /// Sets a field of a record.
     ///
     /// # Errors
     ///
-    /// As of [`alter`](Self::alter); [`Error::Signal`] where the record has no content yet.
+    /// As for [`alter`](Self::alter); [`Error::Signal`] if the record has no content yet.
     ///
     /// ```
     /// # use argus_guardian::{Change, Error, Guardian, Shared, Value};
@@ -205,7 +205,8 @@ impl<'s> SharedAction<'s> {
     ///
     /// # Errors
     ///
-    /// [`Error::NoName`] where the record's shape hasn't the name; else as of [`get`](Self::get).
+    /// [`Error::NoName`] if the record's shape hasn't the name; otherwise as for
+    /// [`get`](Self::get).
     ///
     /// ```
     /// use argus_guardian::{Change, Guardian, Shared, Value};
@@ -222,11 +223,12 @@ impl<'s> SharedAction<'s> {
         self.get(object.id(), object.number(name)?)
     }
 
-    /// A field of a record becomes the value, by its name.
+    /// Sets a field of a record, by its name.
     ///
     /// # Errors
     ///
-    /// [`Error::NoName`] where the record's shape hasn't the name; else as of [`set`](Self::set).
+    /// [`Error::NoName`] if the record's shape hasn't the name; otherwise as for
+    /// [`set`](Self::set).
     ///
     /// ```
     /// use argus_guardian::{Change, Guardian, Shared, Value};
@@ -249,11 +251,11 @@ impl<'s> SharedAction<'s> {
         self.set(object.id(), object.number(name)?, value)
     }
 
-    /// Takes the write lock, and changes nothing. It comes before reading what will be written.
+    /// Takes the write lock, and changes nothing. Call it before you read what you will write.
     ///
     /// # Errors
     ///
-    /// As of [`ask`](Self::ask).
+    /// As for [`ask`](Self::ask).
     ///
     /// ```
     /// # use argus_guardian::{Change, Error, Guardian, Shared, Value};
@@ -276,7 +278,7 @@ impl<'s> SharedAction<'s> {
         self.alter(object, Change::Touch)?.done()
     }
 
-    /// Takes a read lock; false where it isn't to be had. It doesn't wait.
+    /// Takes a read lock; false if it isn't free. It doesn't wait.
     ///
     /// # Errors
     ///
@@ -296,11 +298,11 @@ impl<'s> SharedAction<'s> {
         self.call(&call)?.answer()?.flag()
     }
 
-    /// Takes a write lock; false where it isn't to be had. It doesn't wait.
+    /// Takes a write lock; false if it isn't free. It doesn't wait.
     ///
     /// # Errors
     ///
-    /// As of [`test_read`](Self::test_read).
+    /// As for [`test_read`](Self::test_read).
     ///
     /// ```
     /// # use argus_guardian::{Error, Guardian, Shared};
@@ -318,7 +320,7 @@ impl<'s> SharedAction<'s> {
         self.call(&call)?.answer()?.flag()
     }
 
-    /// Begins a subaction: what it leaves counts only as its ancestors do.
+    /// Begins a subaction: what it leaves counts only if its ancestors commit.
     ///
     /// # Errors
     ///
@@ -337,7 +339,7 @@ impl<'s> SharedAction<'s> {
         self.begun(&Call::BeginSub(self.id), Some(self))
     }
 
-    /// Begins a nested topaction: what it leaves counts, whatever becomes of this action.
+    /// Begins a nested topaction: what it leaves stays, even if this action aborts.
     ///
     /// # Errors
     ///
@@ -356,7 +358,7 @@ impl<'s> SharedAction<'s> {
         self.begun(&Call::BeginNested(self.id), None)
     }
 
-    /// Aborts all live siblings: who is done first ends the others.
+    /// Aborts all live siblings: the first that is done ends the others.
     ///
     /// # Errors
     ///
@@ -393,12 +395,12 @@ impl<'s> SharedAction<'s> {
         self.end(Call::Commit)
     }
 
-    /// Aborts, and says so.
+    /// Aborts, and returns an error if that fails, which a drop can't.
     ///
     /// # Errors
     ///
-    /// [`Error::Refused`] with `Over`; [`Error::OutOfMemory`], after which it is tried once more,
-    /// without a word.
+    /// [`Error::Refused`] with `Over`; [`Error::OutOfMemory`], after which the drop tries again,
+    /// and reports nothing.
     ///
     /// ```
     /// # use argus_guardian::{Error, Guardian, Shared};
@@ -421,7 +423,7 @@ impl<'s> SharedAction<'s> {
 
 impl Drop for SharedAction<'_> {
     fn drop(&mut self) {
-        // What comes of it can't be told here.
+        // A drop can't report an error.
         let _ = self.call(&Call::Abort(self.id));
     }
 }

@@ -1,4 +1,4 @@
-//! How a guardian that threads share folds its journal, and begins anew with the numbers of actions.
+//! How a guardian that threads share folds its journal, and numbers its actions from 0 again.
 
 use crate::checkpoint_error::CheckpointError;
 use crate::guardian::Guardian;
@@ -6,7 +6,7 @@ use crate::shared::Shared;
 use std::time::Duration;
 
 impl Shared {
-    // Folds the journal away. Once half of the numbers for actions are gone, it begins anew with them.
+    // Folds the journal. When half of the numbers for actions are used, it renews the guardian.
     pub(crate) fn fold(guardian: &mut Guardian) -> Result<(), CheckpointError> {
         if guardian.actions_left() > Guardian::MAX_ACTIONS / 2 {
             guardian.checkpoint()
@@ -29,13 +29,13 @@ impl Shared {
         self.lock().guardian.actions_left()
     }
 
-    /// Folds the journal's entries away: [`Guardian::checkpoint`]. Once half of the numbers for
-    /// actions are gone, it renews the guardian, too ([`Guardian::renew`]): then an [`ActionId`] of
-    /// before names another action or none, while each [`SharedAction`] of before is over.
+    /// Folds the journal's entries: [`Guardian::checkpoint`]. When half of the numbers for actions
+    /// are used, it also renews the guardian ([`Guardian::renew`]): then an earlier [`ActionId`]
+    /// names another action or none, and each earlier [`SharedAction`] is over.
     ///
     /// # Errors
     ///
-    /// As of [`Guardian::checkpoint`]: `Busy` while any thread has a live action.
+    /// As for [`Guardian::checkpoint`]: `Busy` while any thread has a live action.
     ///
     /// ```
     /// use argus_guardian::{Guardian, Shared};
@@ -48,14 +48,13 @@ impl Shared {
         Shared::fold(&mut self.lock().guardian)
     }
 
-    /// Folds the journal's entries away once no action is live, as [`checkpoint`](Self::checkpoint)
-    /// does. Until then it holds back each
-    /// [`topaction`](Self::topaction), but waits so long at the most. So a thread that has a live
-    /// action doesn't call it.
+    /// Folds the journal's entries when no action is live, as [`checkpoint`](Self::checkpoint)
+    /// does. Until then it holds back each [`topaction`](Self::topaction), at most for this
+    /// patience. So don't call it in a thread that has a live action.
     ///
     /// # Errors
     ///
-    /// As of [`Guardian::checkpoint`]: `Busy` where an action was still live at the end of patience.
+    /// As for [`Guardian::checkpoint`]: `Busy` if an action was still live at the end of patience.
     ///
     /// ```
     /// use argus_guardian::{CheckpointError, Guardian, Shared};
@@ -72,7 +71,7 @@ impl Shared {
         self.fold_waiting(patience, Shared::fold)
     }
 
-    // Folds in this way, which is tried until it isn't `Busy`, but for so long at the most.
+    // Folds in this way; tries until it isn't `Busy`, at most for this patience.
     pub(crate) fn fold_waiting<T>(
         &self,
         patience: Duration,

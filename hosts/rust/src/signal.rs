@@ -1,10 +1,10 @@
-//! `Signal`: what an operation says in place of its answer.
+//! `Signal`: why an operation changed nothing.
 
 use std::error;
 use std::fmt;
 
-/// What an operation says in place of its answer. The content is as before, and the action has got
-/// its lock and keeps it.
+/// Why an operation changed nothing, in place of its answer. The action has got its lock all the
+/// same, and keeps it.
 ///
 /// ```
 /// use argus_guardian::Signal;

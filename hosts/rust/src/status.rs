@@ -1,6 +1,6 @@
-//! `Status`: what has become of an action.
+//! `Status`: the state of an action.
 
-/// What has become of an action that was begun.
+/// The state of an action that was begun.
 ///
 /// ```
 /// use argus_guardian::{ActionId, Guardian, Status};
@@ -15,9 +15,9 @@ pub enum Status {
     Live,
     /// It has committed, and none of its ancestors was aborted.
     Committed,
-    /// It was aborted, or an ancestor of it, whether it had committed or not.
+    /// It or an ancestor of it was aborted, whether it had committed or not.
     Aborted,
-    /// It was over at the last checkpoint, which has forgotten it.
+    /// It was over at the last checkpoint, and nothing more is known of it.
     Folded,
 }
 

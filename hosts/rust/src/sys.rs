@@ -1,8 +1,8 @@
-//! What the proved archive exports, and the numbers that it speaks in: as `argus.h` has them.
+//! The proved archive's exports, and the numbers of statuses, calls and questions: as in `argus.h`.
 
 use std::ffi::c_void;
 
-/// The handle of a guardian, which the library fills in. All zero is a closed one.
+/// The handle of a guardian, which the library fills in. All zero: closed.
 #[repr(C)]
 #[allow(dead_code, reason = "the library alone reads and writes them")]
 pub(crate) struct Handle {
@@ -17,7 +17,7 @@ impl Handle {
     };
 }
 
-/// The handle of a guardian whose commit is ready: `argus_ready`. All zero is none.
+/// The handle of a guardian whose commit is ready: `argus_ready`. All zero: none.
 #[repr(C)]
 #[allow(dead_code, reason = "the library alone reads and writes them")]
 pub(crate) struct Ready {
@@ -30,6 +30,14 @@ impl Ready {
         mark: 0,
         at: std::ptr::null_mut(),
     };
+}
+
+/// A status and a number: `argus_answer`.
+#[repr(C)]
+pub(crate) struct Answer {
+    pub(crate) status: u32,
+    #[allow(dead_code, reason = "an opening has none")]
+    pub(crate) number: i64,
 }
 
 /// One call of a list: `argus_listed_call`.
@@ -50,6 +58,7 @@ pub(crate) struct ListedCall {
 
 // `hosts/declarations.py` compares these with the archive's source.
 unsafe extern "C" {
+    pub(crate) fn argus_open(handle: *mut Handle) -> Answer;
     pub(crate) fn argus_c_open(handle: *mut Handle, beside: *mut Handle) -> u32;
     pub(crate) fn argus_c_close(handle: *mut Handle) -> u32;
     pub(crate) fn argus_c_call(
@@ -119,7 +128,7 @@ unsafe extern "C" {
     pub(crate) fn argus_c_cancel_ready(ready: *mut Ready, handle: *mut Handle) -> u32;
 }
 
-/// What came of a call: `argus_status`.
+/// The outcome of a call: `argus_status`.
 pub(crate) mod status {
     pub(crate) const DONE: u32 = 0;
     pub(crate) const OBJECT: u32 = 1;
@@ -148,7 +157,7 @@ pub(crate) mod status {
     pub(crate) const NOT_THE_REPLY: u32 = 29;
 }
 
-/// What the outcome of a call of a list must be: `argus_demand`.
+/// What the outcome of a call must be for a list to go on: `argus_demand`.
 pub(crate) mod demand {
     pub(crate) const NO_REFUSAL: u32 = 0;
     pub(crate) const NOTHING: u32 = 1;

@@ -2,7 +2,7 @@
 
 use crate::taken_end::TakenEnd;
 
-/// How much of a text was taken, and why no more: [`Resuming::take`](crate::Resuming::take).
+/// How much of a text [`Resuming::take`](crate::Resuming::take) took, and why no more.
 ///
 /// ```
 /// use argus_guardian::{Resuming, Taken, TakenEnd};

@@ -15,10 +15,10 @@ use crate::line_fault::LineFault;
 pub enum TakenEnd {
     /// All of the text was taken.
     Whole,
-    /// Bytes are left, and there is no line feed among them.
+    /// Bytes are left, without a line feed among them.
     Torn,
-    /// The next line is at fault.
+    /// The next line has a fault.
     Fault(LineFault),
-    /// Memory is wanting for the next line. The same text goes on from there.
+    /// There is no memory for the next line. Pass the same text again from there.
     OutOfMemory,
 }

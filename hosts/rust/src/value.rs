@@ -7,15 +7,15 @@ use crate::writer::Writer;
 use std::fmt;
 use std::str::FromStr;
 
-/// What a field, an element or a tag holds. Names stand in types alone: fields and tags are numbered
+/// What a field, an element or a tag holds. Only types have names: fields and tags are numbered
 /// from 0, in the order of their type.
 ///
-/// `Display` gives the written form, of any depth, and `FromStr` reads it. A value has depth at most 16
-/// where it is read or handed to a guardian: a scalar has depth 1, a compound 1 more than its deepest
-/// part.
+/// `Display` writes the written form, of any depth, and `FromStr` reads it. A value that is read or
+/// passed to a guardian has depth at most 16: a scalar has depth 1, a compound 1 more than its
+/// deepest part.
 ///
-/// Integers, truth values, texts and references become values by `From`, and are taken out of one by
-/// `TryFrom`, with [`Error::OtherAnswer`] where the value is of another kind.
+/// Integers, truth values, texts and references become values by `From`, and are taken out of one
+/// by `TryFrom`, with [`Error::OtherAnswer`] if the value is of another kind.
 ///
 /// ```
 /// use argus_guardian::Value;
@@ -40,7 +40,7 @@ pub enum Value {
     Sequence(Vec<Value>),
     /// The fields of a `struct`.
     Fields(Vec<Value>),
-    /// A tag of a `oneof`, and what goes with it.
+    /// A tag of a `oneof`, and the tag's value.
     Choice(u8, Box<Value>),
 }
 
@@ -89,7 +89,7 @@ impl From<ObjId> for Value {
 impl TryFrom<Value> for i64 {
     type Error = Error;
 
-    /// The integer; [`Error::OtherAnswer`] where the value is none.
+    /// The integer; [`Error::OtherAnswer`] if the value isn't one.
     fn try_from(value: Value) -> Result<i64, Error> {
         match value {
             Value::Int(number) => Ok(number),
@@ -101,7 +101,7 @@ impl TryFrom<Value> for i64 {
 impl TryFrom<Value> for bool {
     type Error = Error;
 
-    /// The truth value; [`Error::OtherAnswer`] where the value is none.
+    /// The truth value; [`Error::OtherAnswer`] if the value isn't one.
     fn try_from(value: Value) -> Result<bool, Error> {
         match value {
             Value::Bool(flag) => Ok(flag),
@@ -113,7 +113,7 @@ impl TryFrom<Value> for bool {
 impl TryFrom<Value> for String {
     type Error = Error;
 
-    /// The text; [`Error::OtherAnswer`] where the value is none.
+    /// The text; [`Error::OtherAnswer`] if the value isn't one.
     fn try_from(value: Value) -> Result<String, Error> {
         match value {
             Value::Text(text) => Ok(text),
@@ -125,7 +125,7 @@ impl TryFrom<Value> for String {
 impl TryFrom<Value> for ObjId {
     type Error = Error;
 
-    /// The object that is referred to; [`Error::OtherAnswer`] where the value is no reference.
+    /// The object that is referred to; [`Error::OtherAnswer`] if the value isn't a reference.
     fn try_from(value: Value) -> Result<ObjId, Error> {
         match value {
             Value::Atomic(object) => Ok(object),
@@ -143,7 +143,7 @@ impl fmt::Display for Value {
 impl FromStr for Value {
     type Err = Error;
 
-    /// Reads a written form; what is none gives [`Error::BadText`].
+    /// Reads a written form; [`Error::BadText`] if the text isn't one.
     fn from_str(text: &str) -> Result<Value, Error> {
         Reader::whole(text, Reader::value)
     }

@@ -6,7 +6,7 @@ use crate::query::Query;
 use crate::sys::kind;
 use crate::{ActionId, ObjId};
 
-/// A call as the library takes it: its kind, and what goes with it, zero where nothing does.
+/// A call as the library takes it: its kind, and its arguments, zero if there is none.
 #[derive(Default)]
 pub(crate) struct Words {
     pub(crate) kind: u32,

@@ -1,17 +1,17 @@
-//! `Writer`: writes the parts of values, however deep they lie.
+//! `Writer`: writes the parts of values, however deep they are.
 
 use crate::ObjId;
 use crate::value::Value;
 use std::fmt::{self, Write};
 use std::slice;
 
-/// What is open while a value is written, from the outermost to the innermost. A list of its own in
-/// place of calls within calls, so that no value is too deep for the stack.
+/// The compounds that are open while a value is written, from the outermost to the innermost. A
+/// list in place of recursion, so that no value is too deep for the stack.
 pub(crate) struct Writer<'v> {
     open: Vec<Open<'v>>,
 }
 
-// What is left of a compound that has been begun.
+// The rest of a compound that has been begun.
 struct Open<'v> {
     parts: slice::Iter<'v, Value>,
     is_begun: bool,
@@ -26,7 +26,7 @@ impl<'v> Writer<'v> {
         writer.finish(f)
     }
 
-    /// Writes these values between two brackets, parted by commas.
+    /// Writes these values between two brackets, separated by commas.
     pub(crate) fn list(
         f: &mut fmt::Formatter<'_>,
         open: char,
@@ -53,7 +53,7 @@ impl<'v> Writer<'v> {
         f.write_char(open)
     }
 
-    // Writes what is open to its end.
+    // Writes to the end what is open.
     fn finish(&mut self, f: &mut fmt::Formatter<'_>) -> fmt::Result {
         while let Some(innermost) = self.open.last_mut() {
             if let Some(part) = innermost.parts.next() {

@@ -5,6 +5,7 @@ use crate::carried::Carried;
 use crate::kept::Kept;
 use crate::keys::Keys;
 use crate::known::Known;
+use crate::limits::MOST_OBJECTS;
 use crate::order::Order;
 use crate::records::{ACCOUNT, KEY, Records};
 use crate::slot::Slot;
@@ -17,6 +18,9 @@ use std::time::Instant;
 
 // So many records of keys are made at a time.
 const MADE_AT_ONCE: usize = 64;
+
+/// The order that opens an account, as its key keeps it.
+const OPENING: &str = "account";
 
 /// The account that may owe: what comes into the bank and goes out of it. The sum of all balances is always 0.
 const OUTSIDE: u32 = 0;
@@ -31,8 +35,9 @@ pub(crate) struct Bank {
     pub(crate) logged: Logged,
     records: RwLock<Records>,
     keys: Mutex<Keys>,
-    // One account is opened at a time: its number is its place.
-    opening: Mutex<()>,
+    // The record of the next account, if it is declared and not created yet. One account is opened at a time, since its
+    // number is its place among these records.
+    next_account: Mutex<Option<ObjId>>,
 }
 
 fn zero() -> Content {
@@ -83,12 +88,16 @@ impl Bank {
             logged,
             records: RwLock::new(records.clone()),
             keys: Mutex::new(Keys::with_room(keys)),
-            opening: Mutex::new(()),
+            next_account: Mutex::new(None),
         };
         bank.create_missing(&records)?;
         bank.read_keys(&records)?;
         if records.accounts.is_empty() {
-            bank.open_account()?;
+            let mut record = None;
+            let top = bank.logged.topaction()?;
+            bank.create_account(&top, &mut record)?;
+            top.commit()?;
+            bank.add_account(record);
         }
         Ok(bank)
     }
@@ -132,17 +141,58 @@ impl Bank {
         records.account(account)
     }
 
-    /// Opens an account with a balance of 0; its number.
-    pub(crate) fn open_account(&self) -> Result<u32, LoggedError> {
-        let _one_at_a_time = locked(&self.opening);
-        let record = self.logged.declare(ACCOUNT)?;
-        let number = {
-            let mut records = self.records.write().unwrap_or_else(PoisonError::into_inner);
-            records.accounts.push(record);
-            u32::try_from(records.accounts.len() - 1).unwrap_or(u32::MAX)
+    /// Opens an account with a balance of 0; with a key once, however often that is asked for. Its number.
+    pub(crate) fn open_account(&self, key: Option<&str>) -> Result<Carried, BankError> {
+        let mut next = locked(&self.next_account);
+        let carried = if let Some(key) = key {
+            self.once(key, OPENING, |top| self.next_account(top, &mut next))?
+        } else {
+            let top = self.logged.topaction()?;
+            let ends = self.next_account(&top, &mut next)?;
+            top.commit()?;
+            Carried {
+                is_before: false,
+                ends,
+            }
         };
-        self.logged.run(|top| create(top, record, zero()))?;
-        Ok(number)
+        if !carried.is_before {
+            self.add_account(next.take());
+        }
+        Ok(carried)
+    }
+
+    // Creates the next account, if there is room for its record beside all records of keys; its number.
+    fn next_account(
+        &self,
+        top: &LoggedAction<'_>,
+        next: &mut Option<ObjId>,
+    ) -> Result<String, BankError> {
+        let accounts = {
+            let records = self.records.read().unwrap_or_else(PoisonError::into_inner);
+            records.accounts.len()
+        };
+        if accounts + locked(&self.keys).most() >= MOST_OBJECTS {
+            return Err(BankError::Full);
+        }
+        self.create_account(top, next)?;
+        Ok(accounts.to_string())
+    }
+
+    fn create_account(
+        &self,
+        top: &LoggedAction<'_>,
+        next: &mut Option<ObjId>,
+    ) -> Result<(), LoggedError> {
+        let record = match *next {
+            Some(record) => record,
+            None => *next.insert(self.logged.declare(ACCOUNT)?),
+        };
+        create(top, record, zero())
+    }
+
+    fn add_account(&self, record: Option<ObjId>) {
+        let mut records = self.records.write().unwrap_or_else(PoisonError::into_inner);
+        records.accounts.extend(record);
     }
 
     /// What an account has; None: there is no such account.
@@ -160,9 +210,21 @@ impl Bank {
         order: &Order,
         deadline: Instant,
     ) -> Result<Carried, BankError> {
+        self.once(key, &order.text(), |top| {
+            self.transfer_each(top, order, deadline)
+        })
+    }
+
+    // Does that in a topaction, which keeps the key, too; once, however often it is asked for under this key.
+    fn once(
+        &self,
+        key: &str,
+        text: &str,
+        work: impl FnOnce(&LoggedAction<'_>) -> Result<String, BankError>,
+    ) -> Result<Carried, BankError> {
         let slot = match self.known(key)? {
             Known::New(slot) => slot,
-            Known::Kept(kept) if kept.order == order.text() => {
+            Known::Kept(kept) if kept.order == text => {
                 return Ok(Carried {
                     is_before: true,
                     ends: kept.ends,
@@ -173,7 +235,7 @@ impl Bank {
             Known::InDoubt => return Err(BankError::InDoubt),
             Known::Busy | Known::NoSlot => return Err(BankError::Busy),
         };
-        let carried = self.carry_out(&slot, key, order, deadline);
+        let carried = self.carry_out(&slot, key, text, work);
         let mut keys = locked(&self.keys);
         match carried {
             Ok(kept) => {
@@ -195,29 +257,55 @@ impl Bank {
         }
     }
 
-    // What is known of a key; where there is no record for it, some are made.
+    // What is known of a key; where there is no record for it, some are made, as long as there is room for them.
     fn known(&self, key: &str) -> Result<Known, LoggedError> {
         let mut keys = locked(&self.keys);
         let known = keys.reserve(key);
         if !matches!(known, Known::NoSlot) {
             return Ok(known);
         }
-        let records = self.logged.declare_each([KEY; MADE_AT_ONCE])?;
+        let left = MOST_OBJECTS.saturating_sub(self.logged.objects()? as usize);
+        if left == 0 {
+            keys.grow_no_more();
+            return Ok(keys.reserve(key));
+        }
+        let records = self
+            .logged
+            .declare_each([KEY; MADE_AT_ONCE].into_iter().take(left))?;
         self.logged
             .run(|top| records.iter().try_for_each(|it| create(top, *it, no_key())))?;
         keys.add_unused(records);
         Ok(keys.reserve(key))
     }
 
-    // One topaction: the transfers, each of them a subaction, and the key.
+    // One topaction: the work, and the key.
     fn carry_out(
         &self,
         slot: &Slot,
         key: &str,
-        order: &Order,
-        deadline: Instant,
+        text: &str,
+        work: impl FnOnce(&LoggedAction<'_>) -> Result<String, BankError>,
     ) -> Result<Kept, BankError> {
         let top = self.logged.topaction()?;
+        let kept = Kept {
+            order: text.to_owned(),
+            ends: work(&top)?,
+        };
+        top.set(slot.record, 0, slot.sequence)?;
+        top.set(slot.record, 1, key)?;
+        top.set(slot.record, 2, kept.order.as_str())?;
+        top.set(slot.record, 3, kept.ends.as_str())?;
+        top.commit()?;
+        Ok(kept)
+    }
+
+    // The transfers, each of them a subaction; what became of each.
+    fn transfer_each(
+        &self,
+        top: &LoggedAction<'_>,
+        order: &Order,
+        deadline: Instant,
+    ) -> Result<String, BankError> {
         for record in order
             .accounts()
             .into_iter()
@@ -228,20 +316,11 @@ impl Bank {
             }
             top.lock(record)?;
         }
-        let ends = order.transfers.iter().map(|it| self.transfer(&top, it));
+        let ends = order.transfers.iter().map(|it| self.transfer(top, it));
         let ends: Vec<String> = ends
             .map(|it| it.map(|end| end.to_string()))
             .collect::<Result<_, _>>()?;
-        let kept = Kept {
-            order: order.text(),
-            ends: ends.join(" "),
-        };
-        top.set(slot.record, 0, slot.sequence)?;
-        top.set(slot.record, 1, key)?;
-        top.set(slot.record, 2, kept.order.as_str())?;
-        top.set(slot.record, 3, kept.ends.as_str())?;
-        top.commit()?;
-        Ok(kept)
+        Ok(ends.join(" "))
     }
 
     // A subaction, which pays in before it pays out, and aborts where that can't be.

@@ -15,6 +15,8 @@ pub(crate) enum BankError {
     OtherOrder,
     /// Other orders had the locks for too long. Nothing was done.
     Busy,
+    /// There is no room for another account.
+    Full,
 }
 
 impl From<LoggedError> for BankError {
@@ -55,6 +57,7 @@ impl BankError {
             BankError::Busy => {
                 Reply::error(503, "busy", "other orders have the locks; nothing was done")
             }
+            BankError::Full => Reply::error(507, "full", "there is no room for another account"),
             BankError::Logged(error) if error.is_conflict() => BankError::Busy.reply(),
             BankError::Logged(error) => {
                 eprintln!("argus-host: {error}");

@@ -2,6 +2,7 @@
 
 use crate::bank::Bank;
 use crate::bank_error::BankError;
+use crate::carried::Carried;
 use crate::figures::Figures;
 use crate::opened::Opened;
 use crate::order::Order;
@@ -40,6 +41,15 @@ pub(crate) fn no_account() -> Reply {
     Reply::error(404, "no_account", "no such account")
 }
 
+fn is_key(key: &str) -> bool {
+    (1..=LONGEST_KEY).contains(&key.len()) && key.bytes().all(|it| it.is_ascii_graphic())
+}
+
+fn no_key() -> Reply {
+    let words = "an order has one header Idempotency-Key: 1 to 128 visible characters of ASCII";
+    Reply::error(400, "no_key", words)
+}
+
 impl BankService {
     pub(crate) fn over(opened: Opened, asked: &ServeArguments) -> Result<BankService, LoggedError> {
         let folded = AtomicU64::new(opened.logged.entries());
@@ -59,10 +69,17 @@ impl BankService {
         error.reply()
     }
 
-    fn open_account(&self) -> Reply {
-        match self.bank.open_account() {
-            Ok(account) => Reply::json(201, &json!({ "account": account })),
-            Err(error) => self.failed(&error.into()),
+    fn open_account(&self, request: &Request) -> Reply {
+        let key = request.head.header("idempotency-key");
+        if key.is_some_and(|it| !is_key(it)) {
+            return no_key();
+        }
+        match self.bank.open_account(key) {
+            Ok(Carried { is_before, ends }) => {
+                let account: u32 = ends.parse().unwrap_or(u32::MAX);
+                Reply::json(201, &json!({ "account": account, "before": is_before }))
+            }
+            Err(error) => self.failed(&error),
         }
     }
 
@@ -78,11 +95,8 @@ impl BankService {
 
     fn order(&self, request: &Request) -> Reply {
         let key = request.head.header("idempotency-key").unwrap_or_default();
-        if key.is_empty() || key.len() > LONGEST_KEY || !key.bytes().all(|it| it.is_ascii_graphic())
-        {
-            let words =
-                "an order has one header Idempotency-Key: 1 to 128 visible characters of ASCII";
-            return Reply::error(400, "no_key", words);
+        if !is_key(key) {
+            return no_key();
         }
         let order = match Order::read(&request.body) {
             Ok(order) => order,
@@ -136,7 +150,7 @@ impl Service for BankService {
     fn answer(&self, request: &Request) -> Reply {
         let path = request.head.path.as_str();
         match (request.head.method.as_str(), path) {
-            ("POST", "/accounts") => self.open_account(),
+            ("POST", "/accounts") => self.open_account(request),
             ("POST", "/orders") => self.order(request),
             ("GET", "/metrics") => self.metrics(),
             ("GET", "/health") => self.health(),

@@ -29,6 +29,16 @@ impl Keys {
         }
     }
 
+    /// How many keys are recognized at the most.
+    pub(crate) fn most(&self) -> usize {
+        self.most
+    }
+
+    /// No more records can be made: the oldest one is used anew from now on.
+    pub(crate) fn grow_no_more(&mut self) {
+        self.most = self.made;
+    }
+
     pub(crate) fn add_unused(&mut self, records: impl IntoIterator<Item = ObjId>) {
         let before = self.unused.len();
         self.unused.extend(records);

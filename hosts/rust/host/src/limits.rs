@@ -17,3 +17,6 @@ pub(crate) struct Limits {
 
 /// The largest head of a request, in bytes.
 pub(crate) const LARGEST_HEAD: usize = 8 * 1024;
+
+/// The most objects of a guardian: records of accounts and of keys.
+pub(crate) const MOST_OBJECTS: usize = 65_535;

@@ -18,8 +18,8 @@ pub(crate) struct ServeArguments {
     /// A checkpoint is made after so many entries
     #[arg(long, default_value_t = 1_000_000)]
     pub(crate) checkpoint: u64,
-    /// So many idempotency keys are recognized, the newest ones
-    #[arg(long, default_value_t = 4096, value_parser = clap::value_parser!(u32).range(64..=1_000_000))]
+    /// So many idempotency keys are recognized, the newest ones; there is room for 65,535 keys and accounts
+    #[arg(long, default_value_t = 16_384, value_parser = clap::value_parser!(u32).range(64..=65_000))]
     pub(crate) keys: u32,
     #[command(flatten)]
     pub(crate) http: HttpArguments,

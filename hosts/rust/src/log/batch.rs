@@ -20,19 +20,20 @@ use crate::log::head::Head;
 /// ```
 #[derive(Debug, Clone, Copy, PartialEq, Eq)]
 pub struct Batch<'b> {
-    /// In which segment it stands; 0 in a log without segments.
+    /// Its segment; 0 in a log without segments.
     pub segment: u64,
     /// Its number: 0 for a log's first one.
     pub number: u64,
-    /// By which opening of the log it was written: 1 is the first one, and each that writes has a higher one.
+    /// The number of the opening of the log that wrote it: 1 for the first one, and higher for each later one that
+    /// writes.
     pub epoch: u64,
     /// The version of the product that wrote it.
     pub version: &'b str,
-    /// The number of its first entry; of an opening, of the first entry after it.
+    /// The number of its first entry; for an opening, of the first entry after it.
     pub first: u64,
     /// How many entries it has: none if it is an opening.
     pub entries: u64,
-    /// Whether its lines are an opening, with which a journal begins anew.
+    /// Whether its lines are an opening, with which a journal begins again.
     pub is_opening: bool,
     /// Its lines, each with its line feed.
     pub lines: &'b str,
@@ -71,12 +72,12 @@ impl<'b> Batch<'b> {
         head.line() + self.lines
     }
 
-    /// The batch that these bytes are, all of them.
+    /// The batch that exactly these bytes are.
     ///
     /// # Errors
     ///
-    /// [`Defect::Format`], of a newer version; [`Defect::Head`]; [`Defect::Lines`], also where there are more
-    /// or fewer bytes than the head says.
+    /// [`Defect::Format`], if a newer version wrote it; [`Defect::Head`]; [`Defect::Lines`], also if there are more or
+    /// fewer bytes than the head says.
     ///
     /// ```
     /// use argus_guardian::log::{Batch, Defect};

@@ -4,22 +4,22 @@ use crate::log::entry_lines::EntryLines;
 use crate::log::failure::Failure;
 use crate::log::opening::Opening;
 
-/// What keeps a guardian's entries for good: a [`FileLog`](crate::log::FileLog), or one that copies them to
-/// other machines.
+/// What keeps a guardian's entries permanently: a [`FileLog`](crate::log::FileLog), or a log that copies them to other
+/// machines.
 ///
-/// After a failure it gives that failure again, and appends nothing more.
+/// After a failure each call returns that failure again, and appends nothing more.
 pub trait BatchLog: Send {
-    /// Appends entries. `Ok`: they and all before them can't be lost, as far as this log promises that.
+    /// Appends entries. `Ok`: they and all before them can't be lost, as far as this log promises.
     ///
     /// # Errors
     ///
-    /// The failure of now or of before. Then it isn't known whether these entries are in the log.
+    /// This failure or an earlier one. Then it isn't known whether these entries are in the log.
     fn append(&mut self, lines: &EntryLines) -> Result<(), Failure>;
 
-    /// Begins anew with this opening, which takes the place of all before.
+    /// Starts again with this opening, which replaces everything before.
     ///
     /// # Errors
     ///
-    /// As of [`append`](Self::append); then it isn't known which of the two the log has.
+    /// As for [`append`](Self::append); then it isn't known whether the log has the old entries or the opening.
     fn restart(&mut self, opening: &Opening) -> Result<(), Failure>;
 }

@@ -1,4 +1,4 @@
-//! CRC-32, as zlib and Ethernet reckon it.
+//! CRC-32, as in zlib and Ethernet.
 
 // The reflected polynomial of IEEE 802.3.
 const POLYNOMIAL: u32 = 0xedb8_8320;
@@ -29,7 +29,8 @@ const fn after_eight_bits(byte: u32) -> u32 {
     rest
 }
 
-/// The checksum of these bytes. Bytes that differ in one bit, or within 32 bits in a row, have another.
+/// The checksum of these bytes. Bytes that differ in one bit, or only within 32 bits in a row, have another
+/// one.
 pub(crate) fn crc32(bytes: &[u8]) -> u32 {
     !bytes.iter().fold(u32::MAX, |crc, byte| {
         let [low, ..] = crc.to_le_bytes();
@@ -41,7 +42,7 @@ pub(crate) fn crc32(bytes: &[u8]) -> u32 {
 mod tests {
     use super::crc32;
 
-    // The check value that catalogues of checksums give for CRC-32, and zlib's for two more texts.
+    // The check value of CRC-32 in catalogues of checksums, and zlib's for two more texts.
     #[test]
     fn it_is_the_one_of_zlib() {
         assert_eq!(crc32(b"123456789"), 0xcbf4_3926);

@@ -1,12 +1,12 @@
-//! `Damage`: where a log isn't as it was written, and in which way.
+//! `Damage`: where and how a log isn't as it was written.
 
 use crate::log::defect::Defect;
 use crate::log::segment_head::segment_name;
 use std::error;
 use std::fmt;
 
-/// Where a log isn't as it was written, and in which way. No torn write leaves this: a log that has it
-/// isn't opened, and is left as it is.
+/// Where and how a log isn't as it was written. No torn write leaves this: a log that has it isn't opened, and isn't
+/// changed.
 ///
 /// ```
 /// use argus_guardian::log::{Damage, Defect};
@@ -22,11 +22,11 @@ pub struct Damage {
     pub segment: u64,
     /// The number of the batch, or of the one that should be there.
     pub batch: u64,
-    /// At which byte of the segment's file it begins.
+    /// The byte of the segment's file at which it begins.
     pub byte: u64,
-    /// Which of the batch's lines it is, from 0 on, if it is one.
+    /// Which of the batch's lines it is, counted from 0, if it is one.
     pub line: Option<u64>,
-    /// In which way.
+    /// How.
     pub defect: Defect,
 }
 

@@ -1,8 +1,8 @@
-//! `Defect`: in which way a log isn't as it was written.
+//! `Defect`: how a log isn't as it was written.
 
 use std::fmt;
 
-/// In which way a log isn't as it was written.
+/// How a log isn't as it was written.
 ///
 /// ```
 /// use argus_guardian::log::Defect;
@@ -19,7 +19,7 @@ pub enum Defect {
     Seal,
     /// The batch isn't the one that comes next.
     Order,
-    /// The file ends before what was written, or what was laid out for it, ends: it was cut off.
+    /// The file was cut off: it ends before what was written, or before the zeros that were laid out.
     CutOff,
     /// The segment's first line isn't there, its checksum is wrong, or it is that of another segment.
     Segment,
@@ -27,7 +27,7 @@ pub enum Defect {
     Missing,
     /// It was written in a format that this version doesn't read.
     Format(u64),
-    /// A line isn't what the guardian writes there, in the words of its reader.
+    /// A line isn't what the guardian writes there; what its reader says.
     Line(String),
 }
 

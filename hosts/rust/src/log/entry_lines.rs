@@ -16,8 +16,7 @@ pub struct EntryLines {
 }
 
 impl EntryLines {
-    /// Lines of which the first one is that of this entry. `None` where the text doesn't end with a line
-    /// feed.
+    /// Lines of which the first one belongs to this entry. `None` if the text doesn't end with a line feed.
     ///
     /// ```
     /// use argus_guardian::log::EntryLines;
@@ -54,7 +53,7 @@ impl EntryLines {
         self.first.saturating_add(self.count)
     }
 
-    /// Whether there is none.
+    /// Whether there are no lines.
     ///
     /// ```
     /// use argus_guardian::log::EntryLines;

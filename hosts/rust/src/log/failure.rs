@@ -6,8 +6,8 @@ use std::fmt;
 use std::io;
 use std::sync::Arc;
 
-/// Why a log is broken: the step that failed, and the system's error. It is never tried again; a restart
-/// reads what is there.
+/// Why a log is broken: the step that failed, and the system's error. The step is never tried again; a restart reads
+/// what is there.
 ///
 /// ```
 /// use argus_guardian::log::{Failure, Step};

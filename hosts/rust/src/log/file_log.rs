@@ -1,4 +1,4 @@
-//! `FileLog`: a log in files, of which one process is the writer.
+//! `FileLog`: a log in files, with one process as its writer.
 
 use crate::log::batch::Batch;
 use crate::log::batch_log::BatchLog;
@@ -19,13 +19,11 @@ use crate::log::step::Step;
 use crate::log::storage::Storage;
 use std::io;
 
-/// A log in files, of which one process is the writer: segments of batches, and in them a journal's lines
-/// as they are.
+/// A log in files, with one process as its writer: segments of batches, which have whole lines of a journal.
 ///
-/// Once [`append`](Self::append) has returned `Ok`, its batch is on disk, with all before it. After any
-/// failed write or sync the log is *broken*: nothing is tried again, and each later call gives the same
-/// [`Failure`]. A reader of the files then finds all batches that were acknowledged, and maybe the one that
-/// failed.
+/// When [`append`](Self::append) has returned `Ok`, its batch is on disk, with all before it. After any failed write or
+/// sync the log is *broken*: nothing is tried again, and each later call returns the same [`Failure`]. A reader of the
+/// files then finds all batches that were acknowledged, and maybe the one that failed.
 ///
 /// ```
 /// use argus_guardian::log::{FileLog, EntryLines, MemoryStorage};
@@ -60,7 +58,7 @@ pub struct FileLog<S = Folder> {
 }
 
 impl<S: Storage> FileLog<S> {
-    /// Reads a log, batch by batch, and changes nothing. What the reader of the lines refuses ends it.
+    /// Reads a log, batch by batch, and changes nothing. It ends if the reader of the lines refuses something.
     ///
     /// # Errors
     ///
@@ -82,7 +80,7 @@ impl<S: Storage> FileLog<S> {
         FoundLog::read(storage, each)
     }
 
-    // Begins the log that was found: what is torn goes, and what was read is on disk.
+    // Begins the log that was found: cuts off what is torn, and makes sure that what was read is on disk.
     pub(crate) fn begin(
         found: FoundLog<S>,
         options: FileLogOptions,
@@ -111,7 +109,7 @@ impl<S: Storage> FileLog<S> {
         Ok(log)
     }
 
-    // Writes the last batch once more, with its seal, and zeros over what is torn.
+    // Writes the last batch again, with its seal, and zeros over what is torn.
     fn write_tail_anew(&mut self, last: &LastSegment) -> io::Result<()> {
         let LastSegment { tail, bytes } = last;
         let mut bytes = bytes.clone();
@@ -134,8 +132,8 @@ impl<S: Storage> FileLog<S> {
     ///
     /// # Errors
     ///
-    /// The failure of now or of before. Then it isn't known whether these entries are in the log, or which
-    /// of its last bytes are; but those that were acknowledged are.
+    /// This failure or an earlier one. Then it isn't known whether these entries are in the log, or which of its last
+    /// bytes are; but those that were acknowledged are.
     ///
     /// ```
     /// use argus_guardian::log::{FileLog, EntryLines, MemoryStorage, Step};
@@ -164,7 +162,7 @@ impl<S: Storage> FileLog<S> {
         written.map_err(at(Step::WriteBatch))?;
         let synced = self.storage.sync(&self.name);
         synced.map_err(at(Step::SyncBatch))?;
-        // From here on it is acknowledged, whatever comes.
+        // From here on it is acknowledged, whatever happens.
         let sealed = self
             .storage
             .write_at(&self.name, self.end + frame.len() as u64, &seal);
@@ -173,12 +171,12 @@ impl<S: Storage> FileLog<S> {
         Ok(())
     }
 
-    /// Begins anew with this opening, in a new segment; those before go. Where the process dies meanwhile,
-    /// a reader finds the log as it was, or with the opening.
+    /// Starts again with this opening, in a new segment, and removes those before. If the process dies meanwhile, a
+    /// reader finds the log as it was, or with the opening.
     ///
     /// # Errors
     ///
-    /// As of [`append`](Self::append).
+    /// As for [`append`](Self::append).
     ///
     /// ```
     /// use argus_guardian::log::{FileLog, EntryLines, MemoryStorage, Opening};
@@ -244,7 +242,7 @@ impl<S: Storage> FileLog<S> {
         (frame, Seal { batch, body }.line().into_bytes())
     }
 
-    // That a batch of this size stands at the end.
+    // Notes that a batch of this size is at the end.
     fn count(&mut self, next: u64, size: usize) {
         self.end += size as u64;
         self.written += size as u64;
@@ -252,7 +250,7 @@ impl<S: Storage> FileLog<S> {
         self.entry = next;
     }
 
-    // Writes zeros where there are fewer than so many behind the end.
+    // Writes zeros if there are fewer than this many after the end.
     fn lay_out(&mut self, size: usize) -> io::Result<()> {
         let wanted = self.end + size as u64;
         if wanted <= self.length {
@@ -281,7 +279,7 @@ impl<S: Storage> FileLog<S> {
             .map_err(at(Step::MakeSegment))
     }
 
-    // Makes a segment, whose file has its name only once it is whole.
+    // Makes a segment, whose file gets its name only when it is complete.
     fn make_segment(&mut self, segment: u64, opening: Option<&Opening>) -> Result<(), Failure> {
         let head = SegmentHead {
             version: VERSION.to_owned(),
@@ -342,8 +340,8 @@ impl<S: Storage> FileLog<S> {
         self.entry
     }
 
-    /// Which opening of the log this is: one more than that of the last batch that was read. Each batch says
-    /// by which one it was written.
+    /// Which opening of the log this is: one more than that of the last batch that was read. Each batch says which one
+    /// wrote it.
     ///
     /// ```
     /// use argus_guardian::log::{FileLog, MemoryStorage};
@@ -356,7 +354,7 @@ impl<S: Storage> FileLog<S> {
         self.epoch
     }
 
-    /// How many bytes were written since it was begun, but for zeros that are laid out.
+    /// How many bytes were written since it was begun, except zeros that are laid out.
     ///
     /// ```
     /// use argus_guardian::log::{FileLog, MemoryStorage};
@@ -382,7 +380,7 @@ impl<S: Storage> FileLog<S> {
         self.broken.as_ref()
     }
 
-    /// Its files. With a [`Folder`] they are unlocked once that is dropped.
+    /// Its files. A [`Folder`] unlocks them when it is dropped.
     ///
     /// ```
     /// use argus_guardian::log::{FileLog, MemoryStorage};
@@ -406,7 +404,7 @@ impl<S: Storage> BatchLog for FileLog<S> {
     }
 }
 
-// How long a file is laid out that needs this length.
+// The length to which a file is laid out that needs this length.
 fn laid_out(wanted: u64, by: u64) -> u64 {
     wanted.div_ceil(by.max(1)).saturating_mul(by.max(1))
 }

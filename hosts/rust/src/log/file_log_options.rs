@@ -8,11 +8,10 @@
 /// ```
 #[derive(Debug, Clone, Copy, PartialEq, Eq)]
 pub struct FileLogOptions {
-    /// By how much a file is laid out with zeros whenever its room has been used up: 1 MiB if nothing is
-    /// said. A sync is faster where the file doesn't grow, and a disk that is full is found before a batch
-    /// is begun.
+    /// How many zeros are laid out at the end of a file whenever there are no more: 1 MiB by default. A sync is faster
+    /// if the file doesn't grow, and a full disk is found before a batch is begun.
     pub laid_out: u64,
-    /// From which size on no more batches go into a segment: 64 MiB if nothing is said.
+    /// The size from which on no more batches go into a segment: 64 MiB by default.
     pub segment: u64,
 }
 

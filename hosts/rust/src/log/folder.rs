@@ -1,4 +1,4 @@
-//! `Folder`: a folder of the file system, in which a log lies.
+//! `Folder`: a log's folder in the file system.
 
 use crate::log::open_error::OpenError;
 use crate::log::storage::Storage;
@@ -9,11 +9,11 @@ use std::path::{Path, PathBuf};
 
 const LOCK: &str = "lock";
 
-/// A folder of the file system, in which a log lies. It is locked as long as this lives: the system frees
-/// the lock when the process ends, however it ends.
+/// A log's folder in the file system. It is locked as long as this value lives: the system frees the lock when the
+/// process ends, however it ends.
 ///
-/// The lock is advisory, of the file `lock` in the folder. Over NFS and the like it holds only where the
-/// server keeps locks.
+/// The lock is advisory, on the file `lock` in the folder. Over NFS and the like it holds only if the server keeps
+/// locks.
 ///
 /// ```
 /// use argus_guardian::log::{Folder, OpenError};
@@ -35,12 +35,12 @@ pub struct Folder {
 }
 
 impl Folder {
-    /// Locks the folder, and makes it where it isn't there. Only one process, and there only one `Folder`,
-    /// has it at a time.
+    /// Locks the folder, and makes it if it isn't there. Only one process, and there only one `Folder`, has it at a
+    /// time.
     ///
     /// # Errors
     ///
-    /// [`OpenError::Locked`] where another one has it; [`OpenError::Storage`] with the system's error.
+    /// [`OpenError::Locked`] if another one has it; [`OpenError::Storage`] with the system's error.
     ///
     /// ```
     /// use argus_guardian::log::{Folder, OpenError};
@@ -63,7 +63,7 @@ impl Folder {
         }
     }
 
-    /// Where it lies.
+    /// Its path.
     ///
     /// ```
     /// # use argus_guardian::log::{Folder, OpenError};
@@ -88,13 +88,13 @@ impl Folder {
 
 impl Drop for Folder {
     fn drop(&mut self) {
-        // A process that is just being started may have the file, too: so it isn't enough to close it here.
+        // A process that is just being started may have the file open, too: so it isn't enough to close it here.
         #[allow(clippy::incompatible_msrv)]
         let _ = self.lock.unlock();
     }
 }
 
-// Makes a folder, and those above it, whose names outlive a power cut.
+// Makes a folder, and those above it; their names survive a power cut.
 fn make(path: &Path) -> io::Result<()> {
     if path.as_os_str().is_empty() || path.is_dir() {
         return Ok(());

@@ -20,7 +20,7 @@ pub struct Found {
     pub entries: u64,
     /// The number of the next entry.
     pub next: u64,
-    /// By which opening of the log the last batch was written.
+    /// The opening of the log that wrote the last batch.
     pub epoch: u64,
     /// The version of the product that wrote the last batch.
     pub version: Option<String>,

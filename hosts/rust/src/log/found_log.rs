@@ -16,7 +16,7 @@ use crate::log::segment_reader::SegmentReader;
 use crate::log::storage::Storage;
 use crate::log::tail::Tail;
 
-/// A log that was read, and isn't begun yet: its files are as they were.
+/// A log that was read, and isn't begun yet: its files are unchanged.
 ///
 /// ```
 /// use argus_guardian::log::{FileLog, MemoryStorage};
@@ -150,12 +150,12 @@ impl<S: Storage> FoundLog<S> {
         }
     }
 
-    /// Begins the log anew: cuts off what is torn, writes the last batch once more and syncs it, and
+    /// Begins to write to the log: cuts off what is torn, writes the last batch again and syncs it, and
     /// removes leftovers. From then on what was read is on disk.
     ///
     /// # Errors
     ///
-    /// [`OpenError::Broken`]; a later reading finds the same.
+    /// [`OpenError::Broken`]; a later read finds the same.
     ///
     /// ```
     /// use argus_guardian::log::{FileLog, MemoryStorage};
@@ -167,11 +167,11 @@ impl<S: Storage> FoundLog<S> {
         self.begin_with(FileLogOptions::default())
     }
 
-    /// Begins the log anew, with other sizes.
+    /// Begins to write to the log, with other sizes.
     ///
     /// # Errors
     ///
-    /// As of [`begin`](Self::begin).
+    /// As for [`begin`](Self::begin).
     ///
     /// ```
     /// use argus_guardian::log::{FileLog, FileLogOptions, MemoryStorage};

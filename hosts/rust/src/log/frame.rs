@@ -1,4 +1,4 @@
-//! The lines that are the log's own: words and numbers that begin with `#`, and their checksum.
+//! The log's own lines: words and numbers after a `#`, and their checksum.
 //!
 //! ```text
 //! #seal batch=17 body=9ae0cafe check=0123abcd
@@ -7,7 +7,7 @@
 use crate::log::checksum::crc32;
 use std::str::Split;
 
-/// No line of the log's own is longer, with its line feed.
+/// The greatest length of one of the log's own lines, with its line feed.
 pub(crate) const LONGEST: usize = 256;
 
 const CHECK: &str = " check=";
@@ -18,21 +18,21 @@ pub(crate) fn checked(words: &str) -> String {
     format!("{words}{CHECK}{sum:08x}\n")
 }
 
-/// The words at the front of the bytes and how long their line is, if a line of the log's own is there,
-/// whole.
+/// The words at the beginning of the bytes and how long their line is, if one of the log's own lines is
+/// there, complete.
 pub(crate) fn checked_line(bytes: &[u8]) -> Option<(&str, usize)> {
     let front = &bytes[..bytes.len().min(LONGEST)];
     let end = front.iter().position(|byte| *byte == b'\n')?;
     let line = std::str::from_utf8(&front[..end]).ok()?;
     let (words, _) = line.rsplit_once(CHECK)?;
-    // Written again: so a checksum in other letters is none.
+    // Written again and compared: a checksum in other letters doesn't count.
     (checked(words).as_bytes() == &front[..=end]).then_some((words, end + 1))
 }
 
 /// The number of the format that this version writes, and the only one that it reads.
 pub(crate) const FORMAT: u64 = 1;
 
-/// The format of a line of the log's own, if it names one.
+/// The format that one of the log's own lines names, if it does.
 pub(crate) fn format_in(words: &str) -> Option<u64> {
     let second = words.split(' ').nth(1)?;
     second.strip_prefix("format=")?.parse().ok()
@@ -42,23 +42,23 @@ pub(crate) fn format_in(words: &str) -> Option<u64> {
 pub(crate) struct Words<'t>(Split<'t, char>);
 
 impl<'t> Words<'t> {
-    /// What stands behind the first word, if the first is this one.
+    /// The words after the first, if the first is this one.
     pub(crate) fn behind(text: &'t str, first: &str) -> Option<Words<'t>> {
         let mut words = text.split(' ');
         (words.next()? == first).then_some(Words(words))
     }
 
-    /// What the next word says, which has to be `NAME=..`.
+    /// The value of the next word, which has to be `NAME=..`.
     pub(crate) fn text(&mut self, name: &str) -> Option<&'t str> {
         self.0.next()?.strip_prefix(name)?.strip_prefix('=')
     }
 
-    /// The number that the next word says.
+    /// The number in the next word.
     pub(crate) fn number(&mut self, name: &str) -> Option<u64> {
         self.text(name)?.parse().ok()
     }
 
-    /// The checksum that the next word says.
+    /// The checksum in the next word.
     pub(crate) fn sum(&mut self, name: &str) -> Option<u32> {
         u32::from_str_radix(self.text(name)?, 16).ok()
     }

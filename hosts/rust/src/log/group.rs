@@ -14,7 +14,7 @@ use std::sync::atomic::{AtomicBool, Ordering};
 use std::sync::{Mutex, MutexGuard, PoisonError};
 use std::thread;
 
-/// Commits that wait for the log together. Whoever waits and finds nobody writing takes all lines that the
+/// Commits that wait for the log together. A thread that waits and finds no other one writing takes all lines that the
 /// log hasn't got, and writes them for all; calls go on meanwhile.
 pub(crate) struct Group {
     log: Mutex<Box<dyn BatchLog>>,
@@ -29,7 +29,7 @@ fn locked<T: ?Sized>(mutex: &Mutex<T>) -> MutexGuard<'_, T> {
 }
 
 impl Group {
-    /// Over a log that has all entries before this one.
+    /// For a log that has all entries before this one.
     pub(crate) fn new(log: Box<dyn BatchLog>, next: u64) -> Group {
         Group {
             log: Mutex::new(log),
@@ -39,7 +39,7 @@ impl Group {
         }
     }
 
-    /// What waits to be taken. The guardian's mutex has to be held.
+    /// What has to be taken. The guardian's mutex has to be held.
     pub(crate) fn outgoing(&self) -> MutexGuard<'_, Outgoing> {
         locked(&self.outgoing)
     }
@@ -53,7 +53,7 @@ impl Group {
         }
     }
 
-    /// Returns once the log has that.
+    /// Returns when the goal is reached.
     pub(crate) fn wait(&self, shared: &Shared, goal: Goal) -> Result<(), Failure> {
         loop {
             let turn = locked(&self.progress).turn(goal);
@@ -97,7 +97,7 @@ fn panicked() -> Failure {
     )
 }
 
-// The turn of a thread that writes; its end wakes the others, after a panic too.
+// The turn of a thread that writes; when it ends it wakes the others, after a panic too.
 struct Writing<'g> {
     group: &'g Group,
     outcome: Result<Option<(u64, bool)>, Failure>,

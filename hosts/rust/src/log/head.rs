@@ -1,11 +1,11 @@
-//! `Head`: what a batch of a log says of itself.
+//! `Head`: the line before a batch's lines.
 
 use crate::log::frame::{FORMAT, Words, checked};
 
-/// The version of this crate, which each batch names.
+/// The version of this crate, which is in each batch.
 pub(crate) const VERSION: &str = env!("CARGO_PKG_VERSION");
 
-/// What a batch of a log says of itself, in the line before its lines:
+/// What a batch of a log says about itself, in the line before its lines:
 ///
 /// ```text
 /// #batch format=1 version=0.1.0 epoch=3 batch=17 first=1200 entries=40 bytes=1712 body=9ae0cafe check=0123abcd
@@ -20,11 +20,11 @@ pub(crate) struct Head<'t> {
     pub(crate) epoch: u64,
     /// The number of the batch: 0 for a log's first one.
     pub(crate) batch: u64,
-    /// The number of its first entry; of an opening, of the first entry after it.
+    /// The number of its first entry; for an opening, of the first entry after it.
     pub(crate) first: u64,
     /// How many entries it has: none if it is an opening.
     pub(crate) entries: u64,
-    /// How many bytes its lines are.
+    /// How many bytes its lines have.
     pub(crate) bytes: u64,
     /// Their checksum.
     pub(crate) body: u32,
@@ -44,7 +44,7 @@ impl<'t> Head<'t> {
         ))
     }
 
-    /// What a line's words say, if they are a head's.
+    /// The head with these words, if they are one.
     pub(crate) fn of(text: &'t str) -> Option<Head<'t>> {
         let opening = Words::behind(text, "#opening");
         let is_opening = opening.is_some();

@@ -1,6 +1,6 @@
 //! `LineError`: why the lines of a batch weren't taken.
 
-/// Why the lines of a batch weren't taken, by whoever reads a log.
+/// Why the lines of a batch weren't taken by the reader of a log.
 ///
 /// ```
 /// use argus_guardian::log::{Defect, FileLog, LineError, EntryLines, MemoryStorage, OpenError};
@@ -17,11 +17,11 @@
 pub enum LineError {
     /// A line isn't what the guardian writes there.
     Fault {
-        /// Which of the batch's lines it is, from 0 on.
+        /// Which of the batch's lines it is, counted from 0.
         line: u64,
         /// Why it isn't.
         why: String,
     },
-    /// Memory was wanted that isn't there.
+    /// Out of memory.
     OutOfMemory,
 }

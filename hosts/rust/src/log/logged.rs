@@ -1,6 +1,5 @@
 //! `Logged`: a guardian that threads share, and whose entries go to a log.
 
-use crate::{ActionId, ObjId};
 use crate::checkpoint_error::CheckpointError;
 use crate::content::Content;
 use crate::error::Error;
@@ -16,25 +15,25 @@ use crate::may_conflict::MayConflict;
 use crate::object::Object;
 use crate::retrying::waits;
 use crate::shared::Shared;
+use crate::{ActionId, ObjId};
 use std::iter;
 use std::thread;
 use std::time::Duration;
 
-/// A guardian that threads share, and each entry of whose journal goes to a log.
+/// A guardian that threads share, and whose journal's entries go to a log.
 ///
-/// *Acknowledged* is a topaction whose [`commit`](LoggedAction::commit) has returned `Ok`: the commit and
-/// all entries before it are in the log. A nested topaction likewise. What a program passes on has to
-/// be acknowledged, too: the contents that [`base`](Self::base) gives and the numbers of
-/// [`declare`](Self::declare) are, and so is all that was called before a [`barrier`](Self::barrier).
+/// A topaction is *acknowledged* when its [`commit`](LoggedAction::commit) has returned `Ok`: the commit and all
+/// entries before it are in the log. The same holds for a nested topaction. What a program passes on has to be
+/// acknowledged, too: the contents from [`base`](Self::base) and the numbers from [`declare`](Self::declare) are, and
+/// so are all calls before a [`barrier`](Self::barrier).
 ///
-/// Commits wait for the log together: calls go on while a batch is written, and one write and one sync
-/// serve all commits that came meanwhile.
+/// Commits wait for the log together: calls go on while a batch is written, and one write and one sync serve all
+/// commits that arrive meanwhile.
 ///
-/// Where the log fails, this is *broken*: each later call gives [`LoggedError::Broken`], and commits that
-/// were waiting [`LoggedError::InDoubt`]. A restart decides.
+/// If the log fails, this is *broken*: each later call returns [`LoggedError::Broken`], and commits that were waiting
+/// return [`LoggedError::InDoubt`]. A restart finds out whether they are there.
 ///
-/// **None of this is proved**, except for the guardian's replies and for the call that makes it again from its
-/// log's lines.
+/// **None of this is proved**, except the guardian's replies and the call that restores it from its log's lines.
 ///
 /// ```
 /// use argus_guardian::{Change, Content, Value};
@@ -52,8 +51,8 @@ use std::time::Duration;
 ///
 /// # An order that is sent again
 ///
-/// After a crash a client can't know whether its order was carried out. So it numbers its orders, and the
-/// topaction that carries one out keeps its number, too:
+/// After a crash a client can't know whether its order was carried out. So it numbers its orders, and the topaction
+/// that carries out an order also records its number:
 ///
 /// ```
 /// use argus_guardian::log::{Logged, LoggedAction, LoggedError};
@@ -102,7 +101,7 @@ pub struct Logged {
 }
 
 impl Logged {
-    /// A guardian over a log that has all of its entries. Accesses wait so long for their locks.
+    /// A guardian over a log that has all of its entries. Accesses wait for their locks at most for this patience.
     ///
     /// ```
     /// use argus_guardian::Guardian;
@@ -143,7 +142,7 @@ impl Logged {
     ///
     /// # Errors
     ///
-    /// As of [`Shared::topaction`]; [`LoggedError::Broken`].
+    /// As for [`Shared::topaction`]; [`LoggedError::Broken`].
     ///
     /// ```
     /// # use argus_guardian::log::{FileLog, Logged, MemoryStorage};
@@ -163,8 +162,7 @@ impl Logged {
     ///
     /// # Errors
     ///
-    /// As of [`Shared::run`]; [`LoggedError::Broken`]; [`LoggedError::InDoubt`], after which it isn't tried
-    /// again.
+    /// As for [`Shared::run`]; [`LoggedError::Broken`]; [`LoggedError::InDoubt`], after which it isn't tried again.
     ///
     /// ```
     /// # use argus_guardian::log::{FileLog, Logged, LoggedError, MemoryStorage};
@@ -202,7 +200,7 @@ impl Logged {
     ///
     /// # Errors
     ///
-    /// As of [`Guardian::declare`]; [`LoggedError::Broken`]; [`LoggedError::InDoubt`].
+    /// As for [`Guardian::declare`]; [`LoggedError::Broken`]; [`LoggedError::InDoubt`].
     ///
     /// ```
     /// # use argus_guardian::log::{FileLog, Logged, MemoryStorage};
@@ -220,7 +218,7 @@ impl Logged {
     ///
     /// # Errors
     ///
-    /// As of [`declare`](Self::declare); those before the one that failed are declared.
+    /// As for [`declare`](Self::declare); the objects before the one that failed are declared.
     ///
     /// ```
     /// # use argus_guardian::log::{FileLog, Logged, MemoryStorage};
@@ -242,11 +240,11 @@ impl Logged {
         self.acknowledged(declared)
     }
 
-    /// What is in the object for good, and acknowledged; `None` where it has no content yet.
+    /// The object's base, which is acknowledged; `None` if it has no content yet.
     ///
     /// # Errors
     ///
-    /// As of [`Guardian::base`]; [`LoggedError::Broken`]; [`LoggedError::InDoubt`].
+    /// As for [`Guardian::base`]; [`LoggedError::Broken`]; [`LoggedError::InDoubt`].
     ///
     /// ```
     /// # use argus_guardian::log::{FileLog, Logged, MemoryStorage};
@@ -261,11 +259,11 @@ impl Logged {
         self.acknowledged(|guardian| guardian.base(object))
     }
 
-    /// The object with the names of its fields or tags; that it is declared is acknowledged.
+    /// The object with the names of its fields or tags; its declaration is acknowledged.
     ///
     /// # Errors
     ///
-    /// As of [`Guardian::object`]; [`LoggedError::Broken`]; [`LoggedError::InDoubt`].
+    /// As for [`Guardian::object`]; [`LoggedError::Broken`]; [`LoggedError::InDoubt`].
     ///
     /// ```
     /// # use argus_guardian::log::{FileLog, Logged, MemoryStorage};
@@ -284,7 +282,7 @@ impl Logged {
     ///
     /// # Errors
     ///
-    /// As of [`Guardian::list`]; [`LoggedError::Broken`]; [`LoggedError::InDoubt`].
+    /// As for [`Guardian::list`]; [`LoggedError::Broken`]; [`LoggedError::InDoubt`].
     ///
     /// ```
     /// # use argus_guardian::Listing;
@@ -317,7 +315,7 @@ impl Logged {
         self.acknowledged(|guardian| Ok(guardian.objects()))
     }
 
-    /// How many entries the journal has had. They needn't be in the log yet.
+    /// How many entries the journal has had. They may not be in the log yet.
     ///
     /// ```
     /// # use argus_guardian::log::{FileLog, Logged, MemoryStorage};
@@ -333,7 +331,7 @@ impl Logged {
         self.shared.lend(Guardian::entries)
     }
 
-    /// How many actions are live. They needn't be in the log yet.
+    /// How many actions are live. They may not be in the log yet.
     ///
     /// ```
     /// # use argus_guardian::log::{FileLog, Logged, MemoryStorage};
@@ -354,7 +352,7 @@ impl Logged {
         })
     }
 
-    /// How many actions can begin until a checkpoint gives their numbers anew.
+    /// How many actions can begin until a checkpoint renews their numbers.
     ///
     /// ```
     /// # use argus_guardian::log::{FileLog, Logged, MemoryStorage};
@@ -371,7 +369,7 @@ impl Logged {
         self.shared.lend(Guardian::actions_left)
     }
 
-    // What the guardian says, once all of it is in the log.
+    // What the guardian returns, when all of it is in the log.
     fn acknowledged<T>(
         &self,
         what: impl FnOnce(&mut Guardian) -> Result<T, Error>,
@@ -383,15 +381,15 @@ impl Logged {
         Ok(answer)
     }
 
-    // Returns once the log has all entries before this one.
+    // Returns when the log has all entries before this one.
     fn wait(&self, entry: u64) -> Result<(), LoggedError> {
         let goal = Goal::entry(entry);
         let waited = self.group.wait(&self.shared, goal);
         waited.map_err(LoggedError::InDoubt)
     }
 
-    /// Returns once all that was called before is in the log. A program calls it before it passes on what an
-    /// action has read, if that action doesn't commit first.
+    /// Returns when all earlier calls are in the log. Call it before you pass on what an action has read, if that
+    /// action doesn't commit first.
     ///
     /// # Errors
     ///
@@ -411,13 +409,13 @@ impl Logged {
         self.wait(self.entries())
     }
 
-    /// Folds the journal once no action is live, and begins the log anew with what is left: its old entries
-    /// go. Until then it holds back each [`topaction`](Self::topaction), but waits so long at the most.
+    /// Folds the journal when no action is live, and starts the log again with what the objects hold: its old entries
+    /// are removed. Until then it holds back each [`topaction`](Self::topaction), at most for this patience.
     ///
     /// # Errors
     ///
-    /// As of [`Shared::checkpoint_waiting`]: the log goes on as it was, except that after `OutOfMemory` it may
-    /// begin anew with the next commit. [`LoggedError::Broken`]; [`LoggedError::InDoubt`].
+    /// As for [`Shared::checkpoint_waiting`]: the log goes on as it was, except that after `OutOfMemory` it may start
+    /// again with the next commit. [`LoggedError::Broken`]; [`LoggedError::InDoubt`].
     ///
     /// ```
     /// # use argus_guardian::log::{FileLog, Logged, MemoryStorage};
@@ -450,7 +448,7 @@ impl Logged {
         self.group.broken()
     }
 
-    // Makes a call that ends an outer action, and returns once it is in the log.
+    // Makes a call that ends an outer action, and returns when it is in the log.
     pub(crate) fn ended(&self, end: impl FnOnce() -> Result<(), Error>) -> Result<(), LoggedError> {
         self.shared()?;
         end()?;

@@ -10,8 +10,8 @@ use crate::shared_action::SharedAction;
 use crate::value::Value;
 use crate::{ActionId, ObjId};
 
-/// A live action of a guardian with a log: a [`SharedAction`] whose commit, where it is a topaction or a
-/// nested one, returns once the log has it.
+/// A live action of a guardian with a log: a [`SharedAction`]. The commit of a topaction or a nested one returns when
+/// the log has it.
 ///
 /// It aborts when it is dropped, unless it has committed. What it reads may come from commits that aren't
 /// in the log yet: to pass it on without committing, call [`Logged::barrier`] first.
@@ -72,7 +72,7 @@ impl<'l> LoggedAction<'l> {
     ///
     /// # Errors
     ///
-    /// As of [`SharedAction::ask`]; [`LoggedError::Broken`].
+    /// As for [`SharedAction::ask`]; [`LoggedError::Broken`].
     ///
     /// ```
     /// # use argus_guardian::{Query, log::{FileLog, Logged, MemoryStorage}};
@@ -91,7 +91,7 @@ impl<'l> LoggedAction<'l> {
     ///
     /// # Errors
     ///
-    /// As of [`SharedAction::alter`]; [`LoggedError::Broken`].
+    /// As for [`SharedAction::alter`]; [`LoggedError::Broken`].
     ///
     /// ```
     /// # use argus_guardian::{Change, log::{FileLog, Logged, MemoryStorage}};
@@ -110,7 +110,7 @@ impl<'l> LoggedAction<'l> {
     ///
     /// # Errors
     ///
-    /// As of [`SharedAction::get`]; [`LoggedError::Broken`].
+    /// As for [`SharedAction::get`]; [`LoggedError::Broken`].
     ///
     /// ```
     /// # use argus_guardian::{Change, Value, log::{FileLog, Logged, MemoryStorage}};
@@ -127,11 +127,11 @@ impl<'l> LoggedAction<'l> {
         Ok(self.action()?.get(object, field)?)
     }
 
-    /// A field of a record becomes the value.
+    /// Sets a field of a record.
     ///
     /// # Errors
     ///
-    /// As of [`SharedAction::set`]; [`LoggedError::Broken`].
+    /// As for [`SharedAction::set`]; [`LoggedError::Broken`].
     ///
     /// ```
     /// # use argus_guardian::{Change, log::{FileLog, Logged, MemoryStorage}};
@@ -157,7 +157,7 @@ impl<'l> LoggedAction<'l> {
     ///
     /// # Errors
     ///
-    /// As of [`SharedAction::get_named`]; [`LoggedError::Broken`].
+    /// As for [`SharedAction::get_named`]; [`LoggedError::Broken`].
     ///
     /// ```
     /// # use argus_guardian::{Change, Value, log::{FileLog, Logged, MemoryStorage}};
@@ -176,11 +176,11 @@ impl<'l> LoggedAction<'l> {
         Ok(self.action()?.get_named(object, name)?)
     }
 
-    /// A field of a record becomes the value, by its name.
+    /// Sets a field of a record, by its name.
     ///
     /// # Errors
     ///
-    /// As of [`SharedAction::set_named`]; [`LoggedError::Broken`].
+    /// As for [`SharedAction::set_named`]; [`LoggedError::Broken`].
     ///
     /// ```
     /// # use argus_guardian::{Error, log::{FileLog, Logged, LoggedError, MemoryStorage}};
@@ -202,11 +202,11 @@ impl<'l> LoggedAction<'l> {
         Ok(self.action()?.set_named(object, name, value)?)
     }
 
-    /// Takes the write lock, and changes nothing. It comes before reading what will be written.
+    /// Takes the write lock, and changes nothing. Call it before you read what you will write.
     ///
     /// # Errors
     ///
-    /// As of [`SharedAction::lock`]; [`LoggedError::Broken`].
+    /// As for [`SharedAction::lock`]; [`LoggedError::Broken`].
     ///
     /// ```
     /// # use argus_guardian::log::{FileLog, Logged, MemoryStorage};
@@ -221,11 +221,11 @@ impl<'l> LoggedAction<'l> {
         Ok(self.action()?.lock(object)?)
     }
 
-    /// Takes a read lock; false where it isn't to be had. It doesn't wait.
+    /// Takes a read lock; false if it isn't free. It doesn't wait.
     ///
     /// # Errors
     ///
-    /// As of [`SharedAction::test_read`]; [`LoggedError::Broken`].
+    /// As for [`SharedAction::test_read`]; [`LoggedError::Broken`].
     ///
     /// ```
     /// # use argus_guardian::log::{FileLog, Logged, MemoryStorage};
@@ -240,11 +240,11 @@ impl<'l> LoggedAction<'l> {
         Ok(self.action()?.test_read(object)?)
     }
 
-    /// Takes a write lock; false where it isn't to be had. It doesn't wait.
+    /// Takes a write lock; false if it isn't free. It doesn't wait.
     ///
     /// # Errors
     ///
-    /// As of [`SharedAction::test_write`]; [`LoggedError::Broken`].
+    /// As for [`SharedAction::test_write`]; [`LoggedError::Broken`].
     ///
     /// ```
     /// # use argus_guardian::log::{FileLog, Logged, MemoryStorage};
@@ -259,11 +259,11 @@ impl<'l> LoggedAction<'l> {
         Ok(self.action()?.test_write(object)?)
     }
 
-    /// Begins a subaction: what it leaves counts only as its ancestors do.
+    /// Begins a subaction: what it leaves counts only if its ancestors commit.
     ///
     /// # Errors
     ///
-    /// As of [`SharedAction::subaction`]; [`LoggedError::Broken`].
+    /// As for [`SharedAction::subaction`]; [`LoggedError::Broken`].
     ///
     /// ```
     /// # use argus_guardian::log::{FileLog, Logged, MemoryStorage};
@@ -283,12 +283,11 @@ impl<'l> LoggedAction<'l> {
         })
     }
 
-    /// Begins a nested topaction: what it leaves counts, and is acknowledged, whatever becomes of this
-    /// action.
+    /// Begins a nested topaction: what it leaves stays, and is acknowledged, even if this action aborts.
     ///
     /// # Errors
     ///
-    /// As of [`SharedAction::nested`]; [`LoggedError::Broken`].
+    /// As for [`SharedAction::nested`]; [`LoggedError::Broken`].
     ///
     /// ```
     /// # use argus_guardian::log::{FileLog, Logged, MemoryStorage};
@@ -309,7 +308,7 @@ impl<'l> LoggedAction<'l> {
     ///
     /// # Errors
     ///
-    /// As of [`SharedAction::abort_others`]; [`LoggedError::Broken`].
+    /// As for [`SharedAction::abort_others`]; [`LoggedError::Broken`].
     ///
     /// ```
     /// # use argus_guardian::log::{FileLog, Logged, MemoryStorage};
@@ -326,12 +325,12 @@ impl<'l> LoggedAction<'l> {
         Ok(self.action()?.abort_others()?)
     }
 
-    /// Commits. Of a topaction or a nested one it returns once that is in the log.
+    /// Commits. For a topaction or a nested one it returns when the commit is in the log.
     ///
     /// # Errors
     ///
-    /// As of [`SharedAction::commit`], and then it aborts; [`LoggedError::Broken`], likewise;
-    /// [`LoggedError::InDoubt`]: it has committed here, and a restart says whether it stands.
+    /// As for [`SharedAction::commit`], and then it aborts; [`LoggedError::Broken`], likewise;
+    /// [`LoggedError::InDoubt`]: it has committed here, and a restart finds out whether the log has it.
     ///
     /// ```
     /// # use argus_guardian::log::{FileLog, Logged, MemoryStorage};
@@ -355,11 +354,12 @@ impl<'l> LoggedAction<'l> {
         }
     }
 
-    /// Aborts, and says so. Nothing is waited for: after a crash it is aborted, too.
+    /// Aborts, and returns an error if that fails, which a drop can't. It doesn't wait for the log: after a crash the
+    /// action is aborted, too.
     ///
     /// # Errors
     ///
-    /// As of [`SharedAction::abort`]; [`LoggedError::Broken`].
+    /// As for [`SharedAction::abort`]; [`LoggedError::Broken`].
     ///
     /// ```
     /// # use argus_guardian::log::{FileLog, Logged, MemoryStorage};

@@ -1,4 +1,4 @@
-//! `LoggedError`: why a call of a logged guardian didn't give what it was asked for.
+//! `LoggedError`: why a call of a logged guardian failed.
 
 use crate::Error;
 use crate::checkpoint_error::CheckpointError;
@@ -9,7 +9,7 @@ use crate::signal::Signal;
 use std::error;
 use std::fmt;
 
-/// Why a call of a logged guardian didn't give what it was asked for.
+/// Why a call of a logged guardian failed.
 ///
 /// ```
 /// use argus_guardian::log::{Failure, LoggedError, Step};
@@ -22,17 +22,17 @@ use std::fmt;
 #[derive(Debug, Clone)]
 #[non_exhaustive]
 pub enum LoggedError {
-    /// What a guardian without a log would say, too.
+    /// The error that a guardian without a log would return, too.
     Guardian(Error),
-    /// The call was made, and the log has failed before it was known to be there. After a restart it may
-    /// be in the guardian, or not.
+    /// The call was made, but the log failed before it was known to have it. After a restart it may be in the guardian,
+    /// or not.
     InDoubt(Failure),
-    /// The log had failed before: the call wasn't made.
+    /// The log had failed earlier: the call wasn't made.
     Broken(Failure),
 }
 
 impl LoggedError {
-    /// Whether it is a refusal with `Conflict`: the topaction may be aborted, and begun anew.
+    /// Whether it is a refusal with `Conflict`: abort the topaction, and begin it again.
     ///
     /// ```
     /// use argus_guardian::{Refusal, log::LoggedError};

@@ -15,13 +15,13 @@ use std::path::Path;
 use std::time::Duration;
 
 impl Logged {
-    /// Opens the guardian whose log is in a folder, or a new one where there is no log: makes each call of the
-    /// log again and compares its reply, cuts off what is torn, and aborts what was live when the log ended,
-    /// as a guardian of Argus aborts its actions at a crash.
+    /// Opens the guardian whose log is in a folder, or a new one if there is no log: makes each call of the log again
+    /// and compares its reply, cuts off what is torn, and aborts the actions that were live when the log ended, as a
+    /// guardian of Argus aborts its actions at a crash.
     ///
     /// # Errors
     ///
-    /// [`OpenError`], each of them. But for [`OpenError::Broken`] the log is left as it was.
+    /// Any [`OpenError`]. Except at [`OpenError::Broken`] the log is unchanged.
     ///
     /// ```
     /// use argus_guardian::log::{Logged, LoggedError};
@@ -56,7 +56,7 @@ impl Logged {
     ///
     /// # Errors
     ///
-    /// As of [`open`](Self::open).
+    /// As for [`open`](Self::open).
     ///
     /// ```
     /// use argus_guardian::log::{Logged, LoggedOptions, OpenError};
@@ -78,7 +78,7 @@ impl Logged {
     ///
     /// # Errors
     ///
-    /// As of [`open`](Self::open).
+    /// As for [`open`](Self::open).
     ///
     /// ```
     /// use argus_guardian::log::{Logged, LoggedOptions, MemoryStorage, OpenError};
@@ -97,12 +97,12 @@ impl Logged {
         Ok((logged, Recovered { found, aborted }))
     }
 
-    /// Makes the guardian of a log as [`open`](Self::open) does, and lets go of it: what the log has, if all of
-    /// it is right. Nothing in the log is changed: for a backup.
+    /// Makes the guardian of a log as [`open`](Self::open) does, and drops it; returns what the log has, if all of it
+    /// is right. It changes nothing in the log: for backups.
     ///
     /// # Errors
     ///
-    /// As of [`open`](Self::open), but that nothing breaks the log.
+    /// As for [`open`](Self::open), except that nothing breaks the log.
     ///
     /// ```
     /// use argus_guardian::log::{EntryLines, FileLog, Logged, MemoryStorage, OpenError};
@@ -117,8 +117,8 @@ impl Logged {
         Ok(log.found().clone())
     }
 
-    /// Over a guardian that was made again of this log's lines, by a [`Recovery`](crate::log::Recovery): aborts what
-    /// is live, and returns once the log has that; also how many entries it took. For logs other than files.
+    /// Takes a guardian that a [`Recovery`](crate::log::Recovery) has restored from this log's lines: aborts what is
+    /// live, and returns when the log has that, with the number of entries that it took. For logs other than files.
     ///
     /// # Errors
     ///

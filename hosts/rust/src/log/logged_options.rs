@@ -12,7 +12,7 @@ use std::time::Duration;
 /// ```
 #[derive(Debug, Clone, Copy, PartialEq, Eq)]
 pub struct LoggedOptions {
-    /// How long an access waits for its lock at the most: a second if nothing is said.
+    /// How long an access waits for its lock at most: a second by default.
     pub patience: Duration,
     /// The sizes of the log's files.
     pub files: FileLogOptions,

@@ -4,7 +4,7 @@ use crate::log::storage::Storage;
 use std::collections::BTreeMap;
 use std::io;
 
-/// Files in memory, for tests and examples: nothing fails, and nothing outlives the process.
+/// Files in memory, for tests and examples: nothing fails, and nothing survives the process.
 ///
 /// ```
 /// use argus_guardian::log::{MemoryStorage, Storage};

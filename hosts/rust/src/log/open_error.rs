@@ -7,7 +7,7 @@ use std::error;
 use std::fmt;
 use std::io;
 
-/// Why a log wasn't opened. But for [`OpenError::Broken`] its files are as they were.
+/// Why a log wasn't opened. Except at [`OpenError::Broken`] its files are unchanged.
 ///
 /// ```
 /// use argus_guardian::log::OpenError;

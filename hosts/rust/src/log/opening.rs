@@ -1,7 +1,7 @@
-//! `Opening`: with what a journal begins after a checkpoint.
+//! `Opening`: what a journal begins with after a checkpoint.
 
-/// With what a journal begins after a checkpoint: the opening lines of its listing, and the number of the
-/// first entry after them.
+/// What a journal begins with after a checkpoint: the opening lines of its listing, and the number of the first entry
+/// after them.
 ///
 /// ```
 /// use argus_guardian::log::Opening;
@@ -16,7 +16,7 @@ pub struct Opening {
 }
 
 impl Opening {
-    /// The opening of these lines. `None` where the text doesn't end with a line feed.
+    /// The opening with these lines. `None` if the text doesn't end with a line feed.
     ///
     /// ```
     /// use argus_guardian::log::Opening;

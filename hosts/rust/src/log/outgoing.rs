@@ -10,14 +10,14 @@ use crate::log::piece::Piece;
 use crate::shared::Shared;
 use std::collections::VecDeque;
 
-/// A piece has so many bytes at the most, but for a line that is longer.
+/// The most bytes that a piece has, except with a line that is longer.
 const PIECE: usize = 256 * 1024;
 
-// With what each line of an opening begins, and no entry's.
+// What each line of an opening begins with, and no entry's line.
 const OPENING: &str = "opening ";
 
-/// What has been taken out of a guardian's journal, and what of that the log hasn't got yet. It is used
-/// only while the guardian's mutex is held: so the pieces follow one another as the entries do.
+/// What has been taken out of a guardian's journal, and what of that the log hasn't got yet. It is used only while the
+/// guardian's mutex is held, so the pieces are in the order of the entries.
 #[derive(Debug)]
 pub(crate) struct Outgoing {
     // The number of the first entry that hasn't been taken.
@@ -31,7 +31,7 @@ pub(crate) struct Outgoing {
 }
 
 impl Outgoing {
-    /// Of a log that has all entries before this one.
+    /// For a log that has all entries before this one.
     pub(crate) fn from(next: u64) -> Outgoing {
         Outgoing {
             next,
@@ -51,7 +51,7 @@ impl Outgoing {
         Ok(self.pieces.pop_front())
     }
 
-    // Takes as many lines as a piece has.
+    // Takes as many lines as fit into a piece.
     fn take(&mut self, guardian: &mut Guardian) -> Result<(), Error> {
         let lines = guardian.lines_in(&mut self.room, self.next)?;
         self.next = lines.next();
@@ -61,7 +61,7 @@ impl Outgoing {
         Ok(())
     }
 
-    // Takes the opening that is owed: the front of the journal's listing.
+    // Takes the opening that hasn't been taken yet: the first lines of the journal's listing.
     fn take_opening(&mut self, guardian: &mut Guardian) -> Result<(), Error> {
         if !self.owes_opening {
             return Ok(());
@@ -76,8 +76,8 @@ impl Outgoing {
         Ok(())
     }
 
-    /// Folds the journal once all of it has been taken, and takes the opening. When the log has that. Where
-    /// there is no memory for the opening, it is taken before the next lines.
+    /// Folds the journal when all of it has been taken, and takes the opening. Returns the goal at which the log has
+    /// it. If there is no memory for the opening, it is taken before the next lines.
     pub(crate) fn fold(&mut self, guardian: &mut Guardian) -> Result<Goal, CheckpointError> {
         let out_of_memory = |_: Error| CheckpointError::OutOfMemory;
         self.take_opening(guardian).map_err(out_of_memory)?;
@@ -85,7 +85,7 @@ impl Outgoing {
             self.take(guardian).map_err(out_of_memory)?;
         }
         Shared::fold(guardian)?;
-        // The opening of a journal without entries is none.
+        // A journal without entries has no opening.
         if self.next > 0 {
             self.folds += 1;
             self.owes_opening = true;

@@ -11,7 +11,7 @@ pub(crate) enum Piece {
 }
 
 impl Piece {
-    /// The number of the first entry that is behind it.
+    /// The number of the first entry after it.
     pub(crate) fn next(&self) -> u64 {
         match self {
             Piece::Lines(lines) => lines.next(),

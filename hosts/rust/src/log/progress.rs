@@ -9,7 +9,7 @@ use std::thread::{self, Thread, ThreadId};
 pub(crate) struct Progress {
     // All entries before this one are in the log.
     safe: u64,
-    // So many openings are.
+    // So many openings are in the log.
     openings: u64,
     broken: Option<Failure>,
     is_writing: bool,
@@ -24,18 +24,18 @@ struct Waiter {
 
 /// What a waiting thread has to do.
 pub(crate) enum Turn {
-    /// It is as was wanted.
+    /// Its goal is reached.
     Done,
     /// The log has failed.
     Failed(Failure),
-    /// Nobody writes: write the next piece.
+    /// No thread writes: write the next piece.
     Write,
-    /// Another one writes, and wakes this thread.
+    /// Another thread writes, and will wake this one.
     Park,
 }
 
 impl Progress {
-    /// Of a log that has all entries before this one.
+    /// For a log that has all entries before this one.
     pub(crate) fn at(safe: u64) -> Progress {
         Progress {
             safe,
@@ -55,7 +55,7 @@ impl Progress {
         goal.entry <= self.safe && goal.openings <= self.openings
     }
 
-    /// What this thread has to do, which waits for that.
+    /// What a thread that waits for this has to do.
     pub(crate) fn turn(&mut self, goal: Goal) -> Turn {
         let this = thread::current();
         self.forget(this.id());

@@ -10,14 +10,14 @@ use crate::log::found::Found;
 /// ```
 #[derive(Debug, Clone, PartialEq, Eq, Default)]
 pub struct Recovered {
-    /// What the log had. Where something was torn, it has been cut off.
+    /// What the log had. If something was torn, it has been cut off.
     pub found: Found,
     /// How many entries it took to abort the actions that were live when the log ended.
     pub aborted: u64,
 }
 
 impl Recovered {
-    /// Whether the folder had no log before. Where one should be there, a disk may not be mounted.
+    /// Whether the folder had no log before. If one should be there, a disk may not be mounted.
     ///
     /// ```
     /// use argus_guardian::log::{Found, Recovered};

@@ -1,4 +1,4 @@
-//! `Recovery`: a guardian that is being made again from the lines of its log.
+//! `Recovery`: a guardian that is being restored from the lines of its log.
 
 use crate::error::Error;
 use crate::guardian::Guardian;
@@ -22,8 +22,8 @@ pub(crate) fn recovered<S: Storage>(storage: S) -> Result<(FoundLog<S>, Guardian
     }
 }
 
-/// A guardian that is being made again from the lines of its log, by the library's proved call: each call is made
-/// again, and its reply compared with that of the line.
+/// A guardian that is being restored from the lines of its log, by the library's proved call: each call is made again,
+/// and its reply compared with the line's.
 ///
 /// ```
 /// use argus_guardian::log::{LineError, Recovery};
@@ -42,11 +42,11 @@ pub struct Recovery {
 }
 
 impl Recovery {
-    /// Of no line so far.
+    /// A new one, which has taken no line.
     ///
     /// # Errors
     ///
-    /// As of [`Guardian::new`].
+    /// As for [`Guardian::new`].
     ///
     /// ```
     /// use argus_guardian::log::Recovery;
@@ -59,7 +59,7 @@ impl Recovery {
         Ok(Recovery { resuming })
     }
 
-    /// Takes whole lines, which follow those that were taken: an opening's and entries', as a log has them.
+    /// Takes the next whole lines, of an opening or of entries, as a log has them.
     ///
     /// # Errors
     ///
@@ -88,11 +88,11 @@ impl Recovery {
         })
     }
 
-    /// The guardian of all lines that were taken. What was live in it is live.
+    /// The guardian of all lines that were taken. Actions that were live in it are live.
     ///
     /// # Errors
     ///
-    /// [`LineError::Fault`] where an opening isn't whole; [`LineError::OutOfMemory`].
+    /// [`LineError::Fault`] if an opening isn't complete; [`LineError::OutOfMemory`].
     ///
     /// ```
     /// use argus_guardian::log::Recovery;

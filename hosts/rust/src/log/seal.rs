@@ -1,15 +1,15 @@
-//! `Seal`: that a batch of a log was acknowledged.
+//! `Seal`: says that a batch of a log was acknowledged.
 
 use crate::log::frame::{Words, checked};
 
-/// That a batch was acknowledged. It stands behind the batch, and is written once the batch is on
-/// disk and before the next batch is begun:
+/// Says that a batch was acknowledged. It comes after the batch, and is written when the batch is on disk and
+/// before the next batch is begun:
 ///
 /// ```text
 /// #seal batch=17 body=9ae0cafe check=0123abcd
 /// ```
 ///
-/// So what is wrong before a seal can't be a torn write.
+/// So something wrong before a seal can't be a torn write.
 #[derive(Debug, Clone, Copy, PartialEq, Eq)]
 pub(crate) struct Seal {
     pub(crate) batch: u64,
@@ -26,7 +26,7 @@ impl Seal {
         ))
     }
 
-    /// What a line's words say, if they are a seal's.
+    /// The seal with these words, if they are one.
     pub(crate) fn of(text: &str) -> Option<Seal> {
         let mut words = Words::behind(text, "#seal")?;
         Some(Seal {

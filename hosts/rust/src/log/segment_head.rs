@@ -1,11 +1,11 @@
-//! `SegmentHead`: what a segment of a log says of itself.
+//! `SegmentHead`: the first line of a segment.
 
 use crate::log::frame::{FORMAT, Words, checked};
 
 const PREFIX: &str = "segment-";
 const SUFFIX: &str = ".log";
 
-/// What a segment of a log says of itself, in its first line:
+/// What a segment of a log says about itself, in its first line:
 ///
 /// ```text
 /// #segment format=1 version=0.1.0 epoch=3 segment=2 batch=17 first=1200 begins=entries check=0123abcd
@@ -38,7 +38,7 @@ impl SegmentHead {
         ))
     }
 
-    /// What a line's words say, if they are those of a segment.
+    /// The segment head with these words, if they are one.
     pub(crate) fn of(text: &str) -> Option<SegmentHead> {
         let mut words = Words::behind(text, "#segment")?;
         words.number("format").filter(|it| *it == FORMAT)?;
@@ -52,7 +52,7 @@ impl SegmentHead {
         })
     }
 
-    /// Whether a log begins with this segment: with an opening, or with the first entry of all.
+    /// Whether a log begins with this segment: with an opening, or with the very first entry.
     pub(crate) fn begins_a_log(&self) -> bool {
         self.is_opening || self.first == 0
     }
@@ -70,12 +70,12 @@ pub(crate) fn segment_named(name: &str) -> Option<u64> {
     (segment_name(segment) == name).then_some(segment)
 }
 
-/// The line at the end of a segment that is full: which one goes on.
+/// The line at the end of a full segment: which segment continues it.
 pub(crate) fn continued_line(segment: u64) -> String {
     checked(&format!("#continued segment={segment}"))
 }
 
-/// The segment that goes on, if a line's words say one.
+/// The segment that continues this one, if a line's words name it.
 pub(crate) fn continued_in(text: &str) -> Option<u64> {
     Words::behind(text, "#continued")?.number("segment")
 }

@@ -8,7 +8,7 @@ use crate::log::position::Position;
 use crate::log::segment_head::{SegmentHead, segment_name, segment_named};
 use crate::log::storage::Storage;
 
-/// What a segment's file is called until it is whole.
+/// The name of a segment's file until it is complete.
 pub(crate) const UNFINISHED: &str = ".new";
 
 /// Which segments of a log are there: those that it consists of, oldest first, and leftovers.
@@ -19,7 +19,7 @@ pub(crate) struct SegmentList {
 }
 
 impl SegmentList {
-    /// Of the files that are there.
+    /// From the files that are there.
     pub(crate) fn of(storage: &mut impl Storage) -> Result<SegmentList, OpenError> {
         let names = storage.names()?;
         let mut numbers: Vec<u64> = names.iter().filter_map(|it| segment_named(it)).collect();
@@ -45,7 +45,7 @@ impl SegmentList {
         Ok(list)
     }
 
-    // The first one has to begin a log, and each goes on where the one before ends.
+    // The first one has to begin a log, and each continues where the one before ends.
     fn check(&self) -> Result<(), Damage> {
         let Some((first, head)) = self.segments.first() else {
             return Ok(());
@@ -79,15 +79,15 @@ impl SegmentList {
         })
     }
 
-    /// With which batch the segment after this one begins, if there is one. Of one whose first line can't
-    /// be read it isn't known.
+    /// The batch with which the segment after this one begins, if there is one; `u64::MAX` if that one's first line
+    /// can't be read.
     pub(crate) fn following(&self, segment: u64) -> Option<u64> {
         let next = self.segments.iter().find(|(it, _)| *it == segment + 1);
         next.map(|(_, head)| head.as_ref().map_or(u64::MAX, |head| head.batch))
     }
 }
 
-// What the segment says of itself. `None` where that can't be read.
+// The segment's first line. `None` if it can't be read.
 fn head_of(storage: &mut impl Storage, segment: u64) -> Result<Option<SegmentHead>, OpenError> {
     let front = storage.read(&segment_name(segment), LONGEST as u64)?;
     let Some((words, _)) = checked_line(&front) else {

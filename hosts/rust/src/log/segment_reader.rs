@@ -16,42 +16,42 @@ use crate::log::torn::Torn;
 /// The batches of one segment, read one after another.
 ///
 /// The first thing that isn't as it was written ends the reading. It is a torn write, which was never
-/// acknowledged, if nothing behind it shows that it was: no seal of it or of a later batch, no later
-/// batch, no later segment, and no end of the file where zeros were laid out. Else it is damage.
+/// acknowledged, if nothing after it shows that it was: no seal of it or of a later batch, no later batch, no
+/// later segment, and no end of the file where zeros were laid out. Otherwise it is damage.
 pub(crate) struct SegmentReader<'b> {
     bytes: &'b [u8],
     at: usize,
     next: Position,
-    // With which batch the segment after it begins, if there is one.
+    // The batch with which the segment after it begins, if there is one.
     following: Option<u64>,
     is_over: bool,
     is_continued: bool,
-    // Behind the lines of the last batch that has a seal.
+    // The byte after the lines of the last batch that has a seal.
     sealed: usize,
     missing_seal: Option<Seal>,
     torn: Option<Torn>,
 }
 
-// A batch that was read, and behind which byte its lines end.
+// A batch that was read, and the byte after its lines.
 struct Found<'b> {
     batch: Batch<'b>,
     seal: Seal,
     end: usize,
 }
 
-// What is there where a batch may begin.
+// What is found where a batch may begin.
 enum Here<'b> {
     Batch(Found<'b>),
     // Zeros: the segment ends, as it should.
     End,
-    // A line says that the next segment goes on.
+    // A line says that the next segment continues this one.
     Continued,
     // Something that a torn write may have left.
     Defect(Defect),
 }
 
 impl<'b> SegmentReader<'b> {
-    /// Of the segment with these bytes, which has to go on at this position, and with which batch the
+    /// For the segment with these bytes, which has to continue at this position, and the batch with which the
     /// segment after it begins.
     pub(crate) fn new(
         bytes: &'b [u8],
@@ -83,7 +83,7 @@ impl<'b> SegmentReader<'b> {
         Ok(reader)
     }
 
-    /// The next batch. `None`: there are no more, and [`tail`](Self::tail) says what is behind them.
+    /// The next batch. `None`: there are no more, and [`tail`](Self::tail) says what comes after them.
     pub(crate) fn next_batch(&mut self) -> Result<Option<Batch<'b>>, Damage> {
         if self.is_over {
             return Ok(None);
@@ -100,7 +100,7 @@ impl<'b> SegmentReader<'b> {
         Ok(None)
     }
 
-    // Goes on behind a batch.
+    // Continues after a batch.
     fn take(&mut self, found: &Found<'b>) -> Result<Batch<'b>, Damage> {
         let Found { batch, seal, end } = *found;
         self.at = end;
@@ -177,7 +177,7 @@ impl<'b> SegmentReader<'b> {
         Ok(Here::Batch(Found { batch, seal, end }))
     }
 
-    // A line that says which segment goes on, and what is behind it.
+    // A line that says which segment continues this one, and what comes after it.
     fn check_continued(&self, segment: u64, rest: &[u8]) -> Result<Here<'b>, Damage> {
         if segment != self.next.segment + 1 {
             return Err(self.damage(Defect::Order));
@@ -191,14 +191,14 @@ impl<'b> SegmentReader<'b> {
         Ok(Here::Continued)
     }
 
-    // Ends the reading here, where this is wrong if anything is.
+    // Ends the reading here; if anything is wrong, it is this.
     fn end_by(&mut self, defect: Defect) -> Result<(), Damage> {
         self.is_over = true;
         self.torn = self.torn_by(defect)?;
         Ok(())
     }
 
-    // What is torn here: nothing where there are zeros alone. An error: it is damaged.
+    // What is torn here: nothing if there are only zeros. An error: it is damaged.
     fn torn_by(&self, defect: Defect) -> Result<Option<Torn>, Damage> {
         let rest = &self.bytes[self.at..];
         let is_followed = self.following.is_some_and(|batch| batch != self.next.batch);
@@ -218,7 +218,7 @@ impl<'b> SegmentReader<'b> {
         }))
     }
 
-    /// What is behind the batches, once they have been read.
+    /// What comes after the batches, when they have been read.
     pub(crate) fn tail(&self) -> Tail {
         Tail {
             from: self.sealed as u64,
@@ -234,7 +234,7 @@ impl<'b> SegmentReader<'b> {
         self.next
     }
 
-    /// Whether the segment says that another one goes on.
+    /// Whether the segment says that another one continues it.
     pub(crate) fn is_continued(&self) -> bool {
         self.is_continued
     }
@@ -246,7 +246,7 @@ impl<'b> SegmentReader<'b> {
         }
     }
 
-    // That this is wrong here.
+    // The damage: this defect here.
     fn damage(&self, defect: Defect) -> Damage {
         Damage {
             segment: self.next.segment,
@@ -262,14 +262,15 @@ fn is_zero(bytes: &[u8]) -> bool {
     bytes.iter().all(|byte| *byte == 0)
 }
 
-// How long this seal is, if it stands at the front.
+// How long this seal is, if it is at the beginning.
 fn seal_length(bytes: &[u8], seal: Seal) -> Option<usize> {
     let (words, length) = checked_line(bytes)?;
     (Seal::of(words)? == seal).then_some(length)
 }
 
-// Whether a line shows that this batch was acknowledged: a seal of it or of a later one, the head of a
-// later one, or that a later segment goes on. A value that a journal's line has begins no line.
+// Whether a line shows that this batch was acknowledged: a seal of it or of a later one, the head of a later
+// one, or a line that says that a later segment continues this one. A value in a journal's line can't begin a
+// line.
 fn shows_later(rest: &[u8], batch: u64) -> bool {
     let begins = rest.iter().enumerate().filter(|(_, byte)| **byte == b'\n');
     begins.map(|(at, _)| at + 1).any(|at| {

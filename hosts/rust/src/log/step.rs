@@ -11,7 +11,7 @@ use std::fmt;
 #[derive(Debug, Clone, Copy, PartialEq, Eq)]
 #[non_exhaustive]
 pub enum Step {
-    /// Laying out a part of the file, before the batch is written.
+    /// Laying out part of the file, before the batch is written.
     LayOut,
     /// Writing a batch.
     WriteBatch,
@@ -21,13 +21,13 @@ pub enum Step {
     WriteSeal,
     /// Making a segment: writing it, syncing it, or giving it its name.
     MakeSegment,
-    /// Removing segments that a checkpoint has made needless.
+    /// Removing segments that aren't needed after a checkpoint.
     RemoveSegments,
     /// Cutting off what is torn, when a log is begun.
     CutTorn,
-    /// Taking lines that don't go on where the log ends.
+    /// Taking lines that don't continue where the log ends.
     TakeLines,
-    /// Something that another log than [`FileLog`](crate::log::FileLog) does.
+    /// Something that a log other than [`FileLog`](crate::log::FileLog) does.
     Other,
 }
 

@@ -2,11 +2,11 @@
 
 use std::io;
 
-/// The files of a log, which all lie in one folder: what a log asks of the system. [`Folder`] is a real
-/// one, [`MemoryStorage`] one in memory; tests put others in their place, which fail.
+/// The files of a log, all in one folder: what a log needs from the system. [`Folder`] is a real one,
+/// [`MemoryStorage`] one in memory; tests use others, which fail.
 ///
-/// A write, a new file or a new name may be lost at a power cut until `sync` of that file or
-/// `sync_names` has returned; what had been synced before may not.
+/// A write, a new file or a new name may be lost at a power cut until `sync` of that file or `sync_names` has
+/// returned; what was synced before may not.
 ///
 /// [`Folder`]: crate::log::Folder
 /// [`MemoryStorage`]: crate::log::MemoryStorage
@@ -18,14 +18,14 @@ pub trait Storage: Send {
     /// The system's.
     fn names(&mut self) -> io::Result<Vec<String>>;
 
-    /// What is in a file: its first bytes, this many at the most.
+    /// A file's first bytes, at most this many.
     ///
     /// # Errors
     ///
-    /// The system's; `NotFound` where no file has this name.
+    /// The system's; `NotFound` if no file has this name.
     fn read(&mut self, name: &str, limit: u64) -> io::Result<Vec<u8>>;
 
-    /// Makes a file with nothing in it, in place of any of that name.
+    /// Makes an empty file, in place of any with that name.
     ///
     /// # Errors
     ///
@@ -39,14 +39,14 @@ pub trait Storage: Send {
     /// The system's; then any part of them may have been written.
     fn write_at(&mut self, name: &str, at: u64, bytes: &[u8]) -> io::Result<()>;
 
-    /// Returns once all that was written to the file is on disk.
+    /// Returns when all that was written to the file is on disk.
     ///
     /// # Errors
     ///
     /// The system's; then it isn't known what is on disk.
     fn sync(&mut self, name: &str) -> io::Result<()>;
 
-    /// Gives a file another name, in place of any of that name.
+    /// Renames a file, in place of any with the new name.
     ///
     /// # Errors
     ///
@@ -60,7 +60,7 @@ pub trait Storage: Send {
     /// The system's.
     fn remove(&mut self, name: &str) -> io::Result<()>;
 
-    /// Returns once all names are on disk.
+    /// Returns when all names are on disk.
     ///
     /// # Errors
     ///

@@ -1,11 +1,10 @@
-//! `Torn`: the end of a log, which a write that didn't come to its end has left.
+//! `Torn`: the end of a log, left by an unfinished write.
 
 use crate::log::defect::Defect;
 use crate::log::segment_head::segment_name;
 use std::fmt;
 
-/// The end of a log, which a write that didn't come to its end has left. It was never acknowledged, and is
-/// cut off when the log is begun.
+/// The end of a log, left by an unfinished write. It was never acknowledged, and is cut off when the log is begun.
 ///
 /// ```
 /// use argus_guardian::log::{Defect, Torn};
@@ -22,11 +21,11 @@ pub struct Torn {
     pub segment: u64,
     /// The number that the batch would have had.
     pub batch: u64,
-    /// At which byte of the segment's file it begins.
+    /// The byte of the segment's file at which it begins.
     pub byte: u64,
     /// How many bytes of it are there.
     pub bytes: u64,
-    /// By what it is known.
+    /// What shows that it is torn.
     pub defect: Defect,
 }
 

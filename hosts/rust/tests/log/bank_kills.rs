@@ -1,15 +1,16 @@
 //! A bank whose process is killed under load: no acknowledged order is lost or doubled, none is there in part.
 //!
-//! `ARGUS_LOG_KILLS` says how often it is killed.
+//! `ARGUS_LOG_KILLS` says how often it is killed; under clocks that run at other rates, a fifth as often.
 
 use crate::bank::{CLIENTS, OPTIONS, dawdle_on, fold, serve, set_up};
 use crate::child::Child;
+use crate::clock::Clock;
 use crate::ledger::Ledger;
 use crate::scratch::Scratch;
 use argus_guardian::log::{Logged, Recovered};
 use std::path::Path;
 use std::time::Duration;
-use std::{env, fmt, thread};
+use std::{env, fmt, fs, thread};
 
 const KILLS: &str = "ARGUS_LOG_KILLS";
 
@@ -73,9 +74,12 @@ fn fold_on(bank: &Logged) {
     }
 }
 
+// What the bank's process has in its environment.
+type Words = [(&'static str, String)];
+
 // Kills a bank once, and looks at what it has left.
-fn kill(folder: &Path, kill: u64, ledger: &mut Ledger) -> Recovered {
-    let child = Child::start("bank_kills::child_serves", folder, &[]);
+fn kill(folder: &Path, kill: u64, words: &Words, ledger: &mut Ledger) -> Recovered {
+    let child = Child::start("bank_kills::child_serves", folder, words);
     // Some die while they start.
     if kill % 10 == 9 {
         thread::sleep(Duration::from_millis(7 * kill % 40));
@@ -91,14 +95,17 @@ fn kill(folder: &Path, kill: u64, ledger: &mut Ledger) -> Recovered {
     opened
 }
 
-#[test]
-fn no_kill_loses_or_doubles_an_acknowledged_order() {
-    let kills = env::var(KILLS).map_or(10, |it| it.parse().expect("a number"));
+fn kills() -> u64 {
+    env::var(KILLS).map_or(10, |it| it.parse().expect("a number"))
+}
+
+// Kills a bank so often; each process has the next of these environments.
+fn kill_each(kills: u64, each: &[&Words]) {
     let scratch = Scratch::new("bank");
     let mut ledger = Ledger::default();
     let mut counts = Counts::default();
-    for number in 0..kills {
-        counts.count(&kill(scratch.path(), number, &mut ledger));
+    for (number, words) in (0..kills).zip(each.iter().cycle()) {
+        counts.count(&kill(scratch.path(), number, words, &mut ledger));
         if number % 100 == 99 || number + 1 == kills {
             println!(
                 "{} orders acknowledged, {} stand; {counts}",
@@ -114,4 +121,19 @@ fn no_kill_loses_or_doubles_an_acknowledged_order() {
         kills < 10 || counts.openings > 0,
         "no checkpoint came to its end"
     );
+}
+
+#[test]
+fn no_kill_loses_or_doubles_an_acknowledged_order() {
+    kill_each(kills(), &[&[]]);
+}
+
+#[test]
+fn nor_does_one_under_a_clock_of_another_rate() {
+    let scratch = Scratch::new("clock");
+    fs::create_dir(scratch.path()).expect("made");
+    if let Some(clock) = Clock::build(scratch.path(), "clocks of other rates") {
+        let (fast, slow) = (clock.words("3/1"), clock.words("1/2"));
+        kill_each(kills().div_ceil(5), &[&fast, &slow]);
+    }
 }

@@ -12,6 +12,8 @@ mod checkpoints;
 #[cfg(feature = "logged")]
 mod child;
 #[cfg(feature = "logged")]
+mod clock;
+#[cfg(feature = "logged")]
 mod dying_storage;
 mod failing;
 mod failing_storage;

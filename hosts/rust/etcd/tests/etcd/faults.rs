@@ -1,31 +1,51 @@
-//! A bank on three hosts over three nodes of etcd, while leaders are killed, paused and cut off, and nodes die and
-//! hang. After each: all journals are the same, no acknowledged order is missing or doubled, none is there in part.
+//! A bank on three hosts over three nodes of etcd, while leaders are killed, paused, cut off and unplugged, and nodes
+//! die and hang. After each: all journals are the same, no acknowledged order is missing or doubled, none is there in
+//! part. The same where each host has a clock of another rate.
 //!
 //! `ARGUS_ETCD_ROUNDS` says how often all of it comes; once if nothing is said.
 
+use crate::clock::Clock;
 use crate::cluster::has_etcd;
 use crate::host::Said;
 use crate::hosts::{Hosts, until};
 use crate::proxy::Way;
 use crate::replica::LEASE;
+use crate::scratch::Scratch;
 use std::env;
 use std::thread;
 use std::time::{Duration, Instant};
 
 #[test]
 fn no_fault_loses_or_doubles_an_acknowledged_order() {
-    if !has_etcd("three hosts and three nodes") {
+    if has_etcd("three hosts and three nodes") {
+        go_through(Hosts::start("hosts", Default::default()), "");
+    }
+}
+
+#[test]
+fn nor_does_one_under_clocks_of_other_rates() {
+    let test = "clocks of other rates";
+    if !has_etcd(test) {
         return;
     }
+    let scratch = Scratch::new("rates");
+    if let Some(clock) = Clock::build(scratch.path(), test) {
+        let each = ["3/1", "1/2", "1/1"].map(|rate| clock.words(rate).into());
+        go_through(Hosts::start("clocks", each), ", clocks of other rates");
+    }
+}
+
+// All faults in turn, so often.
+fn go_through(mut hosts: Hosts, under: &'static str) {
     let rounds = env::var("ARGUS_ETCD_ROUNDS").map_or(1, |it| it.parse().expect("a number"));
-    let mut hosts = Hosts::start();
     hosts.leader();
     for round in 0..rounds {
-        kill_leader(&mut hosts);
-        pause_leader(&mut hosts);
-        cut_off_leader(&mut hosts);
-        kill_node(&mut hosts, round % 3);
-        hang_two_nodes(&mut hosts, round % 3);
+        kill_leader(&mut hosts, under);
+        pause_leader(&mut hosts, under);
+        cut_off_leader(&mut hosts, under);
+        unplug_leader(&mut hosts, under);
+        kill_node(&mut hosts, round % 3, under);
+        hang_two_nodes(&mut hosts, round % 3, under);
     }
 }
 
@@ -41,13 +61,13 @@ fn busy_leader(hosts: &Hosts) -> (usize, u64) {
     hosts.leader()
 }
 
-fn kill_leader(hosts: &mut Hosts) {
+fn kill_leader(hosts: &mut Hosts, under: &str) {
     let (at, epoch) = busy_leader(hosts);
     let since = Instant::now();
     hosts.each[at].kill();
     let took = hosts.failover(epoch, since);
     hosts.each[at].start_again();
-    tell_failover("a leader killed", took, hosts);
+    tell_failover(&format!("a leader killed{under}"), took, hosts);
 }
 
 // The leader of this epoch is refused. Until then it may say of each client's order that was under way that it is
@@ -71,7 +91,7 @@ fn refused(hosts: &Hosts, at: usize, epoch: u64, since: Instant, late: Instant) 
     refused.saturating_duration_since(since)
 }
 
-fn pause_leader(hosts: &mut Hosts) {
+fn pause_leader(hosts: &mut Hosts, under: &str) {
     let (at, epoch) = busy_leader(hosts);
     let since = Instant::now();
     hosts.each[at].signal("STOP");
@@ -80,11 +100,15 @@ fn pause_leader(hosts: &mut Hosts) {
     let again = Instant::now();
     hosts.each[at].signal("CONT");
     let refused = refused(hosts, at, epoch, again, again);
-    tell_failover("a leader paused past its lease", took, hosts);
+    tell_failover(
+        &format!("a leader paused past its lease{under}"),
+        took,
+        hosts,
+    );
     println!("  it was refused {refused:.2?} after it went on");
 }
 
-fn cut_off_leader(hosts: &mut Hosts) {
+fn cut_off_leader(hosts: &mut Hosts, under: &str) {
     let (at, epoch) = busy_leader(hosts);
     let since = Instant::now();
     hosts.each[at].set_ways(Way::Cut);
@@ -93,11 +117,28 @@ fn cut_off_leader(hosts: &mut Hosts) {
     let late = since + Duration::from_secs(1);
     let refused = refused(hosts, at, epoch, since, late);
     hosts.each[at].set_ways(Way::Open);
-    tell_failover("a leader cut off", took, hosts);
+    tell_failover(&format!("a leader cut off{under}"), took, hosts);
     println!("  it knew after {refused:.2?}");
 }
 
-fn kill_node(hosts: &mut Hosts, node: usize) {
+// What the leader sends and what is sent to it is lost, as if its cable were pulled.
+fn unplug_leader(hosts: &mut Hosts, under: &str) {
+    let (at, epoch) = busy_leader(hosts);
+    let Some(network) = hosts.each[at].network() else {
+        println!("a leader unplugged LEFT OUT: no networks for processes");
+        return;
+    };
+    let since = Instant::now();
+    network.unplug();
+    let took = hosts.failover(epoch, since);
+    let late = since + Duration::from_secs(1);
+    let refused = refused(hosts, at, epoch, since, late);
+    network.plug();
+    tell_failover(&format!("a leader unplugged{under}"), took, hosts);
+    println!("  it knew after {refused:.2?}");
+}
+
+fn kill_node(hosts: &mut Hosts, node: usize, under: &str) {
     busy_leader(hosts);
     let since = Instant::now();
     hosts.cluster.nodes[node].kill();
@@ -106,10 +147,10 @@ fn kill_node(hosts: &mut Hosts, node: usize) {
     let gap = hosts.longest_gap(since);
     let words = hosts.compare();
     hosts.cluster.nodes[node].start_again();
-    println!("one node of three killed: longest time without an order {gap:.2?}; {words}");
+    println!("one node of three killed{under}: longest time without an order {gap:.2?}; {words}");
 }
 
-fn hang_two_nodes(hosts: &mut Hosts, first: usize) {
+fn hang_two_nodes(hosts: &mut Hosts, first: usize, under: &str) {
     let hung = [first, (first + 1) % 3];
     busy_leader(hosts);
     let since = Instant::now();
@@ -128,5 +169,5 @@ fn hang_two_nodes(hosts: &mut Hosts, first: usize) {
     hosts.orders_after(again, 20);
     let gap = hosts.longest_gap(again);
     let words = hosts.compare();
-    println!("two nodes of three hung, and went on: orders again within {gap:.2?}; {words}");
+    println!("two nodes of three hung, and went on{under}: orders again within {gap:.2?}; {words}");
 }

@@ -1,12 +1,14 @@
 //! `Host`: a host of the bank as the test sees it.
 
+use crate::network::Network;
 use crate::node::Node;
 use crate::proxy::{Proxy, Way};
 use crate::replica::{ENDPOINTS, NAME};
 use crate::signals::send;
 use std::env;
 use std::io::{BufRead, BufReader, Write};
-use std::process::{Child, Command, Stdio};
+use std::net::Ipv4Addr;
+use std::process::{Child, ChildStdout, Command, Stdio};
 use std::sync::{Arc, Mutex};
 use std::thread;
 use std::time::Instant;
@@ -49,58 +51,94 @@ fn said_in(line: &str) -> Said {
     }
 }
 
+type AllSaid = Arc<Mutex<Vec<(Instant, Said)>>>;
+
 /// A host of the bank, in a process of its own, and the ways from it to the nodes.
 pub(crate) struct Host {
     pub(crate) name: String,
+    // `None` where the machine has no networks for processes.
+    network: Option<Network>,
     proxies: Vec<Proxy>,
+    // What its process has in its environment beside.
+    words: Vec<(&'static str, String)>,
     process: Child,
-    said: Arc<Mutex<Vec<(Instant, Said)>>>,
+    said: AllSaid,
+}
+
+// Reads what it says.
+fn listen(output: ChildStdout, said: &AllSaid) {
+    let heard = Arc::clone(said);
+    thread::spawn(move || {
+        for line in BufReader::new(output).lines().map_while(Result::ok) {
+            let said = (Instant::now(), said_in(&line));
+            heard.lock().expect("no panic").push(said);
+        }
+    });
+}
+
+// A process of this host, and what reads what it says.
+fn begun(
+    name: &str,
+    network: Option<&Network>,
+    proxies: &[Proxy],
+    words: &[(&'static str, String)],
+    said: &AllSaid,
+) -> Child {
+    let endpoints: Vec<&str> = proxies.iter().map(Proxy::endpoint).collect();
+    let program = env::current_exe().expect("this program");
+    let mut command = match network {
+        Some(_) => Network::command(program.to_str().expect("a path in UTF-8")),
+        None => Command::new(program),
+    };
+    command
+        .args([
+            "replica::child_hosts",
+            "--exact",
+            "--ignored",
+            "--nocapture",
+        ])
+        .env(NAME, name)
+        .env(ENDPOINTS, endpoints.join(" "))
+        .envs(words.iter().map(|(name, word)| (name, word)))
+        .stdin(Stdio::piped())
+        .stdout(Stdio::piped());
+    let mut process = command.spawn().expect("started");
+    network.inspect(|it| it.join(&process));
+    listen(process.stdout.take().expect("piped"), said);
+    process
 }
 
 impl Host {
-    pub(crate) fn start(name: &str, nodes: &[Node]) -> Host {
-        let proxies = nodes.iter().map(|it| Proxy::before(it.endpoint()));
+    pub(crate) fn start(name: &str, nodes: &[Node], words: Vec<(&'static str, String)>) -> Host {
+        let network = Network::new();
+        let address = network
+            .as_ref()
+            .map_or(Ipv4Addr::LOCALHOST, Network::address);
+        let proxies = nodes
+            .iter()
+            .map(|it| Proxy::before_at(it.endpoint(), address));
+        let proxies: Vec<Proxy> = proxies.collect();
         let said = Arc::default();
-        Host::over(name, proxies.collect(), &said)
-    }
-
-    // A process, and what reads what it says.
-    fn over(name: &str, proxies: Vec<Proxy>, said: &Arc<Mutex<Vec<(Instant, Said)>>>) -> Host {
-        let endpoints: Vec<&str> = proxies.iter().map(Proxy::endpoint).collect();
-        let mut command = Command::new(env::current_exe().expect("this program"));
-        command
-            .args([
-                "replica::child_hosts",
-                "--exact",
-                "--ignored",
-                "--nocapture",
-            ])
-            .env(NAME, name)
-            .env(ENDPOINTS, endpoints.join(" "))
-            .stdin(Stdio::piped())
-            .stdout(Stdio::piped());
-        let mut process = command.spawn().expect("started");
-        let output = BufReader::new(process.stdout.take().expect("piped"));
-        let heard = Arc::clone(said);
-        thread::spawn(move || {
-            for line in output.lines().map_while(Result::ok) {
-                let said = (Instant::now(), said_in(&line));
-                heard.lock().expect("no panic").push(said);
-            }
-        });
         Host {
+            process: begun(name, network.as_ref(), &proxies, &words, &said),
             name: name.to_owned(),
+            network,
             proxies,
-            process,
-            said: Arc::clone(said),
+            words,
+            said,
         }
     }
 
     /// Another process in the place of one that was killed.
     pub(crate) fn start_again(&mut self) {
-        let proxies = std::mem::take(&mut self.proxies);
-        let host = Host::over(&self.name, proxies, &self.said);
-        *self = host;
+        let network = self.network.as_ref();
+        network.inspect(|it| it.lay_again());
+        self.process = begun(&self.name, network, &self.proxies, &self.words, &self.said);
+    }
+
+    /// Its network, where the machine has any for processes.
+    pub(crate) fn network(&self) -> Option<&Network> {
+        self.network.as_ref()
     }
 
     /// What it has said since then, and when.

@@ -37,13 +37,18 @@ pub(crate) fn until<T>(what: &str, mut found: impl FnMut() -> Option<T>) -> T {
     }
 }
 
+/// What a host's process has in its environment.
+pub(crate) type Words = Vec<(&'static str, String)>;
+
 impl Hosts {
-    pub(crate) fn start() -> Hosts {
+    /// Hosts each of whose processes has this in its environment.
+    pub(crate) fn start(name: &str, each: [Words; 3]) -> Hosts {
         let begun = Instant::now();
-        let cluster = Cluster::start("hosts", 3);
-        let hosts = ["A", "B", "C"].map(|name| Host::start(name, &cluster.nodes));
+        let cluster = Cluster::start(name, 3);
+        let hosts = ["A", "B", "C"].into_iter().zip(each);
+        let hosts = hosts.map(|(name, words)| Host::start(name, &cluster.nodes, words));
         Hosts {
-            each: hosts.into(),
+            each: hosts.collect(),
             cluster,
             ledger: Ledger::default(),
             counted: begun,

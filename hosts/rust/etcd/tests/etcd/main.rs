@@ -6,6 +6,9 @@ mod appends;
 #[path = "../../../tests/log/bank.rs"]
 mod bank;
 mod checkpoints;
+#[path = "../../../tests/log/clock.rs"]
+mod clock;
+mod clocks;
 mod cluster;
 mod doubts;
 mod faults;
@@ -16,6 +19,7 @@ mod kept_log;
 mod leading;
 #[path = "../../../tests/log/ledger.rs"]
 mod ledger;
+mod network;
 mod node;
 #[path = "../../../tests/log/orders.rs"]
 mod orders;

@@ -1,7 +1,7 @@
 //! `Proxy`: stands between a host and a node of etcd, and lets through what the test says.
 
 use std::io::{ErrorKind, Read, Write};
-use std::net::{Shutdown, TcpListener, TcpStream};
+use std::net::{Ipv4Addr, Shutdown, TcpListener, TcpStream};
 use std::sync::Arc;
 use std::sync::atomic::{AtomicBool, AtomicI64, AtomicU8, Ordering};
 use std::thread;
@@ -25,7 +25,7 @@ pub(crate) enum Way {
     Mute,
 }
 
-/// Stands between a host and a node, on loopback, and lets through what the test says.
+/// Stands between a host and a node, and lets through what the test says.
 pub(crate) struct Proxy {
     endpoint: String,
     shared: Arc<Shared>,
@@ -58,8 +58,13 @@ impl Shared {
 impl Proxy {
     /// Before the node of this endpoint. The way is open.
     pub(crate) fn before(node: &str) -> Proxy {
-        let listener = TcpListener::bind("127.0.0.1:0").expect("a port is free");
-        let port = listener.local_addr().expect("bound").port();
+        Proxy::before_at(node, Ipv4Addr::LOCALHOST)
+    }
+
+    /// Before the node of this endpoint, at this address of the machine. The way is open.
+    pub(crate) fn before_at(node: &str, address: Ipv4Addr) -> Proxy {
+        let listener = TcpListener::bind((address, 0)).expect("a port is free");
+        let place = listener.local_addr().expect("bound");
         let shared = Arc::new(Shared {
             node: node.trim_start_matches("http://").to_owned(),
             way: AtomicU8::new(Way::Open as u8),
@@ -69,7 +74,7 @@ impl Proxy {
         let served = Arc::clone(&shared);
         thread::spawn(move || serve(&listener, &served));
         Proxy {
-            endpoint: format!("http://127.0.0.1:{port}"),
+            endpoint: format!("http://{place}"),
             shared,
         }
     }

@@ -1,6 +1,6 @@
-//! Two hosts over etcd, of which one leads, and a follower.
+//! Hosts over etcd, of which one leads, and a follower.
 
-use crate::client::read;
+use crate::client::{code, read};
 use crate::host::{Host, PROGRAM};
 use crate::scratch::Scratch;
 use std::net::TcpListener;
@@ -63,6 +63,14 @@ impl Node {
     }
 }
 
+impl Node {
+    fn signal(&self, signal: &str) {
+        let pid = self.process.id().to_string();
+        let sent = Command::new("kill").args(["-s", signal, &pid]).status();
+        assert!(sent.expect("kill is there").success());
+    }
+}
+
 impl Drop for Node {
     fn drop(&mut self) {
         let _ = self.process.kill();
@@ -104,4 +112,27 @@ fn a_leader_and_a_follower() {
     assert!(next.client.metric("argus_epoch") > follower.client.metric("argus_epoch") - 0.5);
     assert!(next.stop().success());
     assert!(follower.stop().success());
+}
+
+#[test]
+fn a_log_in_etcd_that_breaks() {
+    let scratch = Scratch::new("etcd-breaks");
+    let Some(node) = Node::start(&scratch) else {
+        println!("a log in etcd that breaks LEFT OUT: no etcd");
+        return;
+    };
+    let mut leader = node.host(&["serve", "--name", "one"]);
+    leader.client.open_accounts(1, 5);
+    node.signal("STOP");
+    let answer = leader.client.order("k", &[(0, 1, 2)]);
+    assert_eq!(code(&answer), (503, "in_doubt".into()));
+    let other = leader.client.order("other", &[(0, 1, 2)]);
+    assert_eq!(code(&other), (503, "broken".into()));
+    assert_eq!(leader.ended().code(), Some(4));
+    node.signal("CONT");
+    let next = node.host(&["serve", "--name", "two"]);
+    // What was in doubt was carried out when the node went on, or it is now; the other one wasn't.
+    assert_eq!(next.client.order("k", &[(0, 1, 2)]).0, 200);
+    assert_eq!(next.client.balance(1), 7);
+    assert!(next.stop().success());
 }

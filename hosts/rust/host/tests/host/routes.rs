@@ -84,6 +84,56 @@ fn an_order_sent_again() {
 }
 
 #[test]
+fn an_account_opened_once() {
+    let scratch = Scratch::new("once");
+    let mut host = Host::serve(scratch.path(), &[]);
+    let open = |host: &Host, headers: &str| {
+        let answer = host.client.try_ask("POST /accounts", headers, "");
+        answer.expect("an answer")
+    };
+    let key = "Idempotency-Key: mine\r\n";
+    let first = open(&host, key);
+    let account = |number: u32, is_before: bool| json!({ "account": number, "before": is_before });
+    assert_eq!((first.0, read(&first.1)), (201, account(1, false)));
+    for _ in 0..2 {
+        let again = open(&host, key);
+        assert_eq!((again.0, read(&again.1)), (201, account(1, true)));
+        let order = host.client.order("mine", &[(0, 1, 1)]);
+        assert_eq!(code(&order), (422, "other_order".into()));
+        assert!(host.stop().success());
+        host = Host::serve(scratch.path(), &[]);
+    }
+    // Without a key each is another one.
+    for number in 2..4 {
+        assert_eq!(read(&open(&host, "").1), account(number, false));
+    }
+    assert_eq!(host.client.order("k", &[(0, 3, 5)]).0, 200);
+    let other = open(&host, "Idempotency-Key: k\r\n");
+    assert_eq!(code(&other), (422, "other_order".into()));
+    let no_key = open(&host, "Idempotency-Key: a b\r\n");
+    assert_eq!(code(&no_key), (400, "no_key".into()));
+    assert_eq!(
+        read(&open(&host, "Idempotency-Key: other\r\n").1),
+        account(4, false)
+    );
+    assert_eq!(host.client.balance(3), 5);
+}
+
+#[test]
+fn as_many_accounts_as_there_is_room_for() {
+    let scratch = Scratch::new("full-of-accounts");
+    let host = Host::serve(scratch.path(), &["--keys", "65000"]);
+    // There is account 0, and 65,535 records in all.
+    for number in 1..535 {
+        let (status, body) = host.client.ask("POST /accounts");
+        assert_eq!((status, &read(&body)["account"]), (201, &json!(number)));
+    }
+    let more = host.client.ask("POST /accounts");
+    assert_eq!(code(&more), (507, "full".into()));
+    assert_eq!(host.client.order("k", &[(0, 534, 1)]).0, 200);
+}
+
+#[test]
 fn an_order_sent_at_once() {
     let scratch = Scratch::new("at-once");
     let host = Host::serve(scratch.path(), &[]);

@@ -1,0 +1,153 @@
+//! `HostLog`: a log for whose entries the threads of a host wait together.
+
+use crate::callbacks::{Fold, Folded, Give, Host};
+use argus_guardian::log::{EntryLines, Failure, FileLog, Folder, Opening as OpeningLines, Step};
+use std::io;
+use std::sync::{Condvar, Mutex, MutexGuard, PoisonError};
+
+// A piece has so many bytes at the most, but for a line that is longer.
+const PIECE: usize = 256 * 1024;
+
+/// A log for whose entries the threads of a host wait together: who finds nobody writing takes all lines that the
+/// log hasn't got, and writes them for all. No lock is held while the host's functions run.
+pub(crate) struct HostLog {
+    state: Mutex<State>,
+    changed: Condvar,
+}
+
+struct State {
+    // `None` while a thread writes.
+    writer: Option<Writer>,
+    safe: u64,
+    broken: Option<Failure>,
+}
+
+struct Writer {
+    log: FileLog<Folder>,
+    room: Vec<u8>,
+}
+
+fn failure(step: Step, words: &str) -> Failure {
+    Failure::new(step, io::Error::other(words.to_owned()))
+}
+
+impl Writer {
+    // Writes the next lines; from which entry on the log has none.
+    fn write(&mut self, from: u64, give: Give, host: &Host) -> Result<u64, Failure> {
+        let mut size = host.give(give, from, &mut self.room);
+        if size > self.room.len() {
+            self.room.resize(size, 0);
+            size = host.give(give, from, &mut self.room);
+        }
+        let given = self.room.get(..size).filter(|it| !it.is_empty());
+        let text = given.and_then(|it| str::from_utf8(it).ok());
+        let lines = text.and_then(|it| EntryLines::new(from, it.to_owned()));
+        let lines = lines.ok_or_else(|| failure(Step::TakeLines, "the host gives no lines"))?;
+        self.log.append(&lines)?;
+        Ok(lines.next())
+    }
+
+    fn restart(&mut self, next: u64, opening: Vec<u8>) -> Result<(), Failure> {
+        if opening.is_empty() {
+            return Ok(());
+        }
+        let text = String::from_utf8(opening).ok();
+        let opening = text.and_then(|it| OpeningLines::new(next, it));
+        let opening =
+            opening.ok_or_else(|| failure(Step::TakeLines, "the host gives no opening"))?;
+        self.log.restart(&opening)
+    }
+}
+
+impl HostLog {
+    pub(crate) fn over(log: FileLog<Folder>) -> HostLog {
+        HostLog {
+            state: Mutex::new(State {
+                safe: log.next(),
+                broken: None,
+                writer: Some(Writer {
+                    log,
+                    room: vec![0; PIECE],
+                }),
+            }),
+            changed: Condvar::new(),
+        }
+    }
+
+    fn locked(&self) -> MutexGuard<'_, State> {
+        self.state.lock().unwrap_or_else(PoisonError::into_inner)
+    }
+
+    pub(crate) fn next(&self) -> u64 {
+        self.locked().safe
+    }
+
+    pub(crate) fn broken(&self) -> Option<Failure> {
+        self.locked().broken.clone()
+    }
+
+    // What writes, and from which entry on, once nobody does. `None`: the log has all before this entry.
+    fn turn(&self, until: u64) -> Result<Option<(Writer, u64)>, Failure> {
+        let mut state = self.locked();
+        loop {
+            if until <= state.safe {
+                return Ok(None);
+            }
+            if let Some(failure) = &state.broken {
+                return Err(failure.clone());
+            }
+            if let Some(writer) = state.writer.take() {
+                return Ok(Some((writer, state.safe)));
+            }
+            state = self
+                .changed
+                .wait(state)
+                .unwrap_or_else(PoisonError::into_inner);
+        }
+    }
+
+    // Ends a turn.
+    fn put_back(&self, writer: Writer, written: &Result<u64, Failure>) {
+        let mut state = self.locked();
+        state.writer = Some(writer);
+        match written {
+            Ok(safe) => state.safe = *safe,
+            Err(failure) => state.broken = Some(failure.clone()),
+        }
+        drop(state);
+        self.changed.notify_all();
+    }
+
+    /// Returns once the log has all entries before this one.
+    pub(crate) fn wait(&self, until: u64, give: Give, host: &Host) -> Result<(), Failure> {
+        while let Some((mut writer, from)) = self.turn(until)? {
+            let written = writer.write(from, give, host);
+            self.put_back(writer, &written);
+        }
+        Ok(())
+    }
+
+    /// Has the host fold its journal, and begins the log anew. False: an action is live.
+    pub(crate) fn checkpoint(&self, give: Give, fold: Fold, host: &Host) -> Result<bool, Failure> {
+        loop {
+            // Any turn: no log has that many entries.
+            let Some((mut writer, next)) = self.turn(u64::MAX)? else {
+                return Ok(false);
+            };
+            let (written, is_folded) = match host.fold(fold, next) {
+                Folded::Opening(text) => (writer.restart(next, text).map(|()| next), Some(true)),
+                Folded::Behind => (writer.write(next, give, host), None),
+                Folded::Busy => (Ok(next), Some(false)),
+                Folded::Lost => (
+                    Err(failure(Step::TakeLines, "the host has no opening")),
+                    None,
+                ),
+            };
+            self.put_back(writer, &written);
+            written?;
+            if let Some(is_folded) = is_folded {
+                return Ok(is_folded);
+            }
+        }
+    }
+}
