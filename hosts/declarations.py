@@ -4,12 +4,13 @@
     hosts/declarations.py
 
 The calls are read from the source of argus_c: each has to be declared everywhere with the same
-parameters, in their order, and the same result. A call of a list has to have the same fields, in
-their order, wherever it is declared. A number that has a name in argus.h has to be the same wherever
-that name stands. Each difference is printed, and then the status is 1.
+parameters, in their order, and the same result; so has argus_c_call in what calls it for Python
+without ctypes. A call of a list, and a status with its number, have to have the same fields, in
+their order, wherever they are declared. A number that has a name in argus.h has to be the same
+wherever that name stands. Each difference is printed, and then the status is 1.
 """
 
-import importlib.util
+import importlib
 import re
 import sys
 from pathlib import Path
@@ -21,6 +22,7 @@ LISTED = TOP / "crates/argus_embed/src/listed_call.rt"
 HEADER = TOP / "crates/argus_c/include/argus.h"
 RUST = TOP / "hosts/rust/src/sys.rs"
 PYTHON = TOP / "hosts/python/argus_guardian/library.py"
+QUICK = TOP / "hosts/python/argus_guardian/_call.c"
 
 # What each language calls a type of a parameter; a slice is an address and a size.
 IN_RATTLE = {
@@ -32,7 +34,7 @@ IN_RATTLE = {
 IN_C = {
     "argus_guardian *": "handle", "const uint8_t *": "bytes", "uint8_t *": "bytes", "size_t": "size", "uint32_t": "u32",
     "uint64_t": "u64", "int64_t": "i64", "int64_t *": "number", "size_t *": "length", "uint64_t *": "count",
-    "argus_listed_call *": "calls", "const void *": "bytes", "argus_ready *": "ready",
+    "argus_listed_call *": "calls", "const void *": "bytes", "argus_ready *": "ready", "void *": "handle",
 }  # fmt: skip
 IN_RUST = {
     "*mut Handle": "handle", "*const u8": "bytes", "*mut u8": "bytes", "usize": "size", "u32": "u32", "u64": "u64",
@@ -66,6 +68,12 @@ def declared_in_c(text):
         name: ([IN_C[re.sub(r"\w+$", "", it).strip()] for it in parted(given)], IN_C[result])
         for result, name, given in found
     }
+
+
+def called_for_python(text):
+    """How argus_c_call is called without ctypes."""
+    found = re.findall(r"^typedef (\w+) library_call\(([^)]*)\);", text, re.M)
+    return [([IN_C[re.sub(r"\w+$", "", it).strip()] for it in parted(given)], IN_C[result]) for result, given in found]
 
 
 def declared_in_rust(text):
@@ -106,14 +114,23 @@ def listed_fields():
     }
 
 
+def answer_fields():
+    """Of a status with its number, by file."""
+    declared = {
+        HEADER: (r"typedef struct argus_answer \{(.*?)\n\}", r"^    (?P<kind>\w+ )(?P<name>\w+);", IN_C),
+        RUST: (r"pub\(crate\) struct Answer \{(.*?)\n\}", r"pub\(crate\) (?P<name>\w+): (?P<kind>.*),$", IN_RUST),
+        PYTHON: (r"class Answer.*?_fields_ = \[(.*?)\]\n", r'\("(?P<name>\w+)", (?P<kind>[\w.]+)\)', IN_PYTHON),
+    }
+    return {file: fields_of(file.read_text(encoding="utf-8"), *it) for file, it in declared.items()}
+
+
 def numbers_in_rust(text):
     return [(name, int(value)) for name, value in re.findall(r"const (\w+): u32 = (\d+);", text)]
 
 
 def numbers_in_python():
-    spec = importlib.util.spec_from_file_location("library", PYTHON)
-    library = importlib.util.module_from_spec(spec)
-    spec.loader.exec_module(library)
+    sys.path.insert(0, str(PYTHON.parents[1]))
+    library = importlib.import_module("argus_guardian.library")
     kinds = library.Status, library.Kind, library.Question, library.Demand, library.ActionStatus
     return [(name, value) for kind in kinds for name, value in vars(kind).items() if name.isupper()]
 
@@ -128,6 +145,12 @@ def main():
         for name in sorted({*wanted, *calls}):
             if wanted.get(name) != calls.get(name):
                 failed.append(f"{file}: {name} is {calls.get(name)}, and exported as {wanted.get(name)}")
+    if called_for_python(QUICK.read_text(encoding="utf-8")) != [wanted.get("argus_c_call")]:
+        failed.append(f"{QUICK}: argus_c_call is not called as it is exported, {wanted.get('argus_c_call')}")
+    answers = answer_fields()
+    for file, it in answers.items():
+        if not it or it != answers[HEADER]:
+            failed.append(f"{file}: a status with its number is {it}, not {answers[HEADER]}")
     fields = listed_fields()
     for file, it in fields.items():
         if it != fields[LISTED]:

@@ -8,8 +8,8 @@
 #
 # FOLDER is that of libargus_c.a, as for tools/dist.sh, which makes here what the hosts stand on.
 # It needs valgrind (Debian: valgrind) and gcc's sanitizers (Debian: gcc). The archive itself is not
-# compiled for the sanitizers: these see its memory by malloc, and the hosts' own code. Each guardian
-# leaves one word of 8 bytes for good, by design, which valgrind reports as lost.
+# compiled for the sanitizers: these see its memory by malloc, and the hosts' own code. Nothing is lost,
+# and two threads in one guardian without a mutex are reported.
 set -euo pipefail
 
 top=$(cd "$(dirname "$0")/.." && pwd)
@@ -19,9 +19,6 @@ export ARGUS_LIB_DIR=$dist/lib ARGUS_LIBRARY=$dist/lib/libargus.so.0 PYTHONDONTW
 failed=0
 mkdir -p "$room"
 "$top/tools/dist.sh" "$dist"
-
-# The bytes of a word, and so what may be lost of one guardian.
-word=8
 
 # tried WHAT COMMAND..: whether the command ends well
 tried() {
@@ -36,13 +33,9 @@ tried() {
     fi
 }
 
-# under_valgrind COMMAND..: no error, and one guardian's word is all that is lost
+# under_valgrind COMMAND..: no error, and nothing is lost
 under_valgrind() {
-    valgrind --error-exitcode=9 --leak-check=full --errors-for-leak-kinds=none "$@" || return
-    local lost
-    lost=$(sed -n 's/.* \(definitely\|indirectly\) lost: \([0-9,]*\) bytes.*/\2/p' "$room/log" |
-        tr -d , | awk '{ sum += $1 } END { print sum + 0 }')
-    [ "$lost" -le "$word" ]
+    valgrind --error-exitcode=9 --leak-check=full --errors-for-leak-kinds=definite,indirect "$@"
 }
 
 # The interpreter's own memory isn't looked at for losses.
@@ -54,9 +47,17 @@ python_under_valgrind() {
 sanitized() {
     make -C "$top/hosts/c" OUT="$room/$1" DIST="$dist" \
         CFLAGS="-O1 -g -fno-omit-frame-pointer -fsanitize=$1 -fno-sanitize-recover=all" &&
-        ASAN_OPTIONS=detect_leaks=0 "$room/$1/host" test &&
-        ASAN_OPTIONS=detect_leaks=0 "$room/$1/host" bank 50 &&
-        ASAN_OPTIONS=detect_leaks=0 "$room/$1/host" stress 100000
+        "$room/$1/host" test &&
+        "$room/$1/host" values &&
+        "$room/$1/host" bank 50 &&
+        "$room/$1/host" stress 100000
+}
+
+# Whether the thread sanitizer reports two threads in one guardian.
+reports_the_careless() {
+    local said
+    if said=$("$room/thread/host" careless 2>&1); then return 1; fi
+    grep -A 1 "WARNING: ThreadSanitizer: data race" <<< "$said" && grep "argus_begin_top" <<< "$said"
 }
 
 # Whether a guardian that finds no memory says so, and nothing worse comes of it.
@@ -68,6 +69,7 @@ wants_memory() {
 
 tried "hosts/c, address and undefined behaviour" sanitized address,undefined
 tried "hosts/c, threads" sanitized thread
+tried "hosts/c, threads without a mutex are reported" reports_the_careless
 make -s -C "$top/hosts/c" OUT="$room/plain" DIST="$dist"
 tried "hosts/c, want of memory" wants_memory
 if ! command -v valgrind > /dev/null; then

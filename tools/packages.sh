@@ -15,6 +15,8 @@ packages=(
     etcd-server etcd-client
     # certificates for the tests of TLS
     openssl
+    # networks of the hosts' own, in which they are unplugged
+    iproute2
     # the crates that hosts/rust/etcd is built of
     librust-base64-dev librust-curl-dev librust-serde-json-dev "librust-serde+serde-derive-dev"
     # those of hosts/rust/host beside them

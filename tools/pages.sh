@@ -21,7 +21,8 @@ tools/design.py --check || status=1
 tools/readme.py --texts || status=1
 version=$(sed -n 's/^## \([0-9.]*\).*/\1/p' CHANGELOG.md | head -n 1)
 places=(crates/argus_usage/src/command.rt crates/argus_c/include/argus.h hosts/rust/Cargo.toml
-    hosts/rust/etcd/Cargo.toml hosts/rust/host/Cargo.toml hosts/python/argus_guardian/__init__.py)
+    hosts/rust/etcd/Cargo.toml hosts/rust/host/Cargo.toml hosts/rust/log_c/Cargo.toml
+    hosts/python/argus_guardian/__init__.py)
 for place in "${places[@]}"; do
     grep -qF "\"$version\"" "$place" && continue
     echo "$place: its version isn't $version, that of CHANGELOG.md"
