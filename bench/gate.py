@@ -6,8 +6,9 @@
 
 Each line that the gate prints comes with the minutes since its start; after its end come the
 processor minutes of each crate's proof, tests and must-fail edits, as sampled every three seconds.
-Nothing is compared with a limit. Run it alone: the gate reckons with the memory that is free at its
-start, and the figures are the machine's. Python 3 and git are all that it needs.
+Checks that others run meanwhile aren't counted. Nothing is compared with a limit. Run it alone: the
+gate reckons with the memory that is free at its start, and the figures are the machine's. Python 3
+and git are all that it needs.
 """
 
 import collections
@@ -28,10 +29,28 @@ def kind_of(words, folder):
     return "tests" if "--test" in words else "proof"
 
 
-def sample(seen, peak):
-    """Notes the processor time of each check that runs now."""
+def parent_of(pid):
+    """The process that started this one; 0 if it has ended."""
+    try:
+        with open(f"/proc/{pid}/stat", encoding="utf-8") as it:
+            return int(it.read().rsplit(")", 1)[1].split()[1])
+    except (OSError, IndexError):
+        return 0
+
+
+def is_below(pid, top):
+    """Whether the process is this one, or was started below it."""
+    while pid not in (0, top):
+        pid = parent_of(pid)
+    return pid == top
+
+
+def sample(top, seen, peak):
+    """Notes the processor time of each check of the gate that runs now."""
     for pid in filter(str.isdigit, os.listdir("/proc")):
         try:
+            if not is_below(int(pid), top):
+                continue
             with open(f"/proc/{pid}/cmdline", encoding="utf-8", errors="replace") as it:
                 words = it.read().split("\0")
             if not words[0].endswith("/rattle") or "--crate-name" not in words:
@@ -54,11 +73,10 @@ def main():
         subprocess.check_call(["git", "-C", f"{room}/clone", "checkout", "-q", commit])
         seen, peak, ended = {}, collections.defaultdict(int), threading.Event()
 
-        def watch():
+        def watch(top):
             while not ended.wait(3):
-                sample(seen, peak)
+                sample(top, seen, peak)
 
-        threading.Thread(target=watch).start()
         start = time.time()
         gate = subprocess.Popen(
             ["bash", ".ci/run"],
@@ -70,6 +88,7 @@ def main():
             text=True,
             errors="replace",
         )
+        threading.Thread(target=watch, args=(gate.pid,)).start()
         for line in gate.stdout:
             print(f"{(time.time() - start) / 60:7.2f} {line}", end="", flush=True)
         ended.set()

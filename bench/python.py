@@ -4,8 +4,9 @@ many transactions of the same work SQLite in memory.
 
     ARGUS_LIBRARY=dist/lib/libargus.so.0 bench/python.py [FOLDER]
 
-Each figure is the best of 15 runs; a checkpoint behind each isn't in it. FOLDER is that of the package, else
-hosts/python.
+Each figure is the best of 15 runs; a checkpoint behind each isn't in it. FOLDER is that of the package as pip
+builds it, such as build/beside_sqlite/python, which bench/beside_sqlite.sh makes; else hosts/python, whose calls
+go by ctypes.
 """
 
 import sqlite3

@@ -1,10 +1,11 @@
 #!/usr/bin/env bash
 # SPDX-License-Identifier: MIT
 # Prints how long the program `replay` takes to check a journal's listing of three lines a topaction (a
-# begin, a change and a commit of one record), by its size, and beside it what the same calls take on a guardian
-# that argus_bench makes them on (commit:1), without a text: medians of interleaved runs, in milliseconds of the
-# whole program `replay`, in nanoseconds a line and a call, and the median of the ratios within a run. Nothing is
-# compared with a limit, since the figures are the machine's.
+# begin, a change and a commit of one record), by its size, and beside it the program argus_bench, which makes
+# the same calls without a text (commit:1). Both are taken whole, with their start and the end of the guardian:
+# medians of interleaved runs, in milliseconds on the clock of `replay`, in nanoseconds of processor time (user's
+# and system's) a line and a call, and the median of the ratios within a run. Nothing is compared with a limit,
+# since the figures are the machine's.
 #
 #   [REPS=5] [REPLAY=PROGRAM] [BENCH=PROGRAM] bench/replay.sh
 #
@@ -31,20 +32,21 @@ journal() {
     }'
 }
 
-# took TOPACTIONS: nanoseconds a line of a run, whose output has to be the last change
-took() {
-    local start end
-    start=$(date +%s%N)
-    [ "$("$replay" --list bases < "$room/journal")" = "o0 {$(($1 - 1))}" ]
-    end=$(date +%s%N)
-    echo $(((end - start) / (3 * $1 + 1)))
+# cost COMMAND..: milliseconds on the clock, and microseconds of processor time, of a run
+cost() {
+    local TIMEFORMAT='%R %U %S'
+    { time "$@" > "$room/output" 2> /dev/null; } 2>&1 | awk '{ print int($1 * 1000), int(($2 + $3) * 1000000) }'
 }
 
-# called TOPACTIONS: nanoseconds a call of as many turns of three calls. A guardian begins at most 1,000,000
-# actions, and the benchmark begins two beside them.
-called() {
-    "$bench" $(($1 - 2)) commit:1 | sed -n 's/.* ns_each=\([0-9]*\).*/\1/p' | awk '{ print int($1 / 3) }'
+# took TOPACTIONS: the cost of checking the listing, whose last change has to come out
+took() {
+    cost "$replay" --list bases < "$room/journal"
+    [ "$(cat "$room/output")" = "o0 {$(($1 - 1))}" ]
 }
+
+# called TOPACTIONS: the cost of as many turns of three calls. A guardian begins at most 1,000,000 actions, and
+# the benchmark begins two beside them.
+called() { cost "$bench" $(($1 - 2)) commit:1; }
 
 # median COLUMN: the middle one of the figures in this column
 median() { sort -n -k "$1,$1" "$room/figures" | awk -v at="$1" '{ all[NR] = $at } END { print all[int((NR + 1) / 2)] }'; }
@@ -52,13 +54,12 @@ median() { sort -n -k "$1,$1" "$room/figures" | awk -v at="$1" '{ all[NR] = $at 
 printf '%10s %12s %10s %10s %10s %6s\n' lines bytes ms 'ns a line' 'ns a call' ratio
 for topactions in 10000 100000 1000000; do
     journal "$topactions" > "$room/journal"
-    for _ in $(seq "$reps"); do
-        line=$(took "$topactions")
-        call=$(called "$topactions")
-        echo "$line $call $((100 * line / call))"
-    done > "$room/figures"
     lines=$((3 * topactions + 1))
-    line=$(median 1)
+    for _ in $(seq "$reps"); do
+        read -r clock line <<< "$(took "$topactions")"
+        read -r _ call <<< "$(called "$topactions")"
+        echo "$clock $((1000 * line / lines)) $((1000 * call / lines)) $((100 * line / call))"
+    done > "$room/figures"
     printf '%10d %12d %10d %10d %10d %3d.%02d\n' "$lines" "$(wc -c < "$room/journal")" \
-        $((line * lines / 1000000)) "$line" "$(median 2)" $(($(median 3) / 100)) $(($(median 3) % 100))
+        "$(median 1)" "$(median 2)" "$(median 3)" $(($(median 4) / 100)) $(($(median 4) % 100))
 done

@@ -14,7 +14,7 @@ use std::thread;
 use std::time::{Duration, Instant};
 
 pub const ACCOUNTS: u32 = 1000;
-const PATIENCE: Duration = Duration::from_secs(100);
+pub const PATIENCE: Duration = Duration::from_secs(100);
 // A hundred thousand entries.
 const FOLD_AFTER: u64 = 2500;
 
@@ -90,9 +90,14 @@ fn with_accounts() -> Result<Guardian, Box<dyn error::Error>> {
 pub fn logged_in(folder: &Path) -> Result<Logged, Box<dyn error::Error>> {
     let log = FileLog::read(Folder::open(folder)?, |_| Ok(()))?.begin()?;
     let logged = Logged::over(Guardian::new()?, Box::new(log), PATIENCE);
-    logged.declare_each((0..ACCOUNTS).map(|_| "atomic_record[balance:int]"))?;
-    create(logged.topaction()?)?;
+    set_up(&logged)?;
     Ok(logged)
+}
+
+/// Declares and creates the accounts of a guardian with nothing in it.
+pub fn set_up(logged: &Logged) -> Result<(), LoggedError> {
+    logged.declare_each((0..ACCOUNTS).map(|_| "atomic_record[balance:int]"))?;
+    create(logged.topaction()?)
 }
 
 /// Creates the accounts.
@@ -101,7 +106,7 @@ fn create<A: Act>(top: A) -> Result<(), LoggedError> {
     top.commit()
 }
 
-/// Carries out orders for so long, and checks what they leave.
+/// Carries out orders for so long, in memory or over a log in this folder, and checks what they leave.
 pub fn run(
     folder: &Path,
     way: Way,
@@ -109,23 +114,34 @@ pub fn run(
     time: Duration,
 ) -> Result<Figures, Box<dyn error::Error>> {
     if way == Way::Memory {
-        let shared = Shared::new(with_accounts()?, PATIENCE);
-        create(shared.topaction()?)?;
-        let order = |order: &Order| carry_out(shared.topaction()?, order, Act::commit);
-        let fold = || {
-            ignore_busy(
-                shared
-                    .checkpoint_waiting(PATIENCE)
-                    .map_err(LoggedError::from),
-            )
-        };
-        let work = timed(clients, time, order, fold)?;
-        check(&work, |account| {
-            Ok(shared.with(|guardian| guardian.base(account))?)
-        })?;
-        return Ok(work.figures());
+        run_in_memory(clients, time)
+    } else {
+        run_logged(&logged_in(folder)?, way, clients, time)
     }
-    let logged = logged_in(folder)?;
+}
+
+fn run_in_memory(clients: u32, time: Duration) -> Result<Figures, Box<dyn error::Error>> {
+    let shared = Shared::new(with_accounts()?, PATIENCE);
+    create(shared.topaction()?)?;
+    let order = |order: &Order| carry_out(shared.topaction()?, order, Act::commit);
+    let fold = || {
+        let folded = shared.checkpoint_waiting(PATIENCE);
+        ignore_busy(folded.map_err(LoggedError::from))
+    };
+    let work = timed(clients, time, order, fold)?;
+    check(&work, |account| {
+        Ok(shared.with(|guardian| guardian.base(account))?)
+    })?;
+    Ok(work.figures())
+}
+
+/// Carries out orders for so long over a log, and checks what they leave.
+pub fn run_logged(
+    logged: &Logged,
+    way: Way,
+    clients: u32,
+    time: Duration,
+) -> Result<Figures, Box<dyn error::Error>> {
     let turn = Mutex::new(());
     let order = |order: &Order| {
         carry_out(logged.topaction()?, order, |top| {

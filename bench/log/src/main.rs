@@ -1,11 +1,12 @@
 //! What a log costs: orders of a bank a second, in memory and with each way to wait for the log.
 //!
 //!     log-bench orders FOLDER memory|each|group CLIENTS SECONDS
-//!     log-bench read FOLDER ENTRIES
+//!     log-bench write FOLDER ENTRIES
+//!     log-bench read FOLDER
 //!     log-bench sync FOLDER
 //!
-//! `bench/log.sh` runs it, beside the same orders in `SQLite`. The folder is one that isn't there yet, on the
-//! disk that is to be measured.
+//! `bench/log.sh` runs it, beside the same orders in `SQLite` and over etcd. The folder is one that isn't there yet,
+//! on the disk that is to be measured; that of `read` is one that `write` has made.
 
 mod act;
 mod bank;
@@ -21,8 +22,8 @@ use std::error::Error;
 use std::path::Path;
 use std::time::Duration;
 
-const USAGE: &str =
-    "log-bench orders FOLDER memory|each|group CLIENTS SECONDS, read FOLDER ENTRIES, sync FOLDER";
+const USAGE: &str = "log-bench orders FOLDER memory|each|group CLIENTS SECONDS, \
+    write FOLDER ENTRIES, read FOLDER, sync FOLDER";
 
 fn main() -> Result<(), Box<dyn Error>> {
     let words: Vec<String> = env::args().skip(1).collect();
@@ -34,7 +35,8 @@ fn main() -> Result<(), Box<dyn Error>> {
             let figures = bank::run(Path::new(folder), way, clients.parse()?, time)?;
             figures.print(way.words());
         }
-        ["read", folder, entries] => reading::run(Path::new(folder), entries.parse()?)?,
+        ["write", folder, entries] => reading::write(Path::new(folder), entries.parse()?)?,
+        ["read", folder] => reading::run(Path::new(folder))?,
         ["sync", folder] => syncing::run(Path::new(folder))?,
         _ => return Err(USAGE.into()),
     }

@@ -1,0 +1,49 @@
+//! A log in files, copied into etcd, and read there.
+
+use crate::bank::PATIENCE;
+use crate::reading::timed;
+use argus_guardian::log::{BatchLog, EntryLines, FileLog, Folder};
+use argus_guardian_etcd::{Campaign, EtcdLog, EtcdOptions, Follower};
+use std::error::Error;
+use std::path::Path;
+
+// A batch has so many bytes, as the largest ones of a log that is written by many clients.
+const BATCH: usize = 256 * 1024;
+
+/// Copies a log that has no checkpoint, in batches of 256 KiB.
+pub fn copy(options: &EtcdOptions, folder: &str) -> Result<(), Box<dyn Error>> {
+    let leadership = Campaign::begin(options, "bench")?.wait()?;
+    let mut log = EtcdLog::open(options, leadership.clone(), |_| Ok(()))?;
+    let mut texts = vec![String::new()];
+    FileLog::read(Folder::open(Path::new(folder))?, |batch| {
+        match texts.last_mut() {
+            Some(text) if text.len() < BATCH => text.push_str(batch.lines),
+            _ => texts.push(batch.lines.to_owned()),
+        }
+        Ok(())
+    })?;
+    for text in texts {
+        let lines = EntryLines::new(log.next(), text).ok_or("no whole lines")?;
+        log.append(&lines)?;
+    }
+    leadership.resign();
+    Ok(())
+}
+
+/// Reads the log, and leads with it. One line: `etcd ENTRIES READ OPENED READ OPENED`: the times are in seconds, first
+/// by the clock and then on this thread's processor.
+pub fn read(options: &EtcdOptions) -> Result<(), Box<dyn Error>> {
+    let leadership = Campaign::begin(options, "bench")?.wait()?;
+    let (position, read) = timed(|| Ok(EtcdLog::read(options, |_| Ok(()))?))?;
+    let (logged, opened) = timed(|| {
+        let (logged, _) = Follower::begin(options)?.lead(leadership.clone(), PATIENCE)?;
+        Ok(logged)
+    })?;
+    assert_eq!(logged.entries(), position.entry);
+    println!(
+        "etcd {} {:.4} {:.4} {:.4} {:.4}",
+        position.entry, read.clock, opened.clock, read.processor, opened.processor
+    );
+    leadership.resign();
+    Ok(())
+}
