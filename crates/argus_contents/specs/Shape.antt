@@ -5,7 +5,7 @@ use Rattle.std.specs.Prelude.{length, Option, Some, None}
 use lib.Pointwise.{pointwise}
 use Rattle.std.specs.List.{list_any}
 use Rattle.argus_contents.specs.Name.{is_name}
-use Rattle.argus_contents.specs.Ty.{PlainTy, PlainFields, plain_ty, plain_fields}
+use Rattle.argus_contents.specs.Ty.{PlainTy, PlainFields}
 use Rattle.argus_contents.specs.Ty as ty
 use Rattle.argus_contents.specs.declared.limits.TheConstants.{MAX_NAMES, MAX_VALUE_DEPTH}
 use Rattle.argus_contents.specs.declared.shape_fault.ShapeFault.{ShapeFault}

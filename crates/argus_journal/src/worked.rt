@@ -135,9 +135,9 @@ pub fn tests_take_locks()
     ensures none { versions_of empty (journal (prepared ++ tests_no)) 0 ≡ [] }
     ensures both { readers_of empty (journal (prepared ++ tests_no ++ test_read 2 0 ∷ [])) 0
         ≡ 1 ∷ 2 ∷ [] }
-    ensures given_back { holders_inherited 1 None (1 ∷ 2 ∷ []) ≡ 2 ∷ []
-        × readers_of empty (journal (prepared ++ tests_no ++ test_read 2 0 ∷ commit 1 ∷ [])) 0
-        ≡ 2 ∷ [] }
+    ensures given_back { holders_inherited 1 None (1 ∷ 2 ∷ []) ≡ 2 ∷ [] }
+    ensures reader_left { let ends = test_read 2 0 ∷ commit 1 ∷ [] in
+        readers_of empty (journal (prepared ++ tests_no ++ ends)) 0 ≡ 2 ∷ [] }
     ensures then { let ends = test_read 2 0 ∷ commit 1 ∷ test_write 2 0 ∷ [] in
         replies empty (journal (prepared ++ tests_no)) ends
         ≡ answered (flag true) ∷ answered done ∷ answered (flag true) ∷ [] }
@@ -146,8 +146,7 @@ pub fn tests_take_locks()
 {}
 
 /// Topactions count in the order of their commits: 1 began first, and commits last. So does the
-/// work
-/// of subactions in that of their parent.
+/// work of subactions in that of their parent.
 pub fn turns_are_taken()
     ensures replies { replies empty (journal prepared) turns
         ≡ begun 1 ∷ begun 2 ∷ answered done ∷ answered done ∷ answered done

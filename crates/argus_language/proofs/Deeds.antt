@@ -12,12 +12,12 @@ use Rattle.argus_texts.specs.Spelling.{Within, spelling}
 use Rattle.argus_texts.specs.ContentSpelling.{PartsWithin, content_spelling}
 use Rattle.argus_texts.proofs.Contents.{one_content}
 use Rattle.argus_texts.proofs.Forms.{one_form, value_ends}
-use Rattle.argus_language.specs.Operation.{AnyOperation, ArrayOperation, Operation, RecordOperation, VariantOperation}
+use Rattle.argus_language.specs.Operation.{Operation}
 use Rattle.argus_language.specs.Operation.{of_any, of_record, of_array, of_variant}
 use Rattle.argus_language.specs.Operation as op
 use Rattle.argus_language.specs.PlainStep.{SimpleStep}
 use Rattle.argus_language.specs.PlainStep as part
-use Rattle.argus_language.specs.Spelled.{Sentence, change_words, query_words, sentence}
+use Rattle.argus_language.specs.Spelled.{change_words, query_words, sentence}
 use Rattle.argus_language.specs.Spelled as line
 use Rattle.argus_language.specs.Placement.{HasForm, IsReadable}
 

@@ -7,7 +7,7 @@ use Rattle.std.specs.Str.{bytes_eq, is_utf8}
 use Rattle.argus_contents.specs.Name.{is_name}
 use Rattle.argus_contents.specs.declared.limits.TheConstants.{MAX_OBJECTS}
 use Rattle.argus_language.specs.Command.{Command, accessing, bad, command, declaring, entering, is_comment}
-use Rattle.argus_language.specs.Command.{leaving, operation, or_bad, command_of, testing, command_of_text, with_name}
+use Rattle.argus_language.specs.Command.{leaving, operation, or_bad, command_of, testing, command_of_text}
 use Rattle.argus_language.specs.Command as c
 use Rattle.argus_language.specs.Fault.{Position, is_one_too_many, is_too_long, opens_block}
 use Rattle.argus_language.specs.Levels.{depth_of}

@@ -15,9 +15,7 @@ use Rattle.argus_language.specs.Fields.{field_of}
 use Rattle.argus_language.specs.Levels.{depth_of, levels_after, may_follow}
 use Rattle.argus_language.specs.Lines.{ended, line_text, word}
 use Rattle.argus_language.specs.Objects.{PlainObjects, number_of, shape_at}
-use Rattle.argus_language.specs.Operation.{AnyOperation, ArrayOperation, RecordOperation}
-use Rattle.argus_language.specs.Operation.{VariantOperation, Operation, of_any, of_record}
-use Rattle.argus_language.specs.Operation.{of_array, of_variant}
+use Rattle.argus_language.specs.Operation.{Operation, of_any, of_record, of_array, of_variant}
 use Rattle.argus_language.specs.Operation as operation
 use Rattle.argus_language.specs.Script.{Declares}
 use Rattle.argus_language.specs.declared.fault_kind.FaultKind.{FaultKind}

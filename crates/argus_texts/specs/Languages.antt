@@ -2,7 +2,7 @@
 use Rattle.std.specs.Prelude.{◌≡◌, ◌≢◌, ℕ, ℤ, ◌<◌, ◌≤◌, ◌⊎◌, List, [], ◌∷◌, ◌++◌}
 use Rattle.std.specs.Fmt.{decimal, signed_decimal}
 use Rattle.std.specs.Str.{IsUtf8}
-use Rattle.argus_contents.specs.Value.{PlainValue, PlainValues, more}
+use Rattle.argus_contents.specs.Value.{PlainValue, PlainValues}
 use Rattle.argus_contents.specs.Value as value
 use Rattle.argus_contents.specs.Content.{PlainContent}
 use Rattle.argus_texts.specs.Spelling.{spelling, escaped, inside, behind, IsI64, Within, AllWithin}
