@@ -17,7 +17,8 @@ use Rattle.argus_journal.specs.Journal.{entry_at}
 use Rattle.argus_journal.specs.Objects.{declared, shape_of}
 use Rattle.argus_journal.specs.JournalFacts.{base_of, is_live_in, next_action_number, readers_of}
 use Rattle.argus_journal.specs.JournalFacts.{versions_of}
-use Rattle.argus_guardian.specs.Listing.{content_text, listing_of}
+use Rattle.argus_guardian.specs.Listing.{listing_of}
+use Rattle.argus_guardian.specs.OpeningLanguages.{content_text}
 use Rattle.argus_journal.specs.JournalView.{JournalView, reply_to}
 use Rattle.argus_embed.specs.Codes.{as_number, status_code}
 use Rattle.argus_embed.specs.Embedded.{EmbeddedState}

@@ -9,7 +9,7 @@ ghost use Rattle.argus_embed.specs.Questions.{action_line, action_lines, seen_li
 ghost use Rattle.argus_guardian.specs.Objects.{version_pair, where_declared};
 ghost use Rattle.argus_journal.specs.JournalFacts.{base_of, readers_of, versions_of};
 ghost use Rattle.argus_journal.specs.Objects.{shape_of};
-ghost use Rattle.argus_guardian.specs.Listing.{content_text};
+ghost use Rattle.argus_guardian.specs.OpeningLanguages.{content_text};
 
 use argus_actions::ActionId;
 use argus_guardian::Guardian;

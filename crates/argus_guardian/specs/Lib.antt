@@ -14,6 +14,7 @@ pub use Rattle.argus_sharing.specs.Following
 pub use Rattle.argus_sharing.specs.Locked
 pub use Rattle.argus_sharing.specs.Waking
 pub use Rattle.argus_listings.specs.Listing
+pub use Rattle.argus_openings.specs.OpeningLanguages
 pub use Rattle.argus_reading.specs.Laws as ReadingLaws
 pub use Rattle.argus_reading.specs.Line as EntryLine
 pub use Rattle.argus_resume.specs.JournalText

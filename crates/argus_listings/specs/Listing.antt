@@ -13,15 +13,10 @@ use Rattle.argus_journal.specs.Opening.{Opening}
 use Rattle.argus_journal.specs.Replaying.{replayed}
 use Rattle.argus_journal.specs.JournalFacts.{base_of, readers_of, versions_of, writers_of}
 use Rattle.argus_journal.specs.JournalView.{JournalView}
-use Rattle.argus_texts.specs.ContentSpelling.{content_spelling}
+use Rattle.argus_openings.specs.OpeningLanguages.{content_text}
 use Rattle.argus_texts.specs.ShapeSpelling.{shape_spelling}
 use Rattle.argus_listings.specs.declared.listing.Listing.{Listing}
 use Rattle.argus_listings.specs.declared.listing.Listing.TheVariants.{Audit, Bases, Journal, Stacks}
-
--- a content in its written form; `absent` if there is none
-abbrev pub content_text : Option PlainContent → List ℕ
-content_text None = codes "absent"
-content_text (Some c) = content_spelling c
 
 -- a line of an object: its name, these words, a content and a line feed
 abbrev pub object_line : List ℕ → List ℕ → Option PlainContent → List ℕ

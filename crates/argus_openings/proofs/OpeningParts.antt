@@ -4,7 +4,7 @@ use Rattle.std.specs.Prelude.{None, Option, Some, codes}
 use Rattle.argus_contents.specs.Content.{PlainContent}
 use Rattle.argus_contents.specs.Shape.{PlainShape}
 use Rattle.argus_contents.specs.declared.limits.TheConstants.{MAX_ACTIONS}
-use Rattle.argus_openings.specs.declared.limits.TheConstants.{MAX_FIRST_ENTRY}
+use Rattle.argus_journal.specs.declared.limits.TheConstants.{MAX_FIRST_ENTRY}
 use Rattle.argus_reading.proofs.Joints.{ids_clear}
 use Rattle.argus_reading.proofs.Words.{worded_clear}
 use Rattle.argus_reading.specs.Combined.{Worded}

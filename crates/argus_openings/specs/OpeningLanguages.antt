@@ -2,7 +2,7 @@
 use Rattle.std.specs.Prelude.{List, None, Option, Some, codes, ℕ, ◌≡◌}
 use Rattle.argus_contents.specs.Content.{PlainContent}
 use Rattle.argus_contents.specs.declared.limits.TheConstants.{MAX_ACTIONS, MAX_VALUE_DEPTH}
-use Rattle.argus_openings.specs.declared.limits.TheConstants.{MAX_FIRST_ENTRY}
+use Rattle.argus_journal.specs.declared.limits.TheConstants.{MAX_FIRST_ENTRY}
 use Rattle.argus_reading.specs.Combined.{Worded}
 use Rattle.argus_reading.specs.Operations.{Ids, blank}
 use Rattle.argus_texts.specs.ContentSpelling.{PartsWithin, content_spelling}

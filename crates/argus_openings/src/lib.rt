@@ -1,7 +1,6 @@
 //! The lines of an opening, read: what stands behind their first word.
 #![tactic(auto)]
 
-pub mod limits;
 mod opening_reading;
 
 pub use opening_reading::{folded_numbers, object_line};

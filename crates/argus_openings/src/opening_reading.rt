@@ -10,9 +10,9 @@ ghost use Rattle.argus_texts.specs.Language.{FormOf, OnLeft, Reads, Stops};
 ghost use Rattle.argus_texts.specs.Languages.{Numbers};
 ghost use Rattle.argus_texts.specs.ShapeLanguages.{BeginsNo, Shapes};
 
-use crate::limits::MAX_FIRST_ENTRY;
 use argus_contents::limits::MAX_ACTIONS;
 use argus_contents::{Content, Shape};
+use argus_journal::limits::MAX_FIRST_ENTRY;
 use argus_memory::Heap;
 use argus_texts::front::{Stop, Unread, expect, number, one_content, one_shape, word};
 

@@ -22,7 +22,7 @@ use Rattle.argus_contents.specs.declared.signal.Signal.TheVariants.{Absent, Boun
 use Rattle.argus_texts.specs.ContentSpelling.{PartsWithin}
 use Rattle.argus_texts.specs.Spelling.{AllWithin, IsI64, Within}
 use Rattle.argus_entries.specs.Laws.{AnswerWithin, ChangeWithin}
-use Rattle.argus_resume.specs.JournalText.{IsReadableContent}
+use Rattle.argus_openings.specs.OpeningLanguages.{IsReadableContent}
 
 -- what holds of each arm holds of the choice
 pub by_if : {A : Type 0} (P : A → Type 0) (b : Bool) (x y : A) → P x → P y → P (if b then x else y)

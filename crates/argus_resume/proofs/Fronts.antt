@@ -17,7 +17,7 @@ use Rattle.argus_texts.proofs.Digits.{first_digit}
 use Rattle.argus_texts.proofs.Lists.{head_of, tail_of}
 use Rattle.argus_resume.specs.JournalText.{AreReadable, AreReadableObjects, IsReadableObject}
 use Rattle.argus_resume.specs.JournalText.{IsReadableOpening}
-use Rattle.argus_resume.specs.OpeningLanguages.{FoldedLines, IsForm, ObjectLines}
+use Rattle.argus_openings.specs.OpeningLanguages.{FoldedLines, IsForm, ObjectLines}
 use Rattle.argus_resume.specs.Taking.{HasNoFeed}
 use Rattle.argus_resume.proofs.Clean.{entry_clean, object_clean}
 use Rattle.argus_resume.proofs.Openings.{object_line_form, object_told}

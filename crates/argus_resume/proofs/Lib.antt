@@ -1,4 +1,3 @@
-pub mod Parts
 pub mod Texts
 pub mod Openings
 pub mod Sound
@@ -7,7 +6,6 @@ pub mod Ends
 pub mod Copied
 pub mod Rebuilt
 pub mod Stages
-pub mod OpeningParts
 pub mod ObjectAdded
 pub mod Readings
 pub mod Clean

@@ -21,7 +21,7 @@ use Rattle.argus_resume.specs.JournalText.{AreReadable, IsReadableJournal}
 use Rattle.argus_resume.specs.JournalText.{journal_text}
 use Rattle.argus_resume.specs.Laws.{EndsInFeed, IsListable}
 use Rattle.argus_resume.specs.Lines.{IsLineFault, IsLineOf, IsNextOfOpening, IsOfOpening}
-use Rattle.argus_resume.specs.OpeningLanguages.{FoldedLines, ObjectLines}
+use Rattle.argus_openings.specs.OpeningLanguages.{FoldedLines, ObjectLines}
 use Rattle.argus_resume.specs.Resumed.{IsResumed}
 use Rattle.argus_resume.specs.Taking.{EndsReading, EndsTaking, HasNoFeed, IsFaulty, IsTorn}
 use Rattle.argus_resume.specs.declared.read_end.ReadEnd.{ReadEnd}

@@ -4,25 +4,18 @@ use Rattle.std.proofs.Common.{append_assoc, append-nil, arith, get_or, true}
 use Rattle.std.proofs.lemmas.List.{append_cancel_left, append_cancel_right}
 use Rattle.std.specs.Fmt.{decimal}
 use Rattle.std.specs.Prelude.{None, Option, Some, codes}
-use Rattle.argus_contents.specs.Content.{PlainContent, arr, rec, var}
+use Rattle.argus_contents.specs.Content.{PlainContent}
 use Rattle.argus_contents.specs.Shape.{PlainShape}
-use Rattle.argus_contents.specs.Value.{listed}
 use Rattle.argus_contents.specs.declared.limits.TheConstants.{MAX_OBJECTS}
 use Rattle.argus_journal.specs.JournalView.{JournalView, next_entry}
 use Rattle.argus_journal.specs.Opening.{Opening, fits_shape}
-use Rattle.argus_listings.specs.Listing.{content_text, folded_line, opened_line}
-use Rattle.argus_reading.proofs.Joints.{ids_clear}
-use Rattle.argus_texts.specs.ContentSpelling.{PartsWithin, content_spelling}
+use Rattle.argus_listings.specs.Listing.{folded_line, opened_line}
+use Rattle.argus_openings.specs.OpeningLanguages.{FoldedLines, IsForm, ObjectLines, content_text}
+use Rattle.argus_openings.proofs.Told.{object_told}
 use Rattle.argus_texts.specs.Language.{FormOf}
 use Rattle.argus_texts.specs.ShapeSpelling.{shape_spelling}
-use Rattle.argus_texts.specs.Spelling.{inside}
-use Rattle.argus_texts.proofs.Contents.{one_content}
-use Rattle.argus_texts.proofs.Forms.{int_lead}
-use Rattle.argus_texts.proofs.Lists.{tail_of}
-use Rattle.argus_texts.proofs.ShapeForms.{one_shape}
-use Rattle.argus_resume.specs.JournalText.{AreReadableObjects, IsReadableContent, IsReadableObject}
+use Rattle.argus_resume.specs.JournalText.{AreReadableObjects, IsReadableObject}
 use Rattle.argus_resume.specs.Lines.{AddsObject, BeginsOpening, IsNextOfOpening, IsOfOpening}
-use Rattle.argus_resume.specs.OpeningLanguages.{FoldedLines, IsForm, ObjectLines}
 use Rattle.argus_resume.specs.Stage.{opened_alone, opening_line}
 
 -- FORMS
@@ -65,38 +58,6 @@ begins_form journal rest b = record {
   good = ((omega (arith, b.some), omega (arith, b.entries_within)), (omega arith, omega (arith, b.actions_within)));
   is = line_told rest (FoldedLines.form (b.entries, b.actions)) (b.is ∙ folded_line_form b.entries b.actions);
 }
-
--- ONE FORM
-
-absent_not : (c : PlainContent) → PartsWithin 16 c → codes "absent" ≡ content_spelling c → ⊥
-absent_not (rec vs) w e = let h : 97 ≡ 123 = ap (λ (l : List ℕ). get_or l 0 0) e in omega (arith, h)
-absent_not (arr low vs) w e =
-    let l = int_lead low 97 (98 ∷ 115 ∷ 101 ∷ 110 ∷ 116 ∷ []) (91 ∷ inside 93 (listed vs)) w.0 e in
-    omega arith
-absent_not (var t v) w e = let h : 97 ≡ 60 = ap (λ (l : List ℕ). get_or l 0 0) e in omega (arith, h)
-
-pub content_told : (c d : Option PlainContent) → IsReadableContent c → IsReadableContent d
-    → content_text c ≡ content_text d → c ≡ d
-content_told None None w v e = refl
-content_told None (Some d) w v e = absurd (absent_not d v e)
-content_told (Some c) None w v e = absurd (absent_not c w (sym e))
-content_told (Some c) (Some d) w v e =
-    ap Some (one_content 16 c d [] [] w v (append-nil (content_spelling c) ∙ e ∙ sym (append-nil
-    (content_spelling d)))).0
-
--- the text of an object's line tells its number, its shape and its content
-pub object_told : (o p : ℕ) (a b : PlainShape × Option PlainContent) (text : List ℕ) → IsForm ObjectLines (o, a) text
-    → IsForm ObjectLines (p, b) text → (o ≡ p) × (a ≡ b)
-object_told o p a b text f g =
-    let x : List ℕ = shape_spelling a.0 ++ 32 ∷ content_text a.1 in
-    let y : List ℕ = shape_spelling b.0 ++ 32 ∷ content_text b.1 in
-    let numbers = (ids_clear (codes "o")).one o p (32 ∷ x) (32 ∷ y) f.good.0 g.good.0 (inl (omega arith)) (inl
-    (omega arith))
-    (sym f.is ∙ g.is) in
-    let shapes = one_shape a.0 b.0 (32 ∷ content_text a.1) (32 ∷ content_text b.1) f.good.1.0.named g.good.1.0.named
-    (tail_of numbers.1) in
-    let contents = content_told a.1 b.1 f.good.1.1 g.good.1.1 (tail_of shapes.1) in
-    (numbers.0, ap (λ (s : PlainShape). (s, a.1)) shapes.0 ∙ ap (λ (c : Option PlainContent). (b.0, c)) contents)
 
 -- WHAT CAN'T BE THE NEXT LINE
 

@@ -7,8 +7,8 @@ use Rattle.argus_entries.specs.Entry.{PlainEntry}
 use Rattle.argus_journal.specs.JournalView.{JournalView}
 use Rattle.argus_journal.specs.Opening.{KeepsNumbers, Opening, empty, fits_shape}
 use Rattle.argus_listings.specs.Listing.{entries_text, opening_text}
+use Rattle.argus_openings.specs.OpeningLanguages.{IsReadableContent}
 use Rattle.argus_reading.specs.Line.{IsReadable}
-use Rattle.argus_texts.specs.ContentSpelling.{PartsWithin}
 use Rattle.argus_texts.specs.ShapeSpelling.{IsMakeable}
 
 -- the listing of a journal
@@ -18,11 +18,6 @@ journal_text journal = opening_text journal.opening ++ entries_text journal.open
 -- the journal without objects, actions and entries
 abbrev pub no_journal : JournalView
 no_journal = record { opening = empty; entries = [] }
-
--- no content, or one whose values have a depth of at most 16
-abbrev pub IsReadableContent : Option PlainContent → Type 0
-IsReadableContent None = Unit {0}
-IsReadableContent (Some c) = PartsWithin MAX_VALUE_DEPTH c
 
 -- an object that a line of an opening can spell: its shape can be made, its content's values have a
 -- depth of at most 16, and it would fit its shape if there were enough objects

@@ -1,6 +1,5 @@
 pub mod Without
 pub mod JournalText
-pub mod OpeningLanguages
 pub mod Lines
 pub mod FrontLine
 pub mod SoundFront

@@ -10,6 +10,7 @@ ghost use Rattle.argus_entries.specs.Reply.{plain_reply};
 ghost use Rattle.argus_reading.specs.Calls.{IsReadableCall};
 ghost use Rattle.argus_resume.specs.FrontLine.{HasFrontLine, entry_with};
 
+use crate::frequent_words::{behind_arrow, behind_begin_top, behind_done, behind_set_field};
 use argus_actions::ActionId;
 use argus_contents::{Answer, Change, ObjId, Query, Value};
 use argus_entries::{Call, Reply};
@@ -32,9 +33,14 @@ pub(crate) fn frequent_line(text: &[u8], next: u64) -> Option<(Call, Reply, &[u8
     if number != next {
         return None;
     }
-    let (call, rest) = call(behind(rest, b" ")?)?;
-    let (reply, rest) = reply(behind(rest, b" -> ")?)?;
-    let rest = behind(rest, b"\n")?;
+    let [b' ', rest @ ..] = rest else {
+        return None;
+    };
+    let (call, rest) = call(rest)?;
+    let (reply, rest) = reply(behind_arrow(rest)?)?;
+    let [b'\n', rest @ ..] = rest else {
+        return None;
+    };
     Some((call, reply, rest))
 }
 
@@ -47,12 +53,12 @@ fn call(text: &[u8]) -> Option<(Call, &[u8])>
     if let [b'a', ..] = text {
         return access(text);
     }
-    if let Some(rest) = behind(text, b"begin_top") {
-        return Some((Call::BeginTop, rest));
-    }
-    if let Some(rest) = behind(text, b"commit a") {
-        let (a, rest) = id(rest)?;
+    if let [b'c', ..] = text {
+        let (a, rest) = id(behind(text, b"commit a")?)?;
         return Some((Call::Commit(ActionId(a)), rest));
+    }
+    if let Some(rest) = behind_begin_top(text) {
+        return Some((Call::BeginTop, rest));
     }
     let (parent, rest) = id(behind(text, b"begin_sub a")?)?;
     Some((Call::BeginSub(ActionId(parent)), rest))
@@ -65,7 +71,7 @@ fn access(text: &[u8]) -> Option<(Call, &[u8])>
     ensures readable { IfSome result (λ r. IsReadableCall (plain_call r.0)) }
 {
     if let Some((a, o, rest)) = place(text, b"alter a") {
-        let (field, rest) = byte(behind(rest, b" set_field ")?)?;
+        let (field, rest) = byte(behind_set_field(rest)?)?;
         let (n, rest) = int(behind(rest, b" ")?)?;
         let change = Change::SetField(field, Value::Int(n));
         return Some((Call::Alter(a, o, change), rest));
@@ -84,10 +90,10 @@ fn reply(text: &[u8]) -> Option<(Reply, &[u8])>
     ensures read { IfSome result (λ r. text.now ≡ reply_spelling (plain_reply r.0) ++ r.1.now) }
     ensures readable { IfSome result (λ r. ReplyWithin MAX_VALUE_DEPTH (plain_reply r.0)) }
 {
-    if let Some(rest) = behind(text, b"done") {
+    if let Some(rest) = behind_done(text) {
         return Some((Reply::Answered(Answer::Done), rest));
     }
-    if let Some(rest) = behind(text, b"a") {
+    if let [b'a', rest @ ..] = text {
         let (a, rest) = id(rest)?;
         return Some((Reply::Begun(ActionId(a)), rest));
     }
@@ -140,6 +146,7 @@ fn int(text: &[u8]) -> Option<(i64, &[u8])>
 }
 
 /// The number at the front, and what comes after its digits.
+#[inline(always)]
 fn number(text: &[u8]) -> Option<(u64, &[u8])>
     ensures { IfSome result (λ r. text.now ≡ decimal r.0 ++ r.1.now) }
 {

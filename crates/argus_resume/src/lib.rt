@@ -4,13 +4,13 @@
 mod entry_lines;
 mod entry_reading;
 mod frequent_line;
+mod frequent_words;
 pub mod laws;
 mod line_error;
 mod line_fault;
 mod opened;
 mod opened_object;
 mod opening_lines;
-mod opening_reading;
 mod opening_taking;
 mod read_end;
 mod reading;

@@ -14,9 +14,9 @@ use crate::line_error::LineError;
 use crate::line_fault::LineFault;
 use crate::opened_object::OpenedObject;
 use crate::opening_lines::OpeningLines;
-use crate::opening_reading::{folded_numbers, object_line};
 use argus_contents::limits::MAX_OBJECTS;
 use argus_memory::Heap;
+use argus_openings::{folded_numbers, object_line};
 use argus_texts::front::Stop;
 
 // How many bytes a line has besides what comes after its first word: that word and a line feed.
