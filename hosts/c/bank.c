@@ -1,9 +1,9 @@
-/* A bank: orders of four transfers each, carried out by many threads.
+/* A bank: many threads carry out orders of four transfers each.
  *
- * An order is a topaction and each of its transfers a subaction, which pays in before it pays out. The last transfer
- * of each order asks for more than the whole bank has: it is refused, and aborts alone. Each tenth order is cancelled
- * at its end, and takes its committed transfers with it. One more thread audits: all that one topaction reads is of
- * one moment, so the sum is always the same. */
+ * An order is a topaction and each of its transfers a subaction, which pays in before it pays out.
+ * The last transfer of each order asks for more than the whole bank has, so it aborts alone. Each
+ * tenth order is aborted at its end, and its committed transfers with it. One more thread audits:
+ * whatever one topaction reads is of one moment, so the sum is always the same. */
 #include "clock.h"
 #include "draws.h"
 #include "modes.h"
@@ -20,7 +20,7 @@ static const int64_t ALL = 16000000000;
 
 static const double PATIENCE = 100;
 
-/* The journal is folded after so many entries. */
+/* The journal is folded after this many entries. */
 static const int64_t FOLD_AFTER = 10000;
 
 typedef struct transfer {
@@ -32,7 +32,7 @@ typedef struct counts {
     uint32_t carried_out, cancelled, made, refused, made_in_vain;
 } counts;
 
-/* What a thread is given, and what it leaves. */
+/* The arguments of a thread, and its results. */
 typedef struct clerk {
     pthread_t thread;
     store *bank;
@@ -47,7 +47,7 @@ typedef struct auditor {
     uint32_t right;
 } auditor;
 
-/* Four transfers, of which the last can't be made. */
+/* Draws four transfers, of which the last can't be made. */
 static void draw_order(uint64_t *draws, transfer order[TRANSFERS]) {
     for (int at = 0; at < TRANSFERS; at++) {
         order[at].from = draws_below(draws, ACCOUNTS);
@@ -57,7 +57,8 @@ static void draw_order(uint64_t *draws, transfer order[TRANSFERS]) {
     order[TRANSFERS - 1].amount = ALL + 1;
 }
 
-/* Ends the process unless the lock was had: here they are taken in one order, and patience is long. */
+/* Ends the process if the lock wasn't taken. This doesn't happen: locks are taken in one order, and
+ * patience is long. */
 static void be_locked(int is_had) {
     if (!is_had) {
         fprintf(stderr, "no lock\n");
@@ -71,7 +72,8 @@ static int64_t balance_of(store *bank, const store_action *action, uint32_t acco
     return balance;
 }
 
-/* Makes the transfer in a subaction; 0: the account has too little, and nothing is left of it. */
+/* Makes the transfer in a subaction. If the account has too little, aborts the subaction, so that
+ * nothing is left of it, and returns 0. */
 static int make(store *bank, const store_action *top, const transfer *it) {
     store_action sub = store_begin_sub(bank, top);
     be_locked(store_set(bank, &sub, it->to, balance_of(bank, &sub, it->to) + it->amount));
@@ -85,7 +87,7 @@ static int make(store *bank, const store_action *top, const transfer *it) {
     return 1;
 }
 
-/* Takes the locks on all accounts of the order, in the order of their numbers. */
+/* Locks all accounts of the order, in the order of their numbers. */
 static void lock_accounts(store *bank, const store_action *top, const transfer order[TRANSFERS]) {
     int is_named[ACCOUNTS] = {0};
     for (int at = 0; at < TRANSFERS; at++) is_named[order[at].from] = is_named[order[at].to] = 1;
@@ -93,7 +95,7 @@ static void lock_accounts(store *bank, const store_action *top, const transfer o
         if (is_named[account]) be_locked(store_lock(bank, top, account));
 }
 
-/* Carries out an order, or cancels it at its end. */
+/* Carries out an order, or aborts it at its end. */
 static void carry_out(store *bank, const transfer order[TRANSFERS], int is_cancelled, counts *sum) {
     store_action top = store_begin_top(bank);
     uint32_t made = 0;
@@ -121,7 +123,7 @@ static void *work(void *given) {
     return NULL;
 }
 
-/* Counts how many audits find what the bank began with. */
+/* Counts how many audits find the sum with which the bank began. */
 static void *audit(void *given) {
     auditor *it = given;
     for (int number = 0; number < AUDITS; number++) {
@@ -141,7 +143,7 @@ static void start(pthread_t *thread, void *(*what)(void *), void *given) {
     }
 }
 
-/* Has all threads work, and sums up what they did. */
+/* Runs all threads, and adds up what they did. */
 static counts run(store *bank, uint32_t orders, uint32_t *right) {
     counts sum = {0};
     clerk clerks[THREADS];
@@ -164,7 +166,8 @@ static counts run(store *bank, uint32_t orders, uint32_t *right) {
     return sum;
 }
 
-/* Prints what is in the accounts for good: the sum, and each balance times its place. */
+/* Prints the committed balances: their sum, and the sum of each balance times its place from 1
+ * on. */
 static void print_balances(store *bank) {
     int64_t sum = 0, weighed = 0;
     for (uint32_t account = 0; account < ACCOUNTS; account++) {

@@ -1,4 +1,5 @@
-/* A mistake that a program may make, for tools/hosts_memory.sh: two threads in one guardian, and no mutex. */
+/* A mistake that a program may make, for tools/hosts_memory.sh: two threads call one guardian
+ * without a mutex. */
 #include "argus.h"
 #include "modes.h"
 
@@ -6,8 +7,8 @@
 #include <stdatomic.h>
 #include <stdio.h>
 
-/* The second thread's turn. It orders nothing but itself, so the two aren't ordered, though they aren't in the guardian
- * at one time. */
+/* Set when it is the second thread's turn. A relaxed atomic orders no other access, so the two
+ * calls are a data race, although they aren't made at the same time. */
 static atomic_int turn;
 
 static void *begin_second(void *guardian) {

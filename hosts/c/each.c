@@ -1,4 +1,5 @@
-/* Lists of calls: a topaction at once, what ends a list, and what a list that ends has left. */
+/* Lists of calls: a whole topaction in one list, what ends a list, and what an ended list
+ * leaves. */
 #include "argus.h"
 #include "modes.h"
 
@@ -7,7 +8,7 @@
 #include <stdlib.h>
 #include <string.h>
 
-/* The process ends where this isn't so. */
+/* Ends the process if this doesn't hold. */
 static void want(int is_so, const char *what) {
     if (!is_so) {
         fprintf(stderr, "each: %s\n", what);
@@ -29,14 +30,15 @@ static argus_listed_call call_with(uint32_t kind, uint32_t begun_by, uint32_t ob
         .kind = kind, .begun_by = begun_by, .object = object, .text = text, .text_size = size};
 }
 
-/* Whether this is the text that is kept. */
+/* Whether this is the text of the last reply. */
 static int is_kept(argus_guardian *bank, const char *text) {
     char room[64];
     argus_answer copied = argus_reply(bank, room, sizeof room);
     return is_answer(copied, ARGUS_DONE, (int64_t)strlen(text)) && memcmp(room, text, strlen(text)) == 0;
 }
 
-/* Five calls in one, by the action that the first one begins. An integer is its call's number, a content a line. */
+/* Five calls in one list, by the action that the first call begins. A reply that is an integer is
+ * in the call's number, a content is a line of the text. */
 static void make_whole(argus_guardian *bank, uint32_t account) {
     argus_listed_call calls[] = {
         {.kind = ARGUS_BEGIN_TOP},
@@ -53,7 +55,7 @@ static void make_whole(argus_guardian *bank, uint32_t account) {
     want(is_answer(argus_base(bank, account), ARGUS_TEXT, 0) && is_kept(bank, "{7}"), "what it has left");
 }
 
-/* A conflict ends a list; no call after it is made or gets a status. */
+/* A conflict ends a list. No call after it is made or gets a status. */
 static void end_at_conflict(argus_guardian *bank, uint32_t account) {
     int64_t holder = argus_begin_top(bank).number;
     argus_alter(bank, (uint32_t)holder, account, ARGUS_TOUCH, 0, 0, NULL);
@@ -72,7 +74,8 @@ static void end_at_conflict(argus_guardian *bank, uint32_t account) {
     want(is_answer(argus_call_each(bank, calls, 2), ARGUS_DONE, 2), "two actions aren't aborted");
 }
 
-/* What stands for no call ends a list as a single call would be answered, and leaves what came before it. */
+/* An invalid call ends a list, with the status that a single call would return. The calls before it
+ * stay made. */
 static void end_at_bad_ones(argus_guardian *bank, uint32_t account) {
     const struct {
         argus_listed_call call;
@@ -96,7 +99,8 @@ static void end_at_bad_ones(argus_guardian *bank, uint32_t account) {
     }
 }
 
-/* No list, no guardian, and a demand that a signal doesn't meet. */
+/* A list without calls, null pointers, a closed guardian, and a demand that a signal doesn't
+ * meet. */
 static void end_at_once(argus_guardian *bank) {
     argus_guardian closed = ARGUS_CLOSED;
     uint32_t absent = (uint32_t)argus_declare(bank, "atomic_record[n:int]").number;

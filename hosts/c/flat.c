@@ -1,6 +1,6 @@
-/* The flat work of crates/argus_bench: a topaction that reads and sets 4 of 1,000 records in turn, 10 calls, one by one
- * or as a list. The same calls in the same order as there, and the same sum, so that one sees what the way through C
- * costs. No mutex. */
+/* The flat work of crates/argus_bench: a topaction reads and sets 4 of 1,000 records, in 10 calls,
+ * which are made one by one or as a list. The calls, their order and the sum are the same as there,
+ * so the difference in time is the cost of calling through C. There is no mutex. */
 #include "argus.h"
 #include "clock.h"
 #include "draws.h"
@@ -13,7 +13,7 @@
 
 enum { RECORDS = 1000, STEP = 251 };
 
-/* The number of an answer; the process ends where it isn't of this status. */
+/* The number of an answer. Ends the process if the status is another one. */
 static int64_t number_of(argus_answer answer, uint32_t status) {
     if (answer.status != status) {
         fprintf(stderr, "flat: %s\n", argus_answer_name(answer));
@@ -66,7 +66,7 @@ static int64_t turn_listed(argus_guardian *guardian, uint64_t *draws, int64_t nu
     return sum_read(calls, 10);
 }
 
-/* What is in the records for good, each times its place from 1 on. */
+/* The sum of the committed integers, each times its record's place from 1 on. */
 static int64_t weigh(argus_guardian *guardian) {
     int64_t sum = 0;
     uint32_t top = (uint32_t)number_of(argus_begin_top(guardian), ARGUS_ACTION);

@@ -1,5 +1,5 @@
-/* A host of a guardian in C: host [bank [ORDERS] | each | statuses | values | stress [CALLS] | flat [TURNS] |
- * listed [TURNS] | careless | test]. */
+/* A program in C that holds a guardian: host [bank [ORDERS] | each | statuses | values | stress
+ * [CALLS] | flat [TURNS] | listed [TURNS] | careless | test]. */
 #include "modes.h"
 
 #include <errno.h>

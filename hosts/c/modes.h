@@ -1,33 +1,34 @@
-/* What the host can be told to do. Each gives the status with which the process ends. */
+/* The modes of the host. Each function returns the exit status of the process. */
 #ifndef MODES_H
 #define MODES_H
 
 #include <stdint.h>
 
-/* A bank: so many orders by each of four threads, with audits beside them. */
+/* A bank: each of four threads carries out this many orders, with audits beside them. */
 int bank(uint32_t orders);
 
-/* So many calls, with a checkpoint now and then, and what memory is in use after each. */
+/* Makes this many calls, with a checkpoint now and then, and checks the memory in use after each
+ * checkpoint. */
 int stress(uint64_t calls);
 
-/* The flat work of crates/argus_bench, so many turns, with its time and its sum: call by call, or a list of calls for
- * each topaction. */
+/* The flat work of crates/argus_bench: this many turns, with their time and their sum, call by
+ * call, or with one list of calls for each topaction. */
 int flat(uint32_t turns, int is_listed);
 
-/* Lists of calls, each looked at. */
+/* Tests of lists of calls. */
 int each(void);
 
-/* Each status of the header, returned once. */
+/* Tests that each status of the header is returned. */
 int statuses(void);
 
-/* Values and contents, written and read by argus_values.h, each looked at. */
+/* Tests of values and contents, written and read by argus_values.h. */
 int values(void);
 
-/* Two threads in one guardian without a mutex, one after the other: a program's mistake, which ThreadSanitizer reports.
- * 0 where it doesn't. */
+/* Two threads call one guardian without a mutex, one after the other: a program's mistake, which
+ * ThreadSanitizer reports. Returns 0 if it isn't reported. */
 int careless(void);
 
-/* Tests of the store and of the header; 0 where all pass. */
+/* Tests of the store and of the header. Returns 0 if all pass. */
 int tests(void);
 
 #endif

@@ -1,5 +1,6 @@
-/* Each status, signal and refusal of argus.h, returned once; and a null pointer to each inline function. Two are left
- * out: ARGUS_FULL, which takes 2^63 entries, and those of lists, which each.c has. */
+/* Each status, signal and refusal of argus.h, returned once, and a null pointer passed to each
+ * inline function. Two are left out: ARGUS_FULL, which takes 2^63 entries, and those of lists,
+ * which each.c tests. */
 #include "argus.h"
 #include "modes.h"
 
@@ -11,7 +12,7 @@
 #include <sys/wait.h>
 #include <unistd.h>
 
-/* The process ends where this isn't so. */
+/* Ends the process if this doesn't hold. */
 static void want(int is_so, const char *what) {
     if (!is_so) {
         fprintf(stderr, "statuses: not as it should be: %s\n", what);
@@ -25,7 +26,7 @@ static void want_answer(argus_answer answer, uint32_t status, int64_t number, co
     want(answer.status == status && answer.number == number, what);
 }
 
-/* A call with its text, and the two numbers of its answer. */
+/* A call with its text, and the status and the number of its answer. */
 typedef struct step {
     uint32_t kind, action, object;
     int64_t first, second;
@@ -82,7 +83,8 @@ static void make_steps(argus_guardian *bank) {
     }
 }
 
-/* 64 ancestors are as many as there may be, and 65,535 objects. */
+/* An action may have 64 ancestors, itself included, and a guardian 65,535 objects: one more is
+ * refused. */
 static void reach_limits(argus_guardian *bank) {
     argus_answer below = argus_begin_top(bank);
     for (int depth = 1; depth < 64; depth++) below = argus_begin_sub(bank, (uint32_t)below.number);
@@ -91,7 +93,7 @@ static void reach_limits(argus_guardian *bank) {
     want_answer(argus_declare(bank, "atomic_array[int]"), ARGUS_REFUSED, ARGUS_TOO_MANY, "a 65,536th object");
 }
 
-/* What a question and a reply are answered, and that a room stays as it is where nothing is put into it. */
+/* What questions and a reply return. A buffer into which nothing is copied stays as it is. */
 static void ask_and_copy(argus_guardian *bank) {
     char room[3] = "???";
     size_t size = 99;
@@ -107,14 +109,14 @@ static void ask_and_copy(argus_guardian *bank) {
     want(memcmp(room, "???", sizeof room) == 0, "a room without a text stays as it is");
 }
 
-/* Whether the reply is this text. */
+/* Checks that the reply is this text. */
 static void want_reply(argus_guardian *bank, const char *text) {
     char room[64];
     want_answer(argus_reply(bank, room, sizeof room), ARGUS_DONE, (int64_t)strlen(text), text);
     want(memcmp(room, text, strlen(text)) == 0, text);
 }
 
-/* What is told of shapes and actions: a0 is live with its subaction a1, and a2 was aborted. */
+/* Questions about shapes and actions: a0 and its subaction a1 are live, and a2 was aborted. */
 static void ask_of_actions(argus_guardian *bank) {
     want_answer(argus_shape(bank, 2), ARGUS_TEXT, 0, "a shape");
     want_reply(bank, "atomic_variant[no:null,yes:int]");
@@ -133,7 +135,7 @@ static const char FIRST_LINES[] = "0 declare atomic_record[n:int,is:bool,t:text]
                                   "1 declare atomic_array[int] -> o1\n"
                                   "2 declare atomic_variant[no:null,yes:int] -> o2\n";
 
-/* As many whole lines as fit, and the reply stays. */
+/* Copies as many whole lines as fit, and leaves the reply as it is. */
 static void copy_lines(argus_guardian *bank) {
     char room[sizeof FIRST_LINES];
     uint64_t count = 99, entries = (uint64_t)argus_entries(bank).number;
@@ -153,7 +155,7 @@ static void copy_lines(argus_guardian *bank) {
     want_reply(bank, "absent");
 }
 
-/* Objects and entries go on, actions begin anew. */
+/* After a renewal objects stay, and entries are numbered on; actions are numbered from 0 again. */
 static void begin_anew(argus_guardian *bank) {
     uint64_t count = 99, entries;
     want(argus_begin_top(bank).status == ARGUS_ACTION, "an action");
@@ -172,7 +174,7 @@ static void begin_anew(argus_guardian *bank) {
     want_answer(argus_status_of(bank, 0), ARGUS_NUMBER, ARGUS_FOLDED, "it is folded");
 }
 
-/* After it nothing is live, so a checkpoint can be made. */
+/* Aborts everything live, so that a checkpoint can be made. */
 static void abort_all(argus_guardian *bank) {
     want(argus_begin_nested(bank, (uint32_t)argus_begin_top(bank).number).status == ARGUS_ACTION, "a nested topaction");
     want_answer(argus_abort_live(bank), ARGUS_DONE, 0, "an abort of all that is live");
@@ -180,7 +182,8 @@ static void abort_all(argus_guardian *bank) {
     want_answer(argus_abort_live(bank), ARGUS_DONE, 0, "an abort of nothing");
 }
 
-/* Whether the line of the commit that is ready is this text, and a room that is too small for it stays as it is. */
+/* Checks that the prepared commit has this line, and that a buffer too small for it stays as it
+ * is. */
 static void want_line(argus_ready *ready, const char *text) {
     char room[64] = "???";
     int64_t size = (int64_t)strlen(text);
@@ -190,7 +193,8 @@ static void want_line(argus_ready *ready, const char *text) {
     want(memcmp(room, text, strlen(text)) == 0, text);
 }
 
-/* A commit in two steps: each status of each step, with both handles as before where it isn't made. */
+/* A commit in two steps: each status of each step. If a step isn't made, both handles are as
+ * before. */
 static void commit_in_two_steps(void) {
     argus_guardian bank = ARGUS_CLOSED, other = ARGUS_CLOSED;
     argus_ready ready = ARGUS_NOTHING_READY;
@@ -227,7 +231,7 @@ static void commit_in_two_steps(void) {
     want(argus_close(&bank).status == ARGUS_DONE && argus_close(&other).status == ARGUS_DONE, "both are closed");
 }
 
-/* A line that isn't the next one behind these, and why. */
+/* A line that can't come after the lines before it, and the status that says why. */
 typedef struct bad_line {
     const char *before, *line;
     uint32_t status;
@@ -243,7 +247,7 @@ static const bad_line BAD_LINES[] = {
     {"opening entries 4 actions 1\nopening o0 atomic_array[atomic] 1[@1]\n", "4 begin_top -> a1\n", ARGUS_NOT_SOUND, 0},
 };
 
-/* The guardian that is held stays as it is until the one of the lines takes its place. */
+/* The held guardian stays as it is until that of the lines replaces it. */
 static void resume_bad_line(argus_guardian *bank, const bad_line *it) {
     char text[128];
     size_t bytes = 99, lines = 99, size = strlen(it->before);
@@ -260,7 +264,8 @@ static void resume_bad_line(argus_guardian *bank, const bad_line *it) {
     want_answer(argus_close(&again), ARGUS_DONE, 0, "closing it");
 }
 
-/* A listing in two pieces, the first of which ends within a line; what is taken then begins anew. */
+/* A listing in two pieces, of which the first ends in the middle of a line. After argus_resumed,
+ * lines begin from nothing again. */
 static void resume_lines(argus_guardian *bank) {
     size_t bytes = 99, lines = 99, size = sizeof FIRST_LINES - 1;
     argus_guardian again = ARGUS_CLOSED;
@@ -341,8 +346,8 @@ static void be_null(argus_guardian *bank) {
     want(argus_list(bank, ARGUS_OBJECTS).status == ARGUS_BAD_KIND, "argus_list by another question");
 }
 
-/* A process that gets no more memory: commits of which each is made ready, until that finds none; then all is as
- * before, and a commit that is ready is made without any. */
+/* In a process that gets no more memory: prepares and makes commits until one can't be prepared.
+ * This one changes nothing, and a prepared commit is made without memory. */
 static int find_no_memory_for_a_commit(void) {
     argus_guardian bank = ARGUS_CLOSED;
     argus_ready ready = ARGUS_NOTHING_READY;
@@ -358,7 +363,7 @@ static int find_no_memory_for_a_commit(void) {
     return answer.status == ARGUS_NO_MEMORY && argus_close(&bank).status == ARGUS_DONE ? 0 : 1;
 }
 
-/* A process that gets no more memory: the call that finds none changes nothing. */
+/* In a process that gets no more memory: the call that runs out of it changes nothing. */
 static int find_no_memory(void) {
     argus_guardian bank = ARGUS_CLOSED;
     struct rlimit none = {0, 0};

@@ -1,4 +1,5 @@
-/* A guardian that threads share: what its calls want, and what is done where they aren't answered so. */
+/* A guardian that threads share. A call that returns another status than expected ends the process;
+ * a call whose lock isn't free waits for it. */
 #include "store.h"
 
 #include <inttypes.h>
@@ -7,7 +8,7 @@
 #include <string.h>
 #include <time.h>
 
-/* Ends the process unless the call was answered by this status. */
+/* Ends the process if the call returned another status. */
 static int64_t expect(argus_answer answer, uint32_t status, const char *what) {
     if (answer.status != status) {
         fprintf(stderr, "%s: %s, number %" PRId64 "\n", what, argus_answer_name(answer), answer.number);
@@ -23,7 +24,7 @@ static void be_had(int error, const char *what) {
     }
 }
 
-/* A condition whose waits go by the clock that nobody sets. */
+/* A condition variable whose timeouts use the monotonic clock, which nobody sets. */
 static void make_condition(pthread_cond_t *it) {
     pthread_condattr_t how;
     be_had(pthread_condattr_init(&how), "condition");
@@ -45,7 +46,7 @@ void store_close(store *it) {
     pthread_mutex_destroy(&it->lock);
 }
 
-/* The integer of the text that the last call or question left, as 7 or {7}. */
+/* The integer in the text of the last call or question, which is 7 or {7}. */
 static int64_t number_told(argus_guardian *guardian) {
     char room[32];
     int64_t size = expect(argus_reply(guardian, room, sizeof room - 1), ARGUS_DONE, "reply");
@@ -66,8 +67,8 @@ uint32_t store_declare(store *it, int64_t number) {
     return object;
 }
 
-/* Folds the journal, where it has grown by so many entries: no topaction begins until those that are live have ended.
- * The lock is held. */
+/* Folds the journal if it has grown by fold_after entries. It waits until all live topactions have
+ * ended; until then no topaction begins. The mutex is held. */
 static void fold_where_due(store *it) {
     argus_answer answer;
     while (it->is_folding) pthread_cond_wait(&it->ended, &it->lock);
@@ -111,7 +112,7 @@ void store_abort(store *it, const store_action *action) {
     pthread_mutex_unlock(&it->lock);
 }
 
-/* The text that the last question left, which the caller frees. */
+/* The text of the last question. The caller frees it. */
 static char *text_told(argus_guardian *guardian) {
     argus_answer answer = argus_reply(guardian, NULL, 0);
     char *text = malloc((size_t)answer.number + 1);
@@ -121,7 +122,7 @@ static char *text_told(argus_guardian *guardian) {
     return text;
 }
 
-/* Whether this is the action's own number, or that of an ancestor. */
+/* Whether this is the number of the action, or of one of its ancestors. */
 static int is_in_lineage(uint32_t number, const store_action *action) {
     while (action != NULL && action->number != number) action = action->parent;
     return action != NULL;
@@ -132,7 +133,8 @@ static const char *next_line(const char *line) {
     return end == NULL ? "" : end + 1;
 }
 
-/* Whether both hold a read lock against each other. The readers stand a line each, as a7. */
+/* Whether each of the two, to write, has to wait for a read lock of the other's. The readers are a
+ * line each, such as a7. */
 static int wait_for_each_other(const store_action *one, const store_action *other, const char *readers) {
     int is_first_held = 0, is_second_held = 0;
     for (const char *line = readers; *line == 'a'; line = next_line(line)) {
@@ -144,7 +146,7 @@ static int wait_for_each_other(const store_action *one, const store_action *othe
     return is_first_held && is_second_held;
 }
 
-/* Whether one that waits to write the object would wait for this one, and this one for it. */
+/* Whether a writer that waits for the object, and this action, would wait for each other. */
 static int is_in_vain(store *it, const store_action *action, uint32_t object) {
     int is_found = 0;
     if (it->writing == NULL) return 0;
@@ -156,12 +158,12 @@ static int is_in_vain(store *it, const store_action *action, uint32_t object) {
     return is_found;
 }
 
-/* Whether the lock may be had now, by this question. */
+/* Whether the lock is free for the action. The question is ARGUS_CAN_READ or ARGUS_CAN_WRITE. */
 static int may_be_had(store *it, uint32_t question, const store_action *action, uint32_t object) {
     return expect(argus_tell(&it->guardian, question, action->number, object, 0), ARGUS_FLAG, "question") != 0;
 }
 
-/* Waits until the lock may be had, or the patience is over: 0. */
+/* Waits until the lock is free. Returns 0 if patience ends first. */
 static int wait_until_had(store *it, uint32_t question, const store_action *action, uint32_t object) {
     struct timespec limit;
     clock_gettime(CLOCK_MONOTONIC, &limit);
@@ -180,7 +182,8 @@ static void leave(store *it, const store_writer *writer) {
     *at = writer->next;
 }
 
-/* Waits until the write lock may be had. 0: the patience is over, or it would wait in vain. */
+/* Waits until the write lock is free. Returns 0 if patience ends first, or if two would wait for
+ * each other. */
 static int wait_to_write(store *it, const store_action *action, uint32_t object) {
     if (is_in_vain(it, action, object)) return 0;
     store_writer writer = {action, object, it->writing};
@@ -194,7 +197,7 @@ static int is_conflict(argus_answer answer) {
     return answer.status == ARGUS_REFUSED && answer.number == ARGUS_CONFLICT;
 }
 
-/* Makes a change, and once more where it has waited for the lock. */
+/* Makes a change. If the lock isn't free, waits for it and tries once more. */
 static int alter(store *it, const store_action *action, uint32_t object, uint32_t change, const char *text) {
     pthread_mutex_lock(&it->lock);
     argus_answer answer = argus_alter(&it->guardian, action->number, object, change, 0, 0, text);

@@ -1,8 +1,8 @@
-/* Many calls, with a checkpoint now and then: after each checkpoint no more memory is in use than before the first
- * call, but for a little. A checkpoint gives back all that the journal took.
+/* Many calls, with a checkpoint now and then. A checkpoint frees everything that the journal took:
+ * after each one, hardly more memory is in use than before the first call.
  *
- * A turn is a topaction with two subactions, of which one aborts: 3 actions and 32 calls. So 10,000,000 calls begin
- * 937,500 of the 1,000,000 actions that a guardian has. */
+ * A turn is a topaction with two subactions, of which one aborts: 3 actions and 32 calls. So
+ * 10,000,000 calls begin 937,500 of the 1,000,000 actions that a guardian has. */
 #include "clock.h"
 #include "draws.h"
 #include "modes.h"
@@ -14,19 +14,20 @@
 
 enum { RECORDS = 100, CALLS_A_TURN = 32 };
 
-/* How many calls are made between two checkpoints. */
+/* How many calls are made from one checkpoint to the next. */
 static const uint64_t CALLS_A_FOLD = 100000;
 
-/* How many bytes more than before the first call may be in use after a checkpoint: the lists of an object's readers and
- * versions keep the room that they once had. A byte for each call would be far more. */
+/* How many bytes more than before the first call may be in use after a checkpoint. The lists of an
+ * object's readers and versions keep the space that they once needed. A byte for each call would be
+ * far more. */
 static const size_t SLACK = 65536;
 
-/* Reads and sets so many records. */
+/* Reads and sets this many records. */
 static void touch(store *it, uint64_t *draws, const store_action *action, int count) {
     for (int at = 0; at < count; at++) {
         uint32_t object = draws_below(draws, RECORDS);
         int64_t number = 0;
-        /* By one thread: each lock is had at once. */
+        /* There is one thread, so each lock is free. */
         store_get(it, action, object, &number);
         store_set(it, action, object, number + 1);
     }
@@ -44,13 +45,14 @@ static void turn(store *it, uint64_t *draws) {
     store_commit(it, &top);
 }
 
-/* Bytes that malloc has handed out, and not got back. */
+/* How many bytes malloc has handed out and not got back. */
 static size_t in_use(void) {
     struct mallinfo2 info = mallinfo2();
     return info.uordblks + info.hblkhd;
 }
 
-/* Makes the calls up to the next checkpoint, and the checkpoint; what is in use before and after it. */
+/* Makes the calls up to the next checkpoint, and the checkpoint. Returns the bytes in use after it,
+ * and sets *before to those before it. */
 static size_t fold_after(store *it, uint64_t *draws, uint64_t calls, size_t *before) {
     for (uint64_t made = 0; made < calls; made += CALLS_A_TURN) turn(it, draws);
     *before = in_use();

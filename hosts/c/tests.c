@@ -1,4 +1,5 @@
-/* Tests of the store, and of the header's inline functions. Each tells what failed, and all are tried. */
+/* Tests of the store and of the header's inline functions. All are run, and each check that fails
+ * is printed. */
 #include "clock.h"
 #include "modes.h"
 #include "store.h"
@@ -20,7 +21,7 @@ static void check(int is_so, const char *fact, const char *where) {
     fprintf(stderr, "%s: not %s\n", where, fact);
 }
 
-/* A thread that has read a record, and sets it: by a subaction, where that is said. */
+/* A thread that reads a record and then sets it, itself or by a subaction. */
 typedef struct upgrade {
     store *it;
     uint32_t object;
@@ -44,7 +45,7 @@ static void *read_and_set(void *given) {
     return NULL;
 }
 
-/* Of two that read and write, one is refused at once, and the other goes on. */
+/* Of two that read a record and want to set it, one is refused at once, and the other goes on. */
 static void test_upgrade(int is_by_subaction) {
     store records;
     pthread_t threads[2];
@@ -67,7 +68,7 @@ static void test_upgrade(int is_by_subaction) {
     store_close(&records);
 }
 
-/* Who holds a lock to the end of patience is waited for so long. */
+/* A call waits for a held lock as long as patience lasts, and then gives up. */
 static void test_patience(void) {
     store records;
     int64_t number;
@@ -83,7 +84,8 @@ static void test_patience(void) {
     store_close(&records);
 }
 
-/* The example of argus.h: an account of so much, or 0 and why. */
+/* The example of argus.h: opens an account with this content. If that fails, prints why and returns
+ * 0. */
 static int open_account(argus_guardian *bank, const char *content) {
     argus_answer account = argus_declare(bank, "atomic_record[balance:int]"), top, answer;
     if (account.status != ARGUS_OBJECT) return fprintf(stderr, "%s\n", argus_answer_name(account)), 0;
@@ -100,14 +102,15 @@ static void test_example(void) {
     argus_guardian bank = ARGUS_CLOSED;
     CHECK(argus_open(&bank).status == ARGUS_DONE);
     CHECK(open_account(&bank, "{5}"));
-    /* This is no content of that shape: the topaction is aborted, and so a checkpoint can be made. */
+    /* Neither is a content of that shape. The topaction is aborted, so a checkpoint can be made. */
     CHECK(!open_account(&bank, "{true}"));
     CHECK(!open_account(&bank, "{"));
     CHECK(argus_checkpoint(&bank).status == ARGUS_DONE);
     CHECK(argus_close(&bank).status == ARGUS_DONE);
 }
 
-/* The example of argus.h: whether the action has committed. What became of it is in the log before. */
+/* The example of argus.h: writes the action's commit to the log and then makes it. Returns 1 if it
+ * has committed. */
 static int commit_logged(argus_guardian *bank, uint32_t action, FILE *log) {
     char line[64];
     argus_ready ready = ARGUS_NOTHING_READY;
@@ -120,7 +123,7 @@ static int commit_logged(argus_guardian *bank, uint32_t action, FILE *log) {
     return 0;
 }
 
-/* An account of 5, which topaction 0 has created and not yet committed. */
+/* An account with 5, which topaction 0 has created and not yet committed. */
 static void create_account(argus_guardian *bank) {
     CHECK(argus_open(bank).status == ARGUS_DONE);
     CHECK(argus_declare(bank, "atomic_record[balance:int]").status == ARGUS_OBJECT);
@@ -136,7 +139,7 @@ static int base_is(argus_guardian *bank, uint32_t object, const char *text) {
     return answer.status == ARGUS_DONE && (size_t)answer.number == strlen(text) && !memcmp(room, text, strlen(text));
 }
 
-/* What stands in the log is what the journal then has: of a commit, and of one that is refused. */
+/* The log has the lines that the journal then has: of a commit, and of one that is refused. */
 static void test_commit_logged(void) {
     argus_guardian bank = ARGUS_CLOSED;
     static const char wanted[] = "3 commit a0 -> done\n4 commit a0 -> refused Over\n";
@@ -157,7 +160,7 @@ static void test_commit_logged(void) {
     CHECK(argus_close(&bank).status == ARGUS_DONE);
 }
 
-/* A log that takes nothing: nothing is committed, and the action goes on. */
+/* If the log can't be written, nothing is committed, and the action stays live. */
 static void test_commit_cancelled(void) {
     argus_guardian bank = ARGUS_CLOSED;
     FILE *log = fopen("/dev/full", "w");
@@ -173,7 +176,8 @@ static void test_commit_cancelled(void) {
     CHECK(argus_close(&bank).status == ARGUS_DONE);
 }
 
-/* Of two guardians side by side, each has what its own calls left, and no text before its first reply. */
+/* Two guardians side by side: each has what its own calls left, and no text before its first
+ * reply. */
 static void test_beside(void) {
     argus_guardian bank = ARGUS_CLOSED, branch = ARGUS_CLOSED;
     CHECK(argus_open(&bank).status == ARGUS_DONE);
@@ -216,7 +220,7 @@ static uint32_t declared(argus_guardian *guardian, const char *shape) {
     return argus_declare(guardian, shape).status;
 }
 
-/* What the header says of written forms and of limits. */
+/* What the header says about written forms and limits. */
 static void test_grammar(void) {
     argus_guardian guardian = ARGUS_CLOSED;
     CHECK(argus_open(&guardian).status == ARGUS_DONE);
@@ -244,7 +248,7 @@ static void test_grammar(void) {
     CHECK(argus_close(&guardian).status == ARGUS_DONE);
 }
 
-/* A forked process has a guardian of its own: what the one does, the other doesn't see. */
+/* A forked process has a guardian of its own: what one process does, the other doesn't see. */
 static void test_fork(void) {
     argus_guardian guardian = ARGUS_CLOSED;
     int status = 0;

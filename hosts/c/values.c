@@ -1,4 +1,5 @@
-/* Values and contents, written and read by argus_values.h. The written forms are those of docs/LANGUAGE.md, by hand. */
+/* Values and contents, written and read by argus_values.h. The expected texts are written by hand,
+ * after docs/LANGUAGE.md. */
 #include "argus_values.h"
 #include "modes.h"
 
@@ -6,7 +7,7 @@
 #include <stdlib.h>
 #include <string.h>
 
-/* The process ends where this isn't so. */
+/* Ends the process if this doesn't hold. */
 static void want(int is_so, const char *what) {
     if (!is_so) {
         fprintf(stderr, "values: not as it should be: %s\n", what);
@@ -19,7 +20,7 @@ static void want_written(argus_writer *it, const char *text) {
     want(made != NULL && strcmp(made, text) == 0 && it->size == strlen(text), text);
 }
 
-/* Each kind of value: [null,true,-5,"a\"b\\\n",@3,{},<255:[1,2]>]. */
+/* A value of each kind: [null,true,-5,"a\"b\\\n",@3,{},<255:[1,2]>]. */
 static const char EACH[] = "[null,true,-5,\"a\\\"b\\\\\\n\",@3,{},<255:[1,2]>]";
 
 static void write_each(void) {
@@ -69,7 +70,7 @@ static void read_each(void) {
     want(argus_read_close(&it) && argus_read_end(&it) && argus_read_form(&it) == ARGUS_IS_END, "the end");
 }
 
-/* The bounds of integers, and what is none. */
+/* The bounds of integers, and texts that aren't integers. */
 static void integers(void) {
     static const char *const none[] = {"", "-", "-0", "01", "9223372036854775808", "-9223372036854775809", "+1", "a"};
     char room[21];
@@ -90,7 +91,7 @@ static void integers(void) {
     }
 }
 
-/* What doesn't fit, and what is written in no bracket. */
+/* What doesn't fit into its buffer, a bracket too many, and brackets that are too deep. */
 static void rooms(void) {
     char room[4] = "???";
     want(argus_text_quote(room, sizeof room, "ab", 2) == 4, "a text that doesn't fit, by its zero");
@@ -127,7 +128,7 @@ static void read_what_is_none(void) {
     want(argus_read_end(&it) && argus_read_form(&it) == ARGUS_IS_END, "no text");
 }
 
-/* The header's examples. */
+/* The examples of argus_values.h. */
 static int set_owner(argus_guardian *bank, uint32_t action, uint32_t account, const char *name) {
     char value[128];
     if (argus_text_quote(value, sizeof value, name, strlen(name)) >= sizeof value) return 0;
@@ -154,7 +155,7 @@ static int read_account(argus_guardian *bank, int64_t *balance, char *name, size
            argus_read_close(&it) && argus_read_end(&it);
 }
 
-/* What is written is what the guardian then gives. */
+/* The guardian returns what was written. */
 static void accounts(argus_guardian *bank) {
     char name[8], long_name[128];
     int64_t balance = 0;

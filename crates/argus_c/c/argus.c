@@ -1,13 +1,15 @@
-/* What goes into libargus.a and libargus.so beside the proved archive: the functions of argus.h and argus_values.h as
- * real ones, for bindings, and argus_open. tools/dist.sh compiles it; no part of it is proved. */
+/* What libargus.a and libargus.so have beside the proved archive: argus_open, and the inline
+ * functions of argus.h and argus_values.h as exported ones, for bindings. tools/dist.sh compiles
+ * this file. Nothing in it is proved. */
 #define ARGUS_API
 #include "argus.h"
 #include "argus_values.h"
 
 #include <pthread.h>
 
-/* A guardian takes its memory by a word that is never given back (docs/DECISIONS.md, "A budget's word is never given
- * back"). So all share that of this one, which stays open for good, and is reached from here. */
+/* Each heap has a word that is never freed (docs/DECISIONS.md, "A budget's word is never freed").
+ * So all guardians share the word of this one, which stays open and reachable from here
+ * as long as the process runs. */
 static argus_guardian first = ARGUS_CLOSED;
 static pthread_mutex_t turn = PTHREAD_MUTEX_INITIALIZER;
 

@@ -30,7 +30,7 @@ Exit status:
   0  done
   2  a mistake in the command line
   3  the script is refused: `line N: KIND` on standard error
-  4  want of memory, or a worker couldn't be started
+  4  out of memory, or a worker couldn't be started
   5  a read or a write failed";
 
 /// What the words after the program's name ask for. Without any, one worker runs the script, the

@@ -26,7 +26,7 @@ Exit status:
   0  done
   2  a mistake in the command line
   3  the text is no journal's listing: `line N: KIND` on standard error
-  4  want of memory
+  4  out of memory
   5  a read or a write failed";
 
 /// What the words after the program's name ask for. Without any, the bases are listed, and the text

@@ -1,4 +1,4 @@
--- How an escaped text goes on by a character.
+-- What one more character adds to an escaped text.
 use Rattle.std.proofs.Common.{IsUtf8, List, ap, append-nil, append_assoc, encode_utf8, length, sym, ◌++◌, ◌∙◌}
 use Rattle.std.proofs.Common.{◌≡◌, ℕ}
 use Rattle.std.proofs.lemmas.List.{nil_from_length}

@@ -1,9 +1,9 @@
--- With which status a program ends.
+-- The exit status for each error.
 use Rattle.std.specs.Prelude.{ℕ}
 use Rattle.argus_frame.specs.declared.draw_error.DrawError.{DrawError}
 use Rattle.argus_frame.specs.declared.draw_error.DrawError.TheVariants as error
 
--- the status of an error
+-- the exit status for an error
 abbrev pub draw_status : DrawError → ℕ
 draw_status (error.Fault f) = 3
 draw_status error.OutOfMemory = 4

@@ -1,16 +1,15 @@
--- How a text stands in a picture.
+-- How a text is escaped in a picture.
 use Rattle.std.specs.List.{flat_map}
 use Rattle.std.specs.Prelude.{Bool, List, chars, codes, encode_utf8, if◌then◌else◌, nat_lt, ℕ}
 use Rattle.std.specs.Prelude.{◌&&◌, ◌==◌, ◌||◌}
 
--- no text of XML has this character: a control character other than tab and line feed, or one of
--- the two that Unicode has for no character
+-- a picture has no such character: one below U+0020 other than tab and line feed, U+FFFE or U+FFFF
 abbrev pub is_no_character : ℕ → Bool
 is_no_character c =
     nat_lt c 9 || (nat_lt 10 c && nat_lt c 32) || c == 65534 || c == 65535
 
--- a character: the four marks of XML are written by name, and one that no text of XML has as the
--- replacement character, U+FFFD
+-- one character: `&`, `<`, `>` and the quotation mark are written by name, as `&amp;`; a character
+-- that a picture can't have is replaced by U+FFFD; every other is written as it is
 abbrev pub escape : ℕ → List ℕ
 escape c = if c == 38 then codes "&amp;"
     else if c == 60 then codes "&lt;"
@@ -19,6 +18,6 @@ escape c = if c == 38 then codes "&amp;"
     else if is_no_character c then encode_utf8 65533
     else encode_utf8 c
 
--- a text: each of its characters
+-- a text, character by character
 abbrev pub escaped : List ℕ → List ℕ
 escaped text = flat_map escape (chars text)

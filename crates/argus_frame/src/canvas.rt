@@ -1,4 +1,4 @@
-//! `Canvas`: the text of a picture in which the names of objects are still open.
+//! `Canvas`: a picture's text in which the names of objects are filled in later.
 
 ghost use Rattle.std.specs.Prelude.{IfOk, List, OnErr, OnOk, [], map, string_bytes, ℕ, ◌++◌, ◌≡◌};
 ghost use Rattle.argus_frame.specs.Canvas.{canvas_text, label_of, number_label};
@@ -8,14 +8,14 @@ use crate::escaping::append_escaped;
 use argus_memory::{Heap, OutOfMemory, Room};
 use std::mem::replace;
 
-/// What stands in a picture in front of an object's name, and the number of that object.
+/// A stretch of a picture's text, and the number of the object whose name comes after it.
 #[derive(Drop)]
 pub struct Stretch {
     pub text: String<Room>,
     pub object: u32,
 }
 
-/// The text of a picture in which the names of objects are still open.
+/// A picture's text in which the names of objects are filled in later.
 ///
 /// ```text
 /// let mut canvas = Canvas::new(heap);
@@ -27,14 +27,14 @@ pub struct Stretch {
 /// ```
 #[derive(Drop)]
 pub struct Canvas {
-    /// Each with the object whose name stands behind it, in order.
+    /// The parts of the text that end in front of an object's name, in order.
     pub stretches: Vec<Stretch, Room>,
-    /// What stands behind the last of these names.
+    /// What comes after the last of these names.
     pub last: String<Room>,
 }
 
 impl Canvas {
-    /// Nothing is drawn yet.
+    /// A canvas without any text.
     pub fn new(heap: Heap) -> Canvas
         ensures stretches { result.stretches.items ≡ [] }
         ensures last { string_bytes result.last ≡ [] }
@@ -45,7 +45,7 @@ impl Canvas {
         }
     }
 
-    /// The name of this object comes next.
+    /// Adds the name of this object, which `with_names` fills in.
     pub fn put_name(&mut self, heap: Heap, object: u32) -> Result<(), OutOfMemory>
         ensures text { (names : List (List ℕ)) → OnOk result (canvas_text names self.new
             ≡ canvas_text names self.old ++ label_of names object) }
@@ -58,8 +58,8 @@ impl Canvas {
         Ok(())
     }
 
-    /// The text with the names of the first objects, escaped; every other object is called by its
-    /// number, as `o3`.
+    /// The text in which the first objects have these names, escaped. Every other object is called
+    /// by its number: `o3`.
     pub fn with_names(&self, heap: Heap, names: &[&str]) -> Result<String<Room>, OutOfMemory>
         ensures { IfOk result (λ text. string_bytes text
             ≡ canvas_text (map (λ name. name.now) names.now) self.now) }
@@ -73,7 +73,7 @@ impl Canvas {
     }
 }
 
-// Appends the text of the stretch, and the name behind it.
+// Appends the text of the stretch, and the label of its object.
 fn append_stretch(
     stretch: &Stretch,
     names: &[&str],
@@ -86,7 +86,7 @@ fn append_stretch(
     append_label(stretch.object, names, out)
 }
 
-// Appends the name of the object, or `o` and its number where it has none.
+// Appends the object's name, or `o` and its number if it has no name.
 fn append_label(object: u32, names: &[&str], out: &mut String<Room>) -> Result<(), OutOfMemory>
     ensures { OnOk result (string_bytes out.new ≡ string_bytes out.old
         ++ label_of (map (λ name. name.now) names.now) object) }

@@ -10,7 +10,7 @@ use thiserror::Error;
 /// | Error | Status | Text | When |
 /// |---|---|---|---|
 /// | `Fault` | 3 | `line N: KIND` | a line of the listing is faulty; nothing was written |
-/// | `OutOfMemory` | 4 | `out of memory` | memory is wanting; nothing was written |
+/// | `OutOfMemory` | 4 | `out of memory` | memory ran out; nothing was written |
 /// | `Read`, `Write` | 5 | `read fault`, `write fault` | the stream failed |
 ///
 /// ```text
@@ -33,7 +33,7 @@ pub enum DrawError {
 impl DrawError {
     ghost use Rattle.argus_frame.specs.DrawError.{draw_status};
 
-    /// The status with which a program ends.
+    /// The exit status of a program that ends with this error.
     pub fn status(self) -> u8
         ensures { result ≡ draw_status self }
     {

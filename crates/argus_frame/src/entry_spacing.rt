@@ -1,9 +1,9 @@
-//! `EntrySpacing`: how far apart entries stand.
+//! `EntrySpacing`: how far apart a picture's entries are.
 
 ghost use Rattle.std.specs.Prelude.{◌≡◌, ◌≢◌, ◌*◌};
 ghost use Rattle.argus_frame.specs.EntrySpacing.{pixels_of};
 
-/// How far apart entries stand: the more there are, the closer.
+/// How far apart a picture's entries are: the more there are, the closer together.
 ///
 /// | Step | Entries | Pixels between two |
 /// |---|---|---|
@@ -22,7 +22,7 @@ pub enum EntrySpacing {
 }
 
 impl EntrySpacing {
-    /// The one for so many entries.
+    /// The spacing for this many entries.
     pub fn for_entries(entries: u32) -> EntrySpacing {
         match entries {
             0..=64 => EntrySpacing::Wide,
@@ -31,7 +31,7 @@ impl EntrySpacing {
         }
     }
 
-    /// Each so many entries have a number on the axis.
+    /// How many entries there are from one number on the axis to the next.
     pub fn tick(self) -> u32
         ensures { result ≢ 0 }
     {
@@ -43,7 +43,7 @@ impl EntrySpacing {
     }
 }
 
-/// How many pixels so many entries take.
+/// How many pixels this many entries take.
 pub fn pixels(step: EntrySpacing, entries: u32) -> u64
     ensures { result ≡ pixels_of step * entries }
 {

@@ -1,12 +1,13 @@
-//! Texts in a picture: escaped.
+//! Escapes texts for a picture.
 
 ghost use Rattle.std.specs.Prelude.{OnOk, encode_utf8, string_bytes, ◌++◌, ◌≡◌};
 ghost use Rattle.argus_frame.specs.Escaping.{escape, escaped};
 
 use argus_memory::{OutOfMemory, Room};
 
-/// Appends the text, so that it stands in the picture as it is: nothing in it is markup. A
-/// character that no XML text may have stands as `U+FFFD`.
+/// Appends the text so that a picture shows it as it is: nothing in it is read as markup. A control
+/// character below U+0020, other than tab and line feed, becomes `U+FFFD`, and so do U+FFFE and
+/// U+FFFF.
 ///
 /// ```text
 /// append_escaped("<a> & b", &mut out)?;              // &lt;a&gt; &amp; b

@@ -1,12 +1,13 @@
-//! `Frame`: where things stand in a picture.
+//! `Frame`: where the parts of a picture are.
 
 ghost use Rattle.std.specs.Prelude.{◌≡◌, ◌+◌, ◌*◌, ◌<◌, ◌≤◌};
 ghost use Rattle.argus_frame.specs.Frame.{height_of, lane_top, row_top, width_of, x_of};
 
 use crate::entry_spacing::{EntrySpacing, pixels};
 
-/// The size of a picture: how far apart entries stand and how many there are, how many rows of
-/// actions and lanes of objects. All else follows from it, in pixels from the upper left corner.
+/// The size of a picture: how far apart its entries are, how many entries, rows of actions and
+/// lanes of objects there are. All coordinates follow from it, in pixels from the upper left
+/// corner.
 ///
 /// ```text
 /// let frame = Frame { step: EntrySpacing::for_entries(2), entries: 2, rows: 1, lanes: 0 };
@@ -26,7 +27,7 @@ pub const BAR: u64 = 14;
 /// The height of an object's lane.
 pub const LANE: u64 = 54;
 
-/// Where this entry stands.
+/// The x coordinate of this entry.
 pub fn entry_left(frame: &Frame, entry: u32) -> u64
     ensures place { result ≡ x_of frame.now.step entry }
     ensures within { entry ≤ frame.now.entries → result < width_of frame.now }
@@ -51,14 +52,14 @@ pub fn lane_at(frame: &Frame, lane: u32) -> u64
     158 + 30 * u64::from(frame.rows) + 60 * u64::from(lane)
 }
 
-/// How wide the picture is.
+/// The width of the picture.
 pub fn width(frame: &Frame) -> u64
     ensures { result ≡ width_of frame.now }
 {
     (236 + pixels(frame.step, frame.entries)).max(980)
 }
 
-/// How high the picture is.
+/// The height of the picture.
 pub fn height(frame: &Frame) -> u64
     ensures { result ≡ height_of frame.now }
 {

@@ -1,6 +1,6 @@
-//! Where the parts of a picture stand, and why none is drawn.
+//! Where the parts of a picture are, and why a listing isn't drawn.
 //!
-//! `argus_picture` draws by it, and passes the errors on.
+//! `argus_picture` takes its coordinates and its errors from here.
 #![tactic(auto)]
 
 mod canvas;

@@ -3,7 +3,7 @@
 use crate::listing_fault_kind::ListingFaultKind;
 use thiserror::Error;
 
-/// The first faulty line of a listing, numbered from 1, and why it is refused.
+/// The first faulty line of a listing, with its number from 1 on, and why it is refused.
 ///
 /// ```text
 /// line 3: NotNext

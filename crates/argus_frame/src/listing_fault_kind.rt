@@ -7,16 +7,17 @@ use thiserror::Error;
 /// | Kind | When |
 /// |---|---|
 /// | `TooLong` | the listing goes on past 67,108,864 bytes, or past 65,536 entries |
-/// | `Torn` | the text ends in the midst of the line: it has no line feed |
+/// | `Torn` | the text ends in the middle of the line: it has no line feed |
 /// | `NoText at B` | the line isn't UTF-8, from byte B on |
 /// | `NotAnOpening` | the line begins with `opening `, and can't be the opening's next one |
-/// | `NoLine at B` | the line is that of no entry, from byte B on |
+/// | `NoLine at B` | it isn't the line of an entry, from byte B on |
 /// | `NotNext` | it is the line of an entry, but with another number than the next |
-/// | `Unlawful` | it is the next entry's line, and no guardian answers so (below) |
+/// | `Unlawful` | it is the next entry's line, but no guardian gives this reply (below) |
 ///
-/// No guardian answers so where the action isn't live, the object isn't declared, what is declared
-/// or begun hasn't the next number, an action that was begun by it is live at its commit, the answer
-/// is none of this call, or a change doesn't suit its object.
+/// No guardian gives the reply if the action isn't live, if the object isn't declared, if the
+/// object or action in the reply doesn't have the next number, if an action that it began is live
+/// at its commit, if the reply is none that this call can have, or if a change doesn't suit its
+/// object.
 ///
 /// ```text
 /// fault.kind == ListingFaultKind::NotNext            // `1 begin_top -> a0` as the first line
@@ -32,8 +33,8 @@ pub enum ListingFaultKind {
     NoText { at: usize },
     #[error("NotAnOpening")]
     NotAnOpening,
-    /// `at` is the length in bytes of the line's longest prefix that begins an entry's line, or, in
-    /// a declaration, of what stands before a shape that can't be made.
+    /// `at` is the length in bytes of the line's longest prefix with which an entry's line can
+    /// begin; of a declaration whose shape can't be made, of what comes before the shape.
     #[error("NoLine at {at}")]
     NoLine { at: usize },
     #[error("NotNext")]

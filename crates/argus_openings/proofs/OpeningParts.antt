@@ -1,4 +1,4 @@
--- The parts of an opening's lines: where one doesn't come, the text is no such line.
+-- The parts of an opening's lines: if one is missing, the text isn't such a line.
 use Rattle.std.proofs.Common.{◌≡◌, ℕ, ◌<◌, List, ◌∷◌, length, arith, inl}
 use Rattle.std.specs.Prelude.{None, Option, Some, codes}
 use Rattle.argus_contents.specs.Content.{PlainContent}

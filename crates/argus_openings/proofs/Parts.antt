@@ -1,4 +1,4 @@
--- Texts that are forms of a language whole: where a part of a pair doesn't come, the text is no form of it.
+-- Texts that are whole forms of a language: without one of its parts a text isn't a pair.
 use Rattle.std.proofs.Common.{◌≡◌, ℕ, ◌<◌, List, [], ◌∷◌, ◌++◌, length, refl, sym, ap, ◌∙◌, subst, append-nil, arith}
 use Rattle.argus_texts.specs.Language.{FormOf, IsNot, Language, NoWay, Reads, Starts, Stops}
 use Rattle.argus_texts.specs.Languages.{Pairs}
@@ -10,11 +10,11 @@ no_way_starts : (L : Language) (front back : List ℕ) → NoWay L front back �
 no_way_starts L front [] h t = h (subst (Starts L) (append-nil front) t)
 no_way_starts L front (c ∷ back) h t = h back t
 
--- a text that stops begins with no form
+-- a text at which a reader stops doesn't begin with a form
 pub stops_starts : (L : Language) (text : List ℕ) (left : ℕ) → Stops L text left → Starts L text → ⊥
 stops_starts L text left s t = no_way_starts L s.front s.back s.no_way (subst (Starts L) s.whole t)
 
--- a form begins with itself
+-- a text that is a form begins with a form
 pub form_starts : (L : Language) → Clear L → (text : List ℕ) → FormOf L text → Starts L text
 form_starts L k text f = record {
   thing = f.thing;
@@ -22,13 +22,13 @@ form_starts L k text f = record {
   reads = record { good = f.good; ends = k.nil f.thing; is = f.is ∙ sym (append-nil (L.form f.thing)) };
 }
 
--- the whole text was read
+-- nothing is left: the whole text was read
 pub read_whole : (L : Language) (b : L.Thing) (text rest : List ℕ) → Reads L text b rest → length rest ≡ 0
     → IsForm L b text
 read_whole L b text [] r h = record { good = r.good; is = r.is ∙ append-nil (L.form b) }
 read_whole L b text (c ∷ rest) r h = absurd (omega arith)
 
--- bytes come behind what was read
+-- something is left after what was read: the text isn't a form
 pub left_no : (L : Language) → Clear L → (b : L.Thing) (text rest : List ℕ) → Reads L text b rest → 0 < length rest
     → FormOf L text → ⊥
 left_no L k b text rest r h f =
@@ -38,7 +38,7 @@ left_no L k b text rest r h f =
     omega arith
 
 module _ (L M : Language) (c : ℕ) (p : Precedes L c) where
-  -- the first part of a pair comes first
+  -- a pair begins with its first part
   pub pair_starts : (text : List ℕ) → FormOf (Pairs L c M) text → Starts L text
   pair_starts text f = record {
     thing = f.thing.0;
@@ -52,14 +52,14 @@ module _ (L M : Language) (c : ℕ) (p : Precedes L c) where
       (k.one a f.thing.0 rest (c ∷ M.form f.thing.1) r.good f.good.0 r.ends (p f.thing.0 (M.form f.thing.1))
       (sym r.is ∙ f.is)).1
 
-  -- the byte between doesn't come
+  -- the byte between the parts is missing
   pub between_no : Clear L → (text : List ℕ) (a : L.Thing) (rest : List ℕ) → Reads L text a rest → IsNot c rest
       → FormOf (Pairs L c M) text → ⊥
   between_no k text a rest r n f =
       let other = subst (IsNot c) (behind_first k text a rest r f) n in
       other refl
 
-  -- the second part doesn't come
+  -- the second part is missing
   pub second_no : Clear L → (text : List ℕ) (a : L.Thing) (next mid : List ℕ) → Reads L text a next → next ≡ c ∷ mid
       → (FormOf M mid → ⊥) → FormOf (Pairs L c M) text → ⊥
   second_no k text a next mid r e n f =
@@ -69,7 +69,7 @@ module _ (L M : Language) (c : ℕ) (p : Precedes L c) where
         is = tail_of (sym e ∙ behind_first k text a next r f);
       })
 
-  -- both came
+  -- both parts are there
   pub pair_whole : (text : List ℕ) (a : L.Thing) (b : M.Thing) (next mid : List ℕ) → Reads L text a next
       → next ≡ c ∷ mid
       → IsForm M b mid → IsForm (Pairs L c M) (a, b) text

@@ -1,4 +1,4 @@
--- What an object's line says is told by its text.
+-- The text of an object's line determines what it says.
 use Rattle.std.proofs.Common.{List, ap, append-nil, arith, get_or, inl, refl, sym, ◌++◌, ◌∙◌, ◌∷◌, ◌≡◌, ℕ, []}
 use Rattle.std.specs.Prelude.{None, Option, Some, codes}
 use Rattle.argus_contents.specs.Content.{PlainContent, arr, rec, var}
@@ -30,7 +30,7 @@ content_told (Some c) (Some d) w v e =
     ap Some (one_content 16 c d [] [] w v (append-nil (content_spelling c) ∙ e ∙ sym (append-nil
     (content_spelling d)))).0
 
--- the text of an object's line tells its number, its shape and its content
+-- the text of an object's line determines its number, its shape and its content
 pub object_told : (o p : ℕ) (a b : PlainShape × Option PlainContent) (text : List ℕ) → IsForm ObjectLines (o, a) text
     → IsForm ObjectLines (p, b) text → (o ≡ p) × (a ≡ b)
 object_told o p a b text f g =

@@ -1,4 +1,4 @@
--- The languages of an opening's lines, behind their first word.
+-- The languages of an opening's lines, after their first word.
 use Rattle.std.specs.Prelude.{List, None, Option, Some, codes, ℕ, ◌≡◌}
 use Rattle.argus_contents.specs.Content.{PlainContent}
 use Rattle.argus_contents.specs.declared.limits.TheConstants.{MAX_ACTIONS, MAX_VALUE_DEPTH}
@@ -10,13 +10,13 @@ use Rattle.argus_texts.specs.Language.{Language}
 use Rattle.argus_texts.specs.Languages.{Numbers, Pairs}
 use Rattle.argus_texts.specs.ShapeLanguages.{Shapes}
 
--- how many entries and actions went before
+-- how many entries and actions the opening stands for: `entries 11 actions 3`
 abbrev pub FoldedLines : Language
 FoldedLines =
     Pairs (Worded (codes "entries ") (Numbers 1 MAX_FIRST_ENTRY)) blank
     (Worded (codes "actions ") (Numbers 0 MAX_ACTIONS))
 
--- a content as it is written; `absent` where there is none
+-- a content as it is written; `absent` if there is none
 abbrev pub content_text : Option PlainContent → List ℕ
 content_text None = codes "absent"
 content_text (Some c) = content_spelling c
@@ -26,7 +26,7 @@ abbrev pub IsReadableContent : Option PlainContent → Type 0
 IsReadableContent None = Unit {0}
 IsReadableContent (Some c) = PartsWithin MAX_VALUE_DEPTH c
 
--- contents, or the word that says that there is none
+-- contents, or the word `absent`
 abbrev pub OptionContents : Language
 OptionContents = record {
   Thing = Option PlainContent;
@@ -35,11 +35,11 @@ OptionContents = record {
   Ends = λ c rest. Unit {0};
 }
 
--- objects with their shapes and contents
+-- objects with their shapes and contents: `o0 atomic_record[balance:int] {7}`
 abbrev pub ObjectLines : Language
 ObjectLines = Pairs (Worded (codes "o") Ids) blank (Pairs Shapes blank OptionContents)
 
--- text is the form of this thing
+-- the text is how the language writes this thing, which it allows
 pub record IsForm (L : Language) (thing : L.Thing) (text : List ℕ) : Type 0 where
   pub good : L.Good thing
   pub is : text ≡ L.form thing

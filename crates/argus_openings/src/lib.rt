@@ -1,4 +1,4 @@
-//! The lines of an opening, read: what stands behind their first word.
+//! Reads the lines of an opening, from what comes after their first word.
 #![tactic(auto)]
 
 mod opening_reading;

@@ -1,4 +1,4 @@
-//! What the lines of an opening say, behind their first word.
+//! Reads what comes after the first word of an opening's lines.
 
 ghost use Rattle.std.specs.List.{list_all};
 ghost use Rattle.std.specs.Prelude.{IfErr, IfOk, nat_lt, true, ◌<◌, ◌^◌, ◌≡◌, ◌≤◌};
@@ -16,11 +16,11 @@ use argus_journal::limits::MAX_FIRST_ENTRY;
 use argus_memory::Heap;
 use argus_texts::front::{Stop, Unread, expect, number, one_content, one_shape, word};
 
-// As many actions as there may be, as a number of the texts' reader.
+// The most actions that there may be, in the type of the reader's numbers.
 const MOST_ACTIONS: u64 = MAX_ACTIONS as u64;
 
-/// How many entries and how many actions went before, at least one entry. `Left`: the text isn't what
-/// stands behind the first word of an opening's first line.
+/// How many entries, at least one, and how many actions the opening stands for. `Left`: the text
+/// isn't what comes after `opening ` in an opening's first line.
 ///
 /// ```text
 /// let (entries, actions) = folded_numbers("entries 11 actions 3")?;
@@ -38,8 +38,8 @@ pub fn folded_numbers(text: &str) -> Result<(u64, u32), Stop>
     Ok((entries, actions as u32))
 }
 
-/// The number of an object, its shape and its content. `Left`: the text isn't what stands behind the
-/// first word of an object's line in an opening.
+/// The number of an object, its shape and its content, which is `None` for `absent`. `Left`: the
+/// text isn't what comes after `opening ` in an object's line.
 ///
 /// ```text
 /// let (o, shape, content) = object_line(heap, "o0 atomic_record[balance:int] {7}")?;
@@ -57,7 +57,7 @@ pub fn object_line(heap: Heap, text: &str) -> Result<(u64, Shape, Option<Content
     Ok((o, shape, content))
 }
 
-/// The number behind the word, and what is behind it.
+/// The number after the word `before`, and what comes after the number.
 fn number_behind<'a>(
     text: &'a str,
     before: &str,
@@ -76,7 +76,7 @@ fn number_behind<'a>(
     Ok((number, rest))
 }
 
-/// The shape at the front, and what is behind it.
+/// The shape at the front, and what comes after it.
 fn shape_at(heap: Heap, text: &str) -> Result<(Shape, &str), Stop>
     ensures read { IfOk result (λ r. Reads Shapes text.now r.0 r.1.now) }
     ensures stops { IfErr result (λ e. OnLeft e (λ left. BeginsNo Shapes text.now)) }
@@ -88,7 +88,7 @@ fn shape_at(heap: Heap, text: &str) -> Result<(Shape, &str), Stop>
     }
 }
 
-/// The content that the text is, or none.
+/// The content that the text is; `None` if it is `absent`.
 fn content_line(heap: Heap, text: &str) -> Result<Option<Content>, Stop>
     ensures read { IfOk result (λ c. IsForm OptionContents (plain_option c) text.now) }
     ensures stops { IfErr result (λ e. OnLeft e (λ left. FormOf OptionContents text.now → ⊥)) }

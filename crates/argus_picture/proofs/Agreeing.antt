@@ -1,4 +1,4 @@
--- How far the objects that a script names are those that are there.
+-- How far the objects that a script declares agree with a journal's.
 use Rattle.std.proofs.Common.{List, ap, ap₂, append-nil, arith, drop, get_or, length, refl, sym, take, take_all}
 use Rattle.std.proofs.Common.{suc, zero, ◌+◌, ◌++◌, ◌<◌, ◌∙◌, ◌∷◌, ◌≡◌, ◌≤◌, ℕ, []}
 use Rattle.std.proofs.lemmas.List.{drop_more, length-take-le, take-append-drop, take_more}
@@ -6,7 +6,7 @@ use Rattle.argus_contents.specs.Shape.{PlainShape}
 use Rattle.argus_picture.specs.Naming.{IsNamesFault}
 use Rattle.argus_picture.specs.declared.names_fault_kind.NamesFaultKind.TheVariants as kind
 
--- the shape at a place within a list
+-- the shape at an index of a list
 shape_at : (shapes : List PlainShape) (n : ℕ) → n < length shapes
     → (shape : PlainShape) × (shape ≡ get_or shapes n shape)
 shape_at [] n below = absurd (omega (arith, below))
@@ -14,12 +14,12 @@ shape_at (shape ∷ shapes) zero below = (shape, refl)
 shape_at (shape ∷ shapes) (suc n) below = shape_at shapes n (omega (arith, below))
 
 module _ (there named : List PlainShape) (n : ℕ) (same : take n there ≡ take n named) where
-  -- all that are named are there
+  -- the journal has all objects that the script declares
   pub all_there : length named ≤ n → (more : List PlainShape) × (there ≡ named ++ more)
   all_there past =
       (drop n there, sym (take-append-drop n there) ∙ ap (λ x. x ++ drop n there) (same ∙ take_all n named past))
 
-  -- the one that is named next isn't there
+  -- the journal lacks the object that the script declares next
   pub next_lacks : (shape : PlainShape) → shape ≡ get_or named n shape → n < length named → length there ≤ n
       → IsNamesFault there named (record { object = n; kind = kind.NotDeclared })
   next_lacks shape at below past = record {
@@ -34,14 +34,14 @@ module _ (there named : List PlainShape) (n : ℕ) (same : take n there ≡ take
     says = refl;
   }
 
-  -- the same, whichever it is
+  -- the same, whatever its shape
   pub next_missing : n < length named → length there ≤ n
       → IsNamesFault there named (record { object = n; kind = kind.NotDeclared })
   next_missing below past = let found = shape_at named n below in next_lacks found.0 found.1 below past
 
   module _ (other shape : PlainShape) (here : other ≡ get_or there n other) (at : shape ≡ get_or named n shape)
       (within : n < length there) (below : n < length named) where
-    -- it has another shape there
+    -- the journal has it with another shape
     pub next_differs : (other ≡ shape → ⊥) → IsNamesFault there named (record { object = n; kind = kind.OtherShape })
     next_differs differ = record {
       front = take n named;
@@ -60,7 +60,7 @@ module _ (there named : List PlainShape) (n : ℕ) (same : take n there ≡ take
       );
     }
 
-    -- it has the same shape there
+    -- the journal has it with the same shape
     pub next_agrees : other ≡ shape → take (n + 1) there ≡ take (n + 1) named
     next_agrees e =
         take_more there n other within

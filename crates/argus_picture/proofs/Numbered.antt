@@ -1,4 +1,4 @@
--- The line of an entry, with its number: it is the listing's next one, or what is wrong with it.
+-- The line of an entry with a number: it is the listing's next line, or what is wrong with it.
 use Rattle.std.proofs.Common.{Err, List, Ok, Result, inl, inr, subst, sym, ◌+◌, ◌<◌, ◌≡◌, ◌⊎◌, ℕ}
 use Rattle.std.proofs.lemmas.Result.{IfErr-weaker}
 use Rattle.std.specs.Prelude.{IfErr, OnOk}
@@ -9,7 +9,7 @@ use Rattle.argus_picture.specs.declared.limits.TheConstants.{MAX_ENTRIES}
 use Rattle.argus_picture.specs.declared.line_error.LineError.{LineError}
 use Rattle.argus_picture.specs.declared.line_error.LineError.TheVariants as line_error
 
--- it was entered, if there was no error
+-- if there was no error, the line was taken as an entry
 pub entered : (r : Result (Unit {0}) LineError) (at next : Place) (line : List ℕ) → at.entries < MAX_ENTRIES
     → IsNumbered (at.first + at.entries) line → OnOk r (next.first ≡ at.first)
     → OnOk r (next.entries ≡ at.entries + 1) → OnOk r (Enters at next line)
@@ -22,7 +22,7 @@ says_of_next : (e : LineError) (at : Place) (line : List ℕ) → IsNumbered (at
 says_of_next e at line numbered (inl is) = subst (λ x. SaysOfLine x at line) (sym is) tt
 says_of_next e at line numbered (inr is) = subst (λ x. SaysOfLine x at line) (sym is) numbered
 
--- the next entry's line was refused: for no memory, or since no guardian would reply so
+-- the next entry's line was refused: memory ran out, or no guardian gives this reply
 pub refused : (r : Result (Unit {0}) LineError) (at : Place) (line : List ℕ) → IsNumbered (at.first + at.entries) line
     → IfErr r (λ e. (e ≡ line_error.OutOfMemory) ⊎ (e ≡ line_error.Fault kind.Unlawful))
     → IfErr r (λ e. SaysOfLine e at line)

@@ -1,4 +1,4 @@
--- The lines of openings: what each says, and what can't be the next one.
+-- The lines of openings: what each says, and which text can't be the next line.
 use Rattle.std.proofs.Common.{List, ap, arith, codes, inl, inr, refl, subst, sym, true, ◌+◌, ◌++◌, ◌<◌}
 use Rattle.std.proofs.Common.{◌∙◌, ◌≡◌, ℕ}
 use Rattle.std.proofs.lemmas.List.{append_cancel_left}
@@ -17,7 +17,7 @@ pub of_opening : (line rest : List ℕ) → line ≡ codes "opening " ++ rest �
 of_opening line rest e =
     record { thing = tt; rest = rest; reads = record { good = tt; ends = tt; is = e } }
 
--- what stands behind the first word of a line
+-- equal lines of an opening are equal after their first word
 behind_word : (rest other : List ℕ) → codes "opening " ++ rest ≡ codes "opening " ++ other → rest ≡ other
 behind_word rest other e = append_cancel_left (codes "opening ") rest other e
 
@@ -25,7 +25,7 @@ form_behind : (rest other : List ℕ) → codes "opening " ++ rest ≡ codes "op
     → IsForm ObjectLines thing other → IsForm ObjectLines thing rest
 form_behind rest other e thing f = record { good = f.good; is = behind_word rest other e ∙ f.is }
 
--- nothing came before, and the text is no first line
+-- no line came before, and the text isn't that of an opening's first line
 pub no_first : (at : Place) (rest : List ℕ) → at ≡ start → (FormOf FoldedLines rest → ⊥)
     → IsOfOpening (codes "opening " ++ rest) × IsNoOpening at (codes "opening " ++ rest)
 no_first at rest e n = (of_opening (codes "opening " ++ rest) rest refl, no)
@@ -35,7 +35,7 @@ no_first at rest e n = (of_opening (codes "opening " ++ rest) rest refl, no)
         n (record { thing = (next.first, o.actions); good = o.form.good; is = behind_word rest o.rest o.is ∙ o.form.is })
     no next (inr a) = let z : at.first ≡ 0 = ap (λ (p : Place). p.first) e in omega (arith, z, a.opened)
 
--- there is an opening, and the text says no object
+-- there is an opening, and the text isn't that of an object
 pub no_object : (at : Place) (rest : List ℕ) → 0 < at.first → (FormOf ObjectLines rest → ⊥)
     → IsOfOpening (codes "opening " ++ rest) × IsNoOpening at (codes "opening " ++ rest)
 no_object at rest h n = (of_opening (codes "opening " ++ rest) rest refl, no)
@@ -46,7 +46,7 @@ no_object at rest h n = (of_opening (codes "opening " ++ rest) rest refl, no)
         let f = form_behind rest a.rest a.is (at.objects, (a.shape, a.content)) a.form in
         n (record { thing = (at.objects, (a.shape, a.content)); good = f.good; is = f.is })
 
--- there is an opening, and the object that the text says can't be added
+-- there is an opening, and the object of the text can't be added
 pub no_adding : (at : Place) (rest : List ℕ) (o : ℕ) (shape : PlainShape) (content : Option PlainContent)
     → 0 < at.first → IsForm ObjectLines (o, (shape, content)) rest
     → (o ≡ at.objects → o < MAX_OBJECTS → may_fit shape content ≡ true → ⊥)
@@ -61,7 +61,7 @@ no_adding at rest o shape content h f n = (of_opening (codes "opening " ++ rest)
         n same.0 (omega (arith, same.0, a.room))
         (subst (λ (x : PlainShape × Option PlainContent). may_fit x.0 x.1 ≡ true) (sym same.1) a.fitting)
 
--- neither nothing came before, nor is there an opening without an entry
+-- a line came before, and there is no opening or an entry came before
 pub no_opening : (at : Place) (rest : List ℕ) → (at ≡ start → ⊥) → (at.entries ≡ 0 → 0 < at.first → ⊥)
     → IsOfOpening (codes "opening " ++ rest) × IsNoOpening at (codes "opening " ++ rest)
 no_opening at rest n m = (of_opening (codes "opening " ++ rest) rest refl, no)
@@ -70,7 +70,7 @@ no_opening at rest n m = (of_opening (codes "opening " ++ rest) rest refl, no)
     no next (inl o) = n o.none
     no next (inr a) = m a.none a.opened
 
--- where the three numbers of a place are these
+-- a place with these three numbers
 place_is : (a : Place) (f o n : ℕ) → a.first ≡ f → a.objects ≡ o → a.entries ≡ n
     → a ≡ record { first = f; objects = o; entries = n }
 place_is a f o n d e h =
@@ -81,7 +81,7 @@ place_is a f o n d e h =
 pub is_start : (a : Place) → a.first ≡ 0 → a.objects ≡ 0 → a.entries ≡ 0 → a ≡ start
 is_start a d e h = place_is a 0 0 0 d e h
 
--- the text is the first line
+-- the text is that of an opening's first line
 pub opens : (at next : Place) (rest : List ℕ) (actions : ℕ) → at ≡ start
     → IsForm FoldedLines (next.first, actions) rest → next.objects ≡ at.objects → next.entries ≡ at.entries
     → IsNextOfOpening at next (codes "opening " ++ rest)
@@ -95,7 +95,7 @@ opens at next rest actions e f o n = inl (record {
       (n ∙ ap (λ (p : Place). p.entries) e);
 })
 
--- the text says the next object
+-- the text is that of the opening's next object
 pub adds : (at next : Place) (rest : List ℕ) (o : ℕ) (shape : PlainShape) (content : Option PlainContent)
     → at.entries ≡ 0 → 0 < at.first
     → (o ≡ at.objects) × (o < MAX_OBJECTS) × (may_fit shape content ≡ true)

@@ -48,20 +48,20 @@ one_part text e =
     let far : length text ≤ at = grind (arith, p) in
     slice_split_none is_feed text (λ k d l. fails_before_first is_feed text k d (omega (arith, l, far)))
 
--- a text has a part
+-- each text has at least one part
 some_parts : (text : List ℕ) → parts text ≢ []
 some_parts text e = let l = length-slice_split is_feed text in omega (arith, l, ap length e)
 
 -- LINES
 
--- one more line behind those that lead to a place
+-- lines that lead from one place to another, and one more line
 leads_more : (a : Place) (front : List (List ℕ)) (b : Place) (x : List ℕ) (c : Place) → Leads a front b → Takes b c x
     → Leads a (front ++ x ∷ []) c
 leads_more a [] b x c l t = (c, subst (λ (p : Place). Takes p c x) (sym l) t, refl)
 leads_more a (y ∷ front) b x c l t = (l.0, l.1, leads_more l.0 front b x c l.2 t)
 
--- Up to this line, which is numbered from 1 and is the first of the rest, the lines are a listing's, which has come
--- so far.
+-- The lines before this one are a listing's, which has come to the place `at`. The line has this
+-- number, from 1 on, and is the first of the rest.
 pub record ReadTo (at : Place) (line : ℕ) (rest listing : List ℕ) : Type 0 where
   pub front : List (List ℕ)
   pub number : line ≡ length front + 1

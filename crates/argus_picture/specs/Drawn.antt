@@ -1,4 +1,4 @@
--- What a listing is that was read to be drawn.
+-- What `draw` has read: a listing, or what an error says about it.
 use Rattle.std.specs.Prelude.{List, Option, ℕ, ◌+◌}
 use Rattle.argus_frame.specs.declared.draw_error.DrawError.{DrawError}
 use Rattle.argus_frame.specs.declared.draw_error.DrawError.TheVariants as draw_error
@@ -9,19 +9,19 @@ use Rattle.argus_picture.specs.declared.limits.TheConstants.{MAX_BYTES}
 use Rattle.argus_picture.specs.declared.picture_error.PictureError.TheVariants as error
 use Rattle.argus_streams.specs.Input.{ReadUpTo}
 
--- what was read, up to one byte past the limit, is a listing
+-- the bytes that were read, at most one more than `MAX_BYTES`, are a listing
 pub record ReadsListing (had has : Option (List ℕ)) : Type 0 where
   pub bytes : List ℕ
   pub read : ReadUpTo (MAX_BYTES + 1) had has bytes
   pub lines : IsListing bytes
 
--- this is at fault in what was read
+-- the fault is that of the bytes that were read
 pub record IsFaultRead (had has : Option (List ℕ)) (fault : ListingFault) : Type 0 where
   pub bytes : List ℕ
   pub read : ReadUpTo (MAX_BYTES + 1) had has bytes
   pub says : SaysOfListing (error.Fault fault) bytes
 
--- what an error says of what was read; all but a fault say nothing of it
+-- what an error says about the bytes that were read; only `Fault` says anything about them
 abbrev pub RefusesListing : Option (List ℕ) → Option (List ℕ) → DrawError → Type 0
 RefusesListing had has (draw_error.Fault fault) = IsFaultRead had has fault
 RefusesListing had has draw_error.OutOfMemory = Unit {0}

@@ -1,4 +1,4 @@
--- What a fault says of a listing: which line is at fault, and why.
+-- What a fault says about a listing: which line is faulty, and why.
 use Rattle.std.specs.Prelude.{List, [], length, ℕ, ◌+◌, ◌++◌, ◌<◌, ◌∷◌, ◌≡◌, ◌≢◌, ◌≤◌, ◌⊎◌}
 use Rattle.std.specs.Str.{IsUtf8, IsValidUpTo}
 use Rattle.argus_frame.specs.declared.listing_fault.ListingFault.{ListingFault}
@@ -18,14 +18,15 @@ use Rattle.argus_picture.specs.declared.picture_error.PictureError.TheVariants a
 abbrev pub IsNoOpening : Place → List ℕ → Type 0
 IsNoOpening at line = (next : Place) → IsNextOfOpening at next line → ⊥
 
--- the line is that of an entry, and its number isn't the next one
+-- the line is that of an entry, but with another number than the next: `1 begin_top -> a0` as the
+-- first line
 pub record HasOtherNumber (at : Place) (line : List ℕ) : Type 0 where
   pub number : ℕ
   pub numbered : IsNumbered number line
   pub other : number ≢ at.first + at.entries
 
--- what a kind of fault says of a whole line, where the listing has come so far; no whole line is
--- torn
+-- what a kind of fault says about a line that ends in a line feed, after the lines up to this
+-- place; such a line is never `Torn`
 abbrev pub SaysOf : ListingFaultKind → Place → List ℕ → Type 0
 SaysOf kind.TooLong at line = (MAX_ENTRIES ≤ at.entries) × IsEntryLine line
 SaysOf kind.Torn at line = ⊥
@@ -36,23 +37,23 @@ SaysOf (kind.NoLine b) at line =
 SaysOf kind.NotNext at line = HasOtherNumber at line
 SaysOf kind.Unlawful at line = IsNumbered (at.first + at.entries) line
 
--- what an error says of a whole line; want of memory says nothing
+-- what an error says about such a line; `OutOfMemory` says nothing
 abbrev pub SaysOfLine : LineError → Place → List ℕ → Type 0
 SaysOfLine line_error.OutOfMemory at line = Unit {0}
 SaysOfLine (line_error.Fault kind) at line = SaysOf kind at line
 
--- what is wrong with a listing, where this is wrong with the line of this number
+-- the error for the whole listing, from the error at the line with this number
 abbrev pub error_at : ℕ → LineError → PictureError
 error_at line line_error.OutOfMemory = error.OutOfMemory
 error_at line (line_error.Fault kind) = error.Fault (record { line = line; kind = kind })
 
--- the listing has more bytes than may be; that is told of its first line
+-- the listing has more bytes than a listing may have; the fault names line 1
 pub record IsTooLarge (listing : List ℕ) (fault : ListingFault) : Type 0 where
   pub more : MAX_BYTES < length listing
   pub is : fault ≡ record { line = 1; kind = kind.TooLong }
 
--- the lines in front of the fault's, which has its number from 1 on, are a listing's, and so far has
--- it come behind them
+-- the fault is at this line: the lines before it, `front`, are a listing's, which has come to this
+-- place; the fault's number counts lines from 1; `behind` are the parts after the line
 pub record IsAt (fault : ListingFault) (at : Place) (line : List ℕ) (behind : List (List ℕ))
     (text : List ℕ)
     : Type 0 where
@@ -61,7 +62,7 @@ pub record IsAt (fault : ListingFault) (at : Place) (line : List ℕ) (behind : 
   pub leads : Leads start front at
   pub is : parts text ≡ front ++ line ∷ behind
 
--- bytes without a line feed are left behind the lines of a listing
+-- after the lines of a listing come bytes without a line feed
 pub record IsTorn (listing : List ℕ) (fault : ListingFault) : Type 0 where
   pub line : List ℕ
   pub place : Place
@@ -69,7 +70,7 @@ pub record IsTorn (listing : List ℕ) (fault : ListingFault) : Type 0 where
   pub at : IsAt fault place line [] listing
   pub is : fault.kind ≡ kind.Torn
 
--- the first whole line that isn't the listing's next one is at fault
+-- the fault is at the first whole line that can't come next in the listing
 pub record IsFaultyLine (listing : List ℕ) (fault : ListingFault) : Type 0 where
   pub line : List ℕ
   pub place : Place
@@ -78,7 +79,7 @@ pub record IsFaultyLine (listing : List ℕ) (fault : ListingFault) : Type 0 whe
   pub at : IsAt fault place line behind listing
   pub says : SaysOf fault.kind place line
 
--- what an error says of a listing; want of memory says nothing
+-- what an error says about a listing; `OutOfMemory` says nothing
 abbrev pub SaysOfListing : PictureError → List ℕ → Type 0
 SaysOfListing error.OutOfMemory listing = Unit {0}
 SaysOfListing (error.Fault fault) listing =

@@ -1,4 +1,4 @@
--- What was read to be drawn with a script's names.
+-- What `draw_named` has read: a script and a listing, or what an error says about them.
 use Rattle.std.specs.Prelude.{List, Option, ℕ, ◌+◌, ◌≡◌}
 use Rattle.argus_frame.specs.DrawError.{draw_status}
 use Rattle.argus_frame.specs.declared.draw_error.DrawError.TheVariants as draw_error
@@ -12,7 +12,8 @@ use Rattle.argus_picture.specs.declared.named_draw_error.NamedDrawError.{NamedDr
 use Rattle.argus_picture.specs.declared.named_draw_error.NamedDrawError.TheVariants as error
 use Rattle.argus_streams.specs.Input.{ReadUpTo}
 
--- what was read, up to one byte past the limit, spells this script, and no line is faulty
+-- the bytes that were read, at most one more than `MAX_SCRIPT_BYTES`, spell this script, and none
+-- of their lines is faulty
 pub record ReadsScript (had has : Option (List ℕ)) (script : PlainScript) : Type 0 where
   pub bytes : List ℕ
   pub read : ReadUpTo (MAX_SCRIPT_BYTES + 1) had has bytes
@@ -29,28 +30,29 @@ pub record IsScriptFaultRead (had has : Option (List ℕ)) (fault : ScriptFault)
 abbrev pub ReadsSomeScript : Option (List ℕ) → Option (List ℕ) → Type 0
 ReadsSomeScript had has = (script : PlainScript) × ReadsScript had has script
 
--- what an error says of the script that was read
+-- what an error says about the script that was read
 abbrev pub RefusesScript : Option (List ℕ) → Option (List ℕ) → NamedDrawError → Type 0
 RefusesScript had has (error.Script fault) = IsScriptFaultRead had has fault
 RefusesScript had has (error.Names fault) = ReadsSomeScript had has
 RefusesScript had has error.ScriptRead = Unit {0}
 RefusesScript had has (error.Draw e) = Unit {0}
 
--- the error is one of the script, or want of memory
+-- the error may come from reading the script alone: a faulty line, a read that failed, or out of
+-- memory
 abbrev pub IsOfScript : NamedDrawError → Type 0
 IsOfScript (error.Script fault) = Unit {0}
 IsOfScript (error.Names fault) = ⊥
 IsOfScript error.ScriptRead = Unit {0}
 IsOfScript (error.Draw e) = e ≡ draw_error.OutOfMemory
 
--- what an error says of the listing that was read
+-- what an error says about the listing that was read
 abbrev pub RefusesNamedListing : Option (List ℕ) → Option (List ℕ) → NamedDrawError → Type 0
 RefusesNamedListing had has (error.Script fault) = Unit {0}
 RefusesNamedListing had has (error.Names fault) = Unit {0}
 RefusesNamedListing had has error.ScriptRead = Unit {0}
 RefusesNamedListing had has (error.Draw e) = RefusesListing had has e
 
--- the status of an error
+-- the exit status for an error
 abbrev pub named_status : NamedDrawError → ℕ
 named_status (error.Script fault) = 3
 named_status (error.Names fault) = 3

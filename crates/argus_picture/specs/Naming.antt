@@ -1,4 +1,4 @@
--- Whether a script's names are those of a journal's objects.
+-- Whether the objects that a script declares are those of a journal.
 use Rattle.std.specs.Prelude.{List, [], length, ℕ, ◌++◌, ◌∷◌, ◌≡◌, ◌≢◌}
 use Rattle.argus_contents.specs.Shape.{PlainShape}
 use Rattle.argus_frame.specs.Canvas.{canvas_text}
@@ -10,15 +10,16 @@ use Rattle.argus_picture.specs.declared.names_fault_kind.NamesFaultKind.{NamesFa
 use Rattle.argus_picture.specs.declared.names_fault_kind.NamesFaultKind.TheVariants as kind
 use Rattle.argus_picture.specs.declared.sketch.Sketch.{Sketch}
 
--- what a kind of fault says of the objects that are there from one on that is named with this shape:
--- there is none, or the first has another shape
+-- what a kind of fault says about an object that the script declares with this shape; `there` are
+-- the shapes of the journal's objects from its number on. Either the journal lacks it, or it has
+-- another shape there
 abbrev pub SaysOfObject : NamesFaultKind → List PlainShape → PlainShape → Type 0
 SaysOfObject kind.NotDeclared there shape = there ≡ []
 SaysOfObject kind.OtherShape there shape =
     (other : PlainShape) × (more : List PlainShape) × (there ≡ other ∷ more) × (other ≢ shape)
 
--- the objects in front of the fault's, whose number counts them, have the shapes that they are named
--- with, and that one hasn't
+-- the fault is at the first object that differs: the objects before it, which its number counts,
+-- have the same shapes in the journal (`there`) and in the script (`named`)
 pub record IsNamesFault (there named : List PlainShape) (fault : NamesFault) : Type 0 where
   pub front : List PlainShape
   pub number : fault.object ≡ length front
@@ -29,14 +30,14 @@ pub record IsNamesFault (there named : List PlainShape) (fault : NamesFault) : T
   pub there_is : there ≡ front ++ others
   pub says : SaysOfObject fault.kind others shape
 
--- the first objects of the journal have the shapes that the script gives them, and the text is the
--- picture's with the script's names for them
+-- the journal's first objects have the shapes that the script gives them, and the text is the
+-- picture with the script's names for them
 pub record IsNamed (sketch : Sketch) (script : PlainObjects) (text : List ℕ) : Type 0 where
   pub more : List PlainShape
   pub shapes : sketch.shapes.items ≡ script.shapes ++ more
   pub is : text ≡ canvas_text script.names sketch.canvas
 
--- what an error says of a script's names; want of memory says nothing
+-- what an error says about a script's names; `OutOfMemory` says nothing
 abbrev pub RefusesNames : Sketch → PlainObjects → NamesError → Type 0
 RefusesNames sketch script error.OutOfMemory = Unit {0}
 RefusesNames sketch script (error.Fault fault) =

@@ -1,9 +1,9 @@
--- How far the listing has come that a run was read from.
+-- How far the listing of a run has come.
 use Rattle.std.specs.Prelude.{length}
 use Rattle.argus_picture.specs.Listing.{Place}
 use Rattle.argus_picture.specs.declared.run.Run.{Run}
 
--- how far the listing has come
+-- how far the run's listing has come
 abbrev pub place_of : Run → Place
 place_of run = record {
   first = run.first_entry;

@@ -1,4 +1,4 @@
-//! The actions of a picture: bars, ties and refused calls.
+//! Draws the actions of a picture: their bars, the lines between bars, and refused calls.
 
 use crate::action::Action;
 use crate::escaping::open_group;
@@ -12,7 +12,7 @@ use argus_frame::{BAR, Frame, append_escaped, bar_top, entry_left};
 use argus_memory::{OutOfMemory, Room};
 use std::fmt::Write;
 
-/// Draws the ties, then the bars, then what was refused.
+/// Draws the lines between bars, then the bars, then the refused calls.
 pub(crate) fn draw_actions(
     run: &Run<'_>,
     frame: &Frame,
@@ -25,7 +25,8 @@ pub(crate) fn draw_actions(
     draw_refused(run, frame, out)
 }
 
-// From the bar of who began the action down to its own, where both have a row.
+// Draws the line from the bar of the action that began this one down to its own bar, if both have a
+// row.
 fn draw_tie(
     run: &Run<'_>,
     frame: &Frame,
@@ -60,7 +61,7 @@ fn draw_bars(run: &Run<'_>, frame: &Frame, out: &mut String<Room>) -> Result<(),
     Ok(())
 }
 
-// The action's life, within that of its parent.
+// The part of the action's life that is drawn: what lies within its parent's life.
 fn life_drawn(run: &Run<'_>, action: &Action<'_>) -> Life {
     let life = life_of(action, run.entries);
     match run.action(action.origin.parent()) {
@@ -100,7 +101,7 @@ fn draw_bar(
     Ok(())
 }
 
-/// How wide a bar has to be for the number of its action.
+/// How wide a bar, or a lock in a lane, has to be for the number of its action, in pixels.
 pub(crate) fn room_for(number: u64) -> u64 {
     match number {
         0..=9 => 24,
@@ -110,7 +111,7 @@ pub(crate) fn room_for(number: u64) -> u64 {
     }
 }
 
-// The sign at the end of a bar.
+// Draws the sign at the end of a bar, such as a cross for an abort.
 fn draw_end(fate: Fate, x: u64, y: u64, out: &mut String<Room>) -> Result<(), OutOfMemory> {
     let (class, sign) = match fate {
         Fate::Committed => return Ok(()),
@@ -123,8 +124,9 @@ fn draw_end(fate: Fate, x: u64, y: u64, out: &mut String<Room>) -> Result<(), Ou
     Ok(())
 }
 
-// Each refused call, on the bar of who made it, or above all bars. A name that finds no room behind
-// the one before it stands in the title alone.
+// Draws each refused call as a diamond, on its caller's bar, or above all bars if it has none. The
+// name of the refusal is written below if the name before it in the row leaves room. Otherwise only
+// the title has it.
 fn draw_refused(run: &Run<'_>, frame: &Frame, out: &mut String<Room>) -> Result<(), OutOfMemory> {
     let mut taken = [0u64; MAX_ROWS + 1];
     for call in &run.refused {
@@ -144,7 +146,7 @@ fn draw_refused(run: &Run<'_>, frame: &Frame, out: &mut String<Room>) -> Result<
     Ok(())
 }
 
-// The top of the bars in the row, or of the place above all bars.
+// The top of the row's bars; without a row, of the place above all bars.
 fn top_of(frame: &Frame, row: Option<u32>) -> u64 {
     match row {
         Some(row) => bar_top(frame, row),
@@ -177,7 +179,7 @@ fn draw_why(
     Ok(())
 }
 
-// From the refused call to the bar of the holder that stood against it.
+// Draws the line from a refused call to the bar of the holder whose lock was in the way.
 fn draw_against(
     run: &Run<'_>,
     frame: &Frame,

@@ -1,10 +1,10 @@
-//! Who makes a call, and which lock it asks for.
+//! Which action makes a call, and which lock the call asks for.
 
 use crate::lock_asked::{LockAsked, reading, writing};
 use argus_actions::ActionId;
 use argus_entries::Call;
 
-/// The action that makes the call.
+/// The action that makes the call; `None` for a declaration and for the begin of a topaction.
 pub(crate) fn caller(call: &Call) -> Option<ActionId> {
     match call {
         Call::Declare(_) | Call::BeginTop => None,
@@ -20,7 +20,7 @@ pub(crate) fn caller(call: &Call) -> Option<ActionId> {
     }
 }
 
-/// The lock that the call asks for, where it does.
+/// The lock that the call asks for, if it asks for one.
 pub(crate) fn lock_asked(call: &Call) -> Option<LockAsked> {
     match call {
         Call::Ask(_, object, _) | Call::TestRead(_, object) => Some(reading(*object)),

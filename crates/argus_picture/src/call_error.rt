@@ -1,13 +1,13 @@
-//! `CallError`: why a call with its reply was not taken.
+//! `CallError`: why a call with its reply was not accepted.
 
 use argus_memory::OutOfMemory;
 use std::alloc::{AllocError, AllocFailed};
 
-/// Why a call with its reply was not taken.
+/// Why a call with its reply was not accepted.
 #[derive(Clone, Copy)]
 pub(crate) enum CallError {
     OutOfMemory,
-    /// No guardian answers so.
+    /// No guardian gives this reply to this call at this point.
     Unlawful,
 }
 

@@ -1,4 +1,4 @@
-//! What a call and its reply change in a run.
+//! Applies a call and its reply to a run.
 
 use crate::action::Action;
 use crate::asking::{caller, lock_asked};
@@ -16,7 +16,7 @@ use argus_memory::{Heap, OutOfMemory};
 use std::mem::replace;
 
 impl<'a> Run<'a> {
-    /// A call was answered so.
+    /// Applies an entry: its call and its reply. `line` is its line in the listing.
     pub(crate) fn take_call(
         &mut self,
         heap: Heap,
@@ -32,7 +32,7 @@ impl<'a> Run<'a> {
         }
     }
 
-    // An object was declared; it has the next number.
+    // Adds the declared object, which must have the next number.
     fn take_object(
         &mut self,
         heap: Heap,
@@ -50,7 +50,7 @@ impl<'a> Run<'a> {
         Ok(())
     }
 
-    // An action was begun.
+    // Adds the action that was begun.
     fn take_begun(
         &mut self,
         call: &Call,
@@ -74,7 +74,7 @@ impl<'a> Run<'a> {
         }
     }
 
-    // An end, an access or a test was answered.
+    // Applies a commit, an abort, an access or a test that was not refused.
     fn take_answered(
         &mut self,
         heap: Heap,
@@ -108,12 +108,12 @@ impl<'a> Run<'a> {
         }
     }
 
-    // The place of the action, which is live.
+    // The place of the action, which must be live.
     fn live(&self, action: ActionId) -> Result<usize, CallError> {
         Ok(self.live_place(action).ok_or(CallError::Unlawful)?)
     }
 
-    // The place of the action that ends, which is live and is answered `done`.
+    // The place of the action that ends. It must be live, and the answer must be `Done`.
     fn ending(&self, action: ActionId, answer: &Answer) -> Result<usize, CallError> {
         if *answer != Answer::Done {
             return Err(CallError::Unlawful);
@@ -121,7 +121,8 @@ impl<'a> Run<'a> {
         self.live(action)
     }
 
-    // The place of the action that alters, which is live and is answered as a change may be.
+    // The place of the action that makes a change. It must be live, and the answer must be one that
+    // a change can return.
     fn altering(&self, action: ActionId, answer: &Answer) -> Result<usize, CallError> {
         match answer {
             Answer::Done | Answer::Val(_) | Answer::Signal(_) => self.live(action),
@@ -129,7 +130,8 @@ impl<'a> Run<'a> {
         }
     }
 
-    // One more action, which has the next number, in the first row that is free below its creator.
+    // Adds an action, which must have the next number. Its row is the first free one below that of
+    // the action that began it.
     fn begin(&mut self, origin: Origin, action: ActionId, line: &'a str) -> Result<(), CallError> {
         let place = action
             .0
@@ -157,7 +159,7 @@ impl<'a> Run<'a> {
         Ok(())
     }
 
-    // A test was answered, with the lock where that is `flag true`.
+    // Applies a test of a lock. With the answer `flag true` the action has got the lock.
     fn take_test(
         &mut self,
         action: ActionId,
@@ -174,7 +176,7 @@ impl<'a> Run<'a> {
         }
     }
 
-    // A call was refused: who made it, and who stood against it where a lock wasn't free.
+    // Records a refused call: its caller, and after a `Conflict` the first holder in the way.
     fn take_refused(
         &mut self,
         call: &Call,

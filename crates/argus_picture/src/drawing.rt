@@ -1,4 +1,4 @@
-//! `draw`: from a reader of a listing to a writer of its picture.
+//! `draw`: reads a listing from a reader, and writes its picture to a writer.
 
 ghost use Rattle.std.specs.Prelude.{◌≡◌, false, true, IfErr, OnOk};
 ghost use Rattle.argus_frame.specs.declared.draw_error.DrawError.TheVariants as DrawError;
@@ -13,7 +13,7 @@ use argus_memory::Heap;
 use argus_streams::{FailStop, InputError, read_up_to, write_whole};
 use std::io::{Read, Write};
 
-/// Reads a journal's listing, up to 67,108,865 bytes, and writes its picture whole.
+/// Reads a journal's listing, up to 67,108,865 bytes, and writes its whole picture.
 ///
 /// [`DrawError`]'s table says which error comes when. A stream that failed isn't tried again.
 ///

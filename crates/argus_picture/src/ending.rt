@@ -8,7 +8,7 @@ use crate::run::Run;
 use argus_memory::{Heap, OutOfMemory, Room};
 
 impl<'a> Run<'a> {
-    /// The action gets the lock, unless it has it.
+    /// Gives the action the lock, unless it has it already.
     pub(crate) fn take_lock(
         &mut self,
         place: usize,
@@ -34,7 +34,7 @@ impl<'a> Run<'a> {
         Ok(())
     }
 
-    /// The action commits: its parent gets its locks, and without one they are let go.
+    /// Commits the action. Its locks go to its parent; if it has none, they are released.
     pub(crate) fn commit(
         &mut self,
         heap: Heap,
@@ -58,7 +58,8 @@ impl<'a> Run<'a> {
         Ok(())
     }
 
-    // The lock at this place goes to the parent, where the action has it.
+    // Ends the lock at index `at`, if the action has it: the parent gets it. Without a parent it is
+    // released, and what the action wrote becomes the object's base.
     fn pass_on(
         &mut self,
         heap: Heap,
@@ -83,7 +84,8 @@ impl<'a> Run<'a> {
         }
     }
 
-    /// The action is aborted, or all its live siblings are, and with them what stands below.
+    /// Aborts the action, or with `others` all its live siblings; each with its subactions, theirs,
+    /// and so on.
     pub(crate) fn abort(
         &mut self,
         heap: Heap,
@@ -104,7 +106,7 @@ impl<'a> Run<'a> {
         Ok(())
     }
 
-    // The locks of those that are doomed are let go.
+    // Releases the locks of the doomed actions, which are those that are being aborted.
     fn discard_locks(&mut self, doomed: &[bool]) {
         let entries = self.entries;
         for hold in self.holds.iter_mut() {
@@ -114,7 +116,8 @@ impl<'a> Run<'a> {
         }
     }
 
-    // What becomes of the action at this place, where this is known of those before it.
+    // The fate that an abort gives to the action at index `at`, if any. `doomed` says the same of
+    // the actions before it. `place` is the action that makes the call.
     fn fate_at(&self, at: usize, place: usize, others: bool, doomed: &[bool]) -> Option<Fate> {
         let action = self.actions.get(at)?;
         if !others && at == place {
@@ -132,7 +135,7 @@ impl<'a> Run<'a> {
         None
     }
 
-    // Whether the two were begun by the same action.
+    // Whether the same action began both.
     fn are_siblings(&self, left: usize, right: usize) -> bool {
         match (self.action(Some(left)), self.action(Some(right))) {
             (Some(left), Some(right)) => {
@@ -142,7 +145,7 @@ impl<'a> Run<'a> {
         }
     }
 
-    // The action ends so. Where it had committed before, that stays its end.
+    // Ends the action with this fate. If it had committed before, that stays its end.
     fn end(&mut self, place: usize, fate: Fate, line: &'a str) {
         let entries = self.entries;
         if let Some(action) = self.actions.get_mut(place) {

@@ -3,7 +3,7 @@
 use argus_frame::append_escaped;
 use argus_memory::{OutOfMemory, Room};
 
-/// Begins a group, whose title is these lines; the second is left out where it is the first.
+/// Begins a group with these lines as its title. The second line is left out if both are the same.
 pub(crate) fn open_group(
     first: &str,
     last: &str,
@@ -19,7 +19,7 @@ pub(crate) fn open_group(
     Ok(())
 }
 
-/// The first letters of the text, escaped, and three dots where it goes on.
+/// Appends the first letters of the text, escaped, and an ellipsis if there are more.
 pub(crate) fn append_shortened(
     text: &str,
     letters: usize,

@@ -1,7 +1,7 @@
 //! `Fate`: what has become of an action.
 
-/// What has become of an action. One that had committed and was undone with an ancestor counts as
-/// aborted with it.
+/// What has become of an action. One that committed, and was then undone with an ancestor, counts
+/// as aborted with it.
 #[derive(Clone, Copy)]
 pub(crate) enum Fate {
     Live,
@@ -12,7 +12,7 @@ pub(crate) enum Fate {
 }
 
 impl Fate {
-    /// The name of its look.
+    /// The CSS class of its bar.
     pub(crate) fn class(self) -> &'static str {
         match self {
             Fate::Live => "live",

@@ -1,15 +1,17 @@
 //! `HeldLock`: a lock that an action had on an object.
 
-/// A lock: who had it on which object, from which entry to which, and the line that got it.
+/// A lock that an action held: on which object, from which entry to which, and the line that got
+/// it.
 #[derive(Clone, Copy)]
 pub(crate) struct HeldLock<'a> {
     pub action: usize,
     pub object: usize,
     pub writes: bool,
     pub begin: u32,
-    /// None while it is held.
+    /// `None` while it is held.
     pub end: Option<u32>,
-    /// None where the lane's strips were taken.
+    /// `None` if no strip of the object's lane was free; then it isn't drawn. Each lock in a lane
+    /// has a strip of its own.
     pub strip: Option<u32>,
     pub line: &'a str,
 }

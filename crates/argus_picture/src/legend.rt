@@ -1,6 +1,6 @@
-//! What is the same in each picture: its looks, and the legend.
+//! What is the same in each picture: the style sheet and the legend.
 
-/// The looks of all things, in the light and in the dark, and the patterns that they take.
+/// The style sheet, for light and dark displays, and the patterns that it uses.
 pub(crate) const LOOKS: &str = r##"<style>
 text{font:11px monospace;fill:#1a202c}
 .small,.tick{font-size:10px}.tiny{font-size:8px}.tick{fill:#555;text-anchor:middle}
@@ -41,7 +41,7 @@ text{fill:#e6e9ef}.tick{fill:#a5acb8}.page{fill:#15181d}.grid{stroke:#2b3038}
 </defs>
 "##;
 
-/// The legend: what shapes and ties mean.
+/// The legend: what shapes and lines mean.
 pub(crate) const LEGEND: &str = r##"<text class="name plain" x="14" y="18">Actions</text>
 <rect class="bar committed" x="80" y="8" width="30" height="14"/>
 <text class="small" x="124" y="18">committed</text>

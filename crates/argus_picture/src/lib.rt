@@ -1,8 +1,8 @@
 //! The picture of a run: a journal's listing, drawn as SVG.
 //!
-//! [`picture`] reads the listing and answers the text of the picture; [`draw`] reads it from a
-//! reader and writes the picture to a writer. [`sketch_listing`] answers a picture in which the
-//! names of objects are still open; [`draw_named`] takes them from a script.
+//! [`picture`] takes the listing's bytes and returns the picture's text; [`draw`] reads from a
+//! reader and writes to a writer. [`sketch_listing`] returns a picture in which the names of
+//! objects are filled in later; [`draw_named`] takes these names from a script.
 #![tactic(auto)]
 
 mod action;

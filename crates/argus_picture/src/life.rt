@@ -1,17 +1,18 @@
-//! `Life`: from which entry to which an action lives.
+//! `Life`: the entries between which an action is live.
 
 ghost use Rattle.std.specs.Prelude.{IfNone, IfSome, ◌≡◌, ◌≤◌};
 
 use crate::action::Action;
 
-/// From which entry to which an action lives.
+/// The entries between which an action is live.
 #[derive(Clone, Copy)]
 pub(crate) struct Life {
     pub begin: u32,
     pub end: u32,
 }
 
-/// From the action's begin to its end, or to this last entry where it is live.
+/// From the entry at which the action began to the one at which it ended, or to `last` if it is
+/// live.
 pub(crate) fn life_of(action: &Action<'_>, last: u32) -> Life
     ensures begin { result.begin ≡ action.now.begin }
     ensures ended { IfSome action.now.end (λ end. action.now.begin ≤ end → result.end ≡ end) }
@@ -25,7 +26,7 @@ pub(crate) fn life_of(action: &Action<'_>, last: u32) -> Life
     }
 }
 
-/// The part of a life that lies within another one; all of it where it does.
+/// The part of a life that lies within another life; all of it if it lies within it entirely.
 pub(crate) fn life_within(life: Life, outer: Life) -> Life
     requires { outer.begin ≤ outer.end }
     ensures begins { outer.begin ≤ result.begin }

@@ -9,7 +9,7 @@ pub(crate) struct LockAsked {
     pub writes: bool,
 }
 
-/// The lock of the object for reading.
+/// A read lock on the object.
 pub(crate) fn reading(object: ObjId) -> LockAsked {
     LockAsked {
         object: object.0 as usize,
@@ -17,7 +17,7 @@ pub(crate) fn reading(object: ObjId) -> LockAsked {
     }
 }
 
-/// The lock of the object for writing.
+/// A write lock on the object.
 pub(crate) fn writing(object: ObjId) -> LockAsked {
     LockAsked {
         object: object.0 as usize,

@@ -15,9 +15,9 @@ use thiserror::Error;
 /// | `Script` | 3 | `script: line N: KIND` | a line of the script is faulty |
 /// | `Names` | 3 | `script: oN: KIND` | the script's objects aren't the journal's |
 /// | `ScriptRead` | 5 | `script: read fault` | the script's stream failed |
-/// | `Draw` | that of the error | that of the error | as without names |
+/// | `Draw` | the `DrawError`'s | the `DrawError`'s | as without names |
 ///
-/// After all but a `Write` nothing was written.
+/// Nothing was written, unless the error is a `Write`.
 ///
 /// ```text
 /// if let Err(error) = draw_named(heap, &mut script, &mut reader, &mut writer) {
@@ -37,7 +37,7 @@ pub enum NamedDrawError {
 }
 
 impl NamedDrawError {
-    /// The status with which a program ends.
+    /// The exit status of a program that ends with this error.
     pub fn status(self) -> u8
         ensures { result ≡ named_status self }
     {

@@ -1,4 +1,4 @@
-//! `draw_named`: from a reader of a listing to a writer of its picture, with a script's names.
+//! `draw_named`: reads a script and a listing, and writes the picture with the script's names.
 
 ghost use Rattle.std.specs.Prelude.{IfErr, IfOk, OnOk, false, true, ◌≡◌, ◌≢◌};
 ghost use Rattle.argus_frame.specs.declared.draw_error.DrawError.TheVariants as DrawError;
@@ -23,10 +23,10 @@ use argus_streams::{FailStop, InputError, read_up_to, write_whole};
 use std::io::{Read, Write};
 
 /// Reads a script, up to 16,777,217 bytes, then a journal's listing, up to 67,108,865 bytes, and
-/// writes the picture of the listing whole. Its objects have the names that the script declares.
+/// writes the listing's whole picture. Its objects have the names that the script declares.
 ///
 /// [`NamedDrawError`]'s table says which error comes when. A stream that failed isn't tried again,
-/// and of a faulty script no listing is read.
+/// and after a faulty script the listing isn't read.
 ///
 /// ```text
 /// draw_named(heap, &mut script, &mut FailStop::new(rt.stdin()), &mut FailStop::new(rt.stdout()))?;
@@ -74,7 +74,7 @@ pub fn draw_named<S: Read + Drop, R: Read + Drop, W: Write + Drop>(
     }
 }
 
-// The script that the reader has.
+// Reads the script.
 fn read_script<S: Read + Drop>(
     heap: Heap,
     script: &mut FailStop<S>,
@@ -99,7 +99,7 @@ fn read_script<S: Read + Drop>(
     }
 }
 
-// The picture of the listing that the reader has.
+// Reads the listing, and draws its picture without names.
 fn read_sketch<R: Read + Drop>(heap: Heap, reader: &mut FailStop<R>) -> Result<Sketch, DrawError>
     requires { has_failed reader.old ≡ false }
     ensures drawn { OnOk result (ReadsListing (R.remaining (inner_of reader.old))

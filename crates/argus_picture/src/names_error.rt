@@ -1,10 +1,10 @@
-//! `NamesError`: why a picture has no names.
+//! `NamesError`: why a picture can't have a script's names.
 
 use crate::names_fault::NamesFault;
 use argus_memory::OutOfMemory;
 use thiserror::Error;
 
-/// Why there is no picture with a script's names.
+/// Why a picture can't have a script's names.
 ///
 /// ```text
 /// match sketch.named(heap, &script) {
@@ -16,7 +16,7 @@ use thiserror::Error;
 pub enum NamesError {
     #[error("out of memory")]
     OutOfMemory,
-    /// The first object that the journal doesn't have so.
+    /// The first object that the journal lacks, or has with another shape.
     #[error("{0}")]
     Fault(NamesFault),
 }

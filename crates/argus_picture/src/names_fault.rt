@@ -1,9 +1,9 @@
-//! `NamesFault`: the first object that a script has and a journal hasn't.
+//! `NamesFault`: the first object of a script that a journal lacks, or has with another shape.
 
 use crate::names_fault_kind::NamesFaultKind;
 use thiserror::Error;
 
-/// The first object that a script declares and the journal doesn't have so, by its number.
+/// The number of the first object of a script that the journal lacks, or has with another shape.
 ///
 /// ```text
 /// o1: OtherShape

@@ -1,13 +1,13 @@
-//! `NamesFaultKind`: why a script's names aren't those of a journal's objects.
+//! `NamesFaultKind`: why a script's objects aren't those of a journal.
 
 use thiserror::Error;
 
-/// Why a script's names aren't those of a journal's objects.
+/// Why a script's objects aren't those of a journal.
 ///
 /// | Kind | When |
 /// |---|---|
-/// | `NotDeclared` | the script declares this object, and the journal has none with this number |
-/// | `OtherShape` | the script gives this object another shape than the journal |
+/// | `NotDeclared` | the script declares this object, but the journal has none with its number |
+/// | `OtherShape` | the script declares this object with another shape than the journal |
 ///
 /// ```text
 /// fault.kind == NamesFaultKind::NotDeclared           // two names for a journal of one object

@@ -1,4 +1,4 @@
-//! Whether a script's names are those of a journal's objects.
+//! Compares the objects that a script declares with those of a journal.
 
 ghost use Rattle.std.specs.Prelude.{IfNone, IfOk, IfSome, IsTrue, List, map, ◌++◌, ◌↔◌, ◌≡◌};
 ghost use Rattle.argus_contents.specs.Shape.{PlainShape};
@@ -9,8 +9,8 @@ use crate::names_fault_kind::NamesFaultKind;
 use argus_contents::{Name, Shape};
 use argus_memory::{Heap, OutOfMemory, Room};
 
-/// The first object that is named, with its shape, and isn't there so. None: the first objects that
-/// are there have these shapes.
+/// The first object that the script declares (`named`) and the journal (`there`) lacks, or has with
+/// another shape. `None`: the journal begins with the script's objects.
 pub(crate) fn names_fault(there: &[Shape], named: &[Shape]) -> Option<NamesFault>
     ensures none { IfNone result ((more : List PlainShape) × (there.now ≡ named.now ++ more)) }
     ensures some { IfSome result (IsNamesFault there.now named.now) }
@@ -40,7 +40,7 @@ fn fault_at(object: usize, kind: NamesFaultKind) -> NamesFault
     NamesFault { object, kind }
 }
 
-/// The names as texts.
+/// The names as string slices.
 pub(crate) fn texts_of(heap: Heap, names: &[Name]) -> Result<Vec<&str, Room>, OutOfMemory>
     ensures { IfOk result (λ texts. map (λ text. text.now) texts.items ≡ names.now) }
 {

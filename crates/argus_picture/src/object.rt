@@ -1,4 +1,4 @@
-//! `Object`: a declared object, and what is in it for good.
+//! `Object`: a declared object and its base.
 
 ghost use Rattle.std.specs.Prelude.{◌≡◌, true};
 ghost use Rattle.argus_contents.specs.Content.{KeepsLimits, plain_option};
@@ -8,18 +8,19 @@ use argus_contents::{Change, Content, Shape, alter_in_place, change_fits, fits};
 use argus_memory::{Heap, OutOfMemory, Room};
 use argus_texts::{write_content, write_shape};
 
-/// A declared object: its shape, what is in it for good, and the line that tells it.
+/// A declared object: its shape, its base (the content that committed topactions have left in it),
+/// and the line of the listing that it comes from.
 #[derive(Drop)]
 pub(crate) struct Object<'a> {
     pub shape: Shape,
-    /// The shape, as it is written.
+    /// The shape's written form.
     pub shape_text: String<Room>,
     pub base: Option<Content>,
     pub line: &'a str,
 }
 
 impl<'a> Object<'a> {
-    /// The object that a line tells.
+    /// An object from a line of the listing.
     pub(crate) fn new(
         heap: Heap,
         shape: Shape,
@@ -37,7 +38,7 @@ impl<'a> Object<'a> {
     }
 }
 
-/// What is in the object for good, as it is written.
+/// The base's written form; `absent` if nothing was created.
 pub(crate) fn base_text(heap: Heap, base: &Option<Content>) -> Result<String<Room>, OutOfMemory> {
     let mut text = String::new(heap.room());
     match base {
@@ -47,7 +48,7 @@ pub(crate) fn base_text(heap: Heap, base: &Option<Content>) -> Result<String<Roo
     Ok(text)
 }
 
-/// The change is there for good; `declared` objects are there.
+/// Applies the change to the base. `declared` is how many objects there are for references to name.
 pub(crate) fn make_for_good(
     shape: &Shape,
     base: &mut Option<Content>,
@@ -61,7 +62,7 @@ pub(crate) fn make_for_good(
     Ok(())
 }
 
-// Whether what is there fits the shape.
+// Whether the base fits the shape.
 fn base_fits(shape: &Shape, base: &Option<Content>, declared: u32) -> bool
     ensures { result ≡ true → KeepsLimits (plain_option base.now) }
 {

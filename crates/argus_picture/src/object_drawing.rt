@@ -1,4 +1,4 @@
-//! The objects of a picture: lanes, the locks in them, and commits.
+//! Draws the objects of a picture: their lanes, the locks in them, and commits.
 
 use crate::action_drawing::room_for;
 use crate::escaping::{append_shortened, open_group};
@@ -62,7 +62,7 @@ fn draw_lane(
     Ok(())
 }
 
-// The lane itself.
+// Begins the lane's group, and draws the lane itself.
 fn open_lane(
     frame: &Frame,
     y: u64,
@@ -78,7 +78,7 @@ fn open_lane(
     Ok(())
 }
 
-// The object's shape, in front of its lane.
+// Writes the object's shape in front of its lane.
 fn draw_shape(object: &Object<'_>, y: u64, out: &mut String<Room>) -> Result<(), OutOfMemory> {
     write!(out, "<text class=\"small\" x=\"14\" y=\"{y}\">")?;
     append_shortened(object.shape_text.as_str(), MAX_SHAPE_LETTERS, out)?;
@@ -86,7 +86,7 @@ fn draw_shape(object: &Object<'_>, y: u64, out: &mut String<Room>) -> Result<(),
     Ok(())
 }
 
-// The object's name once more above its lane, every so many pixels of a wide picture.
+// Repeats the object's name above its lane, every `NAME_DISTANCE` pixels of a wide picture.
 fn draw_names_again(
     heap: Heap,
     frame: &Frame,
@@ -144,8 +144,8 @@ fn draw_hold(
     Ok(())
 }
 
-// Each commit that changed what is in an object, the last first. A content has room up to the next
-// commit of its lane; where that is too little it stands in the title alone.
+// Draws each commit that changed an object's base, the last one first. The new base is written
+// beside it if there is room up to the next commit in the lane. Otherwise only the title has it.
 fn draw_settlings(run: &Run<'_>, frame: &Frame, out: &mut String<Room>) -> Result<(), OutOfMemory> {
     let mut ends = [width(frame); MAX_LANES as usize];
     for settling in run.settlings.iter().rev() {
@@ -164,7 +164,7 @@ fn draw_settlings(run: &Run<'_>, frame: &Frame, out: &mut String<Room>) -> Resul
     Ok(())
 }
 
-// The commit's sign; its title has what is there now, too.
+// Begins the commit's group, and draws its sign. The title also has the new base.
 fn draw_settling(
     settling: &Settling<'_>,
     x: u64,
@@ -187,7 +187,7 @@ fn draw_settling(
     Ok(())
 }
 
-// What is in the object for good from here on, where so many pixels are enough for some of it.
+// Writes the object's base from this commit on, if `room` pixels are enough for some of it.
 fn draw_base(
     base: &str,
     x: u64,
@@ -206,7 +206,7 @@ fn draw_base(
     Ok(())
 }
 
-// How many letters of a content so many pixels have room for.
+// How many letters of a content fit into this many pixels.
 fn letters_within(room: u64) -> usize {
     if room / 6 < MAX_CONTENT_LETTERS as u64 {
         return (room / 6) as usize;
@@ -214,7 +214,7 @@ fn letters_within(room: u64) -> usize {
     MAX_CONTENT_LETTERS
 }
 
-// The lane of the object at this place, where it has one.
+// The lane of the object at this place, if it has one.
 fn lane_of(frame: &Frame, object: usize) -> Option<u32> {
     if object < frame.lanes as usize && object < MAX_LANES as usize {
         return Some(object as u32);

@@ -1,4 +1,4 @@
-//! How a line of an opening is taken.
+//! Takes a line of an opening into a run.
 
 ghost use Rattle.std.specs.Prelude.{IfErr, IsTrue, OnOk, codes, length, true, ◌+◌, ◌++◌, ◌<◌, ◌↔◌};
 ghost use Rattle.std.specs.Prelude.{◌≡◌};
@@ -21,7 +21,7 @@ use argus_openings::{folded_numbers, object_line};
 use argus_texts::front::Stop;
 
 impl<'a> Run<'a> {
-    /// A line of the opening, from the word behind `opening` on.
+    /// Takes a line of the opening. `rest` is what comes after `opening `.
     pub(crate) fn take_opening(
         &mut self,
         heap: Heap,
@@ -42,21 +42,21 @@ impl<'a> Run<'a> {
         Err(LineError::Fault(ListingFaultKind::NotAnOpening))
     }
 
-    // Whether nothing has come yet.
+    // Whether no line has come yet.
     fn is_at_start(&self) -> bool
         ensures { IsTrue result ↔ (place_of self.now ≡ start) }
     {
         self.first_entry == 0 && self.objects.is_empty() && self.entries == 0
     }
 
-    // Whether there is an opening, and no entry.
+    // Whether the opening has begun, and no entry has come yet.
     fn is_in_opening(&self) -> bool
         ensures { IsTrue result ↔ ((self.now.entries ≡ 0) × (0 < self.now.first_entry)) }
     {
         self.entries == 0 && self.first_entry > 0
     }
 
-    // The opening begins, where nothing came before.
+    // Takes the first line of the opening.
     fn take_folded(&mut self, rest: &str) -> Result<(), LineError>
         requires { place_of self.old ≡ start }
         ensures line { OnOk result (IsNextOfOpening (place_of self.old) (place_of self.new)
@@ -75,7 +75,7 @@ impl<'a> Run<'a> {
         }
     }
 
-    // One more object of the opening, where no entry came before.
+    // Takes one more object of the opening.
     fn take_opened(&mut self, heap: Heap, rest: &str, line: &'a str) -> Result<(), LineError>
         requires none { self.old.entries ≡ 0 }
         requires opened { 0 < self.old.first_entry }
@@ -96,7 +96,7 @@ impl<'a> Run<'a> {
         }
     }
 
-    // Whether this number is the next object's, there may be one more, and it may fit.
+    // Whether the number is the next object's, one more object is allowed, and the content may fit.
     fn may_add(&self, object: u64, shape: &Shape, content: &Option<Content>) -> bool
         ensures { IsTrue result ↔ ((object ≡ length self.now.objects.items)
             × (object < MAX_OBJECTS)
@@ -144,7 +144,7 @@ impl<'a> Run<'a> {
     }
 }
 
-// Whether there is no content, or it would fit if there were enough objects.
+// Whether there is no content, or it fits as if all `MAX_OBJECTS` objects were declared.
 fn may_fit(shape: &Shape, content: &Option<Content>) -> bool
     ensures { result ≡ may_fit shape.now (plain_option content.now) }
 {

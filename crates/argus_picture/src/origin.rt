@@ -1,6 +1,6 @@
 //! `Origin`: how an action was begun.
 
-/// How an action was begun: on its own, or by another one, which has this place in the run.
+/// How an action was begun: as a topaction, or by another action, given by its place in the run.
 #[derive(Clone, Copy)]
 pub(crate) enum Origin {
     Top,
@@ -17,7 +17,7 @@ impl Origin {
         }
     }
 
-    /// The action that takes over what it did.
+    /// Its parent, which gets its locks and its changes when it commits.
     pub(crate) fn parent(self) -> Option<usize> {
         match self {
             Origin::Sub(action) => Some(action),

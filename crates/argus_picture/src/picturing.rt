@@ -1,4 +1,4 @@
-//! `picture`: the picture that a listing tells.
+//! `picture`: draws the picture of a listing.
 
 ghost use Rattle.std.specs.Prelude.{IfErr, OnOk};
 ghost use Rattle.argus_picture.specs.Faults.{SaysOfListing};
@@ -15,11 +15,11 @@ use argus_frame::{Canvas, EntrySpacing, Frame, entry_left, height, width};
 use argus_memory::{Heap, OutOfMemory, Room};
 use std::fmt::Write;
 
-/// The text of the picture of a journal's listing: an SVG 1.1 document, with no script and no link.
-/// Objects are called by their numbers.
+/// The picture of a journal's listing: an SVG 1.1 document, without scripts and links. Objects are
+/// called by their numbers.
 ///
-/// `Fault` comes with the first faulty line, and why. `OutOfMemory` may come in place of any
-/// answer.
+/// `Fault` says which line is the first faulty one, and why. `OutOfMemory` may be returned in place
+/// of any other result.
 ///
 /// ```text
 /// let text = picture(heap, b"0 begin_top -> a0\n1 commit a0 -> done\n")?;
@@ -35,7 +35,7 @@ pub fn picture(heap: Heap, listing: &[u8]) -> Result<String<Room>, PictureError>
     }
 }
 
-/// Draws the run.
+/// Draws the run on the canvas.
 pub(crate) fn draw_run(heap: Heap, run: &Run<'_>, canvas: &mut Canvas) -> Result<(), OutOfMemory> {
     let frame = frame_of(run);
     draw_page(run, &frame, &mut canvas.last)?;
@@ -46,7 +46,7 @@ pub(crate) fn draw_run(heap: Heap, run: &Run<'_>, canvas: &mut Canvas) -> Result
     Ok(())
 }
 
-// The looks, the legend, and the numbers of entries.
+// Draws the style sheet, the legend, and the numbers of entries.
 fn draw_page(run: &Run<'_>, frame: &Frame, out: &mut String<Room>) -> Result<(), OutOfMemory> {
     let (wide, high) = (width(frame), height(frame));
     out.push_str("<svg xmlns=\"http://www.w3.org/2000/svg\" version=\"1.1\"")?;
@@ -62,7 +62,7 @@ fn draw_page(run: &Run<'_>, frame: &Frame, out: &mut String<Room>) -> Result<(),
     draw_axis(run, frame, high, out)
 }
 
-// The frame that all rows and lanes have room in.
+// The frame, which has room for all rows and lanes.
 fn frame_of(run: &Run<'_>) -> Frame {
     let mut rows = 0u32;
     for action in &run.actions {
@@ -82,7 +82,8 @@ fn frame_of(run: &Run<'_>) -> Frame {
     }
 }
 
-// The numbers of entries, each with a line from top to bottom; in a tall picture also below it.
+// Draws the numbers of entries, each with a line from top to bottom; in a tall picture also at the
+// bottom.
 fn draw_axis(
     run: &Run<'_>,
     frame: &Frame,
@@ -105,7 +106,7 @@ fn draw_axis(
     Ok(())
 }
 
-// The number of an entry.
+// Draws the number of an entry.
 fn draw_number(number: u64, x: u64, y: u64, out: &mut String<Room>) -> Result<(), OutOfMemory> {
     write!(
         out,
@@ -114,7 +115,7 @@ fn draw_number(number: u64, x: u64, y: u64, out: &mut String<Room>) -> Result<()
     Ok(())
 }
 
-// How much there is, and what found no room.
+// Writes how many entries, actions and objects there are, and how many found no room.
 fn draw_counts(
     run: &Run<'_>,
     frame: &Frame,
@@ -151,7 +152,7 @@ fn draw_counts(
     Ok(())
 }
 
-// How many there are of what has this name, if it is one, and else that one.
+// Appends a count with its noun: `1 entry`, `2 entries`.
 fn append_count(
     count: usize,
     one: &str,

@@ -1,4 +1,4 @@
-//! How a listing is read: line by line, up to the first that is at fault.
+//! Reads a listing line by line, up to the first faulty line.
 
 ghost use Rattle.std.specs.List.{position};
 ghost use Rattle.std.specs.Prelude.{IfErr, IfNone, IfOk, IfSome, OnOk, [], length, ◌<◌, ◌==◌, ◌∷◌};
@@ -16,7 +16,7 @@ use argus_frame::{ListingFault, ListingFaultKind};
 use argus_memory::Heap;
 use std::str::from_utf8;
 
-/// What the lines tell, or the first that is at fault.
+/// The run that the lines describe, or the first faulty line.
 pub(crate) fn read_run<'a>(heap: Heap, listing: &'a [u8]) -> Result<Run<'a>, PictureError>
     ensures lines { IfOk result (λ run. IsListing listing.now) }
     ensures fault { IfErr result (λ e. SaysOfListing e listing.now) }
@@ -41,7 +41,7 @@ pub(crate) fn read_run<'a>(heap: Heap, listing: &'a [u8]) -> Result<Run<'a>, Pic
     Ok(run)
 }
 
-// What is wrong with the listing, where this is wrong with the line.
+// The error for the whole listing, from the error at this line.
 fn error_at(line: u64, error: LineError) -> PictureError
     ensures { result ≡ error_at line error }
 {
@@ -57,7 +57,7 @@ fn fault_at(line: u64, kind: ListingFaultKind) -> PictureError
     PictureError::Fault(ListingFault { line, kind })
 }
 
-// The first line, and what is behind its line feed. None where there is no line feed.
+// The first line, and what comes after its line feed. `None` if there is no line feed.
 fn first_line(text: &[u8]) -> Option<(&[u8], &[u8])>
     ensures some { IfSome result (λ r. parts text.now ≡ r.0.now ∷ parts r.1.now) }
     ensures shorter { IfSome result (λ r. length r.1.now < length text.now) }
@@ -69,7 +69,7 @@ fn first_line(text: &[u8]) -> Option<(&[u8], &[u8])>
     Some((&text[..feed], &text[feed + 1..]))
 }
 
-// How many bytes stand before the first line feed.
+// How many bytes come before the first line feed.
 fn first_feed(text: &[u8]) -> Option<usize>
     ensures { result ≡ position (λ b. b == 10) text.now }
 {
@@ -77,7 +77,7 @@ fn first_feed(text: &[u8]) -> Option<usize>
 }
 
 impl<'a> Run<'a> {
-    // A whole line, without its line feed.
+    // Takes a whole line, without its line feed.
     fn take_bytes(&mut self, heap: Heap, line: &'a [u8]) -> Result<(), LineError>
         ensures line { OnOk result (Takes (place_of self.old) (place_of self.new) line.now) }
         ensures fault { IfErr result (λ e. SaysOfLine e (place_of self.old) line.now) }

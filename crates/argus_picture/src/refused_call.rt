@@ -1,7 +1,7 @@
 //! `RefusedCall`: a call that was refused.
 
-/// A refused call: its entry and its line, who made it where that one was live, and the holder that
-/// stood against it.
+/// A refused call: its entry and its line, its caller if that action was live, and the holder whose
+/// lock was in the way.
 #[derive(Clone, Copy)]
 pub(crate) struct RefusedCall<'a> {
     pub at: u32,

@@ -1,4 +1,4 @@
-//! What commits leave in objects for good: the changes of a run, made again.
+//! Replays the changes of a run, to find what commits leave in the objects' bases.
 
 use crate::call_error::CallError;
 use crate::object::{base_text, make_for_good};
@@ -9,7 +9,7 @@ use argus_contents::{Change, ObjId};
 use argus_memory::Heap;
 
 impl<'a> Run<'a> {
-    /// The action made this change.
+    /// Records a change that the action made.
     pub(crate) fn note_change(
         &mut self,
         owner: usize,
@@ -24,7 +24,7 @@ impl<'a> Run<'a> {
         Ok(())
     }
 
-    /// The parent answers for the action's changes from now on.
+    /// Hands the action's changes to its parent.
     pub(crate) fn pass_changes(&mut self, place: usize, parent: usize) {
         for write in self.writes.iter_mut() {
             if write.owner == place {
@@ -33,7 +33,7 @@ impl<'a> Run<'a> {
         }
     }
 
-    /// The changes of those that are doomed are undone.
+    /// Discards the changes of the doomed actions, which are those that are being aborted.
     pub(crate) fn undo_changes(&mut self, doomed: &[bool]) {
         for write in self.writes.iter_mut() {
             if doomed.get(write.owner).copied() == Some(true) {
@@ -42,7 +42,7 @@ impl<'a> Run<'a> {
         }
     }
 
-    /// The action's changes of the object are there for good.
+    /// Applies the action's changes to the object's base, and records the commit.
     pub(crate) fn settle(
         &mut self,
         heap: Heap,
@@ -67,7 +67,7 @@ impl<'a> Run<'a> {
         Ok(())
     }
 
-    // The change at this place is there for good, where it is the action's change of the object.
+    // Applies the change at index `at` to the base, if it is the action's and of this object.
     fn settle_change(&mut self, at: usize, place: usize, object: usize) -> Result<(), CallError> {
         let declared = self.objects.len().min(65_535) as u32;
         let Some(write) = self.writes.get_mut(at) else {

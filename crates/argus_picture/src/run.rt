@@ -1,4 +1,4 @@
-//! `Run`: what a listing tells, as a picture shows it.
+//! `Run`: what a listing says, in the form in which it is drawn.
 
 ghost use Rattle.std.specs.Prelude.{◌≡◌};
 ghost use Rattle.argus_picture.specs.Listing.{start};
@@ -15,8 +15,9 @@ use crate::write::Write;
 use argus_actions::ActionId;
 use argus_memory::{Heap, Room};
 
-/// What the lines that were read so far tell. Actions and objects stand at their places, which are
-/// their numbers less those that the opening has folded.
+/// What the lines that were read so far say. An action's place is its index in `actions`: its
+/// number minus `first_action`, which is how many actions the opening stands for. An object's place
+/// is its number.
 pub(crate) struct Run<'a> {
     pub first_entry: u64,
     pub first_action: u32,
@@ -30,7 +31,7 @@ pub(crate) struct Run<'a> {
     pub writes: Vec<Write, Room>,
 }
 
-// By hand, so that each place where a run ends is one call; a derived one is written out there.
+// Written by hand, so that dropping a run is one call; a derived `Drop` is expanded at each place.
 impl Drop for Run<'_> {
     fn drop(self) {
         let Run {
@@ -48,7 +49,7 @@ impl Drop for Run<'_> {
 }
 
 impl<'a> Run<'a> {
-    /// Nothing is read yet.
+    /// A run of which no line was read yet.
     pub(crate) fn new(heap: Heap) -> Run<'a>
         ensures { place_of result ≡ start }
     {
@@ -84,7 +85,7 @@ impl<'a> Run<'a> {
         self.action(place)?.row
     }
 
-    /// Whether the one is the other, or stands above it.
+    /// Whether `upper` is an ancestor of `lower`. Each action is its own ancestor.
     pub(crate) fn is_above(&self, upper: usize, lower: usize) -> bool {
         let mut place = Some(lower);
         for _ in 0..self.actions.len() {
@@ -99,13 +100,13 @@ impl<'a> Run<'a> {
         false
     }
 
-    /// Whether an action that it has begun is live.
+    /// Whether an action that it began is live.
     pub(crate) fn has_live_child(&self, place: usize) -> bool {
         self.actions.iter().any(|action| action.end.is_none()
             && action.origin.creator() == Some(place))
     }
 
-    /// The first row below this one that no live action has.
+    /// The first row from `from` on without a live action.
     pub(crate) fn free_row(&self, from: usize) -> Option<u32> {
         let mut taken = [false; MAX_ROWS];
         for action in &self.actions {
@@ -143,7 +144,7 @@ impl<'a> Run<'a> {
         })
     }
 
-    /// The first holder that keeps the action from this lock: none of those above it.
+    /// The first holder in the way of the action's lock. The action's ancestors aren't in the way.
     pub(crate) fn holder_against(&self, place: usize, asked: LockAsked) -> Option<usize> {
         for hold in &self.holds {
             let counts = hold.end.is_none()
@@ -157,7 +158,7 @@ impl<'a> Run<'a> {
     }
 }
 
-// The first place from this one on that isn't taken.
+// The first place from this one on that is free.
 fn first_free(taken: &[bool], from: usize) -> Option<u32> {
     let mut place = 0u32;
     for is_taken in taken {

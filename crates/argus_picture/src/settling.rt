@@ -1,9 +1,9 @@
-//! `Settling`: a commit that changed what is in an object for good.
+//! `Settling`: a commit that changed an object's base.
 
 use argus_memory::Room;
 
-/// A commit of a topaction that had written the object: its entry and its line, and what is in the
-/// object then, as it is written.
+/// A commit of a topaction that had locked the object for writing: its entry and its line, and the
+/// written form of the object's base after it.
 #[derive(Drop)]
 pub(crate) struct Settling<'a> {
     pub object: usize,

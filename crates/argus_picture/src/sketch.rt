@@ -1,4 +1,4 @@
-//! `Sketch`: the picture of a journal, in which the names of objects are still open.
+//! `Sketch`: a journal's picture in which the names of objects are filled in later.
 
 ghost use Rattle.std.specs.Prelude.{IfErr, IfOk, [], string_bytes, ◌≡◌};
 ghost use Rattle.argus_frame.specs.Canvas.{canvas_text};
@@ -13,7 +13,7 @@ use argus_frame::Canvas;
 use argus_language::Script;
 use argus_memory::{Heap, OutOfMemory, Room};
 
-/// The picture of a journal, in which the names of objects are still open.
+/// A journal's picture in which the names of objects are filled in later.
 ///
 /// ```text
 /// let sketch = sketch_listing(heap, b"0 declare atomic_array[int] -> o0\n")?;
@@ -28,7 +28,7 @@ pub struct Sketch {
 }
 
 impl Sketch {
-    /// The picture's text; each object is called by its number.
+    /// The picture's text, with each object called by its number.
     pub fn text(&self, heap: Heap) -> Result<String<Room>, OutOfMemory>
         ensures { IfOk result (λ text. string_bytes text ≡ canvas_text [] self.now.canvas) }
     {
@@ -37,8 +37,8 @@ impl Sketch {
 
     /// The picture's text, with the names that the script declares for the first objects.
     ///
-    /// `Fault`: the first object of the script that the journal doesn't have, or has with another
-    /// shape. `OutOfMemory` may come in place of any answer.
+    /// `Fault`: the first object of the script that the journal lacks, or has with another shape.
+    /// `OutOfMemory` may be returned in place of any other result.
     pub fn named(&self, heap: Heap, script: &Script) -> Result<String<Room>, NamesError>
         ensures named { IfOk result (λ text. IsNamed self.now (plain_script script.now).objects
             (string_bytes text)) }
@@ -51,7 +51,7 @@ impl Sketch {
         }
     }
 
-    // With the script's names, whether they are those of the journal's objects or not.
+    // The text with the script's names, whether the journal has these objects or not.
     fn with_names(&self, heap: Heap, script: &Script) -> Result<String<Room>, NamesError>
         ensures text { IfOk result (λ text. string_bytes text
             ≡ canvas_text (plain_script script.now).objects.names self.now.canvas) }

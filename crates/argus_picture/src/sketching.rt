@@ -1,4 +1,4 @@
-//! `sketch_listing`: the picture that a listing tells, with the names of objects still open.
+//! `sketch_listing`: draws a listing's picture, with the names of objects filled in later.
 
 ghost use Rattle.std.specs.Prelude.{IfErr, IfOk, OnOk, map, ◌≡◌};
 ghost use Rattle.argus_picture.specs.Faults.{SaysOfListing};
@@ -14,10 +14,10 @@ use argus_contents::Shape;
 use argus_frame::Canvas;
 use argus_memory::{Heap, OutOfMemory, Room};
 
-/// The picture of a journal's listing, in which the names of objects are still open.
+/// The picture of a journal's listing, in which the names of objects are filled in later.
 ///
-/// `Fault` comes with the first faulty line, and why. `OutOfMemory` may come in place of any
-/// answer.
+/// `Fault` says which line is the first faulty one, and why. `OutOfMemory` may be returned in place
+/// of any other result.
 ///
 /// ```text
 /// let sketch = sketch_listing(heap, b"0 begin_top -> a0\n1 commit a0 -> done\n")?;

@@ -1,4 +1,4 @@
-//! How a line of a listing is taken: of the opening, or of an entry.
+//! Takes a line of a listing into a run: a line of the opening, or of an entry.
 
 ghost use Rattle.std.specs.Prelude.{IfErr, IsTrue, OnOk, ◌+◌, ◌<◌, ◌↔◌, ◌≡◌, ◌⊎◌};
 ghost use Rattle.argus_entries.specs.Entry.{plain_entry};
@@ -22,7 +22,7 @@ use argus_reading::{ReadEntryError, read_entry};
 use argus_texts::front::{Stop, word};
 
 impl<'a> Run<'a> {
-    /// One more line.
+    /// Takes one more line.
     pub(crate) fn take(&mut self, heap: Heap, line: &'a str) -> Result<(), LineError>
         ensures line { OnOk result (Takes (place_of self.old) (place_of self.new) line.now) }
         ensures fault { IfErr result (λ e. SaysOfLine e (place_of self.old) line.now) }
@@ -48,7 +48,7 @@ impl<'a> Run<'a> {
         }
     }
 
-    // The entry of a line, with its number.
+    // Takes an entry with its number.
     fn take_numbered(
         &mut self,
         heap: Heap,
@@ -77,7 +77,7 @@ impl<'a> Run<'a> {
         number >= self.first_entry && number - self.first_entry == u64::from(self.entries)
     }
 
-    // The next entry. What it says of the run leaves these two numbers as they are.
+    // Takes the next entry. `take_call` has no contract, so these two numbers are set after it.
     fn take_next(&mut self, heap: Heap, entry: Entry, line: &'a str) -> Result<(), LineError>
         requires { self.old.entries < MAX_ENTRIES }
         ensures first { OnOk result (self.new.first_entry ≡ self.old.first_entry) }

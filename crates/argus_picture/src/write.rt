@@ -1,8 +1,8 @@
-//! `Write`: a change that was made, and who answers for it.
+//! `Write`: a change that was made, and its owner.
 
 use argus_contents::Change;
 
-/// A change of an object. It is None once it is there for good, and once it is undone.
+/// A change of an object. `change` is `None` once it was applied to the base, or undone.
 #[derive(Drop)]
 pub(crate) struct Write {
     pub owner: usize,

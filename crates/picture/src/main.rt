@@ -1,4 +1,4 @@
-//! `picture`: draws the journal's listing that standard input has, as SVG to standard output.
+//! `picture`: draws a journal's listing from standard input, as SVG to standard output.
 //!
 //! | Status | Meaning | On standard error |
 //! |---|---|---|
@@ -6,7 +6,7 @@
 //! | 2 | a mistake in the command line | its text |
 //! | 3 | the listing is refused | `line N: KIND` |
 //! | 3 | the script of the names is refused | `script: line N: KIND` or `script: oN: KIND` |
-//! | 4 | want of memory | `out of memory` |
+//! | 4 | out of memory | `out of memory` |
 //! | 5 | a read or a write failed | `read fault`, `write fault` or `script: read fault` |
 #![tactic(auto)]
 
@@ -33,7 +33,7 @@ Exit status:
   3  the listing is refused: `line N: KIND` on standard error; or the script is:
      `script: line N: KIND`, `script: oN: NotDeclared` where the journal hasn't the object, or
      `script: oN: OtherShape` where the journal has it with another shape
-  4  want of memory
+  4  out of memory
   5  a read or a write failed; of the script's file: `script: read fault`";
 
 fn main(rt: HostRuntime) -> ExitCode {
@@ -44,13 +44,13 @@ fn main(rt: HostRuntime) -> ExitCode {
     }
 }
 
-// The script's file, where the words name one.
+// The script's file, if the command line names one.
 fn read_command_line(rt: &(impl Env + AllocGlobal)) -> Result<Option<String>, NoOptions> {
     let words = words_given(rt)?;
     take_script(rt.alloc(), "picture", ABOUT, DETAILS, SCRIPT, words)
 }
 
-// Draws the listing that standard input has.
+// Draws the listing from standard input.
 fn draw_listing(rt: &HostRuntime) -> Result<(), NamedDrawError> {
     let Ok(heap) = Heap::new(rt.alloc()) else {
         return Err(NamedDrawError::Draw(DrawError::OutOfMemory));
@@ -65,7 +65,7 @@ fn draw_listing(rt: &HostRuntime) -> Result<(), NamedDrawError> {
     }
 }
 
-// The same, with the names of the script in this file.
+// The same, with the names that the script in this file declares.
 fn draw_with_names(rt: &HostRuntime, script: &str) -> Result<(), NamedDrawError> {
     let Ok(heap) = Heap::new(rt.alloc()) else {
         return Err(NamedDrawError::Draw(DrawError::OutOfMemory));
@@ -82,7 +82,7 @@ fn draw_with_names(rt: &HostRuntime, script: &str) -> Result<(), NamedDrawError>
     )
 }
 
-// That standard error can't be written is told by the status alone.
+// If standard error can't be written, only the status tells the error.
 fn end(rt: &impl Eprint, ended: Result<(), NamedDrawError>) -> ExitCode {
     match ended {
         Ok(()) => ExitCode::SUCCESS,

@@ -1,4 +1,4 @@
--- What is left completes the text.
+-- The text so far, followed by what is left, is the whole text.
 use Rattle.std.proofs.Common.{IsUtf8, string_bytes, ◌++◌, ◌≡◌}
 use Rattle.std.specs.Str.Iter.{chars_rest}
 use Rattle.argus_frame.specs.Escaping.{escaped}

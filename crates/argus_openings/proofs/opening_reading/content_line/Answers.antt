@@ -1,4 +1,4 @@
--- The text is neither the word nor a content.
+-- The text is neither `absent` nor a content.
 use Rattle.std.proofs.lemmas.Result.{err_from_is_err_and}
 use Rattle.std.proofs.lemmas.Slice.Eq.{bytes_eq-Decides}
 use Rattle.std.specs.Prelude.{codes}

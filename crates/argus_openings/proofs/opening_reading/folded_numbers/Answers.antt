@@ -1,4 +1,4 @@
--- A number, the blank between, or what is behind the second one: the text is no first line.
+-- A number or the blank is missing, or something comes after: the text isn't a first line.
 use Rattle.std.proofs.Common.{arith}
 use Rattle.std.proofs.lemmas.Result.{err_from_is_err_and}
 use Rattle.argus_texts.proofs.Exits.{passed}

@@ -1,4 +1,4 @@
--- The word, or the number behind it, stops.
+-- The text doesn't begin with the word and a number after it.
 use Rattle.std.proofs.lemmas.Result.{err_from_is_err_and}
 use Rattle.std.proofs.Common.{arith}
 use Rattle.argus_reading.proofs.Words.{word_ends, word_lacks}

@@ -1,4 +1,4 @@
--- The number, the shape, the content, or a blank between them doesn't come: the text is no line of an object.
+-- The number, the shape, the content or a blank is missing: the text isn't an object's line.
 use Rattle.std.proofs.lemmas.Result.{err_from_is_err_and}
 use Rattle.argus_contents.specs.Content.{plain_option}
 use Rattle.argus_texts.proofs.Exits.{passed}

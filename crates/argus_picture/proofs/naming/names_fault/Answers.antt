@@ -1,4 +1,4 @@
--- The next object isn't there, has another shape there, or the same.
+-- The journal lacks the next object, has it with another shape, or has it with the same.
 use Rattle.std.proofs.Common.{arith, sym, ◌∙◌}
 use Rattle.std.proofs.lemmas.Bool.{false≢true}
 use Rattle.argus_picture.proofs.Agreeing.{all_there, next_agrees, next_differs, next_missing}

@@ -1,4 +1,4 @@
--- The objects up to this one are those that are there.
+-- The objects before this one are the same in the script and in the journal.
 use Rattle.std.proofs.Common.{length, take, ◌-◌, ◌≡◌, ◌≤◌}
 use Rattle.argus_picture.proofs.naming.names_fault.Given as goal
 

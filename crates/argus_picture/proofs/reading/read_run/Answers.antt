@@ -1,4 +1,4 @@
--- The lines in front of the fault are a listing's.
+-- The lines before the faulty one are a listing's.
 use Rattle.std.proofs.Common.{arith, inl, inr}
 use Rattle.argus_picture.specs.RunPlace.{place_of}
 use Rattle.argus_picture.proofs.ReadLines.{read_more, read_none, read_refused, read_torn}

@@ -1,4 +1,4 @@
--- The lines up to this one are a listing's.
+-- The lines before this one are a listing's.
 use Rattle.std.proofs.Common.{length, ◌+◌, ◌≤◌}
 use Rattle.argus_picture.specs.RunPlace.{place_of}
 use Rattle.argus_picture.proofs.ReadLines.{ReadTo}

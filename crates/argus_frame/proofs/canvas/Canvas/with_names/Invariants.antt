@@ -1,4 +1,4 @@
--- What is left completes the text.
+-- The text so far, followed by what is left, is the whole text.
 use Rattle.std.specs.List.{flat_map}
 use Rattle.std.proofs.Common.{drop, map, string_bytes, ◌++◌, ◌≡◌}
 use Rattle.argus_frame.specs.Canvas.{stretch_text}

@@ -1,4 +1,4 @@
--- The text is the first line of an opening, or isn't.
+-- The text is that of an opening's first line, or it isn't.
 use Rattle.std.proofs.Common.{length, refl}
 use Rattle.argus_picture.specs.RunPlace.{place_of}
 use Rattle.argus_picture.proofs.Openings.{no_first, opens}

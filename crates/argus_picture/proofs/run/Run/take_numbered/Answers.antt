@@ -1,4 +1,4 @@
--- An entry's line has the next number or another.
+-- The number is that of the next entry, or another one.
 use Rattle.std.proofs.Common.{subst, sym, ◌∙◌}
 use Rattle.std.proofs.lemmas.Bool.{false≢true}
 use Rattle.argus_entries.specs.Entry.{plain_entry}

@@ -1,4 +1,4 @@
--- The text is the line of the opening's next object, or isn't.
+-- The text is that of the opening's next object, or it isn't.
 use Rattle.std.proofs.Common.{sym, ◌∙◌}
 use Rattle.std.proofs.lemmas.Bool.{false≢true}
 use Rattle.std.proofs.lemmas.Result.{on_ok_weaker}

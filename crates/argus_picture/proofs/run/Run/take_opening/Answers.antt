@@ -1,4 +1,4 @@
--- Neither nothing came before, nor is there an opening without an entry.
+-- A line came before, and there is no opening or an entry came before.
 use Rattle.std.proofs.Common.{sym, ◌∙◌}
 use Rattle.std.proofs.lemmas.Bool.{false≢true}
 use Rattle.argus_picture.specs.RunPlace.{place_of}
