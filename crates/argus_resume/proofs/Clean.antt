@@ -39,13 +39,13 @@ use Rattle.argus_entries.specs.Reply.{PlainReply}
 use Rattle.argus_entries.specs.Reply as reply
 use Rattle.argus_entries.specs.declared.refusal.Refusal.{Refusal}
 use Rattle.argus_entries.specs.declared.refusal.Refusal.TheVariants as refusal
+use Rattle.argus_openings.specs.OpeningLanguages.{FoldedLines, IsReadableContent, ObjectLines, content_text}
 use Rattle.argus_reading.specs.Line.{IsReadable}
 use Rattle.argus_texts.specs.ContentSpelling.{PartsWithin, content_spelling}
 use Rattle.argus_texts.specs.ShapeSpelling.{AreNamed, HasNames, IsNamed, names_behind, names_inside, shape_spelling}
 use Rattle.argus_texts.specs.ShapeSpelling.{ty_spelling}
 use Rattle.argus_texts.specs.Spelling.{AllWithin, IsI64, Within, behind, escape, escaped, inside, spelling}
 use Rattle.argus_texts.proofs.Quotes.{escaped-append}
-use Rattle.argus_openings.specs.OpeningLanguages.{FoldedLines, IsReadableContent, ObjectLines, content_text}
 use Rattle.argus_resume.specs.Taking.{HasNoFeed}
 use Rattle.argus_resume.proofs.Feeds.{no_feed-append}
 

@@ -19,10 +19,10 @@ use Rattle.argus_contents.specs.declared.query.Query.{Query}
 use Rattle.argus_contents.specs.declared.query.Query.TheVariants as query
 use Rattle.argus_contents.specs.declared.signal.Signal.{Signal}
 use Rattle.argus_contents.specs.declared.signal.Signal.TheVariants.{Absent, Bounds, WrongTag}
+use Rattle.argus_openings.specs.OpeningLanguages.{IsReadableContent}
 use Rattle.argus_texts.specs.ContentSpelling.{PartsWithin}
 use Rattle.argus_texts.specs.Spelling.{AllWithin, IsI64, Within}
 use Rattle.argus_entries.specs.Laws.{AnswerWithin, ChangeWithin}
-use Rattle.argus_openings.specs.OpeningLanguages.{IsReadableContent}
 
 -- what holds of each arm holds of the choice
 pub by_if : {A : Type 0} (P : A → Type 0) (b : Bool) (x y : A) → P x → P y → P (if b then x else y)

@@ -15,14 +15,14 @@ use Rattle.argus_journal.specs.JournalView.{JournalView, next_entry}
 use Rattle.argus_journal.specs.Legal.{Legal}
 use Rattle.argus_journal.specs.Opening.{Opening, empty, opening_at}
 use Rattle.argus_listings.specs.Listing.{each_from, entries_text, folded_line, opened_line, opening_text}
+use Rattle.argus_openings.specs.OpeningLanguages.{FoldedLines, ObjectLines}
+use Rattle.argus_openings.proofs.OpeningParts.{after_clear, before_clear}
 use Rattle.argus_resume.specs.JournalText.{AreReadable, AreReadableObjects, IsReadableJournal, IsReadableObject}
 use Rattle.argus_resume.specs.JournalText.{IsReadableOpening, journal_text}
-use Rattle.argus_openings.specs.OpeningLanguages.{FoldedLines, ObjectLines}
 use Rattle.argus_resume.specs.Stage.{lines_of}
 use Rattle.argus_resume.proofs.Clean.{folded_clean}
 use Rattle.argus_resume.proofs.Fronts.{entries_front, folded_form, lines_told, no_opening_line}
 use Rattle.argus_resume.proofs.Fronts.{objects_front}
-use Rattle.argus_openings.proofs.OpeningParts.{after_clear, before_clear}
 use Rattle.argus_texts.proofs.Lists.{tail_of}
 use Rattle.argus_resume.proofs.Openings.{folded_line_form, object_line_form}
 

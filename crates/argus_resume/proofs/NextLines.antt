@@ -16,12 +16,12 @@ use Rattle.argus_journal.specs.JournalView.{JournalView, next_entry, reply_to}
 use Rattle.argus_journal.specs.Legal.{Legal}
 use Rattle.argus_journal.specs.Opening.{Opening, is_sound}
 use Rattle.argus_listings.specs.Listing.{each_from}
+use Rattle.argus_openings.specs.OpeningLanguages.{FoldedLines, ObjectLines}
 use Rattle.argus_reading.specs.Line.{IsEntryLine, IsReadable}
 use Rattle.argus_resume.specs.JournalText.{AreReadable, IsReadableJournal}
 use Rattle.argus_resume.specs.JournalText.{journal_text}
 use Rattle.argus_resume.specs.Laws.{EndsInFeed, IsListable}
 use Rattle.argus_resume.specs.Lines.{IsLineFault, IsLineOf, IsNextOfOpening, IsOfOpening}
-use Rattle.argus_openings.specs.OpeningLanguages.{FoldedLines, ObjectLines}
 use Rattle.argus_resume.specs.Resumed.{IsResumed}
 use Rattle.argus_resume.specs.Taking.{EndsReading, EndsTaking, HasNoFeed, IsFaulty, IsTorn}
 use Rattle.argus_resume.specs.declared.read_end.ReadEnd.{ReadEnd}

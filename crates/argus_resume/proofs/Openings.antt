@@ -1,9 +1,9 @@
 -- The lines of openings: what each says, and what can't be the next one.
-use Rattle.std.proofs.Common.{◌≡◌, ℕ, ◌<◌, List, [], ◌∷◌, ◌++◌, length, refl, sym, ap, ◌∙◌, subst, inl, inr}
-use Rattle.std.proofs.Common.{append_assoc, append-nil, arith, get_or, true}
+use Rattle.std.proofs.Common.{◌≡◌, ℕ, ◌<◌, List, [], ◌∷◌, ◌++◌, length, refl, sym, ◌∙◌, subst, inl, inr}
+use Rattle.std.proofs.Common.{append_assoc, arith, true}
 use Rattle.std.proofs.lemmas.List.{append_cancel_left, append_cancel_right}
 use Rattle.std.specs.Fmt.{decimal}
-use Rattle.std.specs.Prelude.{None, Option, Some, codes}
+use Rattle.std.specs.Prelude.{Option, Some, codes}
 use Rattle.argus_contents.specs.Content.{PlainContent}
 use Rattle.argus_contents.specs.Shape.{PlainShape}
 use Rattle.argus_contents.specs.declared.limits.TheConstants.{MAX_OBJECTS}
