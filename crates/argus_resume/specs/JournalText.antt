@@ -1,8 +1,8 @@
 -- The listing of a journal, and the journals that lines can spell.
-use Rattle.std.specs.Prelude.{List, None, Option, Some, [], true, ℕ, ◌++◌, ◌<◌, ◌∷◌, ◌≡◌, ◌⊎◌}
+use Rattle.std.specs.Prelude.{List, Option, Some, [], true, ℕ, ◌++◌, ◌<◌, ◌∷◌, ◌≡◌, ◌⊎◌}
 use Rattle.argus_contents.specs.Content.{PlainContent}
 use Rattle.argus_contents.specs.Shape.{PlainShape}
-use Rattle.argus_contents.specs.declared.limits.TheConstants.{MAX_OBJECTS, MAX_VALUE_DEPTH}
+use Rattle.argus_contents.specs.declared.limits.TheConstants.{MAX_OBJECTS}
 use Rattle.argus_entries.specs.Entry.{PlainEntry}
 use Rattle.argus_journal.specs.JournalView.{JournalView}
 use Rattle.argus_journal.specs.Opening.{KeepsNumbers, Opening, empty, fits_shape}
