@@ -1,6 +1,6 @@
 //! `BoardWriter`: what publishes on a board.
 
-ghost use Rattle.std.specs.Prelude.{IfOk, MatchOption, OnErr, OnOk, [], false, true, ◌++◌, ◌<◌};
+ghost use Rattle.std.specs.Prelude.{IfOk, MatchOption, OnErr, OnOk, [], false, true, ◌+◌, ◌++◌, ◌<◌};
 ghost use Rattle.std.specs.Prelude.{◌∷◌, ◌≡◌, ◌≢◌};
 ghost use mathlib.Core.List.{IsPrefix};
 ghost use Rattle.left_right.specs.Sides.{view};
@@ -26,8 +26,8 @@ use std::marker::Model;
 use std::snapshot::Snapshot;
 use std::sync::Wait;
 
-/// What publishes on a board. Contracts see the effects that are published, and those that are
-/// pending, the newest last.
+/// What publishes on a board. Contracts see the effects that are published, those that are pending,
+/// the newest last, and how many places for lookers are left.
 ///
 /// A publish waits for lookers that are reading the copy that it changes. The board ends with its
 /// writer: a look then returns `Closed`. A board without places for lookers keeps no contents,
@@ -75,6 +75,7 @@ impl<N: Board, R: Wait + Drop> Model for BoardWriter<N, R> {
     ghost view = { λ b. record {
       published = N.before ++ line N.root b.shown.seen.log;
       pending = drop (length (line N.root b.shown.seen.log)) (line N.root b.keeper.front.seen.log);
+      places_left = b.unused;
     } };
 
     ghost invariant = { λ b. IsTableOf N.opening_contents N.before N.first
@@ -108,6 +109,7 @@ impl<N: Board, R: Wait + Drop> BoardWriter<N, R> {
         requires keeper { StartsHistory N.history N.root keeper }
         ensures published { IfOk result (λ board. board.published ≡ N.before) }
         ensures pending { IfOk result (λ board. board.pending ≡ []) }
+        ensures places_left { IfOk result (λ board. board.places_left ≡ lookers) }
     {
         if lookers == 0 {
             return Ok(BoardWriter::without_places(rt, keeper));
@@ -126,6 +128,7 @@ impl<N: Board, R: Wait + Drop> BoardWriter<N, R> {
         requires keeper { StartsHistory N.history N.root keeper }
         ensures published { result.published ≡ N.before }
         ensures pending { result.pending ≡ [] }
+        ensures places_left { result.places_left ≡ 0 }
     {
         BoardWriter::over(rt, None, keeper, 0)
     }
@@ -141,6 +144,7 @@ impl<N: Board, R: Wait + Drop> BoardWriter<N, R> {
             (pending_changes w.behind w.log.items)) }
         ensures published { result.published ≡ N.before }
         ensures pending { result.pending ≡ [] }
+        ensures places_left { result.places_left ≡ unused }
     {
         let (shown, start) = (keeper.front.again(), keeper.front.again());
         BoardWriter {
@@ -167,7 +171,10 @@ impl<N: Board, R: Wait + Drop> BoardWriter<N, R> {
     pub fn looker(&mut self) -> Result<Looker<N>, OutOfMemory>
         ensures first { IfOk result (λ looker. looker ≡ N.before) }
         ensures places { OnOk result (0 < N.places) }
-        ensures stays { self.new ≡ self.old }
+        ensures places_left { OnOk result (self.new.places_left + 1 ≡ self.old.places_left) }
+        ensures published { self.new.published ≡ self.old.published }
+        ensures pending { self.new.pending ≡ self.old.pending }
+        ensures err { OnErr result (self.new ≡ self.old) }
     {
         let (Some(tables), Some(left)) = (&self.tables, self.unused.checked_sub(1)) else {
             return Err(OutOfMemory);
@@ -185,6 +192,7 @@ impl<N: Board, R: Wait + Drop> BoardWriter<N, R> {
             ≡ self.old.pending ++ plain_effect effect.items ∷ []) }
         ensures err { OnErr result (self.new ≡ self.old) }
         ensures places { OnErr result (0 < N.places) }
+        ensures places_left { self.new.places_left ≡ self.old.places_left }
     {
         let BoardWriter { tables, keeper, .. } = self;
         let page = Snapshot::of(&effect);
@@ -202,6 +210,7 @@ impl<N: Board, R: Wait + Drop> BoardWriter<N, R> {
         requires places { N.places ≡ 0 }
         ensures published { self.new.published ≡ self.old.published }
         ensures pending { self.new.pending ≡ self.old.pending ++ M.effects about.now }
+        ensures places_left { self.new.places_left ≡ self.old.places_left }
     {
         self.keeper.add::<X, M>(Snapshot::of(about));
     }
@@ -213,6 +222,7 @@ impl<N: Board, R: Wait + Drop> BoardWriter<N, R> {
             × (self.new.pending ≡ [])) }
         ensures err { OnErr result ((self.new ≡ self.old) × (self.old.pending ≢ [])) }
         ensures places { OnErr result (0 < N.places) }
+        ensures places_left { self.new.places_left ≡ self.old.places_left }
     {
         let BoardWriter {
             tables,
@@ -238,6 +248,7 @@ impl<N: Board, R: Wait + Drop> BoardWriter<N, R> {
             × (self.new.pending ≡ []) × (looker.new ≡ self.new.published)) }
         ensures err { OnErr result ((self.new ≡ self.old) × (self.old.pending ≢ [])
             × (looker.new ≡ looker.old)) }
+        ensures places_left { self.new.places_left ≡ self.old.places_left }
     {
         let BoardWriter {
             tables,

@@ -48,6 +48,7 @@ returns-in_err-publish-clause-err g c =
       ap (λ (f : HistoryPrefix). record {
         published = g.N.Board.before ++ shown;
         pending = drop (length shown) (line root f.seen.log);
+        places_left = c.self.inside.unused;
       }) c.covers.ensures.front ∙ c.self.view_is,
       (λ none. c.in_err-publish.ensures.err.2 (sym left ∙ ap (λ (s : BoardView). s.pending) c.self.view_is ∙ none)),
       c.looker.view_is,
