@@ -43,7 +43,8 @@ pub(crate) fn lookers_at<N: Sharing, R: Wait + Drop>(
 ) -> Result<Vec<Looker<N>, Room>, OutOfMemory>
     ensures lookers { IfOk result (λ lookers. All (λ looker. looker ≡ N.before) lookers.items
         × (length lookers.items ≡ count)) }
-    ensures board { board.new ≡ board.old }
+    ensures published { board.new.published ≡ board.old.published }
+    ensures pending { board.new.pending ≡ board.old.pending }
 {
     let mut lookers = Vec::new(heap.room());
     for _i in 0..count {
