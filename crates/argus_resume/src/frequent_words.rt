@@ -8,8 +8,11 @@ ghost use Rattle.std.specs.Prelude.{IfSome, codes, ◌++◌, ◌≡◌};
 pub(crate) fn behind_begin_top(text: &[u8]) -> Option<&[u8]>
     ensures { IfSome result (λ rest. text.now ≡ codes "begin_top" ++ rest.now) }
 {
-    match text {
-        [b'b', b'e', b'g', b'i', b'n', b'_', b't', b'o', b'p', rest @ ..] => Some(rest),
+    let [b'b', b'e', b'g', b'i', b'n', rest @ ..] = text else {
+        return None;
+    };
+    match rest {
+        [b'_', b't', b'o', b'p', rest @ ..] => Some(rest),
         _ => None,
     }
 }
@@ -19,8 +22,11 @@ pub(crate) fn behind_begin_top(text: &[u8]) -> Option<&[u8]>
 pub(crate) fn behind_set_field(text: &[u8]) -> Option<&[u8]>
     ensures { IfSome result (λ rest. text.now ≡ codes " set_field " ++ rest.now) }
 {
-    match text {
-        [b' ', b's', b'e', b't', b'_', b'f', b'i', b'e', b'l', b'd', b' ', rest @ ..] => Some(rest),
+    let [b' ', b's', b'e', b't', b'_', rest @ ..] = text else {
+        return None;
+    };
+    match rest {
+        [b'f', b'i', b'e', b'l', b'd', b' ', rest @ ..] => Some(rest),
         _ => None,
     }
 }
