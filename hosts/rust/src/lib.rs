@@ -43,6 +43,7 @@ mod decoding;
 mod demand;
 mod error;
 mod guardian;
+mod kept;
 mod line_fault;
 mod lines;
 mod list_end;
@@ -72,7 +73,9 @@ mod sys;
 mod taken;
 mod taken_end;
 mod value;
-mod waiting_writer;
+mod waiter;
+mod waiting_access;
+mod wanted;
 mod words;
 mod writer;
 

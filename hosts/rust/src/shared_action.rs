@@ -419,6 +419,16 @@ impl<'s> SharedAction<'s> {
         mem::forget(self);
         Ok(())
     }
+
+    // Commits. Returns how many entries the journal has had up to this commit.
+    #[cfg(all(feature = "logged", unix))]
+    pub(crate) fn commit_counted(self) -> Result<u64, Error> {
+        let commit = Call::Commit(self.id);
+        let (reply, entries) = self.shared.call_counted(self.renewals, &commit)?;
+        reply.answer()?.done()?;
+        mem::forget(self);
+        Ok(entries)
+    }
 }
 
 impl Drop for SharedAction<'_> {
