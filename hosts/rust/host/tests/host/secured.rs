@@ -61,6 +61,30 @@ fn in_words(folder: &Path, name: &str) -> String {
     folder.join(name).to_str().expect("UTF-8").to_owned()
 }
 
+// Whoever trusts another authority, names no user or a wrong password, or may not use the keys isn't served.
+fn refuses_others(node: &Node, folder: &Path) {
+    let [authority, stranger, password, guess] =
+        ["authority.pem", "stranger.pem", "password", "guess"].map(|it| in_words(folder, it));
+    let as_user = ["--user", "bank", "--password-file"];
+    let trusted = ["--authority", &authority];
+    for wrong in [
+        [
+            &["--prefix", "bank", "--authority", &stranger],
+            &as_user[..],
+            &[&password],
+        ]
+        .concat(),
+        [&["--prefix", "bank"], &trusted[..], &as_user, &[&guess]].concat(),
+        [&["--prefix", "bank"], &trusted[..]].concat(),
+        [&["--prefix", "other"], &trusted[..], &as_user, &[&password]].concat(),
+    ] {
+        let mut command = node.command(&[&["serve", "--name", "two"], &wrong[..]].concat());
+        let ended = command.stderr(Stdio::piped()).output().expect("it ended");
+        let has_served = ended.status.success() || !ended.stdout.is_empty();
+        assert!(!has_served, "{ended:?}");
+    }
+}
+
 #[test]
 fn a_leader_and_a_follower_by_tls_and_as_a_user() {
     let scratch = Scratch::new("secured");
@@ -69,12 +93,15 @@ fn a_leader_and_a_follower_by_tls_and_as_a_user() {
     };
     fs::write(scratch.path().join("password"), "secret\n").expect("written");
     fs::write(scratch.path().join("guess"), "guessed\n").expect("written");
-    let [authority, stranger, password, guess] =
-        ["authority.pem", "stranger.pem", "password", "guess"]
-            .map(|it| in_words(scratch.path(), it));
-    let trusted = ["--prefix", "bank", "--authority", &authority];
-    let as_user = ["--user", "bank", "--password-file", &password];
-    let words = [&trusted[..], &as_user].concat();
+    let [authority, password] =
+        ["authority.pem", "password"].map(|it| in_words(scratch.path(), it));
+    let words = [
+        ["--prefix", "bank"],
+        ["--authority", &authority],
+        ["--user", "bank"],
+        ["--password-file", &password],
+    ]
+    .concat();
     let leader = node.host(&[&["serve", "--name", "one"], &words[..]].concat());
     leader.client.open_accounts(1, 5);
     let follower = node.host(&[&["follow"], &words[..]].concat());
@@ -83,23 +110,7 @@ fn a_leader_and_a_follower_by_tls_and_as_a_user() {
         thread::sleep(Duration::from_millis(50));
     }
     assert_eq!(follower.client.balance(1), 5);
-    // Whoever trusts another authority, knows no password or a wrong one, or may not use the keys isn't served.
-    let unknown = ["--prefix", "bank", "--authority", &stranger];
-    let guessed = ["--user", "bank", "--password-file", &guess];
-    let elsewhere = ["--prefix", "other", "--authority", &authority];
-    for wrong in [
-        [&unknown[..], &as_user].concat(),
-        [&trusted[..], &guessed].concat(),
-        trusted.to_vec(),
-        [&elsewhere[..], &as_user].concat(),
-    ] {
-        let mut command = node.command(&[&["serve", "--name", "two"], &wrong[..]].concat());
-        let ended = command.stderr(Stdio::piped()).output().expect("it ended");
-        assert!(
-            !ended.status.success() && ended.stdout.is_empty(),
-            "{ended:?}"
-        );
-    }
+    refuses_others(&node, scratch.path());
     assert!(leader.stop().success());
     assert!(follower.stop().success());
 }
