@@ -17,7 +17,7 @@ from . import errors
 from .action import Action
 from .archive import Archive
 from .asked import Asked, actions_of
-from .library import Kind, Question, Status
+from .library import ActionStatus, Kind, Question, Status
 from .owners import Owners
 from .ranges import i64
 from .telling import Call, deed, error_of_call
@@ -25,10 +25,11 @@ from .values import Object, object_number
 
 _DONE = Status.DONE, 0
 _TRUE = Status.FLAG, 1
+_LIVE = Status.NUMBER, ActionStatus.LIVE
 _OVER = Status.REFUSED, errors.REFUSALS.index(errors.Over) + 1
 _CONFLICT = Status.REFUSED, errors.REFUSALS.index(errors.Conflict) + 1
 # The most frequent ones, as globals, which are looked up faster than attributes.
-_IS_ACTION, _COMMIT, _BEGIN_NESTED = Status.ACTION, Kind.COMMIT, Kind.BEGIN_NESTED
+_IS_ACTION, _BEGIN_NESTED = Status.ACTION, Kind.BEGIN_NESTED
 # After at most this many seconds a wait looks again.
 _LOOK_AFTER = 0.05
 
@@ -41,8 +42,6 @@ class Calling(Asked):
         self.patience = patience
         self._archive = Archive()
         self._make_lock()
-        # How often actions were aborted; such an abort may have ended the action that waits, too.
-        self._aborts = 0
         self._owners = Owners()
         # How many actions were begun that the program has, or had.
         self._begun = 0
@@ -130,8 +129,6 @@ class Calling(Asked):
                 self._note_end(kind, number, answer)
                 raise error_of_call(*answer, (kind, number))
             owners.live.pop(number, None)
-            if kind != _COMMIT:
-                self._aborts += 1
             if self._waiting:
                 self._ended.notify_all()
 
@@ -149,8 +146,6 @@ class Calling(Asked):
         if answer == _DONE:
             if kind != Kind.ABORT_OTHERS:
                 self._owners.live.pop(action, None)
-            if kind != _COMMIT:
-                self._aborts += 1
             if self._waiting:
                 self._ended.notify_all()
         elif answer == _OVER and kind != Kind.ABORT_OTHERS:
@@ -178,10 +173,10 @@ class Calling(Asked):
     ) -> Any:
         """Makes an access, which waits for its object until the patience ends.
 
-        It is made, with an entry of the journal, at first, when the lock is free, when other actions were
-        aborted (and maybe its own), and when the patience is over. `lineage` returns the numbers of the
-        action and its ancestors. `renewals` is how often the guardian had been renewed when the action was
-        begun: if it was renewed since, the action is over.
+        It is made, with an entry of the journal, at first, when the lock is free, when its action is over,
+        and when the patience is over. `lineage` returns the numbers of the action and its ancestors.
+        `renewals` is how often the guardian had been renewed when the action was begun: if it was renewed
+        since, the action is over.
         """
         named = kind, action, object_number(obj), i64(first, "number"), i64(second, "number")
         call = *named, text.encode()
@@ -222,16 +217,22 @@ class Calling(Asked):
                 del self._writing[call[2]]
 
     def _make_once_had(self, call: Call, question: int, renewals: int) -> tuple[int, int]:
-        """Makes a refused access again each time that its lock is free, until the patience is over."""
+        """Makes a refused access again each time that it may go on, until the patience is over."""
         limit, answer = time.monotonic() + self.patience, _CONFLICT
         while answer == _CONFLICT and time.monotonic() < limit:
-            aborts = self._aborts
-            while self._aborts == aborts and time.monotonic() < limit:
-                if self._ask(question, *call[1:3]) == _TRUE:
-                    break
+            while time.monotonic() < limit and not self._may_go_on(call, question, renewals):
                 self._wait_until(limit)
             answer = self._make_since(renewals, *call)
         return answer
+
+    def _may_go_on(self, call: Call, question: int, renewals: int) -> bool:
+        """Whether the lock of a refused access is free, or its action over."""
+        action, obj = call[1:3]
+        return (
+            self._ask(question, action, obj) == _TRUE
+            or renewals != self._renewals
+            or self._ask(Question.ACTION_STATUS, action, 0) != _LIVE
+        )
 
     def _is_in_vain(self, obj: int, lineage: set[int]) -> bool:
         """Whether another one that waits to write the object waits for this one's read lock, and this one for its."""

@@ -51,7 +51,6 @@ class Guardian(Calling):
         with self._lock:
             self._is_open = False
             self._archive.close()
-            self._aborts += 1
             self._wake()
 
     def _leave_behind(self) -> None:
@@ -122,7 +121,6 @@ class Guardian(Calling):
         """
         with self._lock:
             status = self._archive.abort_live()
-            self._aborts += 1
             self._wake()
             if status != Status.DONE:
                 raise error_of(status)

@@ -278,6 +278,25 @@ class Waits(unittest.TestCase):
             thread.join()
             self.assertEqual(len(raised), 1)
 
+    def test_ends_of_others_make_no_entries_of_who_waits(self):
+        with argus.Guardian(patience=60) as guardian:
+            seat = created(guardian, "atomic_record[n:int]", (5,))
+            holder, waiter = guardian.topaction(), guardian.topaction()
+            holder.touch(seat)
+            thread = threading.Thread(target=lambda: waiter.touch(seat))
+            thread.start()
+            wait_for(lambda: guardian._waiting)
+            before = guardian.entries
+            for _ in range(20):
+                guardian.topaction().abort()
+                guardian.topaction().commit()
+            # It is woken meanwhile, and looks.
+            time.sleep(0.1)
+            self.assertEqual(guardian.entries, before + 80)
+            holder.commit()
+            thread.join()
+            self.assertEqual(guardian.entries, before + 82)
+
     def test_of_two_that_read_and_write_the_second_is_refused_at_once(self):
         with argus.Guardian(patience=60) as guardian:
             seat = created(guardian, "atomic_record[n:int]", (5,))

@@ -1,24 +1,26 @@
 //! `Shared`: a guardian that threads share.
 
 use crate::ActionId;
-use crate::answer::Answer;
 use crate::call::Call;
+use crate::door::Door;
 use crate::error::Error;
 use crate::guardian::Guardian;
+use crate::kept::Kept;
 use crate::may_conflict::MayConflict;
 use crate::refusal::Refusal;
 use crate::reply::Reply;
 use crate::retrying::waits;
 use crate::shared_action::SharedAction;
-use crate::waiting_writer::WaitingWriter;
-use std::sync::{Condvar, Mutex, MutexGuard, PoisonError};
+use crate::waiting_access::WaitingAccess;
+use crate::wanted::Wanted;
+use std::sync::{Mutex, MutexGuard, PoisonError};
 use std::thread;
 use std::time::{Duration, Instant};
 
 const CONFLICT: Reply = Reply::Refused(Refusal::Conflict);
 
-/// A guardian that threads share: std's `Mutex` around each call, and a `Condvar` that wakes the
-/// threads that wait for a lock on an object.
+/// A guardian that threads share: std's `Mutex` around each call, and for each thread that waits for
+/// a lock on an object a `Condvar`, which wakes it when the lock is free.
 ///
 /// The reply to one call is proved, as for a [`Guardian`]. **This type isn't**: not that a wait
 /// ends, which thread is woken first, or what a call finds after a wait.
@@ -61,35 +63,8 @@ const CONFLICT: Reply = Reply::Refused(Refusal::Conflict);
 #[derive(Debug)]
 pub struct Shared {
     kept: Mutex<Kept>,
-    ended: Condvar,
+    door: Door,
     patience: Duration,
-}
-
-#[derive(Debug)]
-pub(crate) struct Kept {
-    pub(crate) guardian: Guardian,
-    // How many threads wait on the condition.
-    waiting: u32,
-    // How often actions were aborted; such an abort may have ended the action that waits, too.
-    aborts: u64,
-    // How many threads wait until no action is live, to fold the journal: meanwhile no topaction begins.
-    pub(crate) folding: u32,
-    // The actions that wait to write.
-    writing: Vec<WaitingWriter>,
-}
-
-impl Kept {
-    // Whether this action would wait for one that waits to write, and that one for this one.
-    fn is_in_vain(&mut self, writer: &WaitingWriter) -> bool {
-        if self.writing.is_empty() {
-            return false;
-        }
-        // If there is no memory for the list, it waits.
-        let readers = self.guardian.readers(writer.object).unwrap_or_default();
-        self.writing
-            .iter()
-            .any(|it| it.waits_with(writer, &readers))
-    }
 }
 
 impl From<Guardian> for Shared {
@@ -120,47 +95,43 @@ impl Shared {
     #[must_use]
     pub fn new(guardian: Guardian, patience: Duration) -> Shared {
         Shared {
-            kept: Mutex::new(Kept {
-                guardian,
-                waiting: 0,
-                aborts: 0,
-                folding: 0,
-                writing: Vec::new(),
-            }),
-            ended: Condvar::new(),
+            kept: Mutex::new(Kept::new(guardian)),
+            door: Door::default(),
             patience,
         }
     }
 
     // A thread that panics leaves the guardian between two calls, so a poisoned lock is as good as any.
     pub(crate) fn lock(&self) -> MutexGuard<'_, Kept> {
-        self.kept.lock().unwrap_or_else(PoisonError::into_inner)
-    }
-
-    // Waits while this holds, at most for this time.
-    pub(crate) fn wait_while<'s>(
-        &'s self,
-        mut kept: MutexGuard<'s, Kept>,
-        patience: Duration,
-        still: impl FnMut(&mut Kept) -> bool,
-    ) -> MutexGuard<'s, Kept> {
-        kept.waiting += 1;
-        let waited = self.ended.wait_timeout_while(kept, patience, still);
-        let mut kept = waited.unwrap_or_else(PoisonError::into_inner).0;
-        kept.waiting -= 1;
+        let kept = self.kept.lock().unwrap_or_else(PoisonError::into_inner);
+        self.door.note_call();
         kept
     }
 
-    // Wakes the threads that wait. If there are none, the condition isn't notified, since that is a
-    // system call.
-    pub(crate) fn wake(&self, kept: &Kept) {
-        if kept.waiting > 0 {
-            self.ended.notify_all();
+    // Waits for that. Each time that it is woken, and when the patience is over, it asks whether to wait on.
+    pub(crate) fn wait_while(
+        mut kept: MutexGuard<'_, Kept>,
+        wanted: Wanted,
+        patience: Duration,
+        mut still: impl FnMut(&mut Kept) -> bool,
+    ) -> MutexGuard<'_, Kept> {
+        let start = Instant::now();
+        let (number, condition) = kept.join(wanted);
+        loop {
+            let left = patience.saturating_sub(start.elapsed());
+            let sleeps = |kept: &mut Kept| !kept.is_woken(number);
+            let woken = condition.wait_timeout_while(kept, left, sleeps);
+            kept = woken.unwrap_or_else(PoisonError::into_inner).0;
+            kept.look(number);
+            if !still(&mut kept) || start.elapsed() >= patience {
+                kept.leave(number);
+                return kept;
+            }
         }
     }
 
     /// Makes one call, and waits only for the mutex. After a commit, an abort or an abort of
-    /// siblings that was done, all waiting threads are woken.
+    /// siblings that was done, those waiting threads are woken that may go on.
     ///
     /// # Errors
     ///
@@ -174,37 +145,27 @@ impl Shared {
     /// # Ok::<(), argus_guardian::Error>(())
     /// ```
     pub fn call(&self, call: &Call) -> Result<Reply, Error> {
-        self.call_in(&mut self.lock(), call)
+        self.lock().call(call)
     }
 
     // The same for an action that was begun after so many renewals: if there were more since, its
     // number is another's, and it is over.
     pub(crate) fn call_since(&self, renewals: u64, call: &Call) -> Result<Reply, Error> {
-        self.call_in_since(&mut self.lock(), renewals, call)
+        self.lock().call_since(renewals, call)
     }
 
-    fn call_in_since(&self, kept: &mut Kept, renewals: u64, call: &Call) -> Result<Reply, Error> {
-        if kept.guardian.renewals != renewals {
-            return Ok(Reply::Refused(Refusal::Over));
-        }
-        self.call_in(kept, call)
-    }
-
-    fn call_in(&self, kept: &mut Kept, call: &Call) -> Result<Reply, Error> {
-        let reply = kept.guardian.call(call)?;
-        let is_abort = matches!(call, Call::Abort(_) | Call::AbortOthers(_));
-        let is_end = is_abort || matches!(call, Call::Commit(_));
-        if is_end && reply == Reply::Answered(Answer::Done) {
-            kept.aborts += u64::from(is_abort);
-            self.wake(kept);
-        }
-        Ok(reply)
+    // The same, with how many entries the journal has had up to this call.
+    #[cfg(all(feature = "logged", unix))]
+    pub(crate) fn call_counted(&self, renewals: u64, call: &Call) -> Result<(Reply, u64), Error> {
+        let mut kept = self.lock();
+        let reply = kept.call_since(renewals, call)?;
+        Ok((reply, kept.guardian.entries()))
     }
 
     /// Makes a call that may wait: while it is refused with `Conflict`, it waits until its lock is
     /// free, at most for this patience, and is then made again. The journal has an entry each time
-    /// that the call is made. These are few: it is made again when the lock is free, when other
-    /// actions were aborted (and maybe its own), and when the patience is over.
+    /// that the call is made. These are few: it is made again when the lock is free, when its action
+    /// is over, and when the patience is over.
     ///
     /// If the call's action has read the object and wants to write it, and so does an action that
     /// waits, the call is refused at once. Locks of its ancestors count as its own if a
@@ -241,52 +202,31 @@ impl Shared {
         patience: Duration,
         lineage_of: impl FnOnce(ActionId) -> Vec<ActionId>,
     ) -> Result<Reply, Error> {
-        let start = Instant::now();
         let mut kept = self.lock();
-        let reply = self.call_in_since(&mut kept, renewals, call)?;
-        if reply != CONFLICT || patience.is_zero() {
-            return Ok(reply);
+        let mut reply = kept.call_since(renewals, call);
+        if reply != Ok(CONFLICT) || patience.is_zero() {
+            return reply;
         }
-        let Call::Alter(action, object, _) = *call else {
-            return self.call_once_had(kept, call, renewals, start, patience).1;
+        let Some(access) = WaitingAccess::by(call, renewals, lineage_of) else {
+            return reply;
         };
-        let lineage = lineage_of(action);
-        let writer = WaitingWriter { object, lineage };
-        if kept.is_in_vain(&writer) {
-            return Ok(reply);
+        if kept.is_in_vain(&access) {
+            return reply;
         }
-        kept.writing.push(writer);
-        let (mut kept, reply) = self.call_once_had(kept, call, renewals, start, patience);
-        let is_this = |it: &WaitingWriter| it.object == object && it.lineage[0] == action;
-        if let Some(place) = kept.writing.iter().position(is_this) {
-            kept.writing.swap_remove(place);
-        }
+        let wanted = Wanted::Access(access);
+        let _kept = Shared::wait_while(kept, wanted, patience, |kept| {
+            reply = kept.call_since(renewals, call);
+            reply == Ok(CONFLICT)
+        });
         reply
-    }
-
-    // Makes a refused call again each time that its lock is free, until the patience is over.
-    fn call_once_had<'s>(
-        &'s self,
-        mut kept: MutexGuard<'s, Kept>,
-        call: &Call,
-        renewals: u64,
-        start: Instant,
-        patience: Duration,
-    ) -> (MutexGuard<'s, Kept>, Result<Reply, Error>) {
-        loop {
-            let aborts = kept.aborts;
-            let still = |kept: &mut Kept| kept.aborts == aborts && !may_be_had(kept, call);
-            let left = patience.saturating_sub(start.elapsed());
-            kept = self.wait_while(kept, left, still);
-            let reply = self.call_in_since(&mut kept, renewals, call);
-            if reply != Ok(CONFLICT) || start.elapsed() >= patience {
-                return (kept, reply);
-            }
-        }
     }
 
     /// Begins a topaction. It aborts when it is dropped, unless it has committed. While a thread is in
     /// [`checkpoint_waiting`](Self::checkpoint_waiting), this waits for that thread.
+    ///
+    /// It lets others that have begun go first: while they make one call after another it waits, until
+    /// the last one has ended or none has made a call for a microsecond, and at most for a tenth of a
+    /// millisecond once it is the first in line.
     ///
     /// # Errors
     ///
@@ -300,12 +240,16 @@ impl Shared {
     /// # Ok::<(), argus_guardian::Error>(())
     /// ```
     pub fn topaction(&self) -> Result<SharedAction<'_>, Error> {
+        // Whoever is at the front of the door stays there until the topaction has begun.
+        let _turn = (!self.door.is_open()).then(|| self.door.wait());
         let mut kept = self.lock();
         if kept.folding > 0 {
-            kept = self.wait_while(kept, Duration::MAX, |kept| kept.folding > 0);
+            let still = |kept: &mut Kept| kept.folding > 0;
+            kept = Shared::wait_while(kept, Wanted::NoFolding, Duration::MAX, still);
         }
-        let id = self.call_in(&mut kept, &Call::BeginTop)?.action()?;
-        Ok(SharedAction::of(self, id, kept.guardian.renewals))
+        let id = kept.call(&Call::BeginTop)?.action()?;
+        let place = self.door.place();
+        Ok(SharedAction::top(self, id, kept.guardian.renewals, place))
     }
 
     /// How often [`run`](Self::run) tries at most.
@@ -368,8 +312,8 @@ impl Shared {
         what(&mut self.lock().guardian)
     }
 
-    /// Does something with the guardian while no other thread has it, and then wakes all waiting
-    /// threads, after a panic too.
+    /// Does something with the guardian while no other thread has it, and then wakes those waiting
+    /// threads that may go on, after a panic too.
     ///
     /// The mutex is held meanwhile. So inside, call nothing of this `Shared` or of its actions, and
     /// drop none of its actions: that would wait for the mutex for ever.
@@ -382,11 +326,8 @@ impl Shared {
     /// # Ok::<(), argus_guardian::Error>(())
     /// ```
     pub fn with<T>(&self, what: impl FnOnce(&mut Guardian) -> T) -> T {
-        let mut held = Held {
-            kept: self.lock(),
-            shared: self,
-        };
-        what(&mut held.kept.guardian)
+        let mut lent = Lent { kept: self.lock() };
+        what(&mut lent.kept.guardian)
     }
 
     /// How long an access by a [`SharedAction`] waits for its lock at most.
@@ -420,24 +361,13 @@ impl Shared {
 }
 
 // The guardian, while it is lent to `with`.
-struct Held<'s> {
+struct Lent<'s> {
     kept: MutexGuard<'s, Kept>,
-    shared: &'s Shared,
 }
 
-impl Drop for Held<'_> {
+impl Drop for Lent<'_> {
     fn drop(&mut self) {
         // It may have ended actions.
-        self.kept.aborts += 1;
-        self.shared.wake(&self.kept);
-    }
-}
-
-// Whether the lock that the call wants is free now.
-fn may_be_had(kept: &mut Kept, call: &Call) -> bool {
-    match *call {
-        Call::Ask(action, object, _) => kept.guardian.can_read(action, object),
-        Call::Alter(action, object, _) => kept.guardian.can_write(action, object),
-        _ => true,
+        self.kept.wake();
     }
 }

@@ -3,6 +3,7 @@
 use crate::checkpoint_error::CheckpointError;
 use crate::guardian::Guardian;
 use crate::shared::Shared;
+use crate::wanted::Wanted;
 use std::time::Duration;
 
 impl Shared {
@@ -77,15 +78,22 @@ impl Shared {
         patience: Duration,
         mut fold: impl FnMut(&mut Guardian) -> Result<T, CheckpointError>,
     ) -> Result<T, CheckpointError> {
-        let mut result = Err(CheckpointError::Busy);
         let mut kept = self.lock();
+        let mut result = fold(&mut kept.guardian);
+        if !is_busy(&result) || patience.is_zero() {
+            return result;
+        }
         kept.folding += 1;
-        kept = self.wait_while(kept, patience, |kept| {
+        kept = Shared::wait_while(kept, Wanted::NoLiveAction, patience, |kept| {
             result = fold(&mut kept.guardian);
-            matches!(result, Err(CheckpointError::Busy))
+            is_busy(&result)
         });
         kept.folding -= 1;
-        self.wake(&kept);
+        kept.wake();
         result
     }
+}
+
+fn is_busy<T>(result: &Result<T, CheckpointError>) -> bool {
+    matches!(result, Err(CheckpointError::Busy))
 }

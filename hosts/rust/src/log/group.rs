@@ -12,7 +12,7 @@ use std::fmt;
 use std::io;
 use std::sync::atomic::{AtomicBool, Ordering};
 use std::sync::{Mutex, MutexGuard, PoisonError};
-use std::thread;
+use std::thread::{self, Thread};
 
 /// Commits that wait for the log together. A thread that waits and finds no other one writing takes all lines that the
 /// log hasn't got, and writes them for all; calls go on meanwhile.
@@ -108,12 +108,17 @@ impl Drop for Writing<'_> {
         let mut progress = locked(&self.group.progress);
         match &self.outcome {
             Ok(Some((safe, is_opening))) => progress.advance(*safe, *is_opening),
-            Ok(None) => progress.stay(),
+            // There was nothing to write.
+            Ok(None) => {}
             Err(failure) => {
                 self.group.is_broken.store(true, Ordering::Release);
                 progress.fail(failure.clone());
             }
         }
+        let woken = progress.end_writing();
+        // Each of them looks at the progress.
+        drop(progress);
+        woken.iter().for_each(Thread::unpark);
     }
 }
 

@@ -15,6 +15,7 @@ use crate::may_conflict::MayConflict;
 use crate::object::Object;
 use crate::retrying::waits;
 use crate::shared::Shared;
+use crate::shared_action::SharedAction;
 use crate::{ActionId, ObjId};
 use std::iter;
 use std::thread;
@@ -448,10 +449,9 @@ impl Logged {
         self.group.broken()
     }
 
-    // Makes a call that ends an outer action, and returns when it is in the log.
-    pub(crate) fn ended(&self, end: impl FnOnce() -> Result<(), Error>) -> Result<(), LoggedError> {
+    // Commits an outer action, and returns when that is in the log.
+    pub(crate) fn commit(&self, action: SharedAction<'_>) -> Result<(), LoggedError> {
         self.shared()?;
-        end()?;
-        self.wait(self.entries())
+        self.wait(action.commit_counted()?)
     }
 }

@@ -347,7 +347,7 @@ impl<'l> LoggedAction<'l> {
             is_outer,
         } = self;
         if is_outer {
-            logged.ended(|| action.commit())
+            logged.commit(action)
         } else {
             logged.shared()?;
             Ok(action.commit()?)

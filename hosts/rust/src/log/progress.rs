@@ -2,6 +2,7 @@
 
 use crate::log::failure::Failure;
 use crate::log::goal::Goal;
+use std::mem;
 use std::thread::{self, Thread, ThreadId};
 
 /// How far a log has come, and which threads wait for it.
@@ -81,31 +82,25 @@ impl Progress {
     pub(crate) fn advance(&mut self, safe: u64, is_opening: bool) {
         self.safe = safe;
         self.openings += u64::from(is_opening);
-        self.end_writing();
-    }
-
-    /// There was nothing to write.
-    pub(crate) fn stay(&mut self) {
-        self.end_writing();
     }
 
     /// The log has failed.
     pub(crate) fn fail(&mut self, failure: Failure) {
         self.broken = Some(failure);
-        self.end_writing();
     }
 
-    // Wakes those whose goal is reached, and one of the others, which writes.
-    fn end_writing(&mut self) {
+    /// No thread writes any more. Returns those to wake: first one whose goal isn't reached, which writes, and then
+    /// all whose goal is.
+    pub(crate) fn end_writing(&mut self) -> Vec<Thread> {
         self.is_writing = false;
-        let waiting = std::mem::take(&mut self.waiting);
+        let waiting = mem::take(&mut self.waiting);
         let is_broken = self.broken.is_some();
         let (woken, rest): (Vec<Waiter>, Vec<Waiter>) = waiting
             .into_iter()
             .partition(|it| is_broken || self.has(it.goal));
-        for it in woken.iter().chain(rest.first()) {
-            it.thread.unpark();
-        }
+        let writer = rest.first().map(|it| it.thread.clone());
         self.waiting = rest;
+        let woken = woken.into_iter().map(|it| it.thread);
+        writer.into_iter().chain(woken).collect()
     }
 }

@@ -5,6 +5,7 @@ mod appends;
 #[allow(dead_code, reason = "the tests of files need more of it")]
 #[path = "../../../tests/log/bank.rs"]
 mod bank;
+mod certificates;
 mod checkpoints;
 #[path = "../../../tests/log/clock.rs"]
 mod clock;

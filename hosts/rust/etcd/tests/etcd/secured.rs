@@ -1,52 +1,12 @@
 //! TLS, with certificates on both sides, and users.
 
+use crate::certificates::{certify, has_openssl, sign};
 use crate::cluster::{Cluster, has_etcd};
 use crate::leading::{lead, lines, text_of};
 use crate::scratch::Scratch;
 use argus_guardian::log::BatchLog;
 use argus_guardian_etcd::{Campaign, EtcdError, EtcdLog, EtcdOptions, LogError, Login, Tls};
 use std::path::Path;
-use std::process::{Command, Stdio};
-
-// Whether certificates can be made; else a line says that the test is left out.
-fn has_openssl() -> bool {
-    let ran = Command::new("openssl").arg("version").output();
-    let has = ran.is_ok_and(|it| it.status.success());
-    if !has {
-        println!("TLS LEFT OUT: no openssl");
-    }
-    has
-}
-
-fn openssl(folder: &Path, words: &str) {
-    let mut command = Command::new("openssl");
-    command.current_dir(folder).args(words.split(' '));
-    let ran = command.stdout(Stdio::null()).stderr(Stdio::null()).status();
-    assert!(ran.expect("openssl is there").success(), "{words}");
-}
-
-// An authority, and what it has signed: a certificate for nodes on loopback and for hosts.
-fn certify(folder: &Path, authority: &str) {
-    openssl(
-        folder,
-        &format!(
-            "req -x509 -newkey ec -pkeyopt ec_paramgen_curve:prime256v1 -nodes -days 2 -subj /CN={authority} \
-             -keyout {authority}-key.pem -out {authority}.pem"
-        ),
-    );
-}
-
-fn sign(folder: &Path, authority: &str, name: &str) {
-    openssl(
-        folder,
-        &format!(
-            "req -x509 -newkey ec -pkeyopt ec_paramgen_curve:prime256v1 -nodes -days 2 -subj /CN={name} \
-             -addext subjectAltName=IP:127.0.0.1 -addext basicConstraints=critical,CA:FALSE \
-             -addext extendedKeyUsage=serverAuth,clientAuth \
-             -CA {authority}.pem -CAkey {authority}-key.pem -keyout {name}-key.pem -out {name}.pem"
-        ),
-    );
-}
 
 fn tls(folder: &Path, authority: &str, host: Option<&str>) -> Tls {
     let file = |name: &str| folder.join(format!("{name}.pem"));

@@ -1,82 +1,10 @@
 //! Hosts over etcd, of which one leads, and a follower.
 
 use crate::client::{code, read};
-use crate::host::{Host, PROGRAM};
+use crate::node::Node;
 use crate::scratch::Scratch;
-use std::net::TcpListener;
-use std::process::{Child, Command, Stdio};
 use std::thread;
 use std::time::Duration;
-
-// Seconds. A host on a busy machine may get no turn for a while, and is to lead on.
-const LEASE: &str = "15";
-
-struct Node {
-    process: Child,
-    endpoint: String,
-}
-
-impl Node {
-    // None: etcd isn't installed.
-    fn start(scratch: &Scratch) -> Option<Node> {
-        let mut ports = [0; 2];
-        let listeners = ports.map(|_| TcpListener::bind("127.0.0.1:0").expect("a port is free"));
-        for (port, listener) in ports.iter_mut().zip(&listeners) {
-            *port = listener.local_addr().expect("bound").port();
-        }
-        drop(listeners);
-        let [endpoint, peer] = ports.map(|it| format!("http://127.0.0.1:{it}"));
-        let mut command = Command::new("etcd");
-        command
-            .arg("--data-dir")
-            .arg(scratch.path().join("etcd"))
-            .args([
-                "--listen-client-urls",
-                &endpoint,
-                "--advertise-client-urls",
-                &endpoint,
-            ])
-            .args([
-                "--listen-peer-urls",
-                &peer,
-                "--initial-advertise-peer-urls",
-                &peer,
-            ])
-            .args(["--initial-cluster", &format!("default={peer}")])
-            .stdout(Stdio::null())
-            .stderr(Stdio::null());
-        let process = command.spawn().ok()?;
-        Some(Node { process, endpoint })
-    }
-
-    fn host(&self, words: &[&str]) -> Host {
-        let mut command = Command::new(PROGRAM);
-        command.args(words).args([
-            "--listen",
-            "127.0.0.1:0",
-            "--lease",
-            LEASE,
-            "--etcd",
-            &self.endpoint,
-        ]);
-        Host::start(&mut command)
-    }
-}
-
-impl Node {
-    fn signal(&self, signal: &str) {
-        let pid = self.process.id().to_string();
-        let sent = Command::new("kill").args(["-s", signal, &pid]).status();
-        assert!(sent.expect("kill is there").success());
-    }
-}
-
-impl Drop for Node {
-    fn drop(&mut self) {
-        let _ = self.process.kill();
-        let _ = self.process.wait();
-    }
-}
 
 #[test]
 fn a_leader_and_a_follower() {
