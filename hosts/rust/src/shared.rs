@@ -2,7 +2,6 @@
 
 use crate::ActionId;
 use crate::call::Call;
-use crate::door::Door;
 use crate::error::Error;
 use crate::guardian::Guardian;
 use crate::kept::Kept;
@@ -63,7 +62,6 @@ const CONFLICT: Reply = Reply::Refused(Refusal::Conflict);
 #[derive(Debug)]
 pub struct Shared {
     kept: Mutex<Kept>,
-    door: Door,
     patience: Duration,
 }
 
@@ -96,16 +94,13 @@ impl Shared {
     pub fn new(guardian: Guardian, patience: Duration) -> Shared {
         Shared {
             kept: Mutex::new(Kept::new(guardian)),
-            door: Door::default(),
             patience,
         }
     }
 
     // A thread that panics leaves the guardian between two calls, so a poisoned lock is as good as any.
     pub(crate) fn lock(&self) -> MutexGuard<'_, Kept> {
-        let kept = self.kept.lock().unwrap_or_else(PoisonError::into_inner);
-        self.door.note_call();
-        kept
+        self.kept.lock().unwrap_or_else(PoisonError::into_inner)
     }
 
     // Waits for that. Each time that it is woken, and when the patience is over, it asks whether to wait on.
@@ -120,8 +115,8 @@ impl Shared {
         loop {
             let left = patience.saturating_sub(start.elapsed());
             let sleeps = |kept: &mut Kept| !kept.is_woken(number);
-            let woken = condition.wait_timeout_while(kept, left, sleeps);
-            kept = woken.unwrap_or_else(PoisonError::into_inner).0;
+            let waited = condition.wait_timeout_while(kept, left, sleeps);
+            kept = waited.unwrap_or_else(PoisonError::into_inner).0;
             kept.look(number);
             if !still(&mut kept) || start.elapsed() >= patience {
                 kept.leave(number);
@@ -224,10 +219,6 @@ impl Shared {
     /// Begins a topaction. It aborts when it is dropped, unless it has committed. While a thread is in
     /// [`checkpoint_waiting`](Self::checkpoint_waiting), this waits for that thread.
     ///
-    /// It lets others that have begun go first: while they make one call after another it waits, until
-    /// the last one has ended or none has made a call for a microsecond, and at most for a tenth of a
-    /// millisecond once it is the first in line.
-    ///
     /// # Errors
     ///
     /// As for [`Guardian::topaction`].
@@ -240,16 +231,13 @@ impl Shared {
     /// # Ok::<(), argus_guardian::Error>(())
     /// ```
     pub fn topaction(&self) -> Result<SharedAction<'_>, Error> {
-        // Whoever is at the front of the door stays there until the topaction has begun.
-        let _turn = (!self.door.is_open()).then(|| self.door.wait());
         let mut kept = self.lock();
         if kept.folding > 0 {
             let still = |kept: &mut Kept| kept.folding > 0;
             kept = Shared::wait_while(kept, Wanted::NoFolding, Duration::MAX, still);
         }
         let id = kept.call(&Call::BeginTop)?.action()?;
-        let place = self.door.place();
-        Ok(SharedAction::top(self, id, kept.guardian.renewals, place))
+        Ok(SharedAction::of(self, id, kept.guardian.renewals))
     }
 
     /// How often [`run`](Self::run) tries at most.

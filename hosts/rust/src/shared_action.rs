@@ -5,13 +5,12 @@ use crate::call::Call;
 use crate::change::Change;
 use crate::error::Error;
 use crate::object::Object;
-use crate::place::Place;
 use crate::query::Query;
 use crate::reply::Reply;
 use crate::shared::Shared;
 use crate::value::Value;
 use crate::{ActionId, ObjId};
-use std::iter;
+use std::{iter, mem};
 
 /// A live action of a guardian that threads share. It aborts when it is dropped, unless it has
 /// committed; if there isn't even memory for that, it stays live.
@@ -58,10 +57,6 @@ pub struct SharedAction<'s> {
     parent: Option<&'s SharedAction<'s>>,
     // How often the guardian had been renewed when it was begun.
     renewals: u64,
-    // That of a topaction.
-    _place: Option<Place<'s>>,
-    // Whether it has ended by a call, so that nothing is left to abort.
-    is_over: bool,
 }
 
 impl<'s> SharedAction<'s> {
@@ -77,24 +72,16 @@ impl<'s> SharedAction<'s> {
             id,
             parent,
             renewals: self.renewals,
-            _place: None,
-            is_over: false,
         })
     }
 
-    pub(crate) fn top(
-        shared: &'s Shared,
-        id: ActionId,
-        renewals: u64,
-        place: Place<'s>,
-    ) -> SharedAction<'s> {
+    pub(crate) fn of(shared: &'s Shared, id: ActionId, renewals: u64) -> SharedAction<'s> {
+        let parent = None;
         SharedAction {
             shared,
             id,
-            parent: None,
+            parent,
             renewals,
-            _place: Some(place),
-            is_over: false,
         }
     }
 
@@ -426,28 +413,27 @@ impl<'s> SharedAction<'s> {
         self.end(Call::Abort)
     }
 
-    fn end(mut self, how: impl FnOnce(ActionId) -> Call) -> Result<(), Error> {
+    fn end(self, how: impl FnOnce(ActionId) -> Call) -> Result<(), Error> {
         self.call(&how(self.id))?.answer()?.done()?;
-        self.is_over = true;
+        // It is over: there is nothing to abort, and nothing in it to drop.
+        mem::forget(self);
         Ok(())
     }
 
     // Commits. Returns how many entries the journal has had up to this commit.
     #[cfg(all(feature = "logged", unix))]
-    pub(crate) fn commit_counted(mut self) -> Result<u64, Error> {
+    pub(crate) fn commit_counted(self) -> Result<u64, Error> {
         let commit = Call::Commit(self.id);
         let (reply, entries) = self.shared.call_counted(self.renewals, &commit)?;
         reply.answer()?.done()?;
-        self.is_over = true;
+        mem::forget(self);
         Ok(entries)
     }
 }
 
 impl Drop for SharedAction<'_> {
     fn drop(&mut self) {
-        if !self.is_over {
-            // A drop can't report an error.
-            let _ = self.call(&Call::Abort(self.id));
-        }
+        // A drop can't report an error.
+        let _ = self.call(&Call::Abort(self.id));
     }
 }
