@@ -5,10 +5,10 @@
     bench/gate.py [COMMIT] > FILE
 
 Each line that the gate prints comes with the minutes since its start; after its end come the
-processor minutes of each crate's proof, tests and must-fail edits, as sampled every three seconds.
-Checks that others run meanwhile aren't counted. Nothing is compared with a limit. Run it alone: the
-gate reckons with the memory that is free at its start, and the figures are the machine's. Python 3
-and git are all that it needs.
+processor minutes of each crate's proof and tests, of the second proof with which its must-fail edits
+begin, and of these, as sampled every three seconds. Checks that others run meanwhile aren't counted.
+Nothing is compared with a limit. Run it alone: the gate reckons with the memory that is free at its
+start, and the figures are the machine's. Python 3 and git are all that it needs.
 """
 
 import collections
@@ -25,7 +25,8 @@ TICK = os.sysconf("SC_CLK_TCK")
 def kind_of(words, folder):
     """What a check of the gate is for."""
     if "/rt-edit-" in folder:
-        return "edits"
+        kept = words[words.index("--incremental") + 1] if "--incremental" in words else ""
+        return "second" if kept.endswith("/seed") else "edits"
     return "tests" if "--test" in words else "proof"
 
 

@@ -9,13 +9,13 @@ use std::thread::yield_now;
 use test_rows::Setting;
 
 // How often an arm that is held up yields before the gate gives up.
-const MOST: u32 = 1_000_000;
+const MOST: u32 = 20_000_000;
 
 // The arms that others may be held up for.
 const ARMS: u32 = 16;
 
-/// Holds arms up, and refuses memory, as a row says. No arm is held up for ever: after a million
-/// turns, each of which yields, the gate gives up.
+/// Holds arms up, and refuses memory, as a row says. No arm is held up for ever: after twenty
+/// million turns, each of which yields, the gate gives up.
 ///
 /// ```text
 /// let gate = Turns::new(setting, row.holds.as_slice())?;
