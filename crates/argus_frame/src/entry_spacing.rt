@@ -1,7 +1,7 @@
 //! `EntrySpacing`: how far apart a picture's entries are.
 
 ghost use Rattle.std.specs.Prelude.{◌≡◌, ◌≢◌, ◌*◌};
-ghost use Rattle.argus_frame.specs.EntrySpacing.{pixels_of};
+ghost use Rattle.argus_frame.specs.EntrySpacing.{pixels_of, spacing_for, tick_of};
 
 /// How far apart a picture's entries are: the more there are, the closer together.
 ///
@@ -23,7 +23,9 @@ pub enum EntrySpacing {
 
 impl EntrySpacing {
     /// The spacing for this many entries.
-    pub fn for_entries(entries: u32) -> EntrySpacing {
+    pub fn for_entries(entries: u32) -> EntrySpacing
+        ensures { result ≡ spacing_for entries }
+    {
         match entries {
             0..=64 => EntrySpacing::Wide,
             65..=512 => EntrySpacing::Middle,
@@ -33,7 +35,8 @@ impl EntrySpacing {
 
     /// How many entries there are from one number on the axis to the next.
     pub fn tick(self) -> u32
-        ensures { result ≢ 0 }
+        ensures value { result ≡ tick_of self }
+        ensures some { result ≢ 0 }
     {
         match self {
             EntrySpacing::Wide => 1,

@@ -8,6 +8,7 @@ mod draw_error;
 mod entry_spacing;
 mod escaping;
 mod frame;
+mod life;
 mod listing_fault;
 mod listing_fault_kind;
 
@@ -16,5 +17,6 @@ pub use draw_error::DrawError;
 pub use entry_spacing::{EntrySpacing, pixels};
 pub use escaping::append_escaped;
 pub use frame::{BAR, Frame, LANE, bar_top, entry_left, height, lane_at, width};
+pub use life::{Life, life_of, life_within};
 pub use listing_fault::ListingFault;
 pub use listing_fault_kind::ListingFaultKind;

@@ -3,12 +3,11 @@
 use crate::action::Action;
 use crate::escaping::open_group;
 use crate::fate::Fate;
-use crate::life::{Life, life_of, life_within};
 use crate::limits::MAX_ROWS;
 use crate::origin::Origin;
 use crate::refused_call::RefusedCall;
 use crate::run::Run;
-use argus_frame::{BAR, Frame, append_escaped, bar_top, entry_left};
+use argus_frame::{BAR, Frame, Life, append_escaped, bar_top, entry_left, life_of, life_within};
 use argus_memory::{OutOfMemory, Room};
 use std::fmt::Write;
 
@@ -63,9 +62,9 @@ fn draw_bars(run: &Run<'_>, frame: &Frame, out: &mut String<Room>) -> Result<(),
 
 // The part of the action's life that is drawn: what lies within its parent's life.
 fn life_drawn(run: &Run<'_>, action: &Action<'_>) -> Life {
-    let life = life_of(action, run.entries);
+    let life = life_of(action.begin, action.end, run.entries);
     match run.action(action.origin.parent()) {
-        Some(parent) => life_within(life, life_of(&parent, run.entries)),
+        Some(parent) => life_within(life, life_of(parent.begin, parent.end, run.entries)),
         None => life,
     }
 }

@@ -16,7 +16,6 @@ mod escaping;
 mod fate;
 mod held_lock;
 mod legend;
-mod life;
 mod limits;
 mod line_error;
 mod lock_asked;

@@ -58,3 +58,6 @@ pub returns-clause-busy : goal.returns-clause-busy
 returns-clause-busy c =
     let quiet = quiet_if c.args.guardian.now c.live.result (sym c.if-is_some.ensures) c.live.ensures.none in
     (λ e. cc, λ e. absurd (both_ways _ e quiet))
+
+pub returns-clause-ok : goal.returns-clause-ok
+returns-clause-ok c = search rules

@@ -4,3 +4,6 @@ use Rattle.argus_runs.proofs.numbers.object_at.Goals as goal
 
 pub returns-in-None : goal.returns-in-None
 returns-in-None c = search rules
+
+pub returns-in-Some : goal.returns-in-Some
+returns-in-Some c = search rules

@@ -14,3 +14,6 @@ returns-clause-refused c =
     c.in-Err.ensures.refused in
     ends_by_its_kind (script_program name) (name ∷ map string_bytes c.args.words.items) c.in-Err.error c.usage.result
     refused c.usage.ensures.usage
+
+pub returns-clause-taken : goal.returns-clause-taken
+returns-clause-taken c = search rules

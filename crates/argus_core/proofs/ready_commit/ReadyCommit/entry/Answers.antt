@@ -1,5 +1,5 @@
 -- The step that is ready says how the journal answers the commit.
-use Rattle.std.proofs.Common.{None, ap, inl, inr, subst, sym, ◌∙◌, ◌≡◌, ◌⊎◌}
+use Rattle.std.proofs.Common.{None, ap, inl, inr, rules, subst, sym, ◌∙◌, ◌≡◌, ◌⊎◌}
 use Rattle.argus_actions.specs.Refusals.{commit_refusal}
 use Rattle.argus_actions.specs.declared.action_id.ActionId.{ActionId}
 use Rattle.argus_core.proofs.OfState.{commits, end_right}
@@ -36,3 +36,6 @@ returns-clause-entry c =
     ] in
     ap (entry_with (commit a.0)) right
     ∙ ap (λ (v : Committing). entry_of v.journal (commit v.action)) c.self.view_is
+
+pub returns-clause-number : goal.returns-clause-number
+returns-clause-number c = search rules

@@ -1,5 +1,5 @@
 -- The list under the action's number is the action's; an empty list has nothing twice.
-use Rattle.std.proofs.Common.{sym, ◌∙◌, ap, arith}
+use Rattle.std.proofs.Common.{sym, ◌∙◌, ap, arith, rules}
 use Rattle.std.specs.List.{IsDistinct}
 use Rattle.argus_objects.specs.ObjectList.{NotedObjects}
 use Rattle.argus_objects.proofs.Places.{listed, noted_read, unlisted}
@@ -24,3 +24,6 @@ returns-in-None-clause-list c =
 pub returns-in-None-clause-once : goal.returns-in-None-clause-once
 unfolding IsDistinct
 returns-in-None-clause-once c = tt
+
+pub returns-in-Some-clause-once : goal.returns-in-Some-clause-once
+returns-in-Some-clause-once c = search rules

@@ -1,5 +1,5 @@
 -- One more line was taken.
-use Rattle.std.proofs.Common.{arith, length-drop}
+use Rattle.std.proofs.Common.{arith, length-drop, rules}
 use Rattle.std.proofs.lemmas.List.{take_rest}
 use Rattle.argus_resume.specs.JournalText.{journal_text}
 use Rattle.argus_resume.proofs.Feeds.{count_more, text_more}
@@ -18,3 +18,6 @@ loop-bytes-preserved c =
           text from c.in-Ok.count c.loop-bytes.invariant.text longer;
       lines = count_more text from c.in-Ok.count c.loop-bytes.lines c.loop-bytes.invariant.lines some.one;
     }
+
+pub returns-in-Err-clause-lines : goal.returns-in-Err-clause-lines
+returns-in-Err-clause-lines c = search rules
