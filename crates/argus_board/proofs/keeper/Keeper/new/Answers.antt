@@ -1,6 +1,0 @@
--- For the goal that its edit opens: the edit is refused without a search.
-use Rattle.std.proofs.Common.{rules}
-use Rattle.argus_board.proofs.keeper.Keeper.new.Goals as goal
-
-pub invariant_of-result : goal.invariant_of-result
-invariant_of-result c = search rules
