@@ -9,11 +9,11 @@ In each page (*.md) outside its blocks of code it looks at these:
 - A link: its file or folder has to be there, from the page's own folder; behind a # there has to be
   a heading of that name.
 - A path in backticks. Text without a blank is a path where it begins with a folder: one at the top, a
-  crate, or one that crates have (src/, specs/, proofs/, must-fail/, data/); or where it ends as the
-  repository's files do (.rt, .antt, .md ..). It has to be a file or folder of the repository, or the end of
-  one's path: `specs/Query.antt`, `query.rt`. `*` stands for any characters. A word in capitals stands
-  for a name, and what .gitignore names is made by a build: neither is looked for. A page may shorten a
-  folder to one capital letter, as CONTRIBUTING does: "`C` is crates/argus_contents".
+  crate, or one that crates have (src/, specs/, proofs/, must-fail/, must-fail-nightly/, data/); or where
+  it ends as the repository's files do (.rt, .antt, .md ..). It has to be a file or folder of the
+  repository, or the end of one's path: `specs/Query.antt`, `query.rt`. `*` stands for any characters. A
+  word in capitals stands for a name, and what .gitignore names is made by a build: neither is looked for.
+  A page may shorten a folder to one capital letter, as CONTRIBUTING does: "`C` is crates/argus_contents".
 - A path outside of backticks, where it begins with a folder at the top.
 - An edit that the prover has to refuse, CRATE/edit, named in docs/MISTAKES.md, with those behind it.
 - A definition, in a row of docs/DEFINITIONS.md that begins with a link to its file: it stands there.
@@ -81,7 +81,7 @@ class Checker:
     def __init__(self):
         self.files, self.folders = tree()
         self.heads = {name.split("/")[0] for name in self.files if "/" in name} | {"examples"}
-        self.heads |= {"src", "specs", "proofs", "must-fail", "data"} | self.crates
+        self.heads |= {"src", "specs", "proofs", "must-fail", "must-fail-nightly", "data"} | self.crates
         self.made = ignored()
         self.looked_at = 0
         self.missing = 0
@@ -145,7 +145,8 @@ class Checker:
             if crate is None or (match.group(2) in self.crates and not match.group(1)):
                 return
             self.looked_at += 1
-            if f"crates/{crate}must-fail/{match.group(2)}.edit" not in self.files:
+            edits = {f"crates/{crate}{it}/{match.group(2)}.edit" for it in ("must-fail", "must-fail-nightly")}
+            if not edits & self.files:
                 self.say(page, number, f"no edit {crate}{match.group(2)}")
 
     def check_definitions(self, page, number, target, cell):
