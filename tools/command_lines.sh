@@ -207,9 +207,10 @@ script() {
         }'
 }
 
-# Whether the journal that the script leaves is replayed and listed again, byte for byte: comes_back SCRIPT
+# Whether the journal that the script leaves is replayed and listed again, byte for byte; --checkpoint: it is
+# folded first, if it can be: comes_back SCRIPT [--checkpoint]
 comes_back() {
-    "$argus" --list journal < "$1" > "$room/listed" && [ -s "$room/listed" ] &&
+    "$argus" --list journal "${@:2}" < "$1" > "$room/listed" && [ -s "$room/listed" ] &&
         "$replay" --list journal < "$room/listed" | cmp -s - "$room/listed"
 }
 
@@ -219,7 +220,11 @@ journals_come_back() {
     for it in "$top"/examples/*.argus; do
         if [ "${it##*/}" = refused.argus ]; then continue; fi
         wanted=$((wanted + 1))
-        if comes_back "$it"; then whole=$((whole + 1)); else echo "command lines: $it doesn't come back"; fi
+        if comes_back "$it" && comes_back "$it" --checkpoint; then
+            whole=$((whole + 1))
+        else
+            echo "command lines: $it doesn't come back"
+        fi
     done
     for ((seed = 1; seed <= 1000; seed++)); do
         script "$seed" > "$room/script"
