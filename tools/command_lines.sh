@@ -140,7 +140,7 @@ with_names() {
     printf 'declare seat atomic_array[int]\n' > "$script"
     printf '0 declare atomic_array[int] -> o0\n' > "$room/seat"
     "$picture" < "$room/seat" | sed 's,>o0</text>,>seat</text>,' > "$room/named"
-    grep -q '>seat</text>' "$room/named" || echo "command lines: no object in the picture of $room/seat"
+    tried / 0 '' '' grep -q '>seat</text>' "$room/named"
     tried "$room/seat" 0 "$(cat "$room/named")" '' "$picture" --script "$script"
     tried "$room/seat" 0 "$(cat "$room/named")" '' "$picture" "--script=$script"
     tried /dev/null 3 '' 'script: o0: NotDeclared' "$picture" --script "$script"

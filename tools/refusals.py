@@ -19,10 +19,10 @@ LINE = re.compile(r"(?:.*rt: must-fail )?(\w+/\w+)(?:\.edit)?: (?:refused, as it
 KINDS = [
     ("only a limit of the prover", r"only by a limit"),
     ("a counterexample to a goal", r"the goal does not follow"),
+    ("a search that stopped at its limit", r"stopped at its own limit|gave up at one of its limits"),
     ("a clause that isn't proved", r"what the function ensures holds"),
     ("an invariant that isn't proved", r"`invariant` of|invariant of the loop"),
     ("a condition of a call that isn't proved", r"requires holds at this call|-requires-"),
-    ("a search that stopped at its limit", r"stopped at its own limit|gave up at one of its limits"),
     ("a search that found no proof", r"`search`: no|`grind`|`omega`"),
     ("an answer by hand that no longer fits", r"expected type|as printed, t|computed as far|record `|`goal\."),
 ]

@@ -1,6 +1,5 @@
 /* Each status, signal and refusal of argus.h, returned once, and a null pointer passed to each
- * inline function. Two are left out: ARGUS_FULL, which takes 2^63 entries, and those of lists,
- * which each.c tests. */
+ * inline function. Those of lists are left out: each.c tests them. */
 #include "argus.h"
 #include "modes.h"
 
@@ -285,6 +284,20 @@ static void resume_lines(argus_guardian *bank) {
     for (size_t at = 0; at < sizeof BAD_LINES / sizeof BAD_LINES[0]; at++) resume_bad_line(bank, &BAD_LINES[at]);
 }
 
+/* A journal whose next entry has a greater number than any from which a journal begins. */
+static void be_full(argus_guardian *bank) {
+    static const char opening[] = "opening entries 9223372036854775807 actions 0\n";
+    size_t bytes = 99, lines = 99;
+    argus_guardian full = ARGUS_CLOSED;
+    want(argus_open_beside(&full, bank).status == ARGUS_DONE, "one beside");
+    want_answer(argus_resume(&full, opening, sizeof opening - 1, &bytes, &lines), ARGUS_DONE, 0, "an opening");
+    want_answer(argus_resumed(&full), ARGUS_DONE, 0, "its guardian");
+    want_answer(argus_declare(&full, "atomic_array[int]"), ARGUS_OBJECT, 0, "an entry");
+    want_answer(argus_checkpoint(&full), ARGUS_FULL, 0, "no journal begins with the next one");
+    want_answer(argus_renew(&full), ARGUS_FULL, 0, "nor a guardian");
+    want_answer(argus_close(&full), ARGUS_DONE, 0, "closing it");
+}
+
 static void be_closed(argus_guardian *bank) {
     size_t size = 99, lines = 99;
     uint64_t count = 99;
@@ -400,6 +413,7 @@ int statuses(void) {
     reach_limits(&bank);
     abort_all(&bank);
     begin_anew(&bank);
+    be_full(&bank);
     be_closed(&bank);
     printf("each status is returned\n");
     return 0;

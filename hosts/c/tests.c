@@ -176,6 +176,47 @@ static void test_commit_cancelled(void) {
     CHECK(argus_close(&bank).status == ARGUS_DONE);
 }
 
+/* The example of argus.h: the guardian of a journal that a file keeps, in `bank`, which is open.
+ * What comes after the last line feed was cut off as it was written. Returns 0 if a line is longer
+ * than the buffer, or the file can't be read. */
+static int read_bank(argus_guardian *bank, FILE *file) {
+    char text[4096];
+    size_t held = 0, read, bytes, lines;
+    argus_answer taken;
+    while ((read = fread(text + held, 1, sizeof text - held, file)) > 0) {
+        held += read;
+        taken = argus_resume(bank, text, held, &bytes, &lines);
+        if (taken.status != ARGUS_DONE) return fprintf(stderr, "%s\n", argus_answer_name(taken)), 0;
+        memmove(text, text + bytes, held -= bytes);
+    }
+    if (!feof(file)) return 0;
+    return argus_resumed(bank).status == ARGUS_DONE;
+}
+
+/* Reads the guardian of a file with a text of this length in a line, and with a line that was cut off. */
+static int read_back(argus_guardian *bank, size_t length) {
+    FILE *file = tmpfile();
+    int is_read = 0;
+    if (file == NULL) return 0;
+    fputs("0 declare atomic_record[t:text] -> o0\n1 begin_top -> a0\n2 alter a0 o0 create {\"", file);
+    for (size_t written = 0; written < length; written++) fputc('x', file);
+    fputs("\"} -> done\n3 commit a0 -> done\n4 begin_top -> a", file);
+    rewind(file);
+    is_read = argus_open(bank).status == ARGUS_DONE && read_bank(bank, file);
+    fclose(file);
+    return is_read;
+}
+
+static void test_read_bank(void) {
+    argus_guardian bank = ARGUS_CLOSED;
+    CHECK(read_back(&bank, 3000));
+    CHECK(argus_entries(&bank).number == 4 && argus_status_of(&bank, 0).number == ARGUS_COMMITTED);
+    CHECK(argus_close(&bank).status == ARGUS_DONE);
+    CHECK(!read_back(&bank, 5000));
+    CHECK(argus_entries(&bank).number == 0);
+    CHECK(argus_close(&bank).status == ARGUS_DONE);
+}
+
 /* Two guardians side by side: each has what its own calls left, and no text before its first
  * reply. */
 static void test_beside(void) {
@@ -272,6 +313,7 @@ int tests(void) {
     test_example();
     test_commit_logged();
     test_commit_cancelled();
+    test_read_bank();
     test_beside();
     test_names();
     test_version();

@@ -37,7 +37,7 @@
  * Memory: all of it comes from malloc. What a guardian takes grows with its journal until a checkpoint. argus_close
  * frees all of it. The first argus_open of a process allocates some 600 bytes more, which all guardians share. They are
  * never freed but stay reachable, so a leak checker reports nothing. If malloc returns NULL the status is
- * ARGUS_NO_MEMORY, and the guardian is unchanged.
+ * ARGUS_NO_MEMORY, and the guardian is unchanged (argus_abort_live keeps the aborts that it has made).
  *
  * Values are written and read by the functions of argus_values.h, which includes this file.
  *
@@ -107,7 +107,8 @@ typedef struct argus_ready {
 
 /* What came of a call. From ARGUS_DONE to ARGUS_REFUSED the call was made: a journalled call is one more entry of the
  * journal. From ARGUS_NO_MEMORY on nothing was made, and the guardian is unchanged; in a list that holds of the call
- * that failed, and in a listing (argus_resume) of the line that wasn't taken. */
+ * that failed, in a listing (argus_resume) of the line that wasn't taken, and in argus_abort_live of the first abort
+ * that wasn't made. */
 typedef enum argus_status {
     ARGUS_DONE = 0,        /* made; there is nothing more to say. The number is 0 */
     ARGUS_OBJECT = 1,      /* an object was declared; the number is its own, from 0 */
@@ -363,8 +364,9 @@ uint32_t argus_c_close(argus_guardian *guardian);
 /* Makes one call. Every reply, refusals included, is one entry of the journal. The reply is kept until the next call
  * that is made, or the next question whose answer is a text. `number` is written at each status: as the status says,
  * otherwise 0. It doesn't overlap the handle.
- * What `kind` says, or ARGUS_SIGNAL, ARGUS_REFUSED, ARGUS_NO_MEMORY, ARGUS_NOT_OPEN, ARGUS_NOT_UTF8, ARGUS_BAD_TEXT,
- * ARGUS_BAD_SHAPE, ARGUS_BAD_NUMBER, ARGUS_BAD_KIND. */
+ * What `kind` says, or ARGUS_SIGNAL, ARGUS_REFUSED, or the first of these that applies: ARGUS_NOT_UTF8, ARGUS_NOT_OPEN,
+ * ARGUS_BAD_KIND, ARGUS_BAD_NUMBER (of a kind that takes a field or a tag), ARGUS_BAD_TEXT and ARGUS_BAD_SHAPE (of a
+ * kind that takes such a text), or ARGUS_NO_MEMORY, which may come in place of these two. */
 uint32_t argus_c_call(argus_guardian *guardian, uint32_t kind, uint32_t action, uint32_t object, int64_t first,
                       int64_t second, const uint8_t *text, size_t text_size, int64_t *number);
 
@@ -417,8 +419,8 @@ uint32_t argus_c_resume(argus_guardian *guardian, const uint8_t *text, size_t te
 
 /* Puts the guardian whose journal's listing was taken in place of the one that is held; what comes next is taken for
  * another one, from its first line on. No text is kept. If the opening came without entries and refers to objects that
- * didn't come, the guardian has as many of its objects as refer to none of these, and `dropped` is how many bytes the
- * lines of the others have; otherwise it is 0. `dropped` doesn't overlap the handle.
+ * didn't come, the guardian has as many of its first objects as refer to none but one another, and `dropped` is how
+ * many bytes the lines of the others have; otherwise it is 0. `dropped` doesn't overlap the handle.
  * ARGUS_DONE; ARGUS_NO_MEMORY: nothing has changed; ARGUS_NOT_OPEN. */
 uint32_t argus_c_resumed(argus_guardian *guardian, uint64_t *dropped);
 
@@ -604,7 +606,7 @@ ARGUS_API argus_answer argus_renew(argus_guardian *guardian) {
  * whole at ARGUS_DONE. A size of 0 may come with a null text.
  *
  *     // The guardian of a journal that a file keeps, in `bank`, which is open. What comes after the last line feed
- *     // was cut off as it was written.
+ *     // was cut off as it was written. Returns 0 if a line is longer than the buffer, or the file can't be read.
  *     int read_bank(argus_guardian *bank, FILE *file) {
  *         char text[4096];
  *         size_t held = 0, read, bytes, lines;
@@ -615,6 +617,7 @@ ARGUS_API argus_answer argus_renew(argus_guardian *guardian) {
  *             if (taken.status != ARGUS_DONE) return fprintf(stderr, "%s\n", argus_answer_name(taken)), 0;
  *             memmove(text, text + bytes, held -= bytes);
  *         }
+ *         if (!feof(file)) return 0;
  *         return argus_resumed(bank).status == ARGUS_DONE;
  *     }
  */

@@ -2,3 +2,4 @@ pub mod AsBox
 pub mod AsReadyBox
 pub mod Crossing
 pub mod Slots
+pub mod Unread

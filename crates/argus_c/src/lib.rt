@@ -14,8 +14,9 @@ ghost use Rattle.argus_c.specs.Slots.{IsStatusOfLines, IsStatusOfReply, IsTooLon
 ghost use Rattle.argus_c.specs.Slots.{AreTaken, IsResumed};
 ghost use Rattle.argus_c.specs.Slots.{end_status, version_number};
 ghost use Rattle.argus_embed.specs.Codes.{error_codes};
-ghost use Rattle.argus_embed.specs.Embedded.{IsAbortedInPart, after_abort_live};
+ghost use Rattle.argus_embed.specs.Embedded.{IsAbortedInPart, IsBusy, after_abort_live};
 ghost use Rattle.argus_embed.specs.Embedded.{after_fold, after_renewal, empty_state};
+ghost use Rattle.argus_embed.specs.Requests.{IsRead, LacksPart};
 
 mod held;
 mod held_ready;
@@ -113,6 +114,23 @@ pub extern "C" fn argus_c_call(
       first = first;
       second = second;
     }) text.now (result, number.new) }
+    ensures bad_kind { (result ≡ 16)
+        ↔ (IsUtf8 text.now × IsSome slot.old.held.store × (30 ≤ kind)) }
+    ensures bad_number { (result ≡ 15)
+        ↔ (IsUtf8 text.now × IsSome slot.old.held.store × LacksPart (record {
+          kind = kind;
+          action = action;
+          object = object;
+          first = first;
+          second = second;
+        })) }
+    ensures read { result < 10 → IsRead (record {
+      kind = kind;
+      action = action;
+      object = object;
+      first = first;
+      second = second;
+    }) text.now }
     ensures zero { (result ≡ 11) ⊎ (result ≡ 12) → number.new ≡ pos 0 }
 {
     *number = 0;
@@ -223,6 +241,8 @@ fn status_of(made: Result<(), EmbedError>) -> u32
 pub extern "C" fn argus_c_abort_live(alloc: Global, slot: &mut Slot) -> u32
     ensures done { result ≡ 0 → Becomes slot.old.held.store slot.new.held.store
         (λ old new. new ≡ after_abort_live old) }
+    ensures quiet { result ≡ 0 → Becomes slot.old.held.store slot.new.held.store
+        (λ _ new. IsBusy new → ⊥) }
     ensures memory { result ≡ 10
         → Becomes slot.old.held.store slot.new.held.store IsAbortedInPart }
     ensures not_open { (result ≡ 11) ↔ (slot.old.held.store ≡ None) }

@@ -22,6 +22,9 @@ pub failed_before : (e : CliFault) (options : Options) (limit : ℕ) (before aft
     → RunFailed options limit before after e
 failed_before (fault.Script x) options limit before after bytes read kept p =
     record { bytes = bytes; read = read; fault = p; kept = kept }
-failed_before fault.Memory options limit before after bytes read kept p = inl kept
+failed_before fault.Memory options limit before after bytes read kept p = inl record {
+  read = record { bytes = bytes; consumed = read.consumed; most = read.most };
+  kept = kept;
+}
 failed_before fault.Read options limit before after bytes read kept p = absurd p
 failed_before fault.Write options limit before after bytes read kept p = absurd p

@@ -17,7 +17,7 @@ use Rattle.argus_journal.specs.declared.limits.TheConstants.{MAX_FIRST_ENTRY}
 use Rattle.argus_guardian.specs.Listing.{listing_of}
 use Rattle.argus_commands.specs.Played.{IsPlay}
 use Rattle.argus_journal.specs.JournalView.{JournalView}
-use Rattle.argus_commands.specs.Input.{ReadUpTo}
+use Rattle.argus_commands.specs.Input.{ReadAtMost, ReadUpTo}
 use Rattle.argus_cli.specs.Streams.{RunStreams}
 
 -- the journal of a new guardian
@@ -76,13 +76,18 @@ pub record CutShort (options : Options) (limit : ℕ) (before after : RunStreams
   pub count : ℕ
   pub written : Appends before.output after.output (take count text)
 
+-- a run that came to no listing: no more was read than the limit, and nothing was written
+pub record Unlisted (limit : ℕ) (before after : RunStreams) : Type 0 where
+  pub read : ReadAtMost limit before.input after.input
+  pub kept : after.output ≡ before.output
+
 -- what a run that failed like this has read and written
 abbrev pub RunFailed : Options → ℕ → RunStreams → RunStreams → CliFault → Type 0
 RunFailed options limit before after (fault.Script f) = Refused limit before after f
 RunFailed options limit before after fault.Memory =
-    (after.output ≡ before.output) ⊎ CutShort options limit before after
+    Unlisted limit before after ⊎ CutShort options limit before after
 RunFailed options limit before after fault.Read =
-    (after.input_failed ≡ true) × (after.output ≡ before.output)
+    (after.input_failed ≡ true) × Unlisted limit before after
 RunFailed options limit before after fault.Write =
     (after.output_failed ≡ true) × CutShort options limit before after
 

@@ -1,6 +1,7 @@
 -- What a replay reads and writes.
 use Rattle.std.specs.Io.KnownBytes.{Appends}
-use Rattle.std.specs.Prelude.{List, None, Option, Some, false, take, true, ℕ, ◌+◌, ◌≡◌, ◌⊎◌}
+use Rattle.std.specs.Prelude.{List, None, Option, Some, false, if◌then◌else◌, take, true, ℕ, ◌+◌}
+use Rattle.std.specs.Prelude.{◌==◌, ◌≡◌, ◌⊎◌}
 use Rattle.argus_cli.specs.Streams.{RunStreams}
 use Rattle.argus_cli.specs.declared.faulty_line.FaultyLine.{FaultyLine}
 use Rattle.argus_cli.specs.declared.replay_error.ReplayError.{ReplayError}
@@ -11,6 +12,7 @@ use Rattle.argus_cli.specs.declared.text_fault.TextFault.TheVariants as text
 use Rattle.argus_guardian.specs.Listing.{listing_of, numbered_names}
 use Rattle.argus_guardian.specs.Resumed.{IsResumed}
 use Rattle.argus_guardian.specs.listings_declared.listing.Listing.{Listing}
+use Rattle.argus_guardian.specs.resume_declared.line_fault.LineFault.TheVariants as line
 use Rattle.argus_guardian.specs.resume_declared.read_end.ReadEnd.{ReadEnd}
 use Rattle.argus_guardian.specs.resume_declared.read_end.ReadEnd.TheVariants as end
 use Rattle.argus_guardian.specs.resume_declared.resumed.Resumed.{Resumed}
@@ -26,14 +28,18 @@ numbered_listing listing journal =
 abbrev pub line_behind : ℕ → TextFault → FaultyLine
 line_behind lines fault = record { line = lines + 1; fault = fault }
 
--- which line after the ones that were taken is at fault, by the reason why no more were; an end by
--- lack of memory or by a failed read names no line
-abbrev pub IsFaultBehind : ℕ → ReadEnd → Option FaultyLine → Type 0
-IsFaultBehind lines end.Whole faulty = faulty ≡ None
-IsFaultBehind lines end.Torn faulty = faulty ≡ Some (line_behind lines text.Torn)
-IsFaultBehind lines (end.Fault fault) faulty = faulty ≡ Some (line_behind lines (text.Line fault))
-IsFaultBehind lines end.OutOfMemory faulty = ⊥
-IsFaultBehind lines end.Read faulty = ⊥
+-- Which line after the ones that were taken is at fault, by how many bytes of an opening were
+-- dropped, and by the reason why no more were taken. A text that ends with an opening of which
+-- lines were dropped is no listing: the opening isn't sound. An end by lack of memory or by a
+-- failed read names no line.
+abbrev pub IsFaultBehind : ℕ → ℕ → ReadEnd → Option FaultyLine → Type 0
+IsFaultBehind lines dropped end.Whole faulty = faulty
+    ≡ (if dropped == 0 then None else Some (line_behind lines (text.Line line.NotSound)))
+IsFaultBehind lines dropped end.Torn faulty = faulty ≡ Some (line_behind lines text.Torn)
+IsFaultBehind lines dropped (end.Fault fault) faulty =
+    faulty ≡ Some (line_behind lines (text.Line fault))
+IsFaultBehind lines dropped end.OutOfMemory faulty = ⊥
+IsFaultBehind lines dropped end.Read faulty = ⊥
 
 -- A replay that succeeded: this guardian was made of what was read, this line, if any, was at
 -- fault, which only a prefix allows, and the listing was written.
@@ -41,7 +47,7 @@ pub record Replayed (options : ReplayOptions) (before after : RunStreams)
     (faulty : Option FaultyLine) : Type 0 where
   pub resumed : Resumed
   pub made : IsResumed before.input after.input after.input_failed resumed
-  pub fault : IsFaultBehind resumed.lines resumed.end faulty
+  pub fault : IsFaultBehind resumed.lines resumed.dropped resumed.end faulty
   pub whole : options.prefix ≡ false → faulty ≡ None
   pub written : Appends before.output after.output
       (numbered_listing options.listing resumed.guardian)
@@ -51,7 +57,7 @@ pub record RefusedText (options : ReplayOptions) (before after : RunStreams)
     (faulty : FaultyLine) : Type 0 where
   pub resumed : Resumed
   pub made : IsResumed before.input after.input after.input_failed resumed
-  pub fault : IsFaultBehind resumed.lines resumed.end (Some faulty)
+  pub fault : IsFaultBehind resumed.lines resumed.dropped resumed.end (Some faulty)
   pub asked : options.prefix ≡ false
   pub kept : after.output ≡ before.output
 

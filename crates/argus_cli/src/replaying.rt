@@ -16,7 +16,8 @@ use crate::replay_options::ReplayOptions;
 use crate::text_fault::TextFault;
 use argus_commands::FailStop;
 use argus_guardian::{
-    Guardian, ListError, Listing, ReadEnd, Resumed, numbered_names, resume, write_listing,
+    Guardian, LineFault, ListError, Listing, ReadEnd, Resumed, numbered_names, resume,
+    write_listing,
 };
 use argus_values::Heap;
 use std::io::{Read, Write};
@@ -28,7 +29,8 @@ use std::io::{Read, Write};
 ///
 /// `None`: the text is the listing of a journal, to its end. A faulty line comes only if the
 /// options take a prefix: the listing is that of the longest prefix of whole lines that is a
-/// journal's listing, and this is the line after those that were taken.
+/// journal's listing, and this is the line after those that were taken. (Of these, the last lines
+/// of an opening aren't in that prefix if they refer to objects that didn't come.)
 ///
 /// | Error | When | What was written |
 /// |---|---|---|
@@ -65,10 +67,10 @@ pub fn replay<R: Read + Drop, W: Write + Drop>(
         guardian,
         bytes: _,
         lines,
-        dropped: _,
+        dropped,
         end,
     } = resume(heap, reader)?;
-    let faulty = match fault_behind(lines, end) {
+    let faulty = match fault_behind(lines, dropped, end) {
         Ok(None) => None,
         Ok(Some(faulty)) if options.prefix => Some(faulty),
         Ok(Some(faulty)) => return Err(ReplayError::Line(faulty)),
@@ -78,15 +80,16 @@ pub fn replay<R: Read + Drop, W: Write + Drop>(
     Ok(faulty)
 }
 
-// The line after the number of lines that were taken, if it is at fault. There is memory for fewer
-// than 2^64.
-fn fault_behind(lines: u64, end: ReadEnd) -> Result<Option<FaultyLine>, ReplayError>
-    ensures fault { IfOk result (IsFaultBehind lines end) }
+// The line after the number of lines that were taken, if it is at fault, or if an opening of which
+// bytes were dropped ends there. There is memory for fewer lines than 2^64.
+fn fault_behind(lines: u64, dropped: u64, end: ReadEnd) -> Result<Option<FaultyLine>, ReplayError>
+    ensures fault { IfOk result (IsFaultBehind lines dropped end) }
     ensures failed { IfErr result (λ e. (e ≡ error.OutOfMemory)
         ⊎ ((e ≡ error.Read) × (end ≡ ends.Read))) }
 {
     let fault = match end {
-        ReadEnd::Whole => return Ok(None),
+        ReadEnd::Whole if dropped == 0 => return Ok(None),
+        ReadEnd::Whole => TextFault::Line(LineFault::NotSound),
         ReadEnd::Torn => TextFault::Torn,
         ReadEnd::Fault(fault) => TextFault::Line(fault),
         ReadEnd::OutOfMemory => return Err(ReplayError::OutOfMemory),

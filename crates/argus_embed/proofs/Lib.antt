@@ -10,3 +10,4 @@ pub mod JournalLines
 pub mod KeptObjects
 pub mod Quiet
 pub mod Dropped
+pub mod Told

@@ -7,7 +7,7 @@ use Rattle.argus_journal.specs.JournalView.{JournalView, after, reply_to}
 use Rattle.argus_journal.specs.Reply.{PlainReply, answered, begun, object, refused}
 use Rattle.argus_embed.specs.Codes.{error_codes, outcome_codes}
 use Rattle.argus_embed.specs.Embedded.{EmbeddedState, outcome_of, reply_lines}
-use Rattle.argus_embed.specs.Requests.{IsUnread, Says}
+use Rattle.argus_embed.specs.Requests.{IsRead, IsUnread, Says}
 use Rattle.argus_embed.specs.declared.calls_made.CallsMade.{CallsMade}
 use Rattle.argus_embed.specs.declared.demand.Demand.{Demand}
 use Rattle.argus_embed.specs.declared.demand.Demand.TheVariants.{NoRefusal, NoSignal, Nothing}
@@ -97,11 +97,13 @@ request_of each action = record {
   second = each.second;
 }
 
--- after these replies, the call of the list stands for this one
+-- after these replies, the call of the list stands for this one: its action and its text are there,
+-- and with its numbers they are those of a call
 abbrev pub SaysAfter : List PlainReply → ListedCall → PlainCall → Type 0
 SaysAfter replies each call =
     (action : ℕ) × (action_by replies each.begun_by each.action ≡ Some action)
     × Says (request_of each action) each.text.now call
+    × IsRead (request_of each action) each.text.now
 
 -- why it stands for none: there is no such demand, the call that should have begun its action isn't
 -- before it or began none, its text isn't UTF-8; or as for a single call

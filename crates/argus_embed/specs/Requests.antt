@@ -1,5 +1,5 @@
 -- Which call the numbers and the text of a request stand for, and why one stands for none.
-use Rattle.std.specs.Prelude.{List, int_lt, pos, true, ℕ, ℤ, ◌||◌, ◌≡◌, ◌≤◌, ◌⊎◌}
+use Rattle.std.specs.Prelude.{List, int_lt, pos, true, ℕ, ℤ, ◌<◌, ◌||◌, ◌≡◌, ◌≤◌, ◌⊎◌}
 use Rattle.argus_values.specs.Change.{PlainChange, addh, addl, change_tag, create, remh, reml}
 use Rattle.argus_values.specs.Change.{set_field, set_low, store, touch, trim}
 use Rattle.argus_values.specs.contents_declared.query.Query.{Query}
@@ -67,17 +67,45 @@ Says r text (alter a o change) =
 abbrev pub IsNoPart : ℤ → Type 0
 IsNoPart n = (int_lt n (pos 0) || int_lt (pos 255) n) ≡ true
 
--- why the request stands for no call. The text isn't that of a content for a creation, of a value
--- for another change, or of a shape for a declaration; a field's or tag's number isn't one; or
--- there is no such kind. Out of memory says nothing of it
+-- a call of this kind takes a field or a tag: field, is_tag, tag_value, set_field and change_tag
+abbrev pub TakesPart : ℕ → Type 0
+TakesPart kind = (kind ≡ 10) ⊎ (kind ≡ 17) ⊎ (kind ≡ 18) ⊎ (kind ≡ 20) ⊎ (kind ≡ 28)
+
+-- a call of this kind takes the text of a value: set_field, store, addh, addl and change_tag
+abbrev pub TakesValue : ℕ → Type 0
+TakesValue kind = (kind ≡ 20) ⊎ (kind ≡ 21) ⊎ (kind ≡ 22) ⊎ (kind ≡ 23) ⊎ (kind ≡ 28)
+
+-- the call takes a field or a tag, and the first number isn't that of one
+abbrev pub LacksPart : Request → Type 0
+LacksPart r = TakesPart r.kind × IsNoPart r.first
+
+-- the numbers are those of a call: there is such a kind, and a field or a tag if it takes one
+abbrev pub HasNumbers : Request → Type 0
+HasNumbers r = (r.kind < 30) × (LacksPart r → ⊥)
+
+-- the text is that of a shape, a content or a value, if the call takes one
+pub record HasText (r : Request) (text : List ℕ) : Type 0 where
+  pub shape : r.kind ≡ 0 → IsShapeText text
+  pub content : r.kind ≡ 19 → IsContentText text
+  pub value : TakesValue r.kind → IsValueText text
+
+-- the numbers and the text are those of a call
+abbrev pub IsRead : Request → List ℕ → Type 0
+IsRead r text = HasNumbers r × HasText r text
+
+-- why the request stands for no call. There is no such kind; the call takes a field or a tag, and
+-- its number isn't one; or the text isn't that of a shape for a declaration, of a content for a
+-- creation, or of a value for another change that takes one. A number comes before a text: a text
+-- is read, and there may be no memory for it, only if the numbers are those of a call
 abbrev pub IsUnread : Request → List ℕ → EmbedError → Type 0
 IsUnread r text (error.BadText at) =
-    ((r.kind ≡ 19) × IsFault IsContentText text at)
-    ⊎ ((20 ≤ r.kind) × IsFault IsValueText text at)
+    HasNumbers r
+    × (((r.kind ≡ 19) × IsFault IsContentText text at)
+    ⊎ (TakesValue r.kind × IsFault IsValueText text at))
 IsUnread r text error.BadShape = (r.kind ≡ 0) × (IsShapeText text → ⊥)
-IsUnread r text error.BadNumber = IsNoPart r.first
+IsUnread r text error.BadNumber = LacksPart r
 IsUnread r text error.BadKind = 30 ≤ r.kind
-IsUnread r text error.OutOfMemory = Unit {0}
+IsUnread r text error.OutOfMemory = HasNumbers r
 IsUnread r text error.NotThere = ⊥
 IsUnread r text error.Busy = ⊥
 IsUnread r text error.Full = ⊥

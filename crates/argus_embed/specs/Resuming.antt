@@ -4,7 +4,7 @@ use Rattle.argus_journal.specs.EntrySpelling.{reply_spelling}
 use Rattle.argus_journal.specs.JournalView.{next_entry}
 use Rattle.argus_journal.specs.Reply.{plain_reply}
 use Rattle.argus_journal.specs.entries_declared.reply.Reply.{Reply}
-use Rattle.argus_guardian.specs.JournalText.{journal_text, no_journal}
+use Rattle.argus_guardian.specs.JournalText.{IsReadableJournal, journal_text, no_journal}
 use Rattle.argus_guardian.specs.SoundFront.{sound_front}
 use Rattle.argus_guardian.specs.Taking.{IsFaulty, IsTorn, line_count}
 use Rattle.argus_guardian.specs.resume_declared.line_fault.LineFault.TheVariants as fault
@@ -51,6 +51,8 @@ pub record IsTextTaken (old new : EmbeddedState) (text : List ℕ) (taken : Text
   pub longer : journal_text new.taken ≡ journal_text old.taken ++ take taken.bytes text
   pub lines : taken.lines ≡ line_count (take taken.bytes text)
   pub end : IsEndOf taken.end old new (drop taken.bytes text)
+  -- what was taken is a journal that lines can spell
+  pub readable : IsReadableJournal new.taken
   -- the guardian that is held is unchanged
   pub held : new.journal ≡ old.journal
 

@@ -1,7 +1,7 @@
 //! How a host calls.
 
 ghost use Rattle.std.specs.Prelude.{IfErr, IfOk, OnErr, OnOk, ◌≡◌};
-ghost use Rattle.argus_embed.specs.Requests.{IsCalled, IsUnread};
+ghost use Rattle.argus_embed.specs.Requests.{IsCalled, IsRead, IsUnread};
 ghost use Rattle.argus_embed.specs.Embedded.{after_call, outcome_of, with_reply};
 ghost use Rattle.argus_journal.specs.Call.{plain_call};
 ghost use Rattle.argus_journal.specs.JournalView.{reply_to};
@@ -24,16 +24,20 @@ impl Embedded {
     ///
     /// | Error | When |
     /// |---|---|
-    /// | `BadText`, `BadShape` | the text isn't the written form of what the call takes |
+    /// | `BadKind` | there is no such kind |
     /// | `BadNumber` | the call takes a field or a tag, and the first number isn't within 0 to 255
     /// |
-    /// | `BadKind` | there is no such kind |
+    /// | `BadText`, `BadShape` | the text isn't the written form of what the call takes |
     /// | `OutOfMemory` | there is no memory for what the text says, or for the call |
+    ///
+    /// The numbers are tested before the text: `BadKind` and `BadNumber` come exactly if they
+    /// apply. Then `BadText` and `BadShape` do, except that `OutOfMemory` may come in their place.
     ///
     /// After an error nothing has changed, and what was kept stays.
     pub fn call(&mut self, request: &Request, text: &str) -> Result<Outcome, EmbedError>
         ensures called { IfOk result (λ outcome.
             IsCalled request.now text.now self.old self.new outcome) }
+        ensures read { OnOk result (IsRead request.now text.now) }
         ensures unread { IfErr result (λ e. IsUnread request.now text.now e) }
         ensures err { OnErr result (self.new ≡ self.old) }
     {

@@ -1,10 +1,12 @@
 //! The call that a request stands for.
 
-ghost use Rattle.std.specs.Prelude.{IfErr, IfOk, List, pos, ℕ, ◌<◌, ◌≡◌, ◌≤◌};
+ghost use Rattle.std.specs.Prelude.{IfErr, IfOk, List, OnOk, pos, ℕ, ◌<◌, ◌≡◌, ◌≤◌};
 ghost use Rattle.argus_values.specs.Change.{plain_change};
 ghost use Rattle.argus_values.specs.Content.{plain_content};
 ghost use Rattle.argus_values.specs.Value.{plain_value};
-ghost use Rattle.argus_embed.specs.Requests.{IsUnread, Says, SaysChange, SaysQuery};
+ghost use Rattle.argus_values.specs.Fault.{IsContentText, IsValueText};
+ghost use Rattle.argus_embed.specs.Requests.{HasNumbers, IsNoPart, IsRead, IsUnread, LacksPart};
+ghost use Rattle.argus_embed.specs.Requests.{Says, SaysChange, SaysQuery, TakesPart, TakesValue};
 ghost use Rattle.argus_journal.specs.Call.{plain_call};
 ghost use Rattle.argus_values.specs.ContentSpelling.{content_spelling};
 ghost use Rattle.argus_values.specs.Spelling.{spelling};
@@ -20,6 +22,7 @@ use argus_values::{
 /// The call that the request with its text stands for.
 pub(crate) fn call_of(heap: Heap, request: &Request, text: &str) -> Result<Call, EmbedError>
     ensures says { IfOk result (λ call. Says request.now text.now (plain_call call)) }
+    ensures read { OnOk result (IsRead request.now text.now) }
     ensures unread { IfErr result (λ e. IsUnread request.now text.now e) }
 {
     let a = ActionId(request.action);
@@ -41,6 +44,7 @@ pub(crate) fn call_of(heap: Heap, request: &Request, text: &str) -> Result<Call,
 fn declaration_of(heap: Heap, request: &Request, text: &str) -> Result<Call, EmbedError>
     requires { request.now.kind ≡ 0 }
     ensures says { IfOk result (λ call. Says request.now text.now (plain_call call)) }
+    ensures read { OnOk result (IsRead request.now text.now) }
     ensures unread { IfErr result (λ e. IsUnread request.now text.now e) }
 {
     match read_shape(heap, text) {
@@ -53,6 +57,7 @@ fn declaration_of(heap: Heap, request: &Request, text: &str) -> Result<Call, Emb
 fn access_of(heap: Heap, request: &Request, text: &str) -> Result<Call, EmbedError>
     requires { 9 ≤ request.now.kind }
     ensures says { IfOk result (λ call. Says request.now text.now (plain_call call)) }
+    ensures read { OnOk result (IsRead request.now text.now) }
     ensures unread { IfErr result (λ e. IsUnread request.now text.now e) }
 {
     let a = ActionId(request.action);
@@ -67,6 +72,7 @@ fn access_of(heap: Heap, request: &Request, text: &str) -> Result<Call, EmbedErr
 fn query_of(request: &Request) -> Result<Query, EmbedError>
     requires { (9 ≤ request.now.kind) × (request.now.kind < 19) }
     ensures says { IfOk result (λ query. SaysQuery request.now.kind request.now.first query) }
+    ensures numbers { OnOk result (HasNumbers request.now) }
     ensures unread { IfErr result (λ e. (text : List ℕ) → IsUnread request.now text e) }
 {
     match request.kind {
@@ -87,6 +93,7 @@ fn change_of(heap: Heap, request: &Request, text: &str) -> Result<Change, EmbedE
     requires { 19 ≤ request.now.kind }
     ensures says { IfOk result (λ change. SaysChange request.now.kind request.now.first
         request.now.second text.now (plain_change change)) }
+    ensures read { OnOk result (IsRead request.now text.now) }
     ensures unread { IfErr result (λ e. IsUnread request.now text.now e) }
 {
     match request.kind {
@@ -113,7 +120,9 @@ fn change_of(heap: Heap, request: &Request, text: &str) -> Result<Change, EmbedE
 
 /// The number of a field or a tag.
 fn part_of(request: &Request) -> Result<u8, EmbedError>
+    requires { TakesPart request.now.kind }
     ensures part { IfOk result (λ part. request.now.first ≡ pos part) }
+    ensures ok { OnOk result (IsNoPart request.now.first → ⊥) }
     ensures unread { IfErr result (λ e. (text : List ℕ) → IsUnread request.now text e) }
 {
     let number = request.first;
@@ -124,8 +133,10 @@ fn part_of(request: &Request) -> Result<u8, EmbedError>
 }
 
 fn value_of(heap: Heap, request: &Request, text: &str) -> Result<Value, EmbedError>
-    requires { 20 ≤ request.now.kind }
-    ensures read { IfOk result (λ value. text.now ≡ spelling (plain_value value)) }
+    requires kind { TakesValue request.now.kind }
+    requires part { LacksPart request.now → ⊥ }
+    ensures says { IfOk result (λ value. text.now ≡ spelling (plain_value value)) }
+    ensures read { OnOk result (IsValueText text.now) }
     ensures unread { IfErr result (λ e. IsUnread request.now text.now e) }
 {
     match read_value(heap, text) {
@@ -137,7 +148,8 @@ fn value_of(heap: Heap, request: &Request, text: &str) -> Result<Value, EmbedErr
 
 fn content_of(heap: Heap, request: &Request, text: &str) -> Result<Content, EmbedError>
     requires { request.now.kind ≡ 19 }
-    ensures read { IfOk result (λ content. text.now ≡ content_spelling (plain_content content)) }
+    ensures says { IfOk result (λ content. text.now ≡ content_spelling (plain_content content)) }
+    ensures read { OnOk result (IsContentText text.now) }
     ensures unread { IfErr result (λ e. IsUnread request.now text.now e) }
 {
     match read_content(heap, text) {

@@ -1,6 +1,7 @@
 //! How a guardian is made again from the lines of a journal.
 
 ghost use Rattle.std.specs.Prelude.{IfErr, IfOk, OnErr, OnOk, ◌≡◌};
+ghost use Rattle.argus_guardian.specs.JournalText.{IsReadableJournal};
 ghost use Rattle.argus_embed.specs.Resuming.{EndsText, IsDropped, IsTextTaken};
 ghost use Rattle.argus_embed.specs.Resuming.{after_resumption};
 ghost use Rattle.argus_embed.specs.declared.embed_error.EmbedError.TheVariants.{OutOfMemory};
@@ -31,6 +32,7 @@ impl Embedded {
     {
         let Taken { bytes, lines, end } = self.taken.take(text);
         let end = self.text_end(end);
+        self.taken_is_readable();
         TextTaken { bytes, lines, end }
     }
 
@@ -56,6 +58,13 @@ impl Embedded {
                 Err(EmbedError::OutOfMemory)
             }
         }
+    }
+
+    /// A law for proofs; it does nothing. What was taken is a journal that lines can spell.
+    fn taken_is_readable(&self)
+        ensures { IsReadableJournal self.now.taken }
+    {
+        self.taken.journal_is_readable();
     }
 
     /// The end as the host gets it; the reply of a fault is kept.

@@ -63,7 +63,7 @@ impl Follower {
     fn follow_line(&mut self, lines: &[Line], number: usize, line: Line) -> Result<(), Difference> {
         match line {
             Line::Declare(_) => {
-                let _told = self.checked.call("declare atomic_record[n:int]")?;
+                let _told = self.checked.call("declare atomic_record[n:int,m:int]")?;
                 Ok(())
             }
             Line::Enter(kind) => self.enter(kind),

@@ -7,18 +7,18 @@ use std::fmt::Write;
 pub(crate) const OBJECTS: u32 = 2;
 
 /// The accesses of scripts, as their lines and as calls spell them; each object is a record with
-/// the one field `n`.
+/// the fields `n` and `m`.
 pub(crate) const ACCESSES: [(&str, &str); 14] = [
-    ("create x0 {1}", "alter o0 create {1}"),
-    ("create x1 {2}", "alter o1 create {2}"),
-    ("create x0 {3}", "alter o0 create {3}"),
-    ("create x1 {4}", "alter o1 create {4}"),
+    ("create x0 {1,10}", "alter o0 create {1,10}"),
+    ("create x1 {2,20}", "alter o1 create {2,20}"),
+    ("create x0 {3,30}", "alter o0 create {3,30}"),
+    ("create x1 {4,40}", "alter o1 create {4,40}"),
     ("set x0 n 5", "alter o0 set_field 0 5"),
-    ("set x1 n 6", "alter o1 set_field 0 6"),
-    ("set x0 n 7", "alter o0 set_field 0 7"),
+    ("set x1 m 6", "alter o1 set_field 1 6"),
+    ("set x0 m 7", "alter o0 set_field 1 7"),
     ("set x1 n \"\"", "alter o1 set_field 0 \"\""),
     ("get x0 n", "ask o0 field 0"),
-    ("get x1 n", "ask o1 field 0"),
+    ("get x1 m", "ask o1 field 1"),
     ("read x0", "ask o0 whole"),
     ("read x1", "ask o1 whole"),
     ("touch x0", "alter o0 touch"),
@@ -72,7 +72,7 @@ fn say(line: Line, out: &mut String<Room>) -> Result<(), OutOfMemory> {
 // The words of the line; with the object that they name, and what comes after its name.
 fn words_of(line: Line) -> (&'static str, Option<u32>, &'static str) {
     match line {
-        Line::Declare(o) => ("declare", Some(o), " atomic_record[n:int]"),
+        Line::Declare(o) => ("declare", Some(o), " atomic_record[n:int,m:int]"),
         Line::If(true, o) => ("if test_write", Some(o), ""),
         Line::If(false, o) => ("if test_read", Some(o), ""),
         Line::Enter(Kind::Top) => ("enter topaction", None, ""),

@@ -12,6 +12,7 @@ pub use Rattle.argus_board.specs.Keeper
 pub use Rattle.argus_sharing.specs.Checkpoint as SharedCheckpoint
 pub use Rattle.argus_sharing.specs.Following
 pub use Rattle.argus_sharing.specs.Locked
+pub use Rattle.argus_sharing.specs.Seat
 pub use Rattle.argus_sharing.specs.Waking
 pub use Rattle.argus_listings.specs.Listing
 pub use Rattle.argus_openings.specs.OpeningLanguages

@@ -7,13 +7,13 @@ use Rattle.std.specs.Prelude.{Option, Some, slice_get}
 use Rattle.argus_contents.specs.Content.{PlainContent}
 use Rattle.argus_contents.specs.Shape.{PlainShape}
 use Rattle.argus_listings.specs.Listing.{each_from, folded_line, opened_line}
-use Rattle.argus_journal.specs.Opening.{Opening}
+use Rattle.argus_journal.specs.Opening.{Opening, opening_at}
 use Rattle.argus_resume.specs.SoundFront.{opening_front}
 use Rattle.std.proofs.Math.Seq.{take-append_seam, take-length}
 use Rattle.argus_journal.specs.JournalView.{JournalView}
 use Rattle.argus_resume.specs.JournalText.{journal_text}
 use Rattle.argus_resume.proofs.Texts.{each_from-append, opened_text}
-use Rattle.std.proofs.lemmas.List.{length-map, take-append-drop}
+use Rattle.std.proofs.lemmas.List.{length-map, take-append-drop, take-take}
 use Rattle.argus_resume.specs.Stage.{AreEnds, IsCounted, lines_of, object_read, objects_read, opened_alone}
 use Rattle.argus_resume.specs.Stage.{opening_read}
 use Rattle.argus_resume.specs.declared.opening_lines.OpeningLines.{OpeningLines}
@@ -120,6 +120,15 @@ front_shorter s n =
       length-append (lines_of (opening_front s n))
           (each_from opened_line (0 + length (take n s.objects)) (drop n s.objects)),
     )
+
+-- a front has no more lines than a longer one
+pub fronts_shorter : (s : Opening) (m n : ℕ) → m ≤ n
+    → length (lines_of (opening_front s m)) ≤ length (lines_of (opening_front s n))
+fronts_shorter s m n h =
+    let same : opening_front (opening_front s n) m ≡ opening_front s m =
+    ap (λ (l : List (PlainShape × Option PlainContent)). opening_at l s.first_action s.first_entry)
+    (take-take m n s.objects h) in
+    omega (arith, front_shorter (opening_front s n) m, ap (λ (k : Opening). length (lines_of k)) same)
 
 front_opened : (s : Opening) (n : ℕ) → 0 < s.first_entry
     → journal_text (opened_alone (opening_front s n)) ≡ lines_of (opening_front s n)

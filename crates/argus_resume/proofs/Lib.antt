@@ -19,5 +19,6 @@ pub mod Granted
 pub mod Readable
 pub mod Folds
 pub mod NextLines
+pub mod Longest
 pub mod Crossing
 pub mod WellFormedValues

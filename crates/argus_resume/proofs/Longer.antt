@@ -142,7 +142,7 @@ both_empty taken other t a b r s h e =
     (ap (λ x. (x ++ entries_text taken.opening taken.entries) ++ t) (sym (opening_none taken.opening a)) ∙ e
     ∙ ap (λ x. x ++ entries_text other.opening other.entries) (opening_none other.opening b))
 
-other_opened : (taken other : JournalView) (t : List ℕ) → taken.opening ≡ empty → IsReadableOpening other.opening
+pub other_opened : (taken other : JournalView) (t : List ℕ) → taken.opening ≡ empty → IsReadableOpening other.opening
     → journal_text taken ++ t ≡ journal_text other → Behind taken other t
 other_opened taken other t a r e =
     let s = other.opening in
@@ -191,6 +191,12 @@ no_opening_left y e = let h = ap length e in omega (arith, h, length-append (cod
 
 -- BOTH HAVE AN OPENING
 
+-- the other journal has these objects beyond those of this one; the texts go on behind those that both have
+pub record Beyond (taken other : JournalView) (t : List ℕ) (zs : List (PlainShape × Option PlainContent)) : Type 0 where
+  pub objects : other.opening.objects ≡ taken.opening.objects ++ zs
+  pub text : entries_text taken.opening taken.entries ++ t
+      ≡ each_from opened_line (0 + length taken.opening.objects) zs ++ entries_text other.opening other.entries
+
 folded_same : (s k : Opening) → IsReadableOpening s → IsReadableOpening k
     → FoldedLines.form (s.first_entry, s.first_action) ≡ FoldedLines.form (k.first_entry, k.first_action)
     → (s.first_entry ≡ k.first_entry) × (s.first_action ≡ k.first_action)
@@ -204,8 +210,8 @@ folded_same s k r q e =
     ∙ sym (append-nil (codes "actions " ++ decimal k.first_action))) in
     (one.0, two.0)
 
-same_parts : (s k : Opening) → s.objects ≡ k.objects → s.first_action ≡ k.first_action → s.first_entry ≡ k.first_entry
-    → s ≡ k
+pub same_parts : (s k : Opening) → s.objects ≡ k.objects → s.first_action ≡ k.first_action
+    → s.first_entry ≡ k.first_entry → s ≡ k
 same_parts s k o a e =
     ap (λ (x : List (PlainShape × Option PlainContent)). opening_at x s.first_action s.first_entry) o
     ∙ ap (λ n. opening_at k.objects n s.first_entry) a ∙ ap (λ n. opening_at k.objects k.first_action n) e
@@ -216,11 +222,7 @@ object_there [] zs z r = r.0
 object_there (x ∷ xs) zs z r = object_there xs zs z r.1
 
 module _ (taken other : JournalView) (t : List ℕ) (r : IsReadableOpening taken.opening)
-    (q : IsReadableOpening other.opening) (a : AreReadable taken.entries) (b : AreReadable other.entries)
-    (h : next_entry other ≤ 2 ^ 64) (e : journal_text taken ++ t ≡ journal_text other) where
-  below : List ℕ
-  below = entries_text taken.opening taken.entries ++ t
-
+    (q : IsReadableOpening other.opening) (e : journal_text taken ++ t ≡ journal_text other) where
   -- behind the first line
   told : (FoldedLines.form (taken.opening.first_entry, taken.opening.first_action)
       ≡ FoldedLines.form (other.opening.first_entry, other.opening.first_action))
@@ -259,57 +261,17 @@ module _ (taken other : JournalView) (t : List ℕ) (r : IsReadableOpening taken
       parted : (a b c d : List ℕ) → ((a ++ b) ++ c) ++ d ≡ a ++ (b ++ (c ++ d))
       parted a b c d = simp append_assoc
 
-  numbers : (taken.opening.first_entry ≡ other.opening.first_entry)
+  pub numbers : (taken.opening.first_entry ≡ other.opening.first_entry)
       × (taken.opening.first_action ≡ other.opening.first_action)
   numbers = folded_same taken.opening other.opening r q told.0
 
-  -- no object of either is left
-  same_objects : (zs : List (PlainShape × Option PlainContent)) → zs ≡ []
-      → other.opening.objects ≡ taken.opening.objects ++ zs
-      → entries_text taken.opening taken.entries ++ t
-      ≡ each_from opened_line (0 + length taken.opening.objects) zs ++ entries_text other.opening other.entries
-      → Behind taken other t
-  same_objects zs none o u =
-      let objects : taken.opening.objects ≡ other.opening.objects =
-      sym (append-nil taken.opening.objects)
-      ∙ ap (λ (x : List (PlainShape × Option PlainContent)). taken.opening.objects ++ x) (sym none) ∙ sym o in
-      let same = same_parts taken.opening other.opening objects numbers.1 numbers.0 in
-      entries_part taken other t same a b h
-      (u ∙ ap (λ (x : List (PlainShape × Option PlainContent)). each_from opened_line
-      (0 + length taken.opening.objects) x ++ entries_text other.opening other.entries) none)
-
-  -- the other has an object more
-  more_objects : (z : PlainShape × Option PlainContent) (zs : List (PlainShape × Option PlainContent))
-      → other.opening.objects ≡ taken.opening.objects ++ z ∷ zs
-      → entries_text taken.opening taken.entries ++ t
-      ≡ each_from opened_line (0 + length taken.opening.objects) (z ∷ zs) ++ entries_text other.opening other.entries
-      → Behind taken other t
-  more_objects z zs o u =
-      let xs = taken.opening.objects in
-      let n = 0 + length xs in
-      let rest = each_from opened_line (n + 1) zs ++ entries_text other.opening other.entries in
-      let begins = object_begins n z rest in
-      let line : entries_text taken.opening taken.entries ++ t ≡ opened_line n z ++ rest =
-      u ∙ append_assoc (opened_line n z) (each_from opened_line (n + 1) zs)
-      (entries_text other.opening other.entries) in
-      let none = no_opening_text taken.opening.first_entry (reverse taken.entries) t begins.0
-      (omega (arith, r.limits.entries)) (line ∙ begins.1) in
-      let count : length other.opening.objects ≡ length xs + length (z ∷ zs) = ap length o ∙ length-append xs
-      (z ∷ zs) in
-      let place : n ≡ length xs = omega arith in
-      with_objects r (entries_none taken.entries none.0) z
-      (object_there xs zs z (subst AreReadableObjects o q.objects)) (omega (arith, count, q.limits.objects)) rest
-      (none.1 ∙ sym begins.1 ∙ ap (λ k. opened_line k z ++ rest) place)
-    where
-      entries_none : (j : List PlainEntry) → reverse j ≡ [] → j ≡ []
-      entries_none j none = sym (twice_reversed j) ∙ ap reverse none
-
-  both_opened : Behind taken other t
-  both_opened =
+  -- the other has each object of this one
+  pub beyond : (zs : List (PlainShape × Option PlainContent)) × Beyond taken other t zs
+  beyond =
       elim (objects_front 0 taken.opening.objects other.opening.objects (entries_text taken.opening taken.entries ++ t)
       (entries_text other.opening other.entries) r.objects q.objects (omega (arith, r.limits.objects))
       (omega (arith, q.limits.objects)) told.1) [
-        | inl front ↦ by_more front.0 front.1 front.2
+        | inl front ↦ (front.0, record { objects = front.1; text = front.2 })
         | inr past ↦
             let n = 0 + length other.opening.objects in
             let rest = each_from opened_line (n + 1) past.1 ++ (entries_text taken.opening taken.entries ++ t) in
@@ -322,13 +284,49 @@ module _ (taken other : JournalView) (t : List ℕ) (r : IsReadableOpening taken
             (omega (arith, q.limits.entries)) line in
             absurd (no_opening_left begins.0 none.1)
       ]
+
+  -- no object of either is left
+  pub same_opening : Beyond taken other t [] → taken.opening ≡ other.opening
+  same_opening u =
+      same_parts taken.opening other.opening (sym (append-nil taken.opening.objects) ∙ sym u.objects) numbers.1
+      numbers.0
+
+  -- the other has an object more, so no entry came before it
+  pub more_objects : (z : PlainShape × Option PlainContent) (zs : List (PlainShape × Option PlainContent))
+      → Beyond taken other t (z ∷ zs) → (taken.entries ≡ []) × (t ≡ opened_line (length taken.opening.objects) z
+      ++ (each_from opened_line ((0 + length taken.opening.objects) + 1) zs
+      ++ entries_text other.opening other.entries))
+  more_objects z zs u =
+      let n = 0 + length taken.opening.objects in
+      let rest = each_from opened_line (n + 1) zs ++ entries_text other.opening other.entries in
+      let begins = object_begins n z rest in
+      let line : entries_text taken.opening taken.entries ++ t ≡ opened_line n z ++ rest =
+      u.text ∙ append_assoc (opened_line n z) (each_from opened_line (n + 1) zs)
+      (entries_text other.opening other.entries) in
+      let none = no_opening_text taken.opening.first_entry (reverse taken.entries) t begins.0
+      (omega (arith, r.limits.entries)) (line ∙ begins.1) in
+      let place : n ≡ length taken.opening.objects = omega arith in (
+        entries_none taken.entries none.0,
+        none.1 ∙ sym begins.1 ∙ ap (λ k. opened_line k z ++ rest) place,
+      )
     where
-      by_more : (zs : List (PlainShape × Option PlainContent)) → other.opening.objects ≡ taken.opening.objects ++ zs
-          → entries_text taken.opening taken.entries ++ t
-          ≡ each_from opened_line (0 + length taken.opening.objects) zs ++ entries_text other.opening other.entries
-          → Behind taken other t
-      by_more [] o u = same_objects [] refl o u
-      by_more (z ∷ zs) o u = more_objects z zs o u
+      entries_none : (j : List PlainEntry) → reverse j ≡ [] → j ≡ []
+      entries_none j none = sym (twice_reversed j) ∙ ap reverse none
+
+  both_opened : AreReadable taken.entries → AreReadable other.entries → next_entry other ≤ 2 ^ 64
+      → Behind taken other t
+  both_opened a b h = by_more beyond.0 beyond.1
+    where
+      by_more : (zs : List (PlainShape × Option PlainContent)) → Beyond taken other t zs → Behind taken other t
+      by_more [] u = entries_part taken other t (same_opening u) a b h u.text
+      by_more (z ∷ zs) u =
+          let xs = taken.opening.objects in
+          let more = more_objects z zs u in
+          let count : length other.opening.objects ≡ length xs + length (z ∷ zs) =
+          ap length u.objects ∙ length-append xs (z ∷ zs) in
+          with_objects r more.0 z (object_there xs zs z (subst AreReadableObjects u.objects q.objects))
+          (omega (arith, count, q.limits.objects))
+          (each_from opened_line ((0 + length xs) + 1) zs ++ entries_text other.opening other.entries) more.1
 
 -- what the other journal has behind this one
 pub compared : (taken other : JournalView) (t : List ℕ) → IsReadableJournal taken → IsReadableJournal other
@@ -341,6 +339,6 @@ compared taken other t r q h e =
       ]
       | inr a ↦ elim q.opening [
         | inl b ↦ absurd (taken_opened taken other t a b e)
-        | inr b ↦ both_opened taken other t a b r.entries q.entries h e
+        | inr b ↦ both_opened taken other t a b e r.entries q.entries h
       ]
     ]

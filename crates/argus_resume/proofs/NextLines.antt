@@ -42,7 +42,7 @@ use Rattle.argus_resume.proofs.Longer.{Behind, compared, folded_begins, no_openi
 use Rattle.argus_resume.proofs.Longer.{older_readable, with_entries, with_objects, with_opening}
 
 -- what can be listed can be read: of its replies nothing is asked
-listed_readable : (journal : JournalView) → IsListable journal → IsReadableJournal journal
+pub listed_readable : (journal : JournalView) → IsListable journal → IsReadableJournal journal
 listed_readable journal listable = record {
   opening = listable.opening;
   entries = readable_by_calls journal.opening listable.opening listable.sound journal.entries listable.legal
@@ -50,7 +50,7 @@ listed_readable journal listable = record {
 }
 
 -- what is left of a listing is the text of what the journal has beyond what was taken
-left_behind : (taken other : JournalView) (left : List ℕ) → IsReadableJournal taken → IsListable other
+pub left_behind : (taken other : JournalView) (left : List ℕ) → IsReadableJournal taken → IsListable other
     → journal_text other ≡ journal_text taken ++ left → Behind taken other left
 left_behind taken other left r listable e =
     compared taken other left r (listed_readable other listable) listable.numbers (sym e)
@@ -187,7 +187,7 @@ module _ (taken other : JournalView) (listable : IsListable other) (line more : 
 -- THE LAWS
 
 -- a front that ends in a line feed has the whole first line
-front_line : (x line more rest : List ℕ) → HasNoFeed line → (x ++ 10 ∷ []) ++ rest ≡ line ++ 10 ∷ more
+pub front_line : (x line more rest : List ℕ) → HasNoFeed line → (x ++ 10 ∷ []) ++ rest ≡ line ++ 10 ∷ more
     → (others : List ℕ) × (x ++ 10 ∷ [] ≡ line ++ 10 ∷ others)
 front_line [] [] more rest n e = ([], refl)
 front_line (c ∷ x) [] more rest n e = (x ++ 10 ∷ [], ap (λ b. b ∷ (x ++ 10 ∷ [])) (head_of e))
@@ -207,7 +207,7 @@ no_longer taken left f r faulty front rest parts ends other listable e =
     let behind = left_behind taken other front r listable e in
     no_fault taken other listable faulty.line first.0 faulty.whole (subst (Behind taken other) all behind) f faulty.says
 
-behind_none : (taken other : JournalView) (t : List ℕ) → t ≡ [] → Behind taken other t → taken ≡ other
+pub behind_none : (taken other : JournalView) (t : List ℕ) → t ≡ [] → Behind taken other t → taken ≡ other
 behind_none taken other t none (with_entries o [] b is) =
     ap (λ (s : Opening). let j : JournalView = record { opening = s; entries = taken.entries } in j) o
     ∙ ap (λ (x : List PlainEntry). let j : JournalView = record { opening = other.opening; entries = x } in j) (sym b)
@@ -221,7 +221,7 @@ behind_none taken other t none (with_objects r gone z readable room rest is) =
     let begins = object_begins (length taken.opening.objects) z rest in
     absurd (no_opening_left begins.0 (sym none ∙ is ∙ begins.1))
 
-feed_in : (a x : List ℕ) → HasNoFeed ((a ++ 10 ∷ []) ++ x) → ⊥
+pub feed_in : (a x : List ℕ) → HasNoFeed ((a ++ 10 ∷ []) ++ x) → ⊥
 feed_in [] x h = h.0 refl
 feed_in (b ∷ a) x h = feed_in a x h.1
 
@@ -278,7 +278,7 @@ module _ (journal listed : JournalView) (r : IsReadableJournal journal) (listabl
   ended read.OutOfMemory has failed is h n m = absurd (n refl)
   ended read.Read has failed is h n m = absurd (m refl)
 
-consumed_front : (whole bytes : List ℕ) (has : Option (List ℕ)) → Consumes (Some whole) has bytes
+pub consumed_front : (whole bytes : List ℕ) (has : Option (List ℕ)) → Consumes (Some whole) has bytes
     → (behind : List ℕ) × (has ≡ Some behind) × (whole ≡ bytes ++ behind)
 consumed_front whole bytes None h = absurd h
 consumed_front whole bytes (Some behind) h = (behind, refl, h)

@@ -2,13 +2,16 @@
 use Rattle.std.proofs.Common.{◌≡◌, ℕ, ◌+◌, ◌≤◌, Bool, false, List, [], ◌∷◌, ◌++◌, length, None, Option, Some, take}
 use Rattle.std.proofs.Common.{drop}
 use Rattle.std.proofs.Common.{refl, sym, ap, ◌∙◌, subst, arith, append_assoc, append-nil, length-append, length-drop}
-use Rattle.std.proofs.Common.{take-add}
-use Rattle.std.proofs.lemmas.List.{drop-append-le, drop-drop, take-append-le}
+use Rattle.std.proofs.Common.{take-add, ◌-◌}
+use Rattle.std.proofs.lemmas.List.{drop-append-le, drop-drop, length-take-le, take-append-le, take-take}
 use Rattle.std.proofs.lemmas.Option.{none-some}
 use Rattle.std.specs.Option.{unwrap_or}
 use Rattle.std.specs.Io.KnownBytes.{Consumes, IsAtEnd, Keeps}
 use Rattle.argus_journal.specs.JournalView.{JournalView}
-use Rattle.argus_resume.specs.JournalText.{journal_text}
+use Rattle.argus_resume.specs.JournalText.{IsReadableJournal, journal_text, no_journal}
+use Rattle.argus_resume.specs.Resumed.{IsResumed, taken_in}
+use Rattle.argus_resume.specs.SoundFront.{sound_front}
+use Rattle.argus_resume.specs.declared.resumed.Resumed.{Resumed}
 use Rattle.argus_resume.specs.Taking.{EndsChunk, EndsReading, HasNoFeed, TakesFrom, early_end, end_behind, line_count}
 use Rattle.argus_resume.specs.declared.read_end.ReadEnd.{ReadEnd}
 use Rattle.argus_resume.specs.declared.read_end.ReadEnd.TheVariants as end_of
@@ -140,3 +143,31 @@ no_end taken.Whole j pending left e h = (sym h.0, subst HasNoFeed (sym h.0) h.1)
 no_end taken.Torn j pending left e h = (sym h.0, subst HasNoFeed (sym h.0) h.1)
 no_end (taken.Fault fault) j pending left e h = absurd (none-some (end_of.Fault fault) e)
 no_end taken.OutOfMemory j pending left e h = absurd (none-some end_of.OutOfMemory e)
+
+-- the first bytes of what was taken are the first bytes of what was read
+pub front_read : (text read : List ℕ) (bytes dropped : ℕ) → bytes ≤ length read → text ≡ take bytes read
+    → take (length text - dropped) text ≡ take (bytes - dropped) read
+front_read text read bytes dropped h e =
+    let size : length text ≡ bytes = ap length e ∙ length-take-le bytes read h in
+    ap (λ n. take (n - dropped) text) size ∙ ap (take (bytes - dropped)) e
+    ∙ take-take (bytes - dropped) bytes read (omega arith)
+
+-- the guardian of what was taken, from what each call of `resume` promises
+pub is_resumed : (old new : JournalView) (had has : Option (List ℕ)) (failed : Bool) (resumed : Resumed)
+    → old ≡ no_journal → IsReadableJournal new → TakesFrom old new had has failed (taken_in resumed)
+    → resumed.guardian ≡ sound_front new
+    → journal_text resumed.guardian ≡ take (length (journal_text new) - resumed.dropped) (journal_text new)
+    → resumed.dropped + length (journal_text resumed.guardian) ≡ length (journal_text new)
+    → IsResumed had has failed resumed
+is_resumed old new had has failed resumed none readable taken guardian front dropped =
+    let from : TakesFrom no_journal new had has failed (taken_in resumed) =
+    subst (λ (j : JournalView). TakesFrom j new had has failed (taken_in resumed)) none taken in
+    record {
+      journal = new;
+      readable = readable;
+      taken = from;
+      guardian = guardian;
+      front = front
+          ∙ front_read (journal_text new) from.read resumed.bytes resumed.dropped from.within from.text;
+      dropped = dropped;
+    }

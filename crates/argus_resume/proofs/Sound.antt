@@ -98,6 +98,23 @@ count_sound s zero = refl
 count_sound s (suc n) =
     sound_at s (is_sound (opening_front s (suc n))) n (sound_count s n) refl (count_sound s n)
 
+at_least : (b : Bool) (n k m : ℕ) → m ≤ n → m ≤ k → m ≤ cond b (suc n) k
+at_least true n k m l h = omega (arith, l)
+at_least false n k m l h = h
+
+-- a sound front has no more objects than that
+pub count_most : (s : Opening) (n m : ℕ) → m ≤ n → is_sound (opening_front s m) ≡ true → m ≤ sound_count s n
+count_most s zero m l h = l
+count_most s (suc n) m l h =
+    elim (cases_lt m (suc n)) [
+      | inl less ↦
+          let low : m ≤ n = omega (arith, less) in
+          at_least (is_sound (opening_front s (suc n))) n (sound_count s n) m low (count_most s n m low h)
+      | inr past ↦
+          let same : m ≡ suc n = omega (arith, l, past) in
+          omega (arith, l, count_whole s (suc n) (subst (λ k. is_sound (opening_front s k) ≡ true) same h))
+    ]
+
 -- THE OBJECTS THAT WERE READ
 
 fits_at : (items : List OpenedObject) (k n : ℕ) (object : OpenedObject) (d : PlainShape × Option PlainContent)

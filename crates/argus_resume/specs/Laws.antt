@@ -1,6 +1,6 @@
 -- The laws of what is taken.
 use Rattle.std.specs.Prelude.{Bool, List, Option, Some, [], true, ℕ, ◌++◌, ◌<◌, ◌∷◌, ◌^◌, ◌≡◌, ◌≢◌}
-use Rattle.std.specs.Prelude.{◌≤◌, ◌↔◌}
+use Rattle.std.specs.Prelude.{length, ◌≤◌, ◌↔◌}
 use Rattle.argus_core.specs.Checkpoint.{after_checkpoint}
 use Rattle.argus_entries.specs.Call.{PlainCall}
 use Rattle.argus_journal.specs.JournalView.{JournalView, after, entry_of, next_entry}
@@ -78,3 +78,13 @@ ListingsAreResumed =
     → IsListable listed → IsResumed (Some (journal_text listed)) has failed resumed
     → resumed.end ≢ read.OutOfMemory → resumed.end ≢ read.Read
     → (resumed.end ≡ read.Whole) × (resumed.guardian ≡ listed)
+
+-- The longest listing is resumed: if a reader's text was read to a line at fault or to its end, no
+-- listing with which the text begins is longer than the guardian's.
+abbrev pub LongestListingIsResumed : Type 0
+LongestListingIsResumed =
+    (text : List ℕ) (has : Option (List ℕ)) (failed : Bool) (resumed : Resumed)
+    → IsResumed (Some text) has failed resumed
+    → resumed.end ≢ read.OutOfMemory → resumed.end ≢ read.Read
+    → (other : JournalView) (rest : List ℕ) → IsListable other → text ≡ journal_text other ++ rest
+    → length (journal_text other) ≤ length (journal_text resumed.guardian)

@@ -3,7 +3,8 @@
 ghost use Rattle.argus_resume.specs.JournalText.{IsEmptyOrReadable, no_journal};
 ghost use Rattle.argus_resume.specs.Laws.{CallsLeaveListable, CheckpointsLeaveListable};
 ghost use Rattle.argus_resume.specs.Laws.{IsListable, JournalsAreReadable, ListingsAreResumed};
-ghost use Rattle.argus_resume.specs.Laws.{ListingsAreTakenBack, NoLongerFrontIsAListing};
+ghost use Rattle.argus_resume.specs.Laws.{ListingsAreTakenBack, LongestListingIsResumed};
+ghost use Rattle.argus_resume.specs.Laws.{NoLongerFrontIsAListing};
 ghost use Rattle.argus_entries.specs.Call.{plain_call};
 ghost use Rattle.argus_resume.specs.ReadableCalls.{HaveReadableCalls, IsWellFormed};
 
@@ -69,4 +70,11 @@ pub fn listings_are_taken_back()
 /// the listing, given memory and if no read fails.
 pub fn listings_are_resumed()
     ensures { ListingsAreResumed }
+{}
+
+/// No listing with which a reader's text begins is longer than that of the guardian that
+/// [`resume`](crate::resume) makes from it, even if it dropped the last objects of an opening: given
+/// memory and if no read fails.
+pub fn longest_listing_is_resumed()
+    ensures { LongestListingIsResumed }
 {}

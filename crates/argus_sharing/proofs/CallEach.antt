@@ -1,11 +1,15 @@
 -- Several calls: what one more call adds.
-use Rattle.std.proofs.Common.{List, [], ap, append_assoc, arith, drop, false, sym, true, ℕ, ◌++◌, ◌+◌, ◌∙◌, ◌∷◌, ◌≡◌}
+use Rattle.std.proofs.Common.{List, [], ap, append_assoc, arith, drop, false, sym, true, ℕ, suc, ◌++◌, ◌+◌, ◌∙◌, ◌∷◌, ◌≡◌}
 use Rattle.std.proofs.lemmas.List.{drop-drop}
 use Rattle.std.specs.Prelude.{if◌then◌else◌}
+use Rattle.argus_board.specs.BoardView.{BoardView}
+use Rattle.argus_core.specs.ReadyCommit.{added_by_call}
 use Rattle.argus_entries.specs.Call.{plain_call}
 use Rattle.argus_journal.specs.JournalView.{JournalView, after}
 use Rattle.argus_receipts.specs.Receipt.{PlainReceipt}
-use Rattle.argus_sharing.specs.CallEach.{end_of, is_met, receipt_of, receipts_of}
+use Rattle.argus_sharing.proofs.Follow.{goes_on_further}
+use Rattle.argus_sharing.specs.CallEach.{added_by_calls, end_of, is_met, receipt_of, receipts_of}
+use Rattle.argus_sharing.specs.Following.{GoesOn}
 use Rattle.argus_sharing.specs.declared.calls_end.CallsEnd.TheVariants.{Unmet}
 use Rattle.argus_sharing.specs.declared.demanded_call.DemandedCall.{DemandedCall}
 
@@ -15,6 +19,12 @@ module _ (journal : JournalView) (each : DemandedCall) (rest : List DemandedCall
 
   abbrev mine : PlainReceipt
   mine = receipt_of journal (plain_call each.call)
+
+  -- what the calls behind it add comes after what it adds
+  pub goes_on_more : (was now later : BoardView) (n : ℕ) → GoesOn was now (added_by_call journal (plain_call each.call))
+      → GoesOn now later (added_by_calls next rest n) → GoesOn was later (added_by_calls journal (each ∷ rest) (suc n))
+  goes_on_more was now later n on more =
+      goes_on_further was now later (added_by_call journal (plain_call each.call)) (added_by_calls next rest n) on more
 
   -- where its reply is as demanded, the others go on behind it
   pub receipts_more : (so_far now all : List PlainReceipt) → is_met journal each ≡ true → now ≡ so_far ++ mine ∷ []

@@ -12,6 +12,7 @@ use Rattle.argus_memory.proofs.heap.Heap.TheSendSync.{the_field_send as heap_fie
 use Rattle.argus_receipts.specs.contracts.receipt.Receipt.{the_row as receipt_row}
 use Rattle.argus_sharing.specs.contracts.locked.Locked.TheInside.{the_type as inside}
 use Rattle.argus_sharing.specs.contracts.locked.Locked.{the_row as locked_row}
+use Rattle.argus_sharing.specs.contracts.seat.Seat.TheInside.{the_type as seat_inside}
 use Rattle.argus_sharing.specs.contracts.seat.Seat.{the_row as seat_row}
 use Rattle.argus_sharing.specs.contracts.shared.Shared.{the_row as shared_row}
 use Rattle.argus_sharing.specs.contracts.publishing_guardian.PublishingGuardian.{the_field as publishing_field}
@@ -46,9 +47,13 @@ module _ (N R : RattleType) (a : Named N.Denot) (l : Ledgered N.Denot) (g : Ghos
   pub shared_syncs : IsSync (shared_row N R a l g)
   shared_syncs = search (sendable, std_crosses, locked_sends) depth 40
 
-pub seat_sends : (N : RattleType) (a : Named N.Denot) (g : Ghosts N.Denot) (l : Ledgered N.Denot)
-    → IsSend (seat_row N a g l)
-seat_sends N a g l = search (sendable, share_sends) depth 40
+module _ (N : RattleType) (a : Named N.Denot) (l : Ledgered N.Denot) (g : Ghosts N.Denot) where
+  seat_inside_sends : IsSend (declared_row (seat_inside N a l g))
+  seat_inside_sends = let t = seat_inside N a l g in
+      recorded_send _ t.D t.to t.to_one (struct_send (shape t) (search sendable, (share_sends N l, tt)))
+
+  pub seat_sends : IsSend (seat_row N a l g)
+  seat_sends = view_send _ _ _ _ _ seat_inside_sends
 
 pub receipt_sends : IsSend receipt_row
 receipt_sends = search (sendable, entries.call_field_sends, entries.reply_field_sends) depth 40

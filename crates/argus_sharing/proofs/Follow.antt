@@ -4,6 +4,7 @@ use Rattle.std.proofs.Common.{subst, sym, true, ℕ, ◌++◌, ◌∙◌, ◌∷
 use Rattle.std.specs.Prelude.{Err, Ok, OnErr, OnOk, Result}
 use Rattle.std.proofs.lemmas.List.{append-nil}
 use mathlib.Core.List.{IsPrefix}
+use Rattle.argus_board.proofs.Prefixes.{begins_itself, begins_later}
 use Rattle.argus_board.specs.BoardView.{BoardView}
 use Rattle.argus_contents.specs.Effect.{Effect}
 use Rattle.argus_contents.specs.Content.{PlainContent}
@@ -181,6 +182,18 @@ goes_on_published r was pending now added same more ok err = (
   published_on r was pending now same ok err,
   published_same r pending now ok err ∙ ap (λ z. z ++ pending.pending) same ∙ ap (λ z. was.published ++ z) more
       ∙ sym (append_assoc was.published was.pending added),
+)
+
+-- a board that stays goes on, and nothing is added
+pub stays : (board : BoardView) → GoesOn board board []
+stays board = (begins_itself board.published, sym (append-nil (board.published ++ board.pending)))
+
+-- a board that goes on, and then goes on further
+pub goes_on_further : (was now later : BoardView) (added more : List Effect) → GoesOn was now added
+    → GoesOn now later more → GoesOn was later (added ++ more)
+goes_on_further was now later added more on further = (
+  begins_later was.published now.published later.published on.0 further.0,
+  further.1 ∙ ap (λ z. z ++ more) on.1 ∙ append_assoc (was.published ++ was.pending) added more,
 )
 
 -- one call more leaves a journal that a shared guardian may have

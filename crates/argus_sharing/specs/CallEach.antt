@@ -1,6 +1,8 @@
 -- Several calls, one after another, up to the first whose reply isn't as demanded.
-use Rattle.std.specs.Prelude.{Bool, List, [], false, if◌then◌else◌, suc, true, zero, ℕ, ◌∷◌}
+use Rattle.std.specs.Prelude.{Bool, List, [], false, if◌then◌else◌, suc, true, zero, ℕ, ◌++◌, ◌∷◌}
 use Rattle.argus_contents.specs.Answer.{PlainAnswer, body, done, flag, num, signal, val}
+use Rattle.argus_contents.specs.Effect.{Effect}
+use Rattle.argus_core.specs.ReadyCommit.{added_by_call}
 use Rattle.argus_entries.specs.Call.{PlainCall, plain_call}
 use Rattle.argus_entries.specs.Reply.{PlainReply, answered, begun, object, plain_reply, refused}
 use Rattle.argus_entries.specs.Same.{same_reply}
@@ -67,3 +69,10 @@ abbrev pub after_calls : JournalView → List DemandedCall → ℕ → JournalVi
 after_calls journal calls zero = journal
 after_calls journal [] (suc n) = journal
 after_calls journal (each ∷ calls) (suc n) = after_calls (after journal (plain_call each.call)) calls n
+
+-- what the first n of the calls add to the effects
+abbrev pub added_by_calls : JournalView → List DemandedCall → ℕ → List Effect
+added_by_calls journal calls zero = []
+added_by_calls journal [] (suc n) = []
+added_by_calls journal (each ∷ calls) (suc n) = added_by_call journal (plain_call each.call)
+    ++ added_by_calls (after journal (plain_call each.call)) calls n

@@ -3,3 +3,4 @@ pub mod Locked
 pub mod Following
 pub mod Waking
 pub mod Checkpoint
+pub mod Seat

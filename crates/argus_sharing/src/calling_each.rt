@@ -3,12 +3,13 @@
 ghost use Rattle.std.specs.Prelude.{[], IfOk, OnErr, OnOk, drop, length, map, ◌++◌, ◌+◌, ◌<◌};
 ghost use Rattle.std.specs.Prelude.{◌∷◌, ◌≡◌, ◌≢◌, ◌⊎◌};
 ghost use mathlib.Core.List.{IsPrefix};
+ghost use Rattle.argus_core.specs.ReadyCommit.{added_by_call};
 ghost use Rattle.argus_entries.specs.Call.{plain_call};
 ghost use Rattle.argus_journal.specs.JournalView.{after};
 ghost use Rattle.argus_receipts.specs.Receipt.{plain_receipt};
-ghost use Rattle.argus_sharing.specs.CallEach.{after_calls, end_of, is_met, receipt_of};
-ghost use Rattle.argus_sharing.specs.CallEach.{receipts_of};
-ghost use Rattle.argus_sharing.specs.Following.{FollowsJournal, IsSharedJournal};
+ghost use Rattle.argus_sharing.specs.CallEach.{added_by_calls, after_calls, end_of, is_met};
+ghost use Rattle.argus_sharing.specs.CallEach.{receipt_of, receipts_of};
+ghost use Rattle.argus_sharing.specs.Following.{FollowsJournal, GoesOn, IsSharedJournal};
 ghost use Rattle.argus_sharing.specs.declared.calls_end.CallsEnd.TheVariants as calls_end;
 
 use crate::calls_end::CallsEnd;
@@ -50,6 +51,8 @@ impl<N: Sharing, R: Wait + Drop> Locked<N, R> {
             < length (receipts_of self.old.journal calls.old.items))) }
         ensures journal { self.new.journal
             ≡ after_calls self.old.journal calls.old.items (length result.receipts.items) }
+        ensures goes_on { GoesOn self.old.board self.new.board
+            (added_by_calls self.old.journal calls.old.items (length result.receipts.items)) }
         ensures made { seat.new.made ≡ seat.old.made + length result.receipts.items }
         ensures former { IsSharedJournal N.start self.old.journal }
         ensures shared { IsSharedJournal N.start self.new.journal }
@@ -96,6 +99,8 @@ impl<N: Sharing, R: Wait + Drop> Locked<N, R> {
         ensures met { IfOk result (λ met. met ≡ is_met self.old.journal each) }
         ensures journal { OnOk result (self.new.journal
             ≡ after self.old.journal (plain_call each.call)) }
+        ensures goes_on { OnOk result (GoesOn self.old.board self.new.board
+            (added_by_call self.old.journal (plain_call each.call))) }
         ensures made { OnOk result (seat.new.made ≡ seat.old.made + 1) }
         ensures err { OnErr result ((self.new ≡ self.old) × (seat.new.made ≡ seat.old.made)
             × (receipts.new.items ≡ receipts.old.items)) }

@@ -3,9 +3,11 @@
 ghost use Rattle.std.specs.Prelude.{◌≡◌};
 
 use crate::sharing::Sharing;
+use std::marker::Model;
 use std::sync::ledger::Share;
 
-/// The right to call a shared guardian, with a count of the calls that were journalled.
+/// The right to call a shared guardian, with a count of the calls that were journalled, which is
+/// all that contracts see of it.
 ///
 /// ```text
 /// let receipt = shared.call(&rt, &mut seat, Call::BeginTop)?;
@@ -15,8 +17,19 @@ use std::sync::ledger::Share;
 pub struct Seat<N: Sharing> {
     pub(crate) made: u64,
     pub(crate) share: Share<N>,
-    ghost counted: { share.amount ≡ made },
-    ghost one_part: { share.parts ≡ 1 },
+}
+
+impl<N: Sharing> Model for Seat<N> {
+    ghost use Rattle.std.specs.Prelude.{◌≡◌};
+    ghost use Rattle.argus_sharing.specs.Seat.{SeatView, seat_view_coded};
+
+    ghost Value = { SeatView };
+
+    ghost coded = { seat_view_coded };
+
+    ghost view = { λ s. record { made = s.made } };
+
+    ghost invariant = { λ s. (s.share.amount ≡ s.made) × (s.share.parts ≡ 1) };
 }
 
 impl<N: Sharing> Seat<N> {

@@ -3,7 +3,7 @@
 ghost use Rattle.std.specs.List.{list_any};
 ghost use Rattle.std.specs.Prelude.{All, IfErr, IfOk, OnErr, OnOk, [], drop, false, length, map};
 ghost use Rattle.std.specs.Prelude.{sum_by, ◌⊎◌};
-ghost use Rattle.std.specs.Prelude.{true, ◌+◌, ◌<◌, ◌≡◌, ◌≢◌};
+ghost use Rattle.std.specs.Prelude.{true, ◌++◌, ◌+◌, ◌<◌, ◌≡◌, ◌≢◌};
 ghost use Rattle.std.specs.Result.{result_err};
 ghost use mathlib.Core.List.{IsPrefix};
 ghost use Rattle.argus_board.specs.Keeper.{StartsHistory};
@@ -228,6 +228,10 @@ impl<N: Sharing, R: Wait + Drop> Shared<N, R> {
             × IsSharedJournal N.start journal
             × FollowsJournal N.opening_contents journal looker.new }
         ensures rest { result ≡ false → looker.new ≡ looker.old }
+        ensures pending { result ≡ false → (state : LockedState)
+            × IsFollowed N.opening_contents N.start state
+            × IsPrefix looker.old (state.board.published ++ state.board.pending)
+            × (state.board.pending ≢ []) }
     {
         self.locked.lock(rt).brief(looker)
     }

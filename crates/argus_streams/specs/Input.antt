@@ -7,3 +7,9 @@ pub record ReadUpTo (limit : ℕ) (old new : Option (List ℕ)) (bytes : List �
   pub consumed : Consumes old new bytes
   pub most : length bytes ≤ limit
   pub whole : length bytes < limit → IsAtEnd new
+
+-- some bytes of what the reader had were read, at most up to a limit
+pub record ReadAtMost (limit : ℕ) (old new : Option (List ℕ)) : Type 0 where
+  pub bytes : List ℕ
+  pub consumed : Consumes old new bytes
+  pub most : length bytes ≤ limit

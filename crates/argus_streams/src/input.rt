@@ -1,7 +1,7 @@
 //! Reading a bounded input.
 
-ghost use Rattle.std.specs.Prelude.{◌≡◌, true, false, IfOk, IfErr};
-ghost use Rattle.argus_streams.specs.Input.{ReadUpTo};
+ghost use Rattle.std.specs.Prelude.{◌≡◌, true, false, IfOk, IfErr, OnErr};
+ghost use Rattle.argus_streams.specs.Input.{ReadAtMost, ReadUpTo};
 ghost use Rattle.argus_streams.specs.FailStop.{has_failed, inner_of};
 ghost use Rattle.argus_streams.specs.declared.input_error.InputError.TheVariants as InputError;
 
@@ -16,7 +16,7 @@ const CHUNK: usize = 16_384;
 /// All that the reader has, at most `limit` bytes of it. A read that fails isn't tried again.
 ///
 /// `Read`: a read failed. `OutOfMemory`: there is no memory for the bytes. After either, what was
-/// read is lost.
+/// read is lost; it was no more than `limit` bytes.
 ///
 /// ```text
 /// let mut reader = FailStop::new(rt.stdin());
@@ -31,6 +31,8 @@ pub fn read_up_to<R: Read + Drop>(
     ensures read { IfOk result (λ bytes. ReadUpTo limit (R.remaining (inner_of reader.old))
         (R.remaining (inner_of reader.new)) bytes.items) }
     ensures failed { IfErr result (λ e. e ≡ InputError.Read → has_failed reader.new ≡ true) }
+    ensures bounded { OnErr result (ReadAtMost limit (R.remaining (inner_of reader.old))
+        (R.remaining (inner_of reader.new))) }
 {
     let mut all = Vec::new(heap.room());
     let mut chunk = [0u8; CHUNK];

@@ -41,7 +41,7 @@ mod watching;
 
 use anyhow::{Result, ensure};
 use host::Host;
-use repeating::repeat_tests;
+use repeating::{Again, repeat_tests};
 use std::fs;
 use std::rt::Files;
 use std::sync::Wait;
@@ -50,19 +50,18 @@ use tally::Tally;
 use test_rows::{Setting, Tester};
 use tested_guardian::TestedGuardian;
 
-// The files in data/ for a guardian by itself, and whether their calls are made once more, by the
-// seat of a shared one.
-const ALONE: [(&str, bool); 10] = [
-    ("locks.rows", true),
-    ("ends.rows", true),
-    ("contents.rows", true),
-    ("questions.rows", true),
-    ("replays.rows", true),
-    ("listings.rows", false),
-    ("checkpoints.rows", false),
-    ("outliving.rows", false),
-    ("limits.rows", false),
-    ("memory.rows", false),
+// The files in data/ for a guardian by itself, and how their tests are run once more.
+const ALONE: [(&str, Again); 10] = [
+    ("locks.rows", Again::BySeat),
+    ("ends.rows", Again::BySeat),
+    ("contents.rows", Again::BySeat),
+    ("questions.rows", Again::BySeat),
+    ("replays.rows", Again::BySeat),
+    ("listings.rows", Again::Resumed),
+    ("checkpoints.rows", Again::Resumed),
+    ("outliving.rows", Again::Resumed),
+    ("limits.rows", Again::Never),
+    ("memory.rows", Again::Never),
 ];
 
 // Those for shared guardians.
@@ -98,19 +97,22 @@ fn test_alone<R: Threads + Wait + Files + Print + AllocGlobal + Copy + Drop + Se
 ) -> Result<bool> {
     rt.println("a guardian by itself:")?;
     let mut tester = Tester::<TestedGuardian>::new(rt.alloc())?;
-    let mut repeated = 0u32;
-    for (name, is_repeated) in &ALONE {
+    let (mut resumed, mut by_seat) = (0u32, 0u32);
+    for (name, again) in &ALONE {
         let text = fs::read_to_string(&rt, *name)?;
         tester.run_text(&rt, text.as_str())?;
-        if *is_repeated {
-            let here = repeat_tests(rt, setting, text.as_str())?;
-            repeated = repeated.saturating_add(here);
+        let here = repeat_tests(rt, setting, *again, text.as_str())?;
+        match again {
+            Again::Never => {}
+            Again::Resumed => resumed = resumed.saturating_add(here),
+            Again::BySeat => by_seat = by_seat.saturating_add(here),
         }
     }
     resuming::resume_listings(setting)?;
     rt.println("listings_are_resumed_each_front_each_byte_changed_and_without_memory")?;
     tester.tell_counts(&rt)?;
-    println!(rt; "{repeated} tests once more, by the seat of a shared guardian")?;
+    println!(rt; "{resumed} tests once more, from the listing of their journals")?;
+    println!(rt; "{by_seat} tests once more, from it, and by the seat of a shared guardian")?;
     Ok(tester.is_content())
 }
 

@@ -1,8 +1,10 @@
-//! The calls of tests once more, by the seat of a guardian that is shared.
+//! The tests of a guardian once more: from the listing of its journal, and by the seat of a guardian
+//! that is shared.
 
 use crate::alone::answer_alone;
 use crate::caller::make_call;
 use crate::picture::picture;
+use crate::resuming::{comes_back, listed};
 use crate::sharing::share;
 use crate::task::Task;
 use anyhow::{Result, anyhow, ensure};
@@ -14,33 +16,47 @@ use std::sync::Wait;
 use std::thread::Threads;
 use test_rows::{Block, RowFault, Setting, block_of, spelled_row};
 
-/// Makes the calls of each test of the text once more, all by one seat of a new guardian that is
-/// shared, and then by calls that may wait, without patience. Settled with all receipts, the
-/// guardian has to say what one of one thread says after the test: the same entries, objects, locks
-/// and versions. Returns how many tests there are.
-///
-/// No row of the text stands for many, and none is a checkpoint.
+/// How the tests of a file are run once more.
+#[derive(Clone, Copy)]
+pub(crate) enum Again {
+    /// They aren't: rows of it stand for many.
+    Never,
+    /// The listing of the guardian's journal has to come back from a guardian that is made of it.
+    Resumed,
+    /// As `Resumed`. Then the calls are made by one seat of a new guardian that is shared, and again
+    /// by calls that may wait, without patience. Settled with all receipts, the guardian has to say
+    /// what the first one says after the test: the same entries, objects, locks and versions. None
+    /// of its rows is a checkpoint.
+    BySeat,
+}
+
+/// Runs each test of the text once more. Returns how many were run.
 pub(crate) fn repeat_tests<R: Threads + Wait + Print + Copy + Drop + Send + Sync>(
     rt: R,
     setting: Setting,
+    again: Again,
     text: &str,
 ) -> Result<u32> {
+    if matches!(again, Again::Never) {
+        return Ok(0);
+    }
     let (above, below) = text.split_once("before each test\n").unwrap_or((text, ""));
     let (before, tests) = below.split_once("\n\n").unwrap_or((below, ""));
-    let count = repeat_blocks(rt, setting, "", above)?;
-    Ok(count.saturating_add(repeat_blocks(rt, setting, before, tests)?))
+    let count = repeat_blocks(rt, setting, again, "", above)?;
+    Ok(count.saturating_add(repeat_blocks(rt, setting, again, before, tests)?))
 }
 
 fn repeat_blocks<R: Threads + Wait + Print + Copy + Drop + Send + Sync>(
     rt: R,
     setting: Setting,
+    again: Again,
     before: &str,
     text: &str,
 ) -> Result<u32> {
     let mut count = 0u32;
     for block in text.split("\n\n") {
         if let Block::Test { lines, .. } = block_of(block) {
-            repeat_test(rt, setting, before, lines)?;
+            repeat_test(rt, setting, again, before, lines)?;
             count = count.saturating_add(1);
         }
     }
@@ -50,14 +66,21 @@ fn repeat_blocks<R: Threads + Wait + Print + Copy + Drop + Send + Sync>(
 fn repeat_test<R: Threads + Wait + Print + Copy + Drop + Send + Sync>(
     rt: R,
     setting: Setting,
+    again: Again,
     before: &str,
     lines: &str,
 ) -> Result<()> {
     let mut guardian = Guardian::new(setting.heap);
     let is_told = are_told(&mut guardian, setting, before, lines);
     ensure!(is_told, "rows aren't answered");
-    repeat_calls(rt, setting, &guardian, None)?;
-    repeat_calls(rt, setting, &guardian, Some(0))
+    comes_back(setting.texts, listed(setting.texts, &guardian)?.as_slice())?;
+    match again {
+        Again::Never | Again::Resumed => Ok(()),
+        Again::BySeat => {
+            repeat_calls(rt, setting, &guardian, None)?;
+            repeat_calls(rt, setting, &guardian, Some(0))
+        }
+    }
 }
 
 fn are_told(guardian: &mut Guardian, setting: Setting, before: &str, lines: &str) -> bool {

@@ -5,7 +5,8 @@ use crate::making::make;
 use crate::starting::later;
 use anyhow::{Result, bail, ensure};
 use argus_guardian::resume_laws::{
-    listings_are_resumed, listings_are_taken_back, no_longer_front_is_a_listing,
+    listings_are_resumed, listings_are_taken_back, longest_listing_is_resumed,
+    no_longer_front_is_a_listing,
 };
 use argus_guardian::{
     FailStop, Guardian, LineError, LineFault, Listing, Opened, ReadEnd, Resuming, TakenEnd, resume,
@@ -17,7 +18,7 @@ use test_rows::{Failing, Setting};
 // More allocations, and more reads, than the longest listing takes.
 const BUDGETS: u64 = 2_000;
 
-const CALLS: [&str; 17] = [
+const CALLS: [&str; 40] = [
     "declare atomic_record[n:int,t:text]",
     "declare atomic_array[sequence[int]]",
     "declare atomic_variant[no:null,yes:atomic]",
@@ -35,6 +36,29 @@ const CALLS: [&str; 17] = [
     "commit a1",
     "commit a0",
     "commit a0",
+    "begin_top",
+    "begin_sub a3",
+    "begin_sub a3",
+    "ask a4 o1 whole",
+    "ask a5 o1 size",
+    "alter a4 o1 addh [3]",
+    "commit a5",
+    "alter a4 o1 addh [3]",
+    "alter a4 o1 remh",
+    "alter a4 o1 store 3 [-9,9]",
+    "alter a4 o1 trim 4 2",
+    "alter a4 o1 set_low -2",
+    "test_read a4 o2",
+    "test_write a4 o2",
+    "ask a4 o2 is_tag 0",
+    "ask a4 o2 tag_value 1",
+    "alter a4 o2 change_tag 0 null",
+    "alter a4 o2 addl 1",
+    "abort_others a4",
+    "commit a4",
+    "begin_sub a9",
+    "abort a3",
+    "ask a3 o0 whole",
 ];
 
 const CALLS_BEHIND: [&str; 5] = [
@@ -64,6 +88,7 @@ fn call_laws() {
     no_longer_front_is_a_listing();
     listings_are_taken_back();
     listings_are_resumed();
+    longest_listing_is_resumed();
 }
 
 fn make_each(guardian: &mut Guardian, heap: Heap, calls: &[&str]) -> Result<()> {
@@ -85,7 +110,7 @@ fn folded(heap: Heap) -> Result<Guardian> {
 fn try_all(setting: Setting, guardian: &Guardian) -> Result<()> {
     let listing = listed(setting.texts, guardian)?;
     let text = listing.as_slice();
-    comes_back(setting, text)?;
+    comes_back(setting.heap, text)?;
     for size in 0..text.len() {
         front_comes_back(setting.heap, text, size)?;
         bytes_are_changed(setting.heap, text, size)?;
@@ -96,7 +121,8 @@ fn try_all(setting: Setting, guardian: &Guardian) -> Result<()> {
     fails_at_last(setting, text)
 }
 
-fn listed(heap: Heap, guardian: &Guardian) -> Result<Vec<u8, Room>> {
+/// The listing of the guardian's journal.
+pub(crate) fn listed(heap: Heap, guardian: &Guardian) -> Result<Vec<u8, Room>> {
     let mut writer = FailStop::new(Vec::new(heap.room()));
     if write_listing(heap, guardian, &[], Listing::Journal, &mut writer).is_err() {
         bail!("a journal isn't listed");
@@ -120,8 +146,9 @@ fn is_listed(
     Ok(is_front && (listing.len() as u64).checked_add(dropped) == Some(bytes))
 }
 
-fn comes_back(setting: Setting, text: &[u8]) -> Result<()> {
-    let Ok(resumed) = resume(setting.heap, &mut FailStop::new(text)) else {
+/// The guardian of this listing has the same one.
+pub(crate) fn comes_back(heap: Heap, text: &[u8]) -> Result<()> {
+    let Ok(resumed) = resume(heap, &mut FailStop::new(text)) else {
         bail!("no memory is found for a guardian");
     };
     ensure!(
@@ -129,8 +156,7 @@ fn comes_back(setting: Setting, text: &[u8]) -> Result<()> {
         "a listing isn't taken whole"
     );
     ensure!(
-        is_listed(setting.texts, &resumed.guardian, text, resumed.bytes, 0)?
-            && resumed.dropped == 0,
+        is_listed(heap, &resumed.guardian, text, resumed.bytes, 0)? && resumed.dropped == 0,
         "a listing comes back as another one"
     );
     Ok(())
@@ -168,10 +194,13 @@ fn front_comes_back(heap: Heap, text: &[u8], size: usize) -> Result<()> {
         matches!(second.end, TakenEnd::Whole),
         "a front doesn't go on"
     );
-    is_opened(heap, resuming, text, text.len() as u64)
+    is_opened(heap, resuming, text, text.len() as u64)?;
+    Ok(())
 }
 
-fn is_opened(heap: Heap, resuming: Resuming, text: &[u8], bytes: u64) -> Result<()> {
+// What was taken is the guardian's listing, and then the lines that were dropped. Returns how many
+// bytes these are.
+fn is_opened(heap: Heap, resuming: Resuming, text: &[u8], bytes: u64) -> Result<u64> {
     let Ok(Opened { guardian, dropped }) = resuming.into_guardian() else {
         bail!("no memory is found for a guardian");
     };
@@ -179,10 +208,10 @@ fn is_opened(heap: Heap, resuming: Resuming, text: &[u8], bytes: u64) -> Result<
         is_listed(heap, &guardian, text, bytes, dropped)?,
         "another guardian is opened"
     );
-    Ok(())
+    Ok(dropped)
 }
 
-// Each bit of this byte is changed. If no line is at fault, what was taken is another listing.
+// Each bit of this byte is changed.
 fn bytes_are_changed(heap: Heap, text: &[u8], at: usize) -> Result<()> {
     let mut changed = Vec::new(heap.room());
     changed.extend_from_slice(text)?;
@@ -191,13 +220,34 @@ fn bytes_are_changed(heap: Heap, text: &[u8], at: usize) -> Result<()> {
         if let Some(byte) = changed.get_mut(at) {
             *byte = was ^ mask;
         }
-        let mut resuming = Resuming::new(heap);
-        let taken = resuming.take(changed.as_slice());
-        ensure!(
-            !matches!(taken.end, TakenEnd::OutOfMemory),
-            "no memory is found for a line"
-        );
-        is_opened(heap, resuming, changed.as_slice(), taken.bytes as u64)?;
+        change_is_noticed(heap, changed.as_slice(), at)?;
+    }
+    Ok(())
+}
+
+// A listing of which this byte is changed: no line before the byte's is at fault, and what was taken
+// is a listing. If that is all of it, it comes back.
+fn change_is_noticed(heap: Heap, changed: &[u8], at: usize) -> Result<()> {
+    let mut resuming = Resuming::new(heap);
+    let taken = resuming.take(changed);
+    let left = changed.get(taken.bytes..).unwrap_or(&[]);
+    ensure!(
+        match taken.end {
+            TakenEnd::Whole => left.is_empty(),
+            TakenEnd::Torn => !left.is_empty() && !left.contains(&10),
+            TakenEnd::Fault(_) => left.contains(&10),
+            TakenEnd::OutOfMemory => false,
+        },
+        "a changed listing ends otherwise"
+    );
+    ensure!(
+        !changed.get(taken.bytes..at).unwrap_or(&[]).contains(&10),
+        "a line before the changed one is at fault"
+    );
+    let is_whole = left.is_empty();
+    let dropped = is_opened(heap, resuming, changed, taken.bytes as u64)?;
+    if is_whole && dropped == 0 {
+        comes_back(heap, changed)?;
     }
     Ok(())
 }
@@ -211,7 +261,8 @@ fn goes_on_at_last(setting: Setting, text: &[u8]) -> Result<()> {
         let taken = resuming.take(text);
         allowing.lift();
         if matches!(taken.end, TakenEnd::Whole) {
-            return is_opened(setting.heap, resuming, text, text.len() as u64);
+            is_opened(setting.heap, resuming, text, text.len() as u64)?;
+            return Ok(());
         }
         ensure!(
             matches!(taken.end, TakenEnd::OutOfMemory),

@@ -14,7 +14,7 @@ pub enum Block<'a> {
         is_large: bool,
         lines: &'a str,
     },
-    /// Nothing, or comments.
+    /// Nothing, or comments alone.
     Comment,
     /// Lines without a heading.
     Unheaded,
@@ -29,11 +29,15 @@ pub fn block_of<'a>(text: &'a str) -> Block<'a> {
     if let Some(name) = heading.strip_prefix("large test ") {
         return test_of(name, true, lines);
     }
-    if text.is_empty() || text.starts_with('#') {
+    if are_comments(text) {
         Block::Comment
     } else {
         Block::Unheaded
     }
+}
+
+fn are_comments(text: &str) -> bool {
+    text.lines().all(|line| line.starts_with('#'))
 }
 
 fn test_of<'a>(name: &'a str, is_large: bool, lines: &'a str) -> Block<'a> {

@@ -8,7 +8,8 @@ use crate::guardian::Guardian;
 pub struct Opened {
     /// The guardian.
     pub guardian: Guardian,
-    /// How many bytes were taken that aren't in its listing: the last lines of an opening whose
-    /// contents refer to objects that didn't come. It is 0 if an entry came.
+    /// How many bytes were taken that aren't in its listing: those of an opening that refers to
+    /// objects that didn't come, behind its first objects that refer to none but one another. It is
+    /// 0 if an entry came.
     pub dropped: u64,
 }

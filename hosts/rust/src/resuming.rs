@@ -87,7 +87,7 @@ impl Resuming {
     }
 
     /// The guardian of what was taken. If an opening came without entries, it has as many of the
-    /// opening's objects as refer to none that didn't come.
+    /// opening's first objects as refer to none but one another.
     ///
     /// # Errors
     ///

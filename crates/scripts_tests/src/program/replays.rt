@@ -48,15 +48,33 @@ fn check_row(alloc: Global, heaps: Heaps, row: &Row<'_>) -> Result<()> {
         &mut writer,
         asked,
     );
-    check_told(heaps.texts, row, asked, &result)?;
-    ensure!(
-        writer.get_ref().as_slice() == row.listing.as_slice(),
-        "{}: another listing",
-        row.name
-    );
+    check_listed(
+        heaps.texts,
+        row,
+        asked,
+        &result,
+        writer.get_ref().as_slice(),
+    )?;
     check_reader(heaps.texts, row, asked)?;
     check_writer(heaps.texts, row, asked)?;
     check_memory(heaps, row, asked)
+}
+
+// The fault is the row's, and what was written is its listing.
+fn check_listed(
+    heap: Heap,
+    row: &Row<'_>,
+    asked: ReplayOptions,
+    answer: &Replay,
+    written: &[u8],
+) -> Result<()> {
+    check_told(heap, row, asked, answer)?;
+    ensure!(
+        written == row.listing.as_slice(),
+        "{}: another listing",
+        row.name
+    );
+    Ok(())
 }
 
 // The fault is the row's: with a prefix beside the listing, otherwise in its place.
@@ -94,7 +112,7 @@ fn check_reader(heap: Heap, row: &Row<'_>, asked: ReplayOptions) -> Result<()> {
         let mut writer = FailStop::new(Vec::new(heap.room()));
         let result = replay(heap, &mut reader, &mut writer, asked);
         if !reader.has_failed() {
-            return check_told(heap, row, asked, &result);
+            return check_listed(heap, row, asked, &result, writer.get_ref().as_slice());
         }
         ensure!(
             matches!(result, Err(ReplayError::Read)),
@@ -152,7 +170,13 @@ fn check_memory(heaps: Heaps, row: &Row<'_>, asked: ReplayOptions) -> Result<()>
         let result = replay(heaps.counted, &mut reader, &mut writer, asked);
         let is_spent = heaps.lift();
         let Err(ReplayError::OutOfMemory) = result else {
-            return check_told(heaps.texts, row, asked, &result);
+            return check_listed(
+                heaps.texts,
+                row,
+                asked,
+                &result,
+                writer.get_ref().as_slice(),
+            );
         };
         ensure!(is_spent, "memory is wanting though it is there");
         ensure!(row.is_front(writer.get_ref().as_slice()), "other bytes");

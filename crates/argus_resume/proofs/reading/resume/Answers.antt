@@ -1,6 +1,8 @@
--- For the goal that its edit opens: the edit is refused without a search.
-use Rattle.std.proofs.Common.{rules}
+-- The guardian's listing is the first bytes of what was read. The edit is refused without a search, too.
+use Rattle.argus_resume.proofs.Readings.{is_resumed}
 use Rattle.argus_resume.proofs.reading.resume.Goals as goal
 
 pub returns-in-Ok : goal.returns-in-Ok
-returns-in-Ok g c = search rules
+returns-in-Ok g c =
+    is_resumed _ _ _ _ _ _ c.new-resuming.ensures c.into_guardian.ensures.readable c.take_from-bytes.ensures
+    c.in-Ok.ensures.guardian c.in-Ok.ensures.front c.in-Ok.ensures.dropped

@@ -1,12 +1,13 @@
 -- One call more goes on behind those that were made.
-use Rattle.std.proofs.Common.{ap, arith, length, map, suc, sym, true, ◌++◌, ◌+◌, ◌∙◌}
+use Rattle.std.proofs.Common.{[], ap, arith, length, map, subst, suc, sym, true, ◌++◌, ◌+◌, ◌∙◌}
 use Rattle.std.proofs.Common.{◌∷◌, ◌≡◌}
 use Rattle.argus_entries.specs.Call.{plain_call}
 use Rattle.argus_receipts.specs.Receipt.{plain_receipt}
-use Rattle.argus_sharing.specs.CallEach.{after_calls, end_of, is_met, receipts_of}
+use Rattle.argus_sharing.specs.CallEach.{added_by_calls, after_calls, end_of, is_met, receipts_of}
+use Rattle.argus_sharing.specs.Following.{GoesOn}
 use Rattle.argus_sharing.specs.Locked.{LockedState}
-use Rattle.argus_sharing.proofs.CallEach.{end_more, receipts_more, rest_more}
-use Rattle.argus_sharing.proofs.Follow.{shared_on}
+use Rattle.argus_sharing.proofs.CallEach.{end_more, goes_on_more, receipts_more, rest_more}
+use Rattle.argus_sharing.proofs.Follow.{shared_on, stays}
 use Rattle.argus_sharing.proofs.locked.Locked.call_each.Goals as goal
 use Rattle.argus_sharing.proofs.locked.Locked.call_each.Goals.{in-Err, in-Ok-false}
 
@@ -39,6 +40,10 @@ loop-each-preserved g c =
       omega (arith, inv.5, count, made.room, ap length calls),
       shared_on g.N.Sharing.start journal c.call_next.new.self.journal (plain_call each.call) made.shared made.journal,
       made.board,
+      (λ n later more. subst (λ k. GoesOn c.args.self.now.board later (added_by_calls first all k)) (omega (arith, count))
+          (inv.8 (suc n) later (subst (λ l. GoesOn c.loop-each.self.board later (added_by_calls journal l (suc n))) (sym calls)
+          (goes_on_more journal each rest c.loop-each.self.board c.call_next.new.self.board later n made.goes_on
+          (subst (λ j. GoesOn c.call_next.new.self.board later (added_by_calls j rest n)) made.journal more))))),
     )
 
 pub returns-in-Some-clause-journal : goal.returns-in-Some-clause-journal
@@ -60,3 +65,36 @@ returns-in-Some-clause-journal g c =
           ap (λ (s : LockedState). s.journal) none.0
           ∙ sym (ap (λ k. after_calls first all k) (omega (arith, ap length none.2)) ∙ inv.3 0)
     ]
+
+-- the last call that was made adds its effect, and one that found no memory adds none
+pub returns-in-Some-clause-goes_on : goal.returns-in-Some-clause-goes_on
+returns-in-Some-clause-goes_on g c =
+    let inv = c.loop-each.invariant in
+    let each = c.in-Some.each in
+    let rest = c.pop_front.new.self.items in
+    let state = c.loop-each.self in
+    let board = c.call_next.new.self.board in
+    let first = c.args.self.now in
+    let all = c.args.calls.now.items in
+    let so_far = c.loop-each.receipts.items in
+    elim c.match-call_next.branch [
+      | in-Ok-false w ↦
+          let calls : c.loop-each.calls.items ≡ each ∷ rest = c.in-Some.ensures.items in
+          let made = w.in-Ok-false.ensures in
+          subst (λ n. GoesOn first.board board (added_by_calls first.journal all n)) (sym made.count)
+          (inv.8 1 board (subst (λ l. GoesOn state.board board (added_by_calls state.journal l 1)) (sym calls)
+          (goes_on_more state.journal each rest state.board board board 0 made.goes_on (stays board))))
+      | in-Err w ↦
+          let none = w.in-Err.ensures.err in
+          let same = ap (λ (s : LockedState). s.board) none.0 in
+          subst (λ n. GoesOn first.board board (added_by_calls first.journal all n)) (omega (arith, ap length none.2))
+          (inv.8 0 board (subst (λ b. GoesOn b board []) same (stays board)))
+    ]
+
+-- where no call is left nothing more is added
+pub returns-clause-goes_on : goal.returns-clause-goes_on
+returns-clause-goes_on g c =
+    let board = c.loop-each.self.board in
+    let first = c.args.self.now in
+    subst (λ n. GoesOn first.board board (added_by_calls first.journal c.args.calls.now.items n)) (omega arith)
+    (c.loop-each.invariant.8 0 board (stays board))
