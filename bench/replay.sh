@@ -4,9 +4,8 @@
 # begin, a change and a commit of one record), by its size, and beside it the program argus_bench, which makes
 # the same calls without a text (commit:1). Both are taken whole, with their start and the end of the guardian:
 # medians of interleaved runs, in milliseconds on the clock of `replay`, in nanoseconds of processor time (user's
-# and system's) a line and a call, and the median of the ratios within a run. Then the same with negative numbers:
-# the line of such a change is none of the frequent ones, which have a reader of their own. Nothing is compared
-# with a limit, since the figures are the machine's.
+# and system's) a line and a call, and the median of the ratios within a run. Then the same with negative numbers.
+# Nothing is compared with a limit, since the figures are the machine's.
 #
 #   [REPS=5] [REPLAY=PROGRAM] [BENCH=PROGRAM] bench/replay.sh
 #

@@ -1,5 +1,5 @@
 # SPDX-License-Identifier: MIT
-# What ./argus and ./picture have in common: how a program is proved, and how it is run. Whoever
+# What ./argus, ./picture and ./replay have in common: how a program is proved, and how it is run. Whoever
 # takes this in has set `top`, the repository's folder; `name`, the program's crate; and `most`, how
 # many bytes of its input it reads.
 

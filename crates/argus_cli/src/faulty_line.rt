@@ -19,7 +19,7 @@ use argus_values::{OutOfMemory, Room};
 /// | `line 7: NotAnOpening` | it begins like a line of an opening, and can't be the next one |
 /// | `line 7: NoLine at 3` | it isn't the line of an entry, from this byte on |
 /// | `line 7: NotNext` | it is the line of an entry, but with another number than the next |
-/// | `line 7: NotSound` | the opening before it refers to objects that aren't there; it is the line of an entry, or the text has ended |
+/// | `line 7: NotSound` | the opening before it refers to missing objects; it is an entry's line, or the text has ended |
 /// | `line 7: NotTheReply: refused Conflict` | another reply follows from the journal: this one |
 #[derive(Debug, Drop)]
 pub struct FaultyLine {

@@ -29,8 +29,9 @@ use std::io::{Read, Write};
 ///
 /// `None`: the text is the listing of a journal, to its end. A faulty line comes only if the
 /// options take a prefix: the listing is that of the longest prefix of whole lines that is a
-/// journal's listing, and this is the line after those that were taken. (Of these, the last lines
-/// of an opening aren't in that prefix if they refer to objects that didn't come.)
+/// journal's listing, and this is the line after those that were taken. (Of an opening that refers
+/// to objects that didn't come, only the first objects are in that prefix, as many as refer to none
+/// but one another.)
 ///
 /// | Error | When | What was written |
 /// |---|---|---|
@@ -39,8 +40,9 @@ use std::io::{Read, Write};
 /// | `Read` | a read failed; it isn't tried again | nothing |
 /// | `Write` | a write failed, or accepted nothing; it isn't tried again | its front |
 ///
-/// It holds the guardian, and of the text at most a line and 16 KiB. Condition: neither the reader
-/// nor the writer has failed before.
+/// It holds the guardian, and of the text at most a line and 16 KiB; if a line has another reply
+/// than its call gets, for a while a second guardian. Condition: neither the reader nor the writer
+/// has failed before.
 ///
 /// ```text
 /// let mut reader = FailStop::new(rt.stdin());

@@ -18,7 +18,7 @@ use Rattle.argus_texts.proofs.ShapeForms.{one_shape}
 use Rattle.argus_texts.proofs.Stops.{Clear, Precedes}
 use Rattle.argus_openings.specs.OpeningLanguages.{FoldedLines, IsForm, ObjectLines, OptionContents}
 use Rattle.argus_openings.proofs.Parts.{between_no, form_starts, left_no, pair_starts, pair_whole, read_whole, second_no}
-use Rattle.argus_openings.proofs.Parts.{stops_starts}
+use Rattle.argus_reading.proofs.Words.{stops_starts}
 
 -- THE FIRST LINE
 

@@ -1,18 +1,10 @@
 -- Texts that are whole forms of a language: without one of its parts a text isn't a pair.
 use Rattle.std.proofs.Common.{◌≡◌, ℕ, ◌<◌, List, [], ◌∷◌, ◌++◌, length, refl, sym, ap, ◌∙◌, subst, append-nil, arith}
-use Rattle.argus_texts.specs.Language.{FormOf, IsNot, Language, NoWay, Reads, Starts, Stops}
+use Rattle.argus_texts.specs.Language.{FormOf, IsNot, Language, Reads, Starts}
 use Rattle.argus_texts.specs.Languages.{Pairs}
 use Rattle.argus_texts.proofs.Lists.{tail_of}
 use Rattle.argus_texts.proofs.Stops.{Clear, Precedes}
 use Rattle.argus_openings.specs.OpeningLanguages.{IsForm}
-
-no_way_starts : (L : Language) (front back : List ℕ) → NoWay L front back → Starts L (front ++ back) → ⊥
-no_way_starts L front [] h t = h (subst (Starts L) (append-nil front) t)
-no_way_starts L front (c ∷ back) h t = h back t
-
--- a text at which a reader stops doesn't begin with a form
-pub stops_starts : (L : Language) (text : List ℕ) (left : ℕ) → Stops L text left → Starts L text → ⊥
-stops_starts L text left s t = no_way_starts L s.front s.back s.no_way (subst (Starts L) s.whole t)
 
 -- a text that is a form begins with a form
 pub form_starts : (L : Language) → Clear L → (text : List ℕ) → FormOf L text → Starts L text

@@ -4,8 +4,7 @@ use Rattle.std.specs.Str.{IsUtf8, IsValidUpTo}
 use Rattle.argus_frame.specs.declared.listing_fault.ListingFault.{ListingFault}
 use Rattle.argus_frame.specs.declared.listing_fault_kind.ListingFaultKind.{ListingFaultKind}
 use Rattle.argus_frame.specs.declared.listing_fault_kind.ListingFaultKind.TheVariants as kind
-use Rattle.argus_reading.specs.Line.{IsEntryLine, LacksShape}
-use Rattle.argus_texts.specs.Fault.{IsFault}
+use Rattle.argus_reading.specs.Line.{IsEntryLine, IsNoLine, LacksShape}
 use Rattle.argus_picture.specs.Listing.{IsNextOfOpening, IsNumbered, IsOfOpening, Leads, Place}
 use Rattle.argus_picture.specs.Listing.{parts, start}
 use Rattle.argus_picture.specs.declared.limits.TheConstants.{MAX_BYTES, MAX_ENTRIES}
@@ -33,7 +32,7 @@ SaysOf kind.Torn at line = ⊥
 SaysOf (kind.NoText b) at line = (IsUtf8 line → ⊥) × IsValidUpTo line b
 SaysOf kind.NotAnOpening at line = IsOfOpening line × IsNoOpening at line
 SaysOf (kind.NoLine b) at line =
-    (IsOfOpening line → ⊥) × (IsFault IsEntryLine line b ⊎ LacksShape line b)
+    (IsOfOpening line → ⊥) × (IsNoLine line b ⊎ LacksShape line b)
 SaysOf kind.NotNext at line = HasOtherNumber at line
 SaysOf kind.Unlawful at line = IsNumbered (at.first + at.entries) line
 

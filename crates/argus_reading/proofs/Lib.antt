@@ -8,3 +8,4 @@ pub mod Calls
 pub mod CallParts
 pub mod Lacks
 pub mod Whole
+pub mod Shaped

@@ -1,11 +1,19 @@
 -- Languages with a word before, and two languages with a byte between: where they stop.
-use Rattle.std.proofs.Common.{◌≡◌, ℕ, List, [], ◌∷◌, ◌++◌, length, sym, ap, ◌∙◌, append_assoc}
-use Rattle.argus_texts.specs.Language.{Language, IsNot, Reads, Stops}
+use Rattle.std.proofs.Common.{◌≡◌, ℕ, List, [], ◌∷◌, ◌++◌, length, sym, ap, ◌∙◌, subst, append-nil, append_assoc}
+use Rattle.argus_texts.specs.Language.{Language, IsNot, NoWay, Reads, Starts, Stops}
 use Rattle.argus_texts.specs.Languages.{Pairs, Word}
 use Rattle.argus_texts.proofs.Lists.{cancel, tail_of}
 use Rattle.argus_texts.proofs.Stops.{Behind, Clear, Precedes, stops_behind, stops_in, pair_between, pair_first}
 use Rattle.argus_texts.proofs.Stops.{pair_second, pair_whole}
 use Rattle.argus_reading.specs.Combined.{Worded}
+
+no_way_starts : (L : Language) (front back : List ℕ) → NoWay L front back → Starts L (front ++ back) → ⊥
+no_way_starts L front [] h t = h (subst (Starts L) (append-nil front) t)
+no_way_starts L front (c ∷ back) h t = h back t
+
+-- a text at which a reader stops doesn't begin with a form
+pub stops_starts : (L : Language) (text : List ℕ) (left : ℕ) → Stops L text left → Starts L text → ⊥
+stops_starts L text left s t = no_way_starts L s.front s.back s.no_way (subst (Starts L) s.whole t)
 
 worded_first : (w : List ℕ) (L : Language) (m : L.Thing) → L.Good m → Behind [] (Word w) (Worded w L)
 worded_first w L m g = record {

@@ -1,5 +1,5 @@
--- The law of lines that are read back.
-use Rattle.std.specs.Prelude.{◌≡◌, ℕ, ◌<◌, ◌^◌}
+-- The laws of lines that are read back, and of texts that aren't lines.
+use Rattle.std.specs.Prelude.{List, ◌≡◌, ◌≢◌, ℕ, ◌<◌, ◌^◌}
 use Rattle.argus_entries.specs.Entry.{PlainEntry}
 use Rattle.argus_entries.specs.EntrySpelling.{entry_spelling}
 use Rattle.argus_reading.specs.Line.{IsReadable, Tells}
@@ -13,3 +13,8 @@ EntriesAreReadBack = (n : ℕ) (e : PlainEntry) → n < 2 ^ 64 → IsReadable e
     → ((error : ReadEntryError) → Tells error (entry_spelling n e) → error ≡ OutOfMemory)
     × ((m : ℕ) (d : PlainEntry) → m < 2 ^ 64 → IsReadable d
     → entry_spelling n e ≡ entry_spelling m d → (m ≡ n) × (d ≡ e))
+
+-- a text has one error at most, and out of memory
+abbrev pub TextsHaveOneError : Type 0
+TextsHaveOneError = (text : List ℕ) (one other : ReadEntryError) → Tells one text → Tells other text
+    → one ≢ OutOfMemory → other ≢ OutOfMemory → one ≡ other

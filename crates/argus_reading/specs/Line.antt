@@ -39,9 +39,14 @@ pub record LacksShape (text : List ℕ) (at : ℕ) : Type 0 where
   pub shape : BeginsNo Shapes (drop at text)
   pub refused : IsEntryLine text → ⊥
 
+-- text isn't a line, and lacks no shape: at is the length of its longest front that begins a line
+pub record IsNoLine (text : List ℕ) (at : ℕ) : Type 0 where
+  pub fault : IsFault IsEntryLine text at
+  pub shaped : (before : ℕ) → LacksShape text before → ⊥
+
 -- what an error says of a text; out of memory says nothing
 abbrev pub Tells : ReadEntryError → List ℕ → Type 0
-Tells (error.Fault fault) text = IsFault IsEntryLine text fault.at
+Tells (error.Fault fault) text = IsNoLine text fault.at
 Tells (error.Shape fault) text = LacksShape text fault.at
 Tells error.OutOfMemory text = Unit {0}
 
@@ -64,6 +69,10 @@ Declares front = front ≡ codes "declare "
 -- front is the same after a number
 abbrev pub DeclaresAt : List ℕ → Type 0
 DeclaresAt front = (number : ℕ) × (number < 2 ^ 64) × (front ≡ decimal number ++ codes " declare ")
+
+-- behind each such prefix of text a shape begins
+abbrev pub Shaped : (List ℕ → Type 0) → List ℕ → Type 0
+Shaped Lead text = (front back : List ℕ) → text ≡ front ++ back → Lead front → BeginsNo Shapes back → ⊥
 
 -- text begins with no form: after such a prefix a shape had to begin where this many bytes are
 -- left, and none does

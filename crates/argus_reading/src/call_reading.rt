@@ -4,7 +4,7 @@ ghost use Rattle.std.specs.Prelude.{◌≡◌, IfErr, IfOk, length};
 ghost use Rattle.argus_entries.specs.Call.{plain_call};
 ghost use Rattle.argus_reading.specs.Calls.{ActionCalls, Alters, Asks, Calls, ObjectCalls};
 ghost use Rattle.argus_reading.specs.Farther.{OnStop};
-ghost use Rattle.argus_reading.specs.Line.{Declares, Lacks};
+ghost use Rattle.argus_reading.specs.Line.{Declares, Lacks, Shaped};
 ghost use Rattle.argus_contents.specs.Change.{plain_change};
 ghost use Rattle.argus_texts.specs.Language.{OnLeft, Reads, Stops};
 ghost use Rattle.argus_texts.specs.ShapeLanguages.{BeginsNo, Shapes};
@@ -24,7 +24,7 @@ use argus_texts::front::{Stop, Unread, expect, one_shape, word};
 pub(crate) fn call(heap: Heap, text: &str) -> Result<(Call, &str), LineStop>
     ensures read { IfOk result (λ r. Reads Calls text.now (plain_call r.0) r.1.now) }
     ensures stops { IfErr result
-        (λ e. OnStop e (λ left. Stops Calls text.now left)
+        (λ e. OnStop e (λ left. Stops Calls text.now left × Shaped Declares text.now)
         (λ left. Lacks Declares Calls text.now left)) }
 {
     let declared = match word(text, "declare ") {

@@ -6,10 +6,9 @@ ghost use Rattle.argus_entries.specs.EntrySpelling.{entry_spelling};
 ghost use Rattle.argus_entries.specs.Reply.{plain_reply};
 ghost use Rattle.argus_reading.specs.Combined.{Worded};
 ghost use Rattle.argus_reading.specs.Farther.{OnStop};
-ghost use Rattle.argus_reading.specs.Line.{Declares, DeclaresAt, Entries, IsEntryLine};
-ghost use Rattle.argus_reading.specs.Line.{IsReadable, Lacks, LacksShape, Lines, Tells};
+ghost use Rattle.argus_reading.specs.Line.{Declares, DeclaresAt, Entries, IsNoLine};
+ghost use Rattle.argus_reading.specs.Line.{IsReadable, Lacks, LacksShape, Lines, Shaped, Tells};
 ghost use Rattle.argus_reading.specs.Replies.{Replies};
-ghost use Rattle.argus_texts.specs.Fault.{IsFault};
 ghost use Rattle.argus_texts.specs.Language.{OnLeft, Reads, Stops};
 
 use crate::call_reading::call;
@@ -24,8 +23,8 @@ use argus_texts::front::{Stop, expect, number, word};
 /// The number and the entry whose line the text is, as `write_entry` of `argus_entries` writes it,
 /// without a line end.
 ///
-/// `Fault` comes exactly if the text isn't such a line, with the length of its longest prefix that
-/// begins one. `Shape` comes in its place if a declaration's shape can't be made, with the length
+/// If the text isn't such a line, `Fault` has the length of its longest prefix that begins one. If
+/// it is a declaration whose shape can't be made, `Shape` comes in place of `Fault`, with the length
 /// up to that shape. `OutOfMemory` may come in place of any result.
 ///
 /// ```text
@@ -53,8 +52,7 @@ fn whole_line(heap: Heap, text: &str) -> Result<(u64, Entry), LineStop>
     ensures read { IfOk result (λ r. text.now ≡ entry_spelling r.0 (plain_entry r.1)) }
     ensures stops { IfErr result
         (λ e. OnStop e
-        (λ left. (left ≤ length text.now)
-        × IsFault IsEntryLine text.now (length text.now - left))
+        (λ left. (left ≤ length text.now) × IsNoLine text.now (length text.now - left))
         (λ left. (left ≤ length text.now) × LacksShape text.now (length text.now - left))) }
 {
     let (number, entry, rest) = line(heap, text)?;
@@ -70,7 +68,7 @@ fn line(heap: Heap, text: &str) -> Result<(u64, Entry, &str), LineStop>
         (λ r. Reads Lines text.now
         (r.0, ((plain_entry r.1).call, (plain_entry r.1).reply)) r.2.now) }
     ensures stops { IfErr result
-        (λ e. OnStop e (λ left. Stops Lines text.now left)
+        (λ e. OnStop e (λ left. Stops Lines text.now left × Shaped DeclaresAt text.now)
         (λ left. Lacks DeclaresAt Lines text.now left)) }
 {
     let (number, rest) = number(text, 0, 18_446_744_073_709_551_615)?;
@@ -84,7 +82,7 @@ fn entry(heap: Heap, text: &str) -> Result<(Entry, &str), LineStop>
     ensures read { IfOk result
         (λ r. Reads Entries text.now ((plain_entry r.0).call, (plain_entry r.0).reply) r.1.now) }
     ensures stops { IfErr result
-        (λ e. OnStop e (λ left. Stops Entries text.now left)
+        (λ e. OnStop e (λ left. Stops Entries text.now left × Shaped Declares text.now)
         (λ left. Lacks Declares Entries text.now left)) }
 {
     let (call, rest) = call(heap, text)?;

@@ -1,6 +1,6 @@
-//! The law of lines that are read back. The function does nothing: its contract is the law.
+//! The laws of lines that are read back. The functions do nothing: their contracts are the laws.
 
-ghost use Rattle.argus_reading.specs.Laws.{EntriesAreReadBack};
+ghost use Rattle.argus_reading.specs.Laws.{EntriesAreReadBack, TextsHaveOneError};
 
 /// The line of an entry has no fault, and is the line of no other entry, if the entry's numbers are
 /// in range, its values have depth at most 16 and its shape can be made. So
@@ -8,4 +8,10 @@ ghost use Rattle.argus_reading.specs.Laws.{EntriesAreReadBack};
 /// memory.
 pub fn entries_are_read_back()
     ensures { EntriesAreReadBack }
+{}
+
+/// The text alone decides why it isn't read, and where: of the errors `Fault` and `Shape`, at most
+/// one, with one position, is [`read_entry`](crate::read_entry)'s for it.
+pub fn texts_have_one_error()
+    ensures { TextsHaveOneError }
 {}

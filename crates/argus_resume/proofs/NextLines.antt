@@ -93,7 +93,7 @@ no_entry_fault taken line n (fault.NoText at) h =
     h.0 (subst IsUtf8 (sym n.is) (entry_clean (next_entry taken) n.z n.low n.readable).1)
 no_entry_fault taken line n fault.NotAnOpening h = no_entry_of_opening (next_entry taken) n.z line n.low n.is h.0
 no_entry_fault taken line n (fault.NoLine at) h =
-    elim h.1 [ inl f ↦ f.refused (its_line taken line n) | inr l ↦ l.refused (its_line taken line n) ]
+    elim h.1 [ inl f ↦ f.fault.refused (its_line taken line n) | inr l ↦ l.refused (its_line taken line n) ]
 no_entry_fault taken line n fault.NotNext h = h.other (its_entry taken line n h.number h.entry h.in_range h.of).0
 no_entry_fault taken line n fault.NotSound h = false≢true (sym h.unsound ∙ n.sound)
 no_entry_fault taken line n (fault.NotTheReply reply) h =

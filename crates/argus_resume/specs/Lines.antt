@@ -13,8 +13,7 @@ use Rattle.argus_journal.specs.JournalView.{JournalView, next_entry, reply_to}
 use Rattle.argus_journal.specs.Opening.{is_sound}
 use Rattle.argus_journal.specs.declared.limits.TheConstants.{MAX_FIRST_ENTRY}
 use Rattle.argus_listings.specs.Listing.{folded_line, opened_line}
-use Rattle.argus_reading.specs.Line.{IsEntryLine, IsReadable, LacksShape}
-use Rattle.argus_texts.specs.Fault.{IsFault}
+use Rattle.argus_reading.specs.Line.{IsNoLine, IsReadable, LacksShape}
 use Rattle.argus_texts.specs.Language.{Starts}
 use Rattle.argus_texts.specs.Languages.{Word}
 use Rattle.argus_resume.specs.JournalText.{IsReadableObject}
@@ -87,7 +86,7 @@ abbrev pub IsLineFault : LineFault → JournalView → List ℕ → Type 0
 IsLineFault (fault.NoText at) journal line = (IsUtf8 line → ⊥) × IsValidUpTo line at
 IsLineFault fault.NotAnOpening journal line = IsOfOpening line × (IsNextOfOpening journal line → ⊥)
 IsLineFault (fault.NoLine at) journal line =
-    (IsOfOpening line → ⊥) × (IsFault IsEntryLine line at ⊎ LacksShape line at)
+    (IsOfOpening line → ⊥) × (IsNoLine line at ⊎ LacksShape line at)
 IsLineFault fault.NotNext journal line = HasOtherNumber journal line
 IsLineFault fault.NotSound journal line = IsBehindUnsound journal line
 IsLineFault (fault.NotTheReply reply) journal line = HasOtherReply journal line (plain_reply reply)

@@ -1,6 +1,7 @@
 //! `frequent_line`: the line of a frequent entry, read byte by byte.
 
 ghost use Rattle.std.specs.Fmt.{decimal, signed_decimal};
+ghost use Rattle.std.specs.Int.{IsNonNegative};
 ghost use Rattle.std.specs.Prelude.{IfSome, ◌+◌, ◌++◌, ◌∷◌, ◌≡◌, ◌≤◌};
 ghost use Rattle.argus_contents.specs.declared.limits.TheConstants.{MAX_VALUE_DEPTH};
 ghost use Rattle.argus_entries.specs.Call.{plain_call};
@@ -133,10 +134,26 @@ fn byte(text: &[u8]) -> Option<(u8, &[u8])>
     Some((number as u8, rest))
 }
 
-/// A number without a sign, as an integer.
+/// An integer, but for the least one.
 #[inline(always)]
 fn int(text: &[u8]) -> Option<(i64, &[u8])>
     ensures { IfSome result (λ r. text.now ≡ signed_decimal r.0 ++ r.1.now) }
+{
+    if let [b'-', rest @ ..] = text {
+        let (size, rest) = size(rest)?;
+        if size == 0 {
+            return None;
+        }
+        return Some((-size, rest));
+    }
+    size(text)
+}
+
+/// A number without a sign, as an integer.
+#[inline(always)]
+fn size(text: &[u8]) -> Option<(i64, &[u8])>
+    ensures read { IfSome result (λ r. text.now ≡ signed_decimal r.0 ++ r.1.now) }
+    ensures positive { IfSome result (λ r. IsNonNegative r.0) }
 {
     let (number, rest) = number(text)?;
     if number > 9_223_372_036_854_775_807 {

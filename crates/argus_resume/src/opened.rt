@@ -10,7 +10,7 @@ use argus_core::Guardian;
 #[derive(Drop)]
 pub struct Opened {
     pub guardian: Guardian,
-    /// How many of the bytes that were taken aren't in its listing: the last lines of an opening
-    /// whose contents refer to objects that didn't come.
+    /// How many of the bytes that were taken aren't in its listing: those of an opening that refers
+    /// to objects that didn't come, behind its first objects that refer to none but one another.
     pub dropped: u64,
 }

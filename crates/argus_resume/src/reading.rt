@@ -28,8 +28,9 @@ const MOST_READS: u64 = 562_949_953_421_312;
 /// each entry's call was made, and its reply is the line's. It says how many bytes and lines that
 /// was, and why it took no more.
 ///
-/// Besides the guardian it holds at most a line and 16 KiB. `OutOfMemory`: there was no memory for
-/// the guardian; to be able to try again, use `Resuming`.
+/// Besides the guardian it holds at most a line and 16 KiB. If a line has another reply than its
+/// call gets, the guardian is made once more, without that call, while the first one still stands.
+/// `OutOfMemory`: there was no memory for the guardian; to be able to try again, use `Resuming`.
 ///
 /// ```text
 /// let mut reader = FailStop::new(file);

@@ -5,7 +5,7 @@ use crate::playing::Play;
 use crate::sharing::share;
 use crate::tally::Tally;
 use crate::task::Task;
-use anyhow::{Result, bail};
+use anyhow::{Result, bail, ensure};
 use argus_guardian::Guardian;
 use std::io::Print;
 use std::sync::Wait;
@@ -20,14 +20,27 @@ pub(crate) fn run_text<R: Threads + Wait + Print + Copy + Drop + Send + Sync>(
     text: &str,
     tally: &mut Tally,
 ) -> Result<()> {
-    let Some((_, below)) = text.split_once("before each test\n") else {
+    let Some((above, below)) = text.split_once("before each test\n") else {
         bail!("no rows stand before each test");
     };
+    ensure!(
+        is_comment(above),
+        "a test stands above the rows before each test"
+    );
     let (before, tests) = below.split_once("\n\n").unwrap_or((below, ""));
     for block in tests.split("\n\n") {
         run_block(rt, setting, before, block, tally)?;
     }
     Ok(())
+}
+
+fn is_comment(text: &str) -> bool {
+    for block in text.split("\n\n") {
+        if !matches!(block_of(block), Block::Comment) {
+            return false;
+        }
+    }
+    true
 }
 
 fn run_block<R: Threads + Wait + Print + Copy + Drop + Send + Sync>(

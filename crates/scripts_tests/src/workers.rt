@@ -63,6 +63,7 @@ fn check_text<R: Threads + Wait + Print + Copy + Drop + Send + Sync>(
     for block in text.split("\n\n") {
         match Row::of_block(setting.texts, block) {
             Ok(Some(row)) => {
+                ensure!(!row.teams.is_empty(), "a test that nobody runs");
                 rt.print(format_args!("{}:", row.name))?;
                 let here = check_row(rt, setting, &row)?;
                 rt.println(format_args!(" {} calls", row.receipts.as_str().lines().count()))?;

@@ -9,6 +9,7 @@ use Rattle.argus_reading.specs.Combined.{Either}
 use Rattle.argus_reading.specs.Line.{Declares, Lacks}
 use Rattle.argus_reading.proofs.CallParts.{call_parts, shape_part}
 use Rattle.argus_reading.proofs.Lacks.{from_part, handed_on, lacks_now}
+use Rattle.argus_reading.proofs.Shaped.{parts_shaped}
 use Rattle.argus_reading.proofs.Unions.{latter}
 use Rattle.argus_reading.proofs.call_reading.call.Goals as goal
 
@@ -31,4 +32,4 @@ returns-clause-stops c =
     let all = latter (Word (codes "declare ")) (Either ActionCalls ObjectCalls) text c.in-Err.stop c.farther.result
     c.farther-2.result c.in-Err.ensures.stops others c.farther-2.ensures in
     from_part c.farther-2.result c.from.result _ _ _ c.from.ensures
-    (λ left s. stops_behind [] CallParts Calls call_parts text left s) all
+    (λ left s. (stops_behind [] CallParts Calls call_parts text left s, parts_shaped text left s)) all

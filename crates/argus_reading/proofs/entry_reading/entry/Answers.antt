@@ -5,6 +5,7 @@ use Rattle.argus_texts.specs.Language.{Stops}
 use Rattle.argus_reading.specs.Calls.{Calls}
 use Rattle.argus_reading.specs.Line.{Declares, Entries}
 use Rattle.argus_reading.proofs.Lacks.{from_part, handed_on, lacks_in}
+use Rattle.argus_reading.proofs.Shaped.{call_shaped}
 use Rattle.argus_reading.proofs.Whole.{call_part, entry_joint}
 use Rattle.argus_reading.proofs.Words.{first_ends, joint_lacks, second_ends}
 use Rattle.argus_reading.proofs.entry_reading.entry.Goals as goal
@@ -14,7 +15,7 @@ returns-in_err-call-clause-stops c =
     let p = err_from_is_err_and c.from_residual.result c.from_residual.ensures.1 in
     rw (p.1, p.2)
     (handed_on c.in_err-call.field-0.0 _ _ _ _
-    (λ left s. first_ends entry_joint s)
+    (λ left s. (first_ends entry_joint s.0, s.1))
     (λ left s. lacks_in Declares Declares [] Calls Entries (λ f e. e) call_part.starts c.args.text.now
     c.args.text.now left refl s)
     c.in_err-call.ensures.stops)
@@ -24,8 +25,10 @@ returns-in_err-rest-clause-stops c =
     let p = err_from_is_err_and c.from_residual-in_err-rest.result c.from_residual-in_err-rest.ensures.1 in
     rw p.1
     (from_part c.in_err-rest.field-0.0 p.0 _ _ _ p.2
-    (λ left s. subst (Stops Entries c.args.text.now) (sym s.0)
-    (joint_lacks entry_joint c.in_ok-call.ensures.read s.1))
+    (λ left s. (
+      subst (Stops Entries c.args.text.now) (sym s.0) (joint_lacks entry_joint c.in_ok-call.ensures.read s.1),
+      call_shaped c.in_ok-call.ensures.read,
+    ))
     c.in_err-rest.ensures.stops)
 
 pub returns-in_err-reply-clause-stops : goal.returns-in_err-reply-clause-stops
@@ -33,5 +36,8 @@ returns-in_err-reply-clause-stops c =
     let p = err_from_is_err_and c.from_residual-in_err-reply.result c.from_residual-in_err-reply.ensures.1 in
     rw p.1
     (from_part c.in_err-reply.field-0.0 p.0 _ _ _ p.2
-    (λ left s. second_ends entry_joint c.in_ok-call.ensures.read c.in_ok-rest.ensures.read s)
+    (λ left s. (
+      second_ends entry_joint c.in_ok-call.ensures.read c.in_ok-rest.ensures.read s,
+      call_shaped c.in_ok-call.ensures.read,
+    ))
     c.in_err-reply.ensures.stops)

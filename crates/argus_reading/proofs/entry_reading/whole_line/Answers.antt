@@ -2,6 +2,7 @@
 use Rattle.std.proofs.lemmas.Result.{err_from_is_err_and}
 use Rattle.argus_entries.specs.Entry.{plain_entry}
 use Rattle.argus_reading.proofs.Lacks.{handed_on}
+use Rattle.argus_reading.proofs.Shaped.{line_shaped, no_line}
 use Rattle.argus_reading.proofs.Whole.{line_lacks, line_left_behind, line_stopped}
 use Rattle.argus_reading.proofs.entry_reading.whole_line.Goals as goal
 
@@ -10,18 +11,15 @@ returns-in_err-number-clause-stops c =
     let p = err_from_is_err_and c.from_residual.result c.from_residual.ensures.1 in
     rw (p.1, p.2)
     (handed_on c.in_err-number.field-0.0 _ _ _ _
-    (λ left s. line_stopped c.args.text.now left s)
+    (λ left s. no_line (line_stopped c.args.text.now left s.0) s.1)
     (λ left s. line_lacks c.args.text.now left s)
     c.in_err-number.ensures.stops)
 
 pub returns-then-rest-gt0-clause-stops : goal.returns-then-rest-gt0-clause-stops
 returns-then-rest-gt0-clause-stops c =
-    line_left_behind (
-      c.in_ok-number.number,
-      (
-        (plain_entry c.in_ok-number.entry).call,
-        (plain_entry
-            c.in_ok-number.entry).reply,
-      ),
-    )
-    c.args.text.now c.in_ok-number.rest.now c.in_ok-number.ensures.read c.if-rest-gt0.true
+    let read = c.in_ok-number.ensures.read in
+    let entry = plain_entry c.in_ok-number.entry in
+    no_line
+    (line_left_behind (c.in_ok-number.number, (entry.call, entry.reply)) c.args.text.now c.in_ok-number.rest.now read
+    c.if-rest-gt0.true)
+    (line_shaped read)

@@ -13,7 +13,7 @@ its_line n e l g = record { number = n; entry = e; in_range = l; readable = g; i
 
 no_error : (n : ℕ) (e : PlainEntry) → n < 2 ^ 64 → IsReadable e → (r : ReadEntryError) → Tells r (entry_spelling n e)
     → r ≡ error.OutOfMemory
-no_error n e l g (error.Fault fault) t = absurd (t.refused (its_line n e l g))
+no_error n e l g (error.Fault fault) t = absurd (t.fault.refused (its_line n e l g))
 no_error n e l g (error.Shape fault) t = absurd (t.refused (its_line n e l g))
 no_error n e l g error.OutOfMemory t = refl
 
