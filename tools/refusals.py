@@ -6,7 +6,8 @@
 
 First a line for each kind, with how many edits there are; then the edits of the kinds that say the least: those
 that broke a condition of what they call, or for which an answer that is written by hand no longer fits. Of these
-docs/MISTAKES.md says why they count, or another form of the edit is to be found. Python 3 is all that it needs.
+docs/MISTAKES.md says why they count, or another form of the edit is to be found; tools/second_tries.py tries the
+last ones once more without that answer. Python 3 is all that it needs.
 """
 
 import re
@@ -14,7 +15,9 @@ import sys
 from pathlib import Path
 
 TOP = Path(__file__).resolve().parent.parent
+REFUSALS = TOP / "bench/refusals.txt"
 LINE = re.compile(r"(?:.*rt: must-fail )?(\w+/\w+)(?:\.edit)?: (?:refused, as it must be)?:? ?(.*)")
+NO_FIT = "an answer by hand that no longer fits"
 # The first that fits is an edit's kind.
 KINDS = [
     ("only a limit of the prover", r"only by a limit"),
@@ -24,9 +27,9 @@ KINDS = [
     ("an invariant that isn't proved", r"`invariant` of|invariant of the loop"),
     ("a condition of a call that isn't proved", r"requires holds at this call|-requires-"),
     ("a search that found no proof", r"`search`: no|`grind`|`omega`"),
-    ("an answer by hand that no longer fits", r"expected type|as printed, t|computed as far|record `|`goal\."),
+    (NO_FIT, r"expected type|as printed, t|computed as far|record `|`goal\."),
 ]
-SHOWN = ("a condition of a call that isn't proved", "an answer by hand that no longer fits", "something else")
+SHOWN = ("a condition of a call that isn't proved", NO_FIT, "something else")
 
 
 def kind_of(said):
@@ -34,15 +37,20 @@ def kind_of(said):
     return next((kind for kind, pattern in KINDS if re.search(pattern, said)), "something else")
 
 
-def main():
-    files = sys.argv[1:] or [TOP / "bench/refusals.txt"]
+def reasons(files):
+    """What the prover said of each edit of which these files tell."""
     said = {}
     for file in files:
         for line in Path(file).read_text(encoding="utf-8", errors="replace").splitlines():
             found = LINE.fullmatch(line)
             if found:
                 said[found[1]] = found[2]
+    return said
+
+
+def main():
     kinds = {kind: [] for kind, _ in [*KINDS, ("something else", "")]}
+    said = reasons(sys.argv[1:] or [REFUSALS])
     for edit, reason in said.items():
         kinds[kind_of(reason)].append(edit)
     for kind, edits in kinds.items():
@@ -52,4 +60,5 @@ def main():
             print(f"{kind}: {edit}: {said[edit]}")
 
 
-main()
+if __name__ == "__main__":
+    main()

@@ -188,7 +188,8 @@ fn end_status(end: ListEnd) -> u32
     }
 }
 
-/// Answers the question that the numbers stand for.
+/// Answers the question that the numbers stand for. 10, out of memory, comes only for the kinds that a
+/// text answers, 5 to 13.
 #[unsafe(no_mangle)]
 pub extern "C" fn argus_c_tell(
     alloc: Global,
@@ -205,6 +206,7 @@ pub extern "C" fn argus_c_tell(
     ensures bad_kind { (result ≡ 16) ↔ (17 ≤ kind) }
     ensures not_open { (result ≡ 11) ↔ ((kind < 17) × (slot.old.held.store ≡ None)) }
     ensures not_there { result ≡ 18 → IsNotThere slot.old.held.store kind action object entry }
+    ensures out_of_memory { result ≡ 10 → (5 ≤ kind) × (kind ≤ 13) }
     ensures status { 10 ≤ result
         → (result ≡ 10) ⊎ (result ≡ 11) ⊎ (result ≡ 16) ⊎ (result ≡ 18) }
     ensures zero { 10 ≤ result → number.new ≡ pos 0 }

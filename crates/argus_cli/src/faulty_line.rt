@@ -28,8 +28,8 @@ pub struct FaultyLine {
 }
 
 impl FaultyLine {
-    /// Appends the text of the table above, without a line end. At `OutOfMemory` a prefix of it was
-    /// appended.
+    /// Appends the text of the table above, without a line end. After `OutOfMemory` no contract says
+    /// what the text is.
     ///
     /// ```text
     /// faulty.write(&mut text)?;                   // line 7: NotNext

@@ -12,8 +12,8 @@ use argus_guardian::{Guardian, ListError, Listing};
 use argus_values::{Heap, Name};
 use std::io::Write;
 
-/// Writes a listing of the guardian, its objects under these names, as `argus_guardian::list` does.
-/// The two errors are faults of the program.
+/// Writes a listing of the guardian, its objects under these names, as
+/// `argus_guardian::write_listing` does. The two errors are faults of the program.
 ///
 /// | Error | When | What was written |
 /// |---|---|---|

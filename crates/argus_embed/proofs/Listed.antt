@@ -1,30 +1,24 @@
 -- What a call of a list stands for.
-use Rattle.std.proofs.Common.{List, None, Some, ap, get_or, length, map, refl, suc, sym, zero, ℕ, ◌<◌, ◌∙◌, ◌≡◌, ◌≢◌, ◌≤◌}
+use Rattle.std.proofs.Common.{List, None, Some, ap, get_or, inr, length, map, refl, suc, sym, zero, ℕ, ◌<◌, ◌∙◌, ◌≡◌, ◌≢◌, ◌≤◌}
 use Rattle.std.proofs.lemmas.Option.{slice_get-get_or, slice_get-map, slice_get_past}
 use Rattle.std.specs.Option.{option_map}
 use Rattle.std.specs.Prelude.{Option}
+use Rattle.argus_journal.specs.Call.{PlainCall}
 use Rattle.argus_journal.specs.Reply.{PlainReply, plain_reply}
 use Rattle.argus_journal.specs.declared.Reply.{Reply}
-use Rattle.argus_embed.specs.CallEach.{IsUnreadAfter, action_begun, action_by, demand_of, request_of}
-use Rattle.argus_embed.specs.Requests.{IsUnread}
+use Rattle.argus_embed.specs.CallEach.{IsUnreadWith, SaysWith, action_begun, action_by, demand_of, request_of}
+use Rattle.argus_embed.specs.Requests.{IsRead}
 use Rattle.argus_embed.specs.declared.embed_error.EmbedError.{EmbedError}
 use Rattle.argus_embed.specs.declared.embed_error.EmbedError.TheVariants as error
 use Rattle.argus_embed.specs.declared.listed_call.ListedCall.{ListedCall}
 
--- why its request can't be read is why it can't, whatever its action is
-pub unread_after : (replies : List PlainReply) (each : ListedCall) (action : ℕ) (e : EmbedError)
-    → IsUnread (request_of each action) each.text.now e → IsUnreadAfter replies each e
-unread_after replies each action error.OutOfMemory unread = tt
-unread_after replies each action error.NotUtf8 unread = absurd unread
-unread_after replies each action (error.BadText at) unread = unread
-unread_after replies each action error.BadShape unread = unread
-unread_after replies each action error.BadNumber unread = unread
-unread_after replies each action error.BadKind unread = unread
-unread_after replies each action error.NotThere unread = absurd unread
-unread_after replies each action error.Busy unread = absurd unread
-unread_after replies each action error.Full unread = absurd unread
-unread_after replies each action error.NotBegun unread = absurd unread
-unread_after replies each action error.BadDemand unread = absurd unread
+-- out of memory may come in place of each call that it stands for
+pub unread_for_memory : (found : Option ℕ) (each : ListedCall) (call : PlainCall) → SaysWith found each call
+    → IsUnreadWith found each error.OutOfMemory
+unread_for_memory None each call says = absurd says
+unread_for_memory (Some action) each call says =
+    let read : IsRead (request_of each action) each.text.now = says.2 in
+    inr (says.0, read.0)
 
 -- there are three demands
 pub no_demand : (n : ℕ) → n ≢ 0 → n ≢ 1 → n ≢ 2 → None ≡ demand_of n

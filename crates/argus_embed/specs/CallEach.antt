@@ -1,6 +1,6 @@
 -- Several calls, one after another, up to the first whose outcome isn't as demanded.
 use Rattle.std.specs.Prelude.{Bool, List, None, Option, Some, [], drop, false, length, suc, true}
-use Rattle.std.specs.Prelude.{slice_get, zero, ℕ, ℤ, ◌&&◌, ◌++◌, ◌∷◌, ◌≡◌}
+use Rattle.std.specs.Prelude.{slice_get, zero, ℕ, ℤ, ◌&&◌, ◌++◌, ◌∷◌, ◌≡◌, ◌≢◌, ◌⊎◌}
 use Rattle.std.specs.Str.{IsUtf8}
 use Rattle.argus_journal.specs.Call.{PlainCall}
 use Rattle.argus_journal.specs.JournalView.{JournalView, after, reply_to}
@@ -97,33 +97,34 @@ request_of each action = record {
   second = each.second;
 }
 
--- after these replies, the call of the list stands for this one: its action and its text are there,
--- and with its numbers they are those of a call
-abbrev pub SaysAfter : List PlainReply → ListedCall → PlainCall → Type 0
-SaysAfter replies each call =
-    (action : ℕ) × (action_by replies each.begun_by each.action ≡ Some action)
-    × Says (request_of each action) each.text.now call
+-- the call of the list stands for this one: its action is there, its text is UTF-8, and with its numbers
+-- they are those of a call
+abbrev pub SaysWith : Option ℕ → ListedCall → PlainCall → Type 0
+SaysWith None each call = ⊥
+SaysWith (Some action) each call =
+    IsUtf8 each.text.now × Says (request_of each action) each.text.now call
     × IsRead (request_of each action) each.text.now
 
--- why it stands for none: there is no such demand, the call that should have begun its action isn't
--- before it or began none, its text isn't UTF-8; or as for a single call
+-- the same after these replies, and there is such a demand
+abbrev pub SaysAfter : List PlainReply → ListedCall → PlainCall → Type 0
+SaysAfter replies each call =
+    (demand_of each.demand ≢ None)
+    × SaysWith (action_by replies each.begun_by each.action) each call
+
+-- why it stands for none: the call that should have begun its action isn't before it or began none;
+-- otherwise its text isn't UTF-8; otherwise as for a single call
+abbrev pub IsUnreadWith : Option ℕ → ListedCall → EmbedError → Type 0
+IsUnreadWith None each e = e ≡ error.NotBegun
+IsUnreadWith (Some action) each e =
+    ((IsUtf8 each.text.now → ⊥) × (e ≡ error.NotUtf8))
+    ⊎ (IsUtf8 each.text.now × IsUnread (request_of each action) each.text.now e)
+
+-- the same after these replies, unless there is no such demand
 abbrev pub IsUnreadAfter : List PlainReply → ListedCall → EmbedError → Type 0
-IsUnreadAfter replies each error.BadDemand = demand_of each.demand ≡ None
-IsUnreadAfter replies each error.NotBegun =
-    action_by replies each.begun_by each.action ≡ None
-IsUnreadAfter replies each error.NotUtf8 = IsUtf8 each.text.now → ⊥
-IsUnreadAfter replies each error.OutOfMemory = Unit {0}
-IsUnreadAfter replies each (error.BadText at) =
-    IsUnread (request_of each each.action) each.text.now (error.BadText at)
-IsUnreadAfter replies each error.BadShape =
-    IsUnread (request_of each each.action) each.text.now error.BadShape
-IsUnreadAfter replies each error.BadNumber =
-    IsUnread (request_of each each.action) each.text.now error.BadNumber
-IsUnreadAfter replies each error.BadKind =
-    IsUnread (request_of each each.action) each.text.now error.BadKind
-IsUnreadAfter replies each error.NotThere = ⊥
-IsUnreadAfter replies each error.Busy = ⊥
-IsUnreadAfter replies each error.Full = ⊥
+IsUnreadAfter replies each e =
+    ((demand_of each.demand ≡ None) × (e ≡ error.BadDemand))
+    ⊎ ((demand_of each.demand ≢ None)
+    × IsUnreadWith (action_by replies each.begun_by each.action) each e)
 
 -- the journal with these calls, made one after another
 abbrev pub after_calls : JournalView → List PlainCall → JournalView
@@ -167,10 +168,14 @@ after_next state call = record state { journal = after state.journal call }
 abbrev pub after_nexts : EmbeddedState → List PlainCall → EmbeddedState
 after_nexts state calls = record state { journal = after_calls state.journal calls }
 
+-- no call was made, since there is no memory for the replies
+abbrev pub IsWithoutRoom : List PlainReply → EmbedError → Type 0
+IsWithoutRoom replies e = (replies ≡ []) × (e ≡ error.OutOfMemory)
+
 -- why the call that comes first wasn't made
 abbrev pub IsFailed : List PlainReply → List ListedCall → EmbedError → Type 0
 IsFailed replies [] e = ⊥
-IsFailed replies (each ∷ listed) e = IsUnreadAfter replies each e
+IsFailed replies (each ∷ listed) e = IsUnreadAfter replies each e ⊎ IsWithoutRoom replies e
 
 -- why no more were made, after these replies
 abbrev pub IsEnd : List ListedCall → List PlainReply → ListEnd → Type 0

@@ -3,6 +3,7 @@ pub mod Kept
 pub mod Questions
 pub mod Requests
 pub mod Embedded
+pub mod Laws
 pub mod CallEach
 pub mod JournalLines
 pub mod Resuming

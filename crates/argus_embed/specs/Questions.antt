@@ -175,10 +175,28 @@ HasNothing journal (question.Status a) = status_in journal a.0 ≡ None
 HasNothing journal (question.Live from) = NoneLiveFrom journal from
 HasNothing journal question.FirstEntry = ⊥
 
--- why there is no answer: what it asks about isn't there; out of memory says nothing of it
+-- a text answers it, if what it asks about is there
+abbrev pub AsksText : Question → Type 0
+AsksText (question.CanRead a o) = ⊥
+AsksText (question.CanWrite a o) = ⊥
+AsksText question.Objects = ⊥
+AsksText question.Actions = ⊥
+AsksText question.Entries = ⊥
+AsksText (question.Base o) = Unit {0}
+AsksText (question.Readers o) = Unit {0}
+AsksText (question.Versions o) = Unit {0}
+AsksText (question.Entry at) = Unit {0}
+AsksText (question.List listing) = Unit {0}
+AsksText (question.Shape o) = Unit {0}
+AsksText (question.Status a) = ⊥
+AsksText (question.Live from) = ⊥
+AsksText question.FirstEntry = ⊥
+
+-- why there is no answer: what it asks about isn't there; or it asks for a text, and there is no memory
+-- for one
 abbrev pub IsUnanswered : JournalView → Question → EmbedError → Type 0
 IsUnanswered journal question error.NotThere = HasNothing journal question
-IsUnanswered journal question error.OutOfMemory = Unit {0}
+IsUnanswered journal question error.OutOfMemory = AsksText question
 IsUnanswered journal question (error.BadText at) = ⊥
 IsUnanswered journal question error.BadShape = ⊥
 IsUnanswered journal question error.BadNumber = ⊥

@@ -31,15 +31,16 @@ impl Embedded {
     /// Their texts are kept, a line for each reply that has one; if no call was made, what was kept
     /// stays.
     ///
-    /// The errors are those of `Embedded::call`, and
+    /// A call's error is the first of these, or otherwise that of `Embedded::call`:
     ///
     /// | Error | When |
     /// |---|---|
-    /// | `NotUtf8` | the text isn't UTF-8 |
-    /// | `NotBegun` | `begun_by` names no earlier call of the list, or one that began no action |
     /// | `BadDemand` | there is no such demand |
+    /// | `NotBegun` | `begun_by` names no earlier call of the list, or one that began no action |
+    /// | `NotUtf8` | the text isn't UTF-8 |
     ///
-    /// If there is no memory for as many replies as there are calls, the first one fails.
+    /// If there is no memory for as many replies as there are calls, the first one fails with
+    /// `OutOfMemory`, whatever it is.
     pub fn call_each(&mut self, calls: &mut [ListedCall<'_>]) -> CallsMade
         ensures { AreCalled calls.old calls.new self.old self.new result }
     {

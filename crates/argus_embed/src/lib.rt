@@ -21,6 +21,7 @@ mod embed_error;
 mod embedded;
 mod journal_writing;
 mod kept;
+pub mod laws;
 mod lines;
 mod lines_writing;
 mod list_end;

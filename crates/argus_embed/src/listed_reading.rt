@@ -1,7 +1,7 @@
 //! The call that a call of a list stands for.
 
 ghost use Rattle.std.specs.Prelude.{IfErr, IfOk, Some, map, ◌≡◌};
-ghost use Rattle.argus_embed.specs.CallEach.{IsUnreadAfter, SaysAfter, action_begun};
+ghost use Rattle.argus_embed.specs.CallEach.{IsUnreadWith, SaysWith, action_begun};
 ghost use Rattle.argus_embed.specs.CallEach.{action_by, request_of};
 ghost use Rattle.argus_journal.specs.Call.{plain_call};
 ghost use Rattle.argus_journal.specs.Reply.{plain_reply};
@@ -14,16 +14,19 @@ use argus_journal::{Call, Reply};
 use argus_values::Heap;
 use std::str::from_utf8;
 
-/// The call that it stands for, after these replies of the list.
+/// The call that it stands for, after these replies of the list. Whether there is its demand is for
+/// the caller to say.
 pub(crate) fn listed_call_of(
     heap: Heap,
     each: &ListedCall<'_>,
     replies: &[Reply],
 ) -> Result<Call, EmbedError>
     ensures says { IfOk result (λ call.
-        SaysAfter (map plain_reply replies.now) each.now (plain_call call)) }
+        SaysWith (action_by (map plain_reply replies.now) each.now.begun_by each.now.action)
+        each.now (plain_call call)) }
     ensures unread { IfErr result (λ e.
-        IsUnreadAfter (map plain_reply replies.now) each.now e) }
+        IsUnreadWith (action_by (map plain_reply replies.now) each.now.begun_by each.now.action)
+        each.now e) }
 {
     let Some(action) = action_by(replies, each.begun_by, each.action) else {
         return Err(EmbedError::NotBegun);

@@ -27,3 +27,10 @@ RefusesListing had has (draw_error.Fault fault) = IsFaultRead had has fault
 RefusesListing had has draw_error.OutOfMemory = Unit {0}
 RefusesListing had has draw_error.Read = Unit {0}
 RefusesListing had has draw_error.Write = Unit {0}
+
+-- the error may come from reading alone: a read failed, or there was no memory for the bytes
+abbrev pub IsOfReading : DrawError → Type 0
+IsOfReading (draw_error.Fault fault) = ⊥
+IsOfReading draw_error.OutOfMemory = Unit {0}
+IsOfReading draw_error.Read = Unit {0}
+IsOfReading draw_error.Write = ⊥

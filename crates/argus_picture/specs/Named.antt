@@ -45,6 +45,13 @@ IsOfScript (error.Names fault) = ⊥
 IsOfScript error.ScriptRead = Unit {0}
 IsOfScript (error.Draw e) = e ≡ draw_error.OutOfMemory
 
+-- the error is about the script, which was read first: a faulty line, or a read that failed
+abbrev pub IsAboutScript : NamedDrawError → Type 0
+IsAboutScript (error.Script fault) = Unit {0}
+IsAboutScript (error.Names fault) = ⊥
+IsAboutScript error.ScriptRead = Unit {0}
+IsAboutScript (error.Draw e) = ⊥
+
 -- what an error says about the listing that was read
 abbrev pub RefusesNamedListing : Option (List ℕ) → Option (List ℕ) → NamedDrawError → Type 0
 RefusesNamedListing had has (error.Script fault) = Unit {0}

@@ -1,21 +1,24 @@
 //! `draw`: reads a listing from a reader, and writes its picture to a writer.
 
-ghost use Rattle.std.specs.Prelude.{◌≡◌, false, true, IfErr, OnOk};
+ghost use Rattle.std.specs.Prelude.{◌+◌, ◌≡◌, ◌≢◌, false, true, IfErr, OnOk};
 ghost use Rattle.argus_frame.specs.declared.draw_error.DrawError.TheVariants as DrawError;
 ghost use Rattle.argus_picture.specs.Drawn.{ReadsListing, RefusesListing};
+ghost use Rattle.argus_picture.specs.declared.limits.TheConstants.{MAX_BYTES};
 ghost use Rattle.argus_streams.specs.FailStop.{has_failed, inner_of};
+ghost use Rattle.argus_streams.specs.Input.{ReadAtMost};
 
-use crate::limits::MAX_BYTES;
+use crate::listing_reading::read_listing;
 use crate::picture_error::PictureError;
 use crate::picturing::picture;
 use argus_frame::DrawError;
 use argus_memory::Heap;
-use argus_streams::{FailStop, InputError, read_up_to, write_whole};
+use argus_streams::{FailStop, write_whole};
 use std::io::{Read, Write};
 
 /// Reads a journal's listing, up to 67,108,865 bytes, and writes its whole picture.
 ///
-/// [`DrawError`]'s table says which error comes when. A stream that failed isn't tried again.
+/// [`DrawError`]'s table says which error comes when. A stream that failed isn't tried again. Unless a
+/// write failed, nothing was written.
 ///
 /// ```text
 /// draw(heap, &mut FailStop::new(rt.stdin()), &mut FailStop::new(rt.stdout()))?;
@@ -33,11 +36,13 @@ pub fn draw<R: Read + Drop, W: Write + Drop>(
         (R.remaining (inner_of reader.new))) }
     ensures read { IfErr result (λ e. e ≡ DrawError.Read → has_failed reader.new ≡ true) }
     ensures written { IfErr result (λ e. e ≡ DrawError.Write → has_failed writer.new ≡ true) }
+    ensures bounded { ReadAtMost (MAX_BYTES + 1) (R.remaining (inner_of reader.old))
+        (R.remaining (inner_of reader.new)) }
+    ensures unwritten { IfErr result (λ e. e ≢ DrawError.Write → writer.new ≡ writer.old) }
 {
-    let listing = match read_up_to(heap, reader, MAX_BYTES + 1) {
+    let listing = match read_listing(heap, reader) {
         Ok(listing) => listing,
-        Err(InputError::Read) => return Err(DrawError::Read),
-        Err(InputError::OutOfMemory) => return Err(DrawError::OutOfMemory),
+        Err(error) => return Err(error),
     };
     let text = match picture(heap, listing.as_slice()) {
         Ok(text) => text,

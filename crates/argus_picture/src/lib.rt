@@ -18,6 +18,7 @@ mod held_lock;
 mod legend;
 mod limits;
 mod line_error;
+mod listing_reading;
 mod lock_asked;
 mod named_draw_error;
 mod named_drawing;

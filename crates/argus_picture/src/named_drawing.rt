@@ -1,15 +1,19 @@
 //! `draw_named`: reads a script and a listing, and writes the picture with the script's names.
 
-ghost use Rattle.std.specs.Prelude.{IfErr, IfOk, OnOk, false, true, ◌≡◌, ◌≢◌};
+ghost use Rattle.std.specs.Prelude.{IfErr, IfOk, OnOk, false, true, ◌+◌, ◌≡◌, ◌≢◌};
 ghost use Rattle.argus_frame.specs.declared.draw_error.DrawError.TheVariants as DrawError;
 ghost use Rattle.argus_language.specs.Script.{plain_script};
 ghost use Rattle.argus_picture.specs.Drawn.{ReadsListing, RefusesListing};
-ghost use Rattle.argus_picture.specs.Named.{IsOfScript, ReadsScript, ReadsSomeScript};
+ghost use Rattle.argus_language.specs.declared.limits.TheConstants.{MAX_SCRIPT_BYTES};
+ghost use Rattle.argus_picture.specs.Named.{IsAboutScript, IsOfScript, ReadsScript};
+ghost use Rattle.argus_picture.specs.Named.{ReadsSomeScript};
 ghost use Rattle.argus_picture.specs.Named.{RefusesNamedListing, RefusesScript};
 ghost use Rattle.argus_picture.specs.declared.named_draw_error.NamedDrawError.TheVariants as error;
+ghost use Rattle.argus_picture.specs.declared.limits.TheConstants.{MAX_BYTES};
 ghost use Rattle.argus_streams.specs.FailStop.{has_failed, inner_of};
+ghost use Rattle.argus_streams.specs.Input.{ReadAtMost};
 
-use crate::limits::MAX_BYTES;
+use crate::listing_reading::read_listing;
 use crate::named_draw_error::NamedDrawError;
 use crate::names_error::NamesError;
 use crate::picture_error::PictureError;
@@ -26,7 +30,7 @@ use std::io::{Read, Write};
 /// writes the listing's whole picture. Its objects have the names that the script declares.
 ///
 /// [`NamedDrawError`]'s table says which error comes when. A stream that failed isn't tried again,
-/// and after a faulty script the listing isn't read.
+/// and after a faulty script the listing isn't read. Unless a write failed, nothing was written.
 ///
 /// ```text
 /// draw_named(heap, &mut script, &mut FailStop::new(rt.stdin()), &mut FailStop::new(rt.stdout()))?;
@@ -54,6 +58,13 @@ pub fn draw_named<S: Read + Drop, R: Read + Drop, W: Write + Drop>(
         (λ e. e ≡ error.Draw DrawError.Read → has_failed reader.new ≡ true) }
     ensures written { IfErr result
         (λ e. e ≡ error.Draw DrawError.Write → has_failed writer.new ≡ true) }
+    ensures script_bounded { ReadAtMost (MAX_SCRIPT_BYTES + 1) (S.remaining (inner_of script.old))
+        (S.remaining (inner_of script.new)) }
+    ensures bounded { ReadAtMost (MAX_BYTES + 1) (R.remaining (inner_of reader.old))
+        (R.remaining (inner_of reader.new)) }
+    ensures unread { IfErr result (λ e. IsAboutScript e → reader.new ≡ reader.old) }
+    ensures unwritten { IfErr result
+        (λ e. e ≢ error.Draw DrawError.Write → writer.new ≡ writer.old) }
 {
     let names = match read_script(heap, script) {
         Ok(names) => names,
@@ -85,6 +96,8 @@ fn read_script<S: Read + Drop>(
     ensures refused { IfErr result (RefusesScript (S.remaining (inner_of script.old))
         (S.remaining (inner_of script.new))) }
     ensures read { IfErr result (λ e. e ≡ error.ScriptRead → has_failed script.new ≡ true) }
+    ensures bounded { ReadAtMost (MAX_SCRIPT_BYTES + 1) (S.remaining (inner_of script.old))
+        (S.remaining (inner_of script.new)) }
     ensures kind { IfErr result IsOfScript }
 {
     let bytes = match read_up_to(heap, script, MAX_SCRIPT_BYTES + 1) {
@@ -107,12 +120,13 @@ fn read_sketch<R: Read + Drop>(heap: Heap, reader: &mut FailStop<R>) -> Result<S
     ensures fault { IfErr result (RefusesListing (R.remaining (inner_of reader.old))
         (R.remaining (inner_of reader.new))) }
     ensures read { IfErr result (λ e. e ≡ DrawError.Read → has_failed reader.new ≡ true) }
+    ensures bounded { ReadAtMost (MAX_BYTES + 1) (R.remaining (inner_of reader.old))
+        (R.remaining (inner_of reader.new)) }
     ensures kind { IfErr result (λ e. e ≢ DrawError.Write) }
 {
-    let listing = match read_up_to(heap, reader, MAX_BYTES + 1) {
+    let listing = match read_listing(heap, reader) {
         Ok(listing) => listing,
-        Err(InputError::Read) => return Err(DrawError::Read),
-        Err(InputError::OutOfMemory) => return Err(DrawError::OutOfMemory),
+        Err(error) => return Err(error),
     };
     match sketch_listing(heap, listing.as_slice()) {
         Ok(sketch) => Ok(sketch),

@@ -28,8 +28,9 @@ const MOST_READS: u64 = 562_949_953_421_312;
 /// each entry's call was made, and its reply is the line's. It says how many bytes and lines that
 /// was, and why it took no more.
 ///
-/// Besides the guardian it holds at most a line and 16 KiB. If a line has another reply than its
-/// call gets, the guardian is made once more, without that call, while the first one still stands.
+/// Besides the guardian it holds what was read and not taken yet, at most a line and 16 KiB, in a list
+/// whose room is at most twice that; and 16 KiB on the stack. If a line has another reply than its call
+/// gets, the guardian is made once more, without that call, while the first one still stands.
 /// `OutOfMemory`: there was no memory for the guardian; to be able to try again, use `Resuming`.
 ///
 /// ```text
@@ -60,7 +61,7 @@ impl Resuming {
     /// listing. The listing of the journal then grows by these bytes. It says how many bytes and
     /// lines these are, and why it took no more. What was read and not taken is dropped.
     ///
-    /// It holds what was read of a line, and 16 KiB.
+    /// It holds what was read and not taken yet, at most a line and 16 KiB, and 16 KiB on the stack.
     ///
     /// ```text
     /// let taken = resuming.take_from(&mut reader);

@@ -1,4 +1,4 @@
-//! `shown`: what receipts in script order show of a run.
+//! `check_run`: what receipts in script order show of a run.
 
 ghost use Rattle.std.specs.Prelude.{IfOk, IfSome, map, true, ◌≡◌};
 ghost use Rattle.argus_language.specs.Script.{plain_script};

@@ -12,7 +12,7 @@ use argus_memory::{Heap, OutOfMemory, Room};
 use argus_receipts::Receipt;
 
 /// The receipts, in script order, with what they show; `None` if they don't show a run of the
-/// script (`shown`). `OutOfMemory` may come in place of any result; the receipts are then dropped.
+/// script (`check_run`). `OutOfMemory` may come in place of any result; the receipts are then dropped.
 ///
 /// ```text
 /// let report = report_of(heap, &script, receipts)?;

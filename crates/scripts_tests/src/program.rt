@@ -6,6 +6,8 @@ mod command_lines;
 mod drawing;
 mod examples;
 mod heaps;
+mod labels;
+mod named_streams;
 mod names;
 mod pictures;
 mod replays;

@@ -1,6 +1,4 @@
-//! Scripts, parsed and run on a guardian, and receipts, checked against scripts: what a script
-//! says,
-//! the
+//! Scripts, parsed and run on a guardian, and receipts, checked against scripts: what a script says, the
 //! lines that a run writes, and what receipts show, are compared, with ample memory and with each
 //! allocation refused in turn.
 

@@ -1,19 +1,17 @@
 //! Listings with scripts by rows: how objects are called in the picture, or why they have no names;
-//! then each allocation and each read of the script fails in turn.
-
-ghost use Rattle.argus_commands.specs.FailStop.{has_failed};
+//! then each allocation, each read and each write fails in turn.
 
 use crate::program::command_lines::is_comment;
 use crate::program::heaps::Heaps;
+use crate::program::labels::check_result;
+use crate::program::named_streams::{check_listing_reads, check_script_reads, check_writer};
 use crate::program::pictures::listing_of;
 use anyhow::{Result, bail, ensure};
 use argus_commands::FailStop;
-use argus_picture::{DrawError, NamedDrawError, draw_named, picture};
+use argus_picture::{DrawError, NamedDrawError, draw_named};
 use argus_values::Heap;
-use std::str::from_utf8;
-use test_rows::Failing;
 
-// More allocations, and more reads, than a row takes.
+// More allocations than a row takes.
 const MANY: u64 = 10_000;
 
 // Checks what comes of each row. Returns how many rows there are.
@@ -38,7 +36,9 @@ pub(crate) fn check_names(heaps: Heaps, text: &str) -> Result<u64> {
 fn check_row(heaps: Heaps, listing: &str, script: &str, wanted: &str) -> Result<()> {
     check_drawn(heaps.texts, listing, script, wanted)?;
     check_memory(heaps, listing, script, wanted)?;
-    check_reads(heaps.texts, listing, script, wanted)
+    check_script_reads(heaps.texts, listing, script, wanted)?;
+    check_listing_reads(heaps.texts, listing, script, wanted)?;
+    check_writer(heaps.texts, listing, script)
 }
 
 // With ample memory.
@@ -66,71 +66,4 @@ fn check_memory(heaps: Heaps, listing: &str, script: &str, wanted: &str) -> Resu
         ensure!(written.is_empty(), "a picture without memory");
     }
     bail!("there is never enough memory")
-}
-
-// Each read of the script fails in turn: nothing is written, and none is tried again.
-fn check_reads(heap: Heap, listing: &str, script: &str, wanted: &str) -> Result<()> {
-    for reads in 0..MANY {
-        let mut names = FailStop::new(Failing {
-            rest: script.as_bytes(),
-            reads_left: reads,
-            reads_behind: 0,
-        });
-        let mut reader = FailStop::new(listing.as_bytes());
-        let mut writer = FailStop::new(Vec::new(heap.room()));
-        let result = draw_named(heap, &mut names, &mut reader, &mut writer);
-        let written = writer.get_ref().as_slice();
-        if !names.has_failed() {
-            return check_result(heap, listing, result, written, wanted);
-        }
-        ensure!(
-            result == Err(NamedDrawError::ScriptRead),
-            "the script's fault isn't told"
-        );
-        ensure!(written.is_empty(), "a picture without its script");
-        ensure!(names.get_ref().reads_behind == 1, "a read was tried again");
-    }
-    bail!("too many reads")
-}
-
-// Checks that objects are called so in what was written, or that this error was told.
-fn check_result(
-    heap: Heap,
-    listing: &str,
-    drawn: Result<(), NamedDrawError>,
-    written: &[u8],
-    wanted: &str,
-) -> Result<()> {
-    match drawn {
-        Ok(()) => check_labels(heap, listing, from_utf8(written)?, wanted),
-        Err(error) => {
-            let told = format!(in heap.room(); "{error}")?;
-            ensure!(told.as_str() == wanted, "{told} in place of {wanted}");
-            ensure!(error.status() == 3, "another status");
-            ensure!(written.is_empty(), "a picture of what is refused");
-            Ok(())
-        }
-    }
-}
-
-// Checks that the picture is the one without names, with these in place of the numbers.
-fn check_labels(heap: Heap, listing: &str, drawn: &str, wanted: &str) -> Result<()> {
-    let Ok(mut text) = picture(heap, listing.as_bytes()) else {
-        bail!("no picture without names");
-    };
-    let mut objects = 0;
-    for (object, label) in wanted.split_whitespace().enumerate() {
-        let from = format!(in heap.room(); ">o{object}</text>")?;
-        let to = format!(in heap.room(); ">%{label}</text>")?;
-        ensure!(text.as_str().contains(from.as_str()), "no object o{object}");
-        text = text
-            .as_str()
-            .replace(heap.room(), from.as_str(), to.as_str())?;
-        objects = object + 1;
-    }
-    let next = format!(in heap.room(); ">o{objects}</text>")?;
-    ensure!(!text.as_str().contains(next.as_str()), "one more object");
-    let text = text.as_str().replace(heap.room(), ">%", ">")?;
-    ensure!(text.as_str() == drawn, "another picture");
-    Ok(())
 }
