@@ -34,16 +34,29 @@ LENGTH = 220
 MOST = 5
 
 
+def pairs_of(file):
+    """What an edit takes out and puts in, by the file in which it does."""
+    pairs, lines = {}, file.read_text(encoding="utf-8").splitlines()
+    for line, next_line in zip(lines, [*lines[1:], ""]):
+        if line.startswith("file: "):
+            source = line.removeprefix("file: ").strip()
+        elif line.startswith("old: "):
+            pairs.setdefault(source, []).append((line.removeprefix("old: "), next_line.removeprefix("new: ")))
+    return pairs
+
+
 def with_edit(edit, folder):
     """Puts an edit into the copy of its crate."""
     crate, name = edit.split("/")
     [file] = TOP.glob(f"crates/{crate}/must-fail*/{name}.edit")
-    parts = dict(re.findall(r"^(file|old|new): ?(.*)$", file.read_text(encoding="utf-8"), re.M))
-    source = folder / parts["file"].strip()
-    text = source.read_text(encoding="utf-8")
-    if text.count(parts["old"]) != 1:
-        raise ValueError(f"{edit}: its line isn't there once")
-    source.write_text(text.replace(parts["old"], parts["new"]), encoding="utf-8")
+    for source, pairs in pairs_of(file).items():
+        text = (folder / source).read_text(encoding="utf-8")
+        if any(text.count(old) != 1 for old, _ in pairs):
+            raise ValueError(f"a line that it takes out isn't there once in {source}")
+        for old, new in sorted(pairs, key=lambda it: text.index(it[0]), reverse=True):
+            at = text.index(old)
+            text = text[:at] + new + text[at + len(old) :]
+        (folder / source).write_text(text, encoding="utf-8")
 
 
 def without_answer(file, goal):
@@ -64,6 +77,17 @@ def first_said(printed):
     open_goals = [it for it in lines if OPEN.search(it)]
     said = open_goals or [it for it in lines if SAID.fullmatch(it)]
     return said[0][:LENGTH] if said else "refused, without a reason that this script knows"
+
+
+def function_of(crate, place):
+    """The function to check. Of functions that call one another the folder of answers has `+` and the first one's
+    name, and a goal of another begins with that one's."""
+    *module, name = place["path"].split("/")
+    if name.startswith("+"):
+        source = (TOP / "crates" / crate / "src" / "/".join(module)).with_suffix(".rt").read_text(encoding="utf-8")
+        names = (place["goal"].split("-")[0], name[1:])
+        name = next(it for it in names if re.search(rf"\bfn {it}\b", source))
+    return "::".join([crate, *module, name])
 
 
 def uses():
@@ -96,7 +120,9 @@ def command(crate, function):
 def try_again(edit, place):
     """The goals whose answers were left out, and what the prover says of the edit without them."""
     crate, goals = edit.split("/")[0], []
-    function = "::".join([crate, *place["path"].replace("+", "").split("/")])
+    if place["file"].endswith("/Proof.antt"):
+        raise ValueError("the function is proved by hand")
+    function = function_of(crate, place)
     with tempfile.TemporaryDirectory(prefix="second-") as room:
         folder = Path(room) / crate
         shutil.copytree(TOP / "crates" / crate, folder, ignore=shutil.ignore_patterns("must-fail*", "out"))
