@@ -48,6 +48,10 @@ impl Guardian {
     /// entries; each content fits its shape, with all these objects declared. `OutOfMemory`: there
     /// was no memory for the copies, and the objects that were passed in are dropped.
     ///
+    /// The listing of its journal begins with an opening: these objects and both numbers. If
+    /// `first_entry` is 0, a listing has no opening, and neither the objects nor `first_action` can
+    /// be read back from it.
+    ///
     /// Source: the stable state that a guardian is restored from, Argus Reference Manual
     /// (MIT/LCS/TR-400, 1987).
     ///
