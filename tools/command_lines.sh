@@ -128,9 +128,63 @@ of_picture() {
     tried "$room/signed" 3 '' 'line 2: NoLine at 10' "$picture"
     printf '0 begin_top -> a0\n1 commit a0 -> done' > "$room/torn"
     tried "$room/torn" 3 '' 'line 2: Torn' "$picture"
+    tried "$top/crates/picture/stdin" 5 '' 'write fault' sh -c '"$0" > /dev/full' "$picture"
     refuses "error: unexpected argument 'run.svg' found" "$picture" run.svg
     refuses "error: unexpected argument '--list' found" "$picture" --list journal
+    of_limits
+    of_sizes
     with_names
+}
+
+# So many lines, in which & is the number from 0 on: lines COUNT LINE
+lines() {
+    seq 0 $(($1 - 1)) | sed "s/.*/$2/"
+}
+
+# So many topactions that each read the same object: readers COUNT
+readers() {
+    local n
+    echo '0 declare atomic_array[int] -> o0'
+    for ((n = 0; n < $1; n++)); do echo "$((n + 1)) begin_top -> a$n"; done
+    for ((n = 0; n < $1; n++)); do echo "$((n + $1 + 1)) test_read a$n o0 -> flag true"; done
+}
+
+# Counts whether the picture of the lines has this size, and whether its last line counts this: measures
+# WIDTH HEIGHT COUNTED < LINES
+measures() {
+    cat > "$room/lines"
+    tried "$room/lines" 0 "<svg xmlns=\"http://www.w3.org/2000/svg\" version=\"1.1\" width=\"$1\" height=\"$2\"" '' "$picture" --
+    tail -n 2 "$room/output" > "$room/counted"
+    tried "$room/counted" 0 "$3" '' sed 's,<[^>]*>,,g'
+}
+
+# As many bytes and as many entries as a picture may have, and one more.
+of_limits() {
+    head -c 67108864 /dev/zero > "$room/long"
+    tried "$room/long" 3 '' 'line 1: Torn' "$picture"
+    head -c 67108865 /dev/zero > "$room/long"
+    tried "$room/long" 3 '' 'line 1: TooLong' "$picture"
+    rm "$room/long"
+    lines 65537 '& begin_top -> refused TooMany' > "$room/many"
+    tried "$room/many" 3 '' 'line 65537: TooLong' "$picture"
+    measures 262380 198 '65536 entries, 0 actions, 0 objects. Point' < <(head -n 65536 "$room/many")
+    { head -n 65536 "$room/many"; echo '0 begin_top -> a0'; } > "$room/other"
+    tried "$room/other" 3 '' 'line 65537: TooLong' "$picture"
+}
+
+# As many entries, rows, lanes and locks side by side as there is room for, and more.
+of_sizes() {
+    local left='Without room, and not drawn:'
+    measures 2028 198 '64 entries, 0 actions, 0 objects. Point' < <(lines 64 '& begin_top -> refused TooMany')
+    measures 1016 198 '65 entries, 0 actions, 0 objects. Point' < <(lines 65 '& begin_top -> refused TooMany')
+    measures 6380 198 '512 entries, 0 actions, 0 objects. Point' < <(lines 512 '& begin_top -> refused TooMany')
+    measures 2288 198 '513 entries, 0 actions, 0 objects. Point' < <(lines 513 '& begin_top -> refused TooMany')
+    measures 2028 2118 '64 entries, 64 actions, 0 objects. Point' < <(lines 64 '& begin_top -> a&')
+    measures 1028 2118 "66 entries, 66 actions, 0 objects. $left 2 actions, 0 objects, 0 locks. Point" < <(lines 66 '& begin_top -> a&')
+    measures 2028 4038 '64 entries, 0 actions, 64 objects. Point' < <(lines 64 '& declare atomic_array[int] -> o&')
+    measures 1016 4038 "65 entries, 0 actions, 65 objects. $left 0 actions, 1 object, 0 locks. Point" < <(lines 65 '& declare atomic_array[int] -> o&')
+    measures 980 348 '7 entries, 3 actions, 1 object. Point' < <(readers 3)
+    measures 980 378 "9 entries, 4 actions, 1 object. $left 0 actions, 0 objects, 1 lock. Point" < <(readers 4)
 }
 
 # A picture with the names of a script, which is a file.

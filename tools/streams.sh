@@ -1,8 +1,9 @@
 #!/usr/bin/env bash
 # SPDX-License-Identifier: MIT
 # The program itself on streams that fail: a full device, closed streams, a folder for its input, and
-# a pipe that nobody reads. Each has to end with status 5, told on standard error.
-# The program has to be built (.ci/run or ./argus --prove leaves it). Needs /dev/full.
+# a pipe that nobody reads; and the help, the version and the mistakes of all three programs on a full
+# device. Each has to end with status 5, told on standard error unless that is what is full.
+# The programs have to be built (.ci/run leaves them). Needs /dev/full.
 set -u
 top=$(cd "$(dirname "$0")/.." && pwd)
 program=$top/crates/argus/out/argus
@@ -34,4 +35,15 @@ check 'closed input' 'read fault' $?
 { sleep 1; "$program" < "$script" 2> "$told"; echo $? > "$told.status"; } | true
 check 'a pipe that nobody reads' 'write fault' "$(cat "$told.status")"
 rm -f "$told.status"
+
+for name in argus replay picture; do
+    named=$top/crates/$name/out/$name
+    "$named" --help > /dev/full 2> "$told"
+    check "the help of $name, and a full device" 'write fault' $?
+    "$named" --version > /dev/full 2> "$told"
+    check "the version of $name, and a full device" 'write fault' $?
+    : > "$told"
+    "$named" --wrong > /dev/null 2> /dev/full
+    check "a mistake in the words of $name, and a full device" '' $?
+done
 exit $wrong

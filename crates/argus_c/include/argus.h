@@ -106,9 +106,9 @@ typedef struct argus_ready {
 #endif
 
 /* What came of a call. From ARGUS_DONE to ARGUS_REFUSED the call was made: a journalled call is one more entry of the
- * journal. From ARGUS_NO_MEMORY on nothing was made, and the guardian is unchanged; in a list that holds of the call
- * that failed, in a listing (argus_resume) of the line that wasn't taken, and in argus_abort_live of the first abort
- * that wasn't made. */
+ * journal. From ARGUS_NO_MEMORY on nothing was made, and the guardian is unchanged. In a list that holds of the call
+ * that failed (at ARGUS_UNMET none failed, and all calls up to the one that isn't as demanded were made), in a listing
+ * (argus_resume) of the line that wasn't taken, and in argus_abort_live of the first abort that wasn't made. */
 typedef enum argus_status {
     ARGUS_DONE = 0,        /* made; there is nothing more to say. The number is 0 */
     ARGUS_OBJECT = 1,      /* an object was declared; the number is its own, from 0 */
@@ -353,8 +353,8 @@ ARGUS_API const char *argus_status_name(uint32_t status) {
 
 /* ---- What the library exports. No pointer is null, except that of an empty text; no two overlap. ---- */
 
-/* Opens a guardian without objects, actions and entries. What was open in the handle is closed before, but stays at
- * ARGUS_NO_MEMORY. If `beside` is open, both share one word for their memory; if it isn't, the new one leaves 8 bytes
+/* Opens a guardian without objects, actions and entries. What was open in the handle is closed once the new one is
+ * made, and stays at ARGUS_NO_MEMORY. If `beside` is open, both share one word for their memory; if it isn't, the new one leaves 8 bytes
  * behind. `beside` is another handle, and is unchanged. ARGUS_DONE, ARGUS_NO_MEMORY. */
 uint32_t argus_c_open(argus_guardian *guardian, argus_guardian *beside);
 
@@ -438,10 +438,14 @@ uint32_t argus_c_lines(argus_guardian *guardian, uint64_t from, uint8_t *room, s
 /* The version of the library in one number, ARGUS_VERSION_NUMBER of its header. */
 uint32_t argus_c_version(void);
 
-/* Puts the text of the reply that is kept at the front of the room, without an end of its own, and writes its size.
- * It can be read again as long as it is kept. `size` overlaps neither the handle nor the room.
- * ARGUS_DONE; ARGUS_TOO_SMALL, with the size that it needs; ARGUS_NO_MEMORY, ARGUS_NOT_OPEN, ARGUS_NOT_THERE (which
- * comes after every status except ARGUS_VALUE, ARGUS_CONTENT and ARGUS_TEXT), with the size 0. */
+/* Puts the text that is kept at the front of the room, without an end of its own, and writes its size. It can be read
+ * again as long as it is kept. `size` overlaps neither the handle nor the room.
+ * The last of these decides what is kept: a call that was made, whose reply has a text at ARGUS_VALUE and
+ * ARGUS_CONTENT alone; a question whose answer is ARGUS_TEXT; a list of which a call was made, whose texts are one
+ * text, empty if no reply has one; an argus_resume that ended with ARGUS_NOT_THE_REPLY; an argus_resumed that ended
+ * with ARGUS_DONE, which has no text.
+ * ARGUS_DONE; ARGUS_TOO_SMALL, with the size that it needs; ARGUS_NOT_THERE, if no text is kept, ARGUS_NO_MEMORY and
+ * ARGUS_NOT_OPEN, with the size 0. */
 uint32_t argus_c_reply(argus_guardian *guardian, uint8_t *room, size_t room_size, size_t *size);
 
 /* Prepares the commit of an action, so that a program can log it before anybody can see what it leaves. The guardian
@@ -508,12 +512,12 @@ static inline void argus_enter(argus_guardian *guardian) {
 #endif
 }
 
-/* Opens a guardian without objects, actions and entries. A guardian that is open in the handle is closed first, but
- * stays open at ARGUS_NO_MEMORY. This isn't an inline function, and several threads may call it at the same time. */
+/* Opens a guardian without objects, actions and entries. A guardian that is open in the handle is closed once the new
+ * one is made, and stays open at ARGUS_NO_MEMORY. This isn't an inline function, and several threads may call it at the same time. */
 argus_answer argus_open(argus_guardian *guardian);
 
 /* The same, but the new guardian shares with `other`, which is open, what argus_open lets all guardians share. At
- * ARGUS_NOT_OPEN the other one isn't open. */
+ * ARGUS_NOT_OPEN the other one isn't open, or is the same handle. */
 ARGUS_API argus_answer argus_open_beside(argus_guardian *guardian, argus_guardian *other) {
     if (guardian == NULL || other == NULL) return argus_answer_of(ARGUS_NULL, 0);
     argus_enter(guardian);

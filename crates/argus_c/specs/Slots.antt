@@ -1,10 +1,10 @@
 -- What an export says of the guardian in a slot, before and after.
-use Rattle.std.specs.Prelude.{List, None, Option, Some, length, take, ℕ, ℤ, ◌*◌, ◌+◌, ◌<◌, ◌↔◌, ◌≡◌}
-use Rattle.std.specs.Prelude.{◌≤◌, ◌⊎◌}
+use Rattle.std.specs.Prelude.{List, None, Option, Some, drop, length, ℕ, ℤ, ◌*◌, ◌+◌, ◌++◌, ◌<◌, ◌↔◌, ◌≡◌}
+use Rattle.std.specs.Prelude.{◌≢◌, ◌≤◌, ◌⊎◌}
 use Rattle.argus_embed.specs.CallEach.{AreCalled}
 use Rattle.argus_embed.specs.Codes.{error_codes, outcome_codes, text_end_codes}
 use Rattle.argus_embed.specs.JournalLines.{AreLines, HasNoPlace, line_at}
-use Rattle.argus_embed.specs.Questions.{Asks, HasNothing, IsAnswerTo}
+use Rattle.argus_embed.specs.Questions.{Asks, HasNothing, IsAnswerTo, text_to}
 use Rattle.argus_embed.specs.Requests.{IsCalled, IsUnread}
 use Rattle.argus_embed.specs.Embedded.{EmbeddedState, IsBusy, IsFull}
 use Rattle.argus_embed.specs.Resuming.{IsDropped, IsTextTaken, after_resumption}
@@ -65,15 +65,21 @@ IsNotThere None kind a o n = ⊥
 IsNotThere (Some state) kind a o n =
     (question : Question) × Asks kind a o n question × HasNothing state.journal question
 
--- a text of this size is at the front of the room
-abbrev pub IsFront : Option (List ℕ) → ℕ → List ℕ → Type 0
-IsFront None size room = ⊥
-IsFront (Some text) size room = (size ≡ length text) × (take size room ≡ text)
+-- the guardian has a text to answer the question
+abbrev pub HasText : Option EmbeddedState → ℕ → ℕ → ℕ → ℕ → Type 0
+HasText None kind a o n = ⊥
+HasText (Some state) kind a o n =
+    (question : Question) × Asks kind a o n question × (text_to state.journal question ≢ None)
 
--- a text of this size is kept and at the front of the room
-abbrev pub IsGiven : Option EmbeddedState → ℕ → List ℕ → Type 0
-IsGiven None size room = ⊥
-IsGiven (Some state) size room = IsFront state.text size room
+-- a text of this size is at the front of the room, whose rest is as it was
+abbrev pub IsFront : Option (List ℕ) → ℕ → List ℕ → List ℕ → Type 0
+IsFront None size old new = ⊥
+IsFront (Some text) size old new = (size ≡ length text) × (new ≡ text ++ drop size old)
+
+-- a text of this size is kept and at the front of the room, whose rest is as it was
+abbrev pub IsGiven : Option EmbeddedState → ℕ → List ℕ → List ℕ → Type 0
+IsGiven None size old new = ⊥
+IsGiven (Some state) size old new = IsFront state.text size old new
 
 -- a text of this size is longer than the room
 abbrev pub IsPast : Option (List ℕ) → ℕ → List ℕ → Type 0
@@ -115,12 +121,13 @@ IsStatusOfFold (Some state) status =
     ((status ≡ 19) ↔ IsBusy state) × ((status ≡ 20) ↔ IsFull state)
     × ((status ≡ 0) ⊎ (status ≡ 10) ⊎ (status ≡ 19) ⊎ (status ≡ 20))
 
--- the status for a host that asks for the text: it has it, there is no memory for it, it is longer
--- than the room, or none is kept; or the slot is closed
+-- the status for a host that asks for the text: 18 exactly if none is kept; otherwise it has it, there
+-- is no memory for it, or it is longer than the room; or the slot is closed
 abbrev pub IsStatusOfReply : Option EmbeddedState → ℕ → Type 0
 IsStatusOfReply None status = status ≡ 11
 IsStatusOfReply (Some state) status =
-    (status ≡ 0) ⊎ (status ≡ 10) ⊎ (status ≡ 17) ⊎ ((status ≡ 18) × (state.text ≡ None))
+    ((status ≡ 18) ↔ (state.text ≡ None))
+    × ((status ≡ 0) ⊎ (status ≡ 10) ⊎ (status ≡ 17) ⊎ (status ≡ 18))
 
 -- this many bytes and lines of the text were taken, and these are the codes of the end
 abbrev pub AreTaken : List ℕ → ℕ → ℕ → ℕ × ℤ → EmbeddedState → EmbeddedState → Type 0

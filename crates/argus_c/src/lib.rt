@@ -11,7 +11,7 @@ ghost use Rattle.std.specs.Str.{IsUtf8};
 ghost use Rattle.argus_c.specs.Slots.{Becomes, IsAnswered, IsGiven, IsMade, IsStatusOfFold};
 ghost use Rattle.argus_c.specs.Slots.{AreLinesGiven, IsLineTooLong, IsListAnswered, IsNotThere};
 ghost use Rattle.argus_c.specs.Slots.{IsStatusOfLines, IsStatusOfReply, IsTooLong, IsUncalled};
-ghost use Rattle.argus_c.specs.Slots.{AreTaken, IsResumed};
+ghost use Rattle.argus_c.specs.Slots.{AreTaken, HasText, IsResumed};
 ghost use Rattle.argus_c.specs.Slots.{end_status, version_number};
 ghost use Rattle.argus_embed.specs.Codes.{error_codes};
 ghost use Rattle.argus_embed.specs.Embedded.{IsAbortedInPart, IsBusy, after_abort_live};
@@ -188,8 +188,8 @@ fn end_status(end: ListEnd) -> u32
     }
 }
 
-/// Answers the question that the numbers stand for. 10, out of memory, comes only for the kinds that a
-/// text answers, 5 to 13.
+/// Answers the question that the numbers stand for. 10, out of memory, comes only if there is a text
+/// to answer it.
 #[unsafe(no_mangle)]
 pub extern "C" fn argus_c_tell(
     alloc: Global,
@@ -206,7 +206,8 @@ pub extern "C" fn argus_c_tell(
     ensures bad_kind { (result ≡ 16) ↔ (17 ≤ kind) }
     ensures not_open { (result ≡ 11) ↔ ((kind < 17) × (slot.old.held.store ≡ None)) }
     ensures not_there { result ≡ 18 → IsNotThere slot.old.held.store kind action object entry }
-    ensures out_of_memory { result ≡ 10 → (5 ≤ kind) × (kind ≤ 13) }
+    ensures out_of_memory { result ≡ 10
+        → HasText slot.old.held.store kind action object entry }
     ensures status { 10 ≤ result
         → (result ≡ 10) ⊎ (result ≡ 11) ⊎ (result ≡ 16) ⊎ (result ≡ 18) }
     ensures zero { 10 ≤ result → number.new ≡ pos 0 }
@@ -407,7 +408,7 @@ pub extern "C" fn argus_c_reply(
     room: &mut [u8],
     size: &mut usize,
 ) -> u32
-    ensures done { result ≡ 0 → IsGiven slot.new.held.store size.new room.new }
+    ensures done { result ≡ 0 → IsGiven slot.new.held.store size.new room.old room.new }
     ensures small { result ≡ 17 → IsTooLong slot.new.held.store size.new room.old
         × (room.new ≡ room.old) }
     ensures status { IsStatusOfReply slot.old.held.store result }

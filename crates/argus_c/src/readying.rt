@@ -59,7 +59,7 @@ pub extern "C" fn argus_c_ready_line(
     size: &mut usize,
 ) -> u32
     ensures done { result ≡ 0
-        → IsFront (option_map commit_line ready.new.held.store) size.new room.new }
+        → IsFront (option_map commit_line ready.new.held.store) size.new room.old room.new }
     ensures small { result ≡ 17
         → IsPast (option_map commit_line ready.new.held.store) size.new room.old
         × (room.new ≡ room.old) }

@@ -1,5 +1,5 @@
 -- What a run reads and writes.
-use Rattle.std.specs.Prelude.{Bool, List, Option, [], false, if◌then◌else◌, nat_le, take, true, ℕ}
+use Rattle.std.specs.Prelude.{Bool, List, [], false, if◌then◌else◌, nat_le, take, true, ℕ}
 use Rattle.std.specs.Prelude.{◌&&◌, ◌<◌, ◌≡◌, ◌⊎◌}
 use Rattle.std.specs.Io.KnownBytes.{Appends}
 use Rattle.argus_cli.specs.ByWorkers.{IsLeftByWorkers}
@@ -18,7 +18,7 @@ use Rattle.argus_guardian.specs.Listing.{listing_of}
 use Rattle.argus_commands.specs.Played.{IsPlay}
 use Rattle.argus_journal.specs.JournalView.{JournalView}
 use Rattle.argus_commands.specs.Input.{ReadAtMost, ReadUpTo}
-use Rattle.argus_cli.specs.Streams.{RunStreams}
+use Rattle.argus_cli.specs.Streams.{AreFine, HasReaderFailed, HasWriterFailed, RunStreams}
 
 -- the journal of a new guardian
 abbrev pub new_journal : JournalView
@@ -52,13 +52,15 @@ pub record ListsRun (bytes : List ℕ) (options : Options) (text : List ℕ) : T
   pub runs : RunsTo bytes options script journal
   pub listed : text ≡ listing_of options.listing script.objects.names journal
 
--- A run that succeeded: what was read up to the limit spells a script, and the listing was written.
+-- A run that succeeded: what was read up to the limit spells a script, the listing was written, and
+-- neither stream has failed.
 pub record Ran (options : Options) (limit : ℕ) (before after : RunStreams) : Type 0 where
   pub bytes : List ℕ
   pub read : ReadUpTo limit before.input after.input bytes
   pub text : List ℕ
   pub lists : ListsRun bytes options text
   pub written : Appends before.output after.output text
+  pub fine : AreFine after
 
 -- a run whose script was refused: this is the fault of what was read, and nothing was written
 pub record Refused (limit : ℕ) (before after : RunStreams) (f : ScriptFault) : Type 0 where
@@ -83,13 +85,14 @@ pub record Unlisted (limit : ℕ) (before after : RunStreams) : Type 0 where
 
 -- what a run that failed like this has read and written
 abbrev pub RunFailed : Options → ℕ → RunStreams → RunStreams → CliFault → Type 0
-RunFailed options limit before after (fault.Script f) = Refused limit before after f
+RunFailed options limit before after (fault.Script f) =
+    AreFine after × Refused limit before after f
 RunFailed options limit before after fault.Memory =
-    Unlisted limit before after ⊎ CutShort options limit before after
+    AreFine after × (Unlisted limit before after ⊎ CutShort options limit before after)
 RunFailed options limit before after fault.Read =
-    (after.input_failed ≡ true) × Unlisted limit before after
+    HasReaderFailed after × Unlisted limit before after
 RunFailed options limit before after fault.Write =
-    (after.output_failed ≡ true) × CutShort options limit before after
+    HasWriterFailed after × CutShort options limit before after
 
 -- why bytes weren't run to their end: the fault of their script, or out of memory
 abbrev pub IsRunFault : List ℕ → CliFault → Type 0

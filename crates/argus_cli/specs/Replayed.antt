@@ -1,8 +1,8 @@
 -- What a replay reads and writes.
 use Rattle.std.specs.Io.KnownBytes.{Appends}
-use Rattle.std.specs.Prelude.{List, None, Option, Some, false, if◌then◌else◌, take, true, ℕ, ◌+◌}
+use Rattle.std.specs.Prelude.{List, None, Option, Some, false, if◌then◌else◌, take, ℕ, ◌+◌}
 use Rattle.std.specs.Prelude.{◌==◌, ◌≡◌, ◌⊎◌}
-use Rattle.argus_cli.specs.Streams.{RunStreams}
+use Rattle.argus_cli.specs.Streams.{AreFine, HasReaderFailed, HasWriterFailed, RunStreams}
 use Rattle.argus_cli.specs.declared.faulty_line.FaultyLine.{FaultyLine}
 use Rattle.argus_cli.specs.declared.replay_error.ReplayError.{ReplayError}
 use Rattle.argus_cli.specs.declared.replay_error.ReplayError.TheVariants as error
@@ -42,7 +42,7 @@ IsFaultBehind lines dropped end.OutOfMemory faulty = ⊥
 IsFaultBehind lines dropped end.Read faulty = ⊥
 
 -- A replay that succeeded: this guardian was made of what was read, this line, if any, was at
--- fault, which only a prefix allows, and the listing was written.
+-- fault, which only a prefix allows, the listing was written, and neither stream has failed.
 pub record Replayed (options : ReplayOptions) (before after : RunStreams)
     (faulty : Option FaultyLine) : Type 0 where
   pub resumed : Resumed
@@ -51,6 +51,7 @@ pub record Replayed (options : ReplayOptions) (before after : RunStreams)
   pub whole : options.prefix ≡ false → faulty ≡ None
   pub written : Appends before.output after.output
       (numbered_listing options.listing resumed.guardian)
+  pub fine : AreFine after
 
 -- a replay whose text was refused: this line of what was read is at fault, and nothing was written
 pub record RefusedText (options : ReplayOptions) (before after : RunStreams)
@@ -71,10 +72,11 @@ pub record ReplayCutShort (options : ReplayOptions) (before after : RunStreams) 
 
 -- what a replay that failed like this has read and written
 abbrev pub ReplayFailed : ReplayOptions → RunStreams → RunStreams → ReplayError → Type 0
-ReplayFailed options before after (error.Line faulty) = RefusedText options before after faulty
+ReplayFailed options before after (error.Line faulty) =
+    AreFine after × RefusedText options before after faulty
 ReplayFailed options before after error.OutOfMemory =
-    (after.output ≡ before.output) ⊎ ReplayCutShort options before after
+    AreFine after × ((after.output ≡ before.output) ⊎ ReplayCutShort options before after)
 ReplayFailed options before after error.Read =
-    (after.input_failed ≡ true) × (after.output ≡ before.output)
+    HasReaderFailed after × (after.output ≡ before.output)
 ReplayFailed options before after error.Write =
-    (after.output_failed ≡ true) × ReplayCutShort options before after
+    HasWriterFailed after × ReplayCutShort options before after

@@ -1,11 +1,9 @@
 -- With which status a program ends.
-use Rattle.std.specs.Prelude.{Bool, true, ℕ, ◌≡◌}
+use Rattle.std.specs.Prelude.{Bool, false, true, ℕ, ◌≡◌}
 use Rattle.argus_cli.specs.declared.cli_fault.CliFault.{CliFault}
 use Rattle.argus_cli.specs.declared.cli_fault.CliFault.TheVariants as fault
 use Rattle.argus_cli.specs.declared.replay_error.ReplayError.{ReplayError}
 use Rattle.argus_cli.specs.declared.replay_error.ReplayError.TheVariants as error
-use Rattle.argus_guardian.specs.listings_declared.list_error.ListError.{ListError}
-use Rattle.argus_guardian.specs.listings_declared.list_error.ListError.TheVariants as list
 
 -- the status of a fault
 abbrev pub status_of : CliFault → ℕ
@@ -14,10 +12,11 @@ status_of fault.Memory = 4
 status_of fault.Read = 5
 status_of fault.Write = 5
 
--- a fault that a listing may have: out of memory; or a failed write, if the writer has failed
+-- a fault that a listing may have: a failed write, if the writer has failed; otherwise out of
+-- memory
 abbrev pub IsListingFault : CliFault → Bool → Type 0
 IsListingFault (fault.Script f) failed = ⊥
-IsListingFault fault.Memory failed = Unit {0}
+IsListingFault fault.Memory failed = failed ≡ false
 IsListingFault fault.Read failed = ⊥
 IsListingFault fault.Write failed = failed ≡ true
 
@@ -27,8 +26,3 @@ replay_status_of (error.Line faulty) = 3
 replay_status_of error.OutOfMemory = 4
 replay_status_of error.Read = 5
 replay_status_of error.Write = 5
-
--- the same of a listing's error
-abbrev pub error_of_list : ListError → ReplayError
-error_of_list list.OutOfMemory = error.OutOfMemory
-error_of_list list.Write = error.Write

@@ -18,7 +18,7 @@ use thiserror::Error;
 /// | `Write` | `write fault` | 5 |
 ///
 /// ```text
-/// if let Err(fault) = run(heap, &mut reader, &mut writer, options) {
+/// if let Err(fault) = run(&rt, heap, &mut reader, &mut writer, options) {
 ///     return ExitCode::from(fault.status());
 /// }
 /// ```

@@ -20,7 +20,7 @@ use std::io::Write;
 /// | `Memory` | there is no memory | the front of the listing |
 /// | `Write` | a write failed, or accepted nothing; it isn't tried again | its front |
 ///
-/// Condition: the writer hasn't failed before.
+/// The writer has failed exactly at `Write`. Condition: the writer hasn't failed before.
 ///
 /// ```text
 /// let mut writer = FailStop::new(rt.stdout());
@@ -36,6 +36,7 @@ pub fn list<W: Write + Drop>(
     requires { has_failed writer.old ≡ false }
     ensures written { OnOk result (Appends (W.contents (inner_of writer.old))
         (W.contents (inner_of writer.new)) (listing_of listing names.now guardian.now)) }
+    ensures fine { OnOk result (has_failed writer.new ≡ false) }
     ensures cut { OnErr result ((n : ℕ) × Appends (W.contents (inner_of writer.old))
         (W.contents (inner_of writer.new)) (take n (listing_of listing names.now guardian.now))) }
     ensures failed { IfErr result (λ e. IsListingFault e (has_failed writer.new)) }

@@ -4,8 +4,6 @@ ghost use Rattle.std.specs.Prelude.{◌≡◌};
 ghost use Rattle.argus_cli.specs.Status.{replay_status_of};
 
 use crate::faulty_line::FaultyLine;
-use argus_guardian::ListError;
-use argus_values::OutOfMemory;
 
 /// Why a replay has no listing, or not all of it.
 ///
@@ -38,31 +36,6 @@ impl ReplayError {
             ReplayError::Line(_) => 3,
             ReplayError::OutOfMemory => 4,
             ReplayError::Read | ReplayError::Write => 5,
-        }
-    }
-}
-
-impl From<OutOfMemory> for ReplayError {
-    ghost use Rattle.std.specs.Prelude.{◌≡◌};
-    ghost use Rattle.argus_cli.specs.declared.replay_error.ReplayError.TheVariants as error;
-
-    ghost from_gives = { λ _ e. e ≡ error.OutOfMemory };
-
-    fn from(_refused: OutOfMemory) -> ReplayError {
-        ReplayError::OutOfMemory
-    }
-}
-
-impl From<ListError> for ReplayError {
-    ghost use Rattle.std.specs.Prelude.{◌≡◌};
-    ghost use Rattle.argus_cli.specs.Status.{error_of_list};
-
-    ghost from_gives = { λ list e. e ≡ error_of_list list };
-
-    fn from(error: ListError) -> ReplayError {
-        match error {
-            ListError::OutOfMemory => ReplayError::OutOfMemory,
-            ListError::Write => ReplayError::Write,
         }
     }
 }

@@ -1,6 +1,7 @@
 //! `replay`: from the bytes of a journal's listing to a listing of its guardian.
 
-ghost use Rattle.std.specs.Prelude.{IfErr, IfOk, OnErr, OnOk, false, take, true, ℕ, ◌≡◌, ◌⊎◌};
+ghost use Rattle.std.specs.Prelude.{IfErr, IfOk, OnErr, OnOk, false, take, true, ℕ, ◌↔◌, ◌≡◌};
+ghost use Rattle.std.specs.Prelude.{◌≢◌, ◌⊎◌};
 ghost use Rattle.argus_cli.specs.Streams.{streams};
 ghost use Rattle.argus_cli.specs.Replayed.{IsFaultBehind, ReplayFailed, Replayed};
 ghost use Rattle.argus_cli.specs.Replayed.{numbered_listing};
@@ -19,7 +20,7 @@ use argus_guardian::{
     Guardian, LineFault, ListError, Listing, ReadEnd, Resumed, numbered_names, resume,
     write_listing,
 };
-use argus_values::Heap;
+use argus_values::{Heap, OutOfMemory};
 use std::io::{Read, Write};
 
 /// Reads a journal's listing, and writes the listing that is asked for of the guardian whose
@@ -39,6 +40,8 @@ use std::io::{Read, Write};
 /// | `OutOfMemory` | there is no memory | nothing, or the listing's front |
 /// | `Read` | a read failed; it isn't tried again | nothing |
 /// | `Write` | a write failed, or accepted nothing; it isn't tried again | its front |
+///
+/// The reader has failed exactly at `Read`, and the writer exactly at `Write`.
 ///
 /// It holds the guardian, and of the text at most a line and 16 KiB; if a line has another reply
 /// than its call gets, for a while a second guardian. Condition: neither the reader nor the writer
@@ -65,28 +68,36 @@ pub fn replay<R: Read + Drop, W: Write + Drop>(
         (streams R.remaining W.contents reader.old writer.old)
         (streams R.remaining W.contents reader.new writer.new)) }
 {
+    let resumed = match resume(heap, reader) {
+        Ok(resumed) => resumed,
+        Err(OutOfMemory) if reader.has_failed() => return Err(ReplayError::Read),
+        Err(OutOfMemory) => return Err(ReplayError::OutOfMemory),
+    };
     let Resumed {
         guardian,
         bytes: _,
         lines,
         dropped,
         end,
-    } = resume(heap, reader)?;
+    } = resumed;
     let faulty = match fault_behind(lines, dropped, end) {
         Ok(None) => None,
         Ok(Some(faulty)) if options.prefix => Some(faulty),
         Ok(Some(faulty)) => return Err(ReplayError::Line(faulty)),
         Err(error) => return Err(error),
     };
-    list_numbered(heap, &guardian, options.listing, writer)?;
-    Ok(faulty)
+    match list_numbered(heap, &guardian, options.listing, writer) {
+        Ok(()) => Ok(faulty),
+        Err(ListError::OutOfMemory) => Err(ReplayError::OutOfMemory),
+        Err(ListError::Write) => Err(ReplayError::Write),
+    }
 }
 
 // The line after the number of lines that were taken, if it is at fault, or if an opening of which
 // bytes were dropped ends there. There is memory for fewer lines than 2^64.
 fn fault_behind(lines: u64, dropped: u64, end: ReadEnd) -> Result<Option<FaultyLine>, ReplayError>
     ensures fault { IfOk result (IsFaultBehind lines dropped end) }
-    ensures failed { IfErr result (λ e. (e ≡ error.OutOfMemory)
+    ensures failed { IfErr result (λ e. ((e ≡ error.OutOfMemory) × (end ≢ ends.Read))
         ⊎ ((e ≡ error.Read) × (end ≡ ends.Read))) }
 {
     let fault = match end {
@@ -113,9 +124,10 @@ fn list_numbered<W: Write + Drop>(
     requires { has_failed writer.old ≡ false }
     ensures written { OnOk result (Appends (W.contents (inner_of writer.old))
         (W.contents (inner_of writer.new)) (numbered_listing listing guardian.now)) }
+    ensures fine { OnOk result (has_failed writer.new ≡ false) }
     ensures cut { OnErr result ((n : ℕ) × Appends (W.contents (inner_of writer.old))
         (W.contents (inner_of writer.new)) (take n (numbered_listing listing guardian.now))) }
-    ensures failed { IfErr result (λ e. e ≡ list_error.Write → has_failed writer.new ≡ true) }
+    ensures failed { IfErr result (λ e. (e ≡ list_error.Write) ↔ (has_failed writer.new ≡ true)) }
 {
     let names = numbered_names(heap, guardian)?;
     write_listing(heap, guardian, names.as_slice(), listing, writer)

@@ -41,6 +41,8 @@ use std::thread::Threads;
 /// | `Read` | a read failed; it isn't tried again | nothing |
 /// | `Write` | a write failed, or accepted nothing; it isn't tried again | its front |
 ///
+/// The reader has failed exactly at `Read`, and the writer exactly at `Write`.
+///
 /// Condition: neither the reader nor the writer has failed before, and the options are within their
 /// ranges. With several workers it may wait for other threads: for ever if two arms wait for each
 /// other.

@@ -3,6 +3,7 @@ pub use Rattle.argus_language.specs.FaultyLines
 pub use Rattle.argus_language.specs.Laws as LanguageLaws
 pub use Rattle.argus_language.specs.Lines
 pub use Rattle.argus_language.specs.OpeningLines
+pub use Rattle.argus_language.specs.Parsed
 pub use Rattle.argus_language.specs.PlainStep
 pub use Rattle.argus_language.specs.Script
 pub use Rattle.argus_runs.specs.Laws as RunLaws

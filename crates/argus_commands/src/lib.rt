@@ -17,5 +17,5 @@ pub use argus_run_check::{
     ArmOutcome, Ended, RunReport, check_run, checked_runs_are_runs, has_risen, report_of,
 };
 pub use argus_runs::{RunFault, plays_tell, run_serial, run_without_output, runs_end};
-pub use argus_streams::{FailStop, InputError, read_up_to, write_whole};
+pub use argus_streams::{FailStop, InputError, NotWritten, read_up_to, write_whole};
 pub use argus_workers::{Gate, NoGate, run_shared};

@@ -1,5 +1,5 @@
 -- Lines of the journal, one after another.
-use Rattle.std.proofs.Common.{List, String, [], ap, append-nil, arith, cond, inl, inr, length, map, refl, rules, string_bytes, subst, sym, take, ℕ, ◌++◌, ◌+◌}
+use Rattle.std.proofs.Common.{List, String, [], ap, append-nil, arith, cond, drop, inl, inr, length, map, refl, rules, string_bytes, subst, sym, take, ℕ, ◌++◌, ◌+◌}
 use Rattle.std.proofs.Common.{◌-◌, ◌<◌, ◌∙◌, ◌∷◌, ◌≡◌, ◌≢◌, ◌≤◌, ◌⊎◌}
 use Rattle.std.specs.List.{flat_map, range_with_len}
 use Rattle.std.specs.String.{string_len}
@@ -95,10 +95,9 @@ lines_put journal from next most f old new bytes size is room fitting some part 
     record {
       there = omega (arith, all, is);
       fit = omega (arith, long, within, room);
-      front = subst (λ (b : List ℕ). take (length b) new ≡ b) same (put.0 (omega (arith, count, long, within, room)));
+      put = subst (λ (b : List ℕ). new ≡ b ++ drop (length b) old) same (put.0 (omega (arith, count, long, within, room)));
       most = λ less. let past = rest.1 (omega (arith, less, is)) in omega (arith, past, room);
       size = sized ∙ count ∙ sym (ap (λ b. cond b (length (line_at journal from)) (length lines)) (ne_eqb f.count 0 some));
-      none = λ zero. absurd (some zero);
     }
 
 -- how many bytes a text has

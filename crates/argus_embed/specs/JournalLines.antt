@@ -1,7 +1,7 @@
 -- Whole lines of the journal, as many as fit into a room.
 use Rattle.std.specs.List.{flat_map, range_with_len}
 use Rattle.std.specs.Option.{option_map}
-use Rattle.std.specs.Prelude.{List, if◌then◌else◌, length, take, ℕ, ◌+◌, ◌<◌, ◌==◌, ◌≡◌, ◌≤◌, ◌⊎◌}
+use Rattle.std.specs.Prelude.{List, drop, if◌then◌else◌, length, ℕ, ◌+◌, ◌++◌, ◌<◌, ◌==◌, ◌≡◌, ◌≤◌, ◌⊎◌}
 use Rattle.argus_journal.specs.EntrySpelling.{entry_spelling}
 use Rattle.argus_journal.specs.Folding.{next_entry_number}
 use Rattle.argus_journal.specs.Journal.{entry_at}
@@ -33,21 +33,20 @@ abbrev pub lines_size : JournalView → ℕ → ℕ → ℕ
 lines_size journal from count =
     if count == 0 then length (line_at journal from) else length (lines_from journal from count)
 
--- this many whole lines are at the front of the room, and with the next one, if there is one, they
--- would be longer than it
+-- this many whole lines are at the front of the room, whose rest is as it was, and with the next one, if
+-- there is one, they would be longer than it
 pub record AreLines (journal : JournalView) (from : ℕ) (old new : List ℕ) (lines : Lines)
     : Type 0 where
   -- there are this many entries
   pub there : from + lines.count ≤ next_of journal
   pub fit : length (lines_from journal from lines.count) ≤ length old
-  pub front : take (length (lines_from journal from lines.count)) new
-      ≡ lines_from journal from lines.count
+  -- if there are none, the room is unchanged
+  pub put : new ≡ lines_from journal from lines.count
+      ++ drop (length (lines_from journal from lines.count)) old
   -- one more, if there is one, doesn't fit
   pub most : from + lines.count < next_of journal
       → length old < length (lines_from journal from (lines.count + 1))
   pub size : lines.size ≡ lines_size journal from lines.count
-  -- a room that takes none is unchanged
-  pub none : lines.count ≡ 0 → new ≡ old
 
 -- this many lines fit: all up to the next entry; or all but the last of those that were made
 abbrev pub IsFitting : JournalView → ℕ → ℕ → ℕ → Fitting → Type 0

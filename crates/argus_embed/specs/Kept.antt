@@ -1,5 +1,5 @@
 -- The text that is kept.
-use Rattle.std.specs.Prelude.{Bool, List, None, Option, Some, false, length, map, take, true, ℕ, ◌++◌, ◌<◌, ◌≡◌, ◌≤◌}
+use Rattle.std.specs.Prelude.{Bool, List, None, Option, Some, drop, false, length, map, true, ℕ, ◌++◌, ◌<◌, ◌≡◌, ◌≤◌}
 use Rattle.argus_journal.specs.EntrySpelling.{reply_spelling}
 use Rattle.argus_journal.specs.Reply.{plain_reply}
 use Rattle.argus_embed.specs.Embedded.{reply_lines, reply_text}
@@ -15,10 +15,10 @@ kept_text (kept.Replies replies) = Some (reply_lines (map plain_reply replies.it
 kept_text (kept.Text text) = Some text.items
 kept_text (kept.Given reply) = Some (reply_spelling (plain_reply reply))
 
--- the bytes are at the front of the room if they fit; otherwise the room is unchanged
+-- the bytes are at the front of the room, and the rest of the room is as it was; if they don't fit, all of it is
 abbrev pub IsPut : List ℕ → List ℕ → List ℕ → Type 0
 IsPut bytes old new =
-    (length bytes ≤ length old → take (length bytes) new ≡ bytes)
+    (length bytes ≤ length old → new ≡ bytes ++ drop (length bytes) old)
     × (length old < length bytes → new ≡ old)
 
 -- the size of the text, which is put into the room if there is one

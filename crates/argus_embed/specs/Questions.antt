@@ -2,7 +2,7 @@
 use Rattle.std.specs.Fmt.{decimal}
 use Rattle.std.specs.List.{flat_map, range_with_len}
 use Rattle.std.specs.Option.{option_map}
-use Rattle.std.specs.Prelude.{List, None, Option, Some, [], codes, map, pos, true, ℕ, ◌++◌, ◌∷◌, ◌≡◌}
+use Rattle.std.specs.Prelude.{List, None, Option, Some, [], codes, map, pos, true, ℕ, ◌++◌, ◌∷◌, ◌≡◌, ◌≢◌}
 use Rattle.std.specs.Prelude.{◌≤◌}
 use Rattle.argus_actions.specs.declared.status.Status.{Status}
 use Rattle.argus_values.specs.Content.{PlainContent}
@@ -175,28 +175,11 @@ HasNothing journal (question.Status a) = status_in journal a.0 ≡ None
 HasNothing journal (question.Live from) = NoneLiveFrom journal from
 HasNothing journal question.FirstEntry = ⊥
 
--- a text answers it, if what it asks about is there
-abbrev pub AsksText : Question → Type 0
-AsksText (question.CanRead a o) = ⊥
-AsksText (question.CanWrite a o) = ⊥
-AsksText question.Objects = ⊥
-AsksText question.Actions = ⊥
-AsksText question.Entries = ⊥
-AsksText (question.Base o) = Unit {0}
-AsksText (question.Readers o) = Unit {0}
-AsksText (question.Versions o) = Unit {0}
-AsksText (question.Entry at) = Unit {0}
-AsksText (question.List listing) = Unit {0}
-AsksText (question.Shape o) = Unit {0}
-AsksText (question.Status a) = ⊥
-AsksText (question.Live from) = ⊥
-AsksText question.FirstEntry = ⊥
-
--- why there is no answer: what it asks about isn't there; or it asks for a text, and there is no memory
--- for one
+-- why there is no answer: what it asks about isn't there; or there is a text to answer it, and no memory
+-- for the text
 abbrev pub IsUnanswered : JournalView → Question → EmbedError → Type 0
 IsUnanswered journal question error.NotThere = HasNothing journal question
-IsUnanswered journal question error.OutOfMemory = AsksText question
+IsUnanswered journal question error.OutOfMemory = text_to journal question ≢ None
 IsUnanswered journal question (error.BadText at) = ⊥
 IsUnanswered journal question error.BadShape = ⊥
 IsUnanswered journal question error.BadNumber = ⊥

@@ -28,7 +28,7 @@ impl Embedded {
     ///
     /// `NotThere` if the object isn't declared, the journal doesn't have the entry, the action
     /// wasn't begun, or no action from that number on is live. `OutOfMemory` comes only in place of
-    /// a text. After an error nothing has changed, and what was kept stays.
+    /// a text that there is. After an error nothing has changed, and what was kept stays.
     pub fn answer_question(&mut self, question: Question) -> Result<Outcome, EmbedError>
         ensures told { IfOk result (λ outcome. IsAnswerTo question self.old self.new outcome) }
         ensures untold { IfErr result (λ e. IsUnanswered self.old.journal question e) }

@@ -7,7 +7,8 @@ use crate::codes::as_number;
 use argus_values::OutOfMemory;
 use thiserror::Error;
 
-/// Why no call was made, or no question answered. Nothing has changed.
+/// Why no call was made, or no question answered. Nothing has changed, except that `abort_live` keeps
+/// the aborts that it has made.
 ///
 /// ```text
 /// match bank.call(&request, "[1,]") {

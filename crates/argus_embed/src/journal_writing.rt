@@ -1,7 +1,7 @@
 //! An entry's line, and the listings, as texts.
 
 ghost use Rattle.std.specs.Option.{option_map};
-ghost use Rattle.std.specs.Prelude.{IfOk, ◌≡◌};
+ghost use Rattle.std.specs.Prelude.{IfOk, None, OnErr, ◌≡◌, ◌≢◌};
 ghost use Rattle.argus_embed.specs.Questions.{object_name, object_names};
 ghost use Rattle.argus_journal.specs.EntrySpelling.{entry_spelling};
 ghost use Rattle.argus_journal.specs.Journal.{entry_at};
@@ -19,9 +19,11 @@ pub(crate) fn entry_text(
     guardian: &Guardian,
     at: u64,
 ) -> Result<Option<Vec<u8, Room>>, OutOfMemory>
-    ensures { IfOk result (λ told. option_map (λ t. t.items) told
+    ensures text { IfOk result (λ told. option_map (λ t. t.items) told
         ≡ option_map (entry_spelling at)
         (entry_at guardian.now.opening guardian.now.entries at)) }
+    ensures there { OnErr result (option_map (entry_spelling at)
+        (entry_at guardian.now.opening guardian.now.entries at) ≢ None) }
 {
     let Some(entry) = guardian.journal().journal().get(at) else {
         return Ok(None);

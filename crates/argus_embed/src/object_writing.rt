@@ -2,7 +2,7 @@
 
 ghost use Rattle.std.specs.Fmt.{decimal};
 ghost use Rattle.std.specs.Option.{option_map};
-ghost use Rattle.std.specs.Prelude.{IfOk, OnOk, map, string_bytes, ◌++◌, ◌≡◌};
+ghost use Rattle.std.specs.Prelude.{IfOk, None, OnErr, OnOk, map, string_bytes, ◌++◌, ◌≡◌, ◌≢◌};
 ghost use Rattle.argus_values.specs.Content.{plain_option};
 ghost use Rattle.argus_values.specs.ShapeSpelling.{shape_spelling};
 ghost use Rattle.argus_embed.specs.Questions.{action_line, action_lines, seen_line, seen_lines};
@@ -22,9 +22,11 @@ pub(crate) fn base_text(
     guardian: &Guardian,
     o: ObjId,
 ) -> Result<Option<Vec<u8, Room>>, OutOfMemory>
-    ensures { IfOk result (λ told. option_map (λ t. t.items) told
+    ensures text { IfOk result (λ told. option_map (λ t. t.items) told
         ≡ option_map content_text (where_declared guardian.now o.0
         (base_of guardian.now.opening guardian.now.entries o.0))) }
+    ensures there { OnErr result (option_map content_text (where_declared guardian.now o.0
+        (base_of guardian.now.opening guardian.now.entries o.0)) ≢ None) }
 {
     let Some(content) = guardian.base(o) else {
         return Ok(None);
@@ -40,9 +42,11 @@ pub(crate) fn shape_text(
     guardian: &Guardian,
     o: ObjId,
 ) -> Result<Option<Vec<u8, Room>>, OutOfMemory>
-    ensures { IfOk result (λ told. option_map (λ t. t.items) told
+    ensures text { IfOk result (λ told. option_map (λ t. t.items) told
         ≡ option_map shape_spelling
         (shape_of guardian.now.opening guardian.now.entries o.0)) }
+    ensures there { OnErr result (option_map shape_spelling
+        (shape_of guardian.now.opening guardian.now.entries o.0) ≢ None) }
 {
     let Some(shape) = guardian.shape(o) else {
         return Ok(None);
@@ -58,9 +62,11 @@ pub(crate) fn readers_text(
     guardian: &Guardian,
     o: ObjId,
 ) -> Result<Option<Vec<u8, Room>>, OutOfMemory>
-    ensures { IfOk result (λ told. option_map (λ t. t.items) told
+    ensures text { IfOk result (λ told. option_map (λ t. t.items) told
         ≡ option_map action_lines (where_declared guardian.now o.0
         (readers_of guardian.now.opening guardian.now.entries o.0))) }
+    ensures there { OnErr result (option_map action_lines (where_declared guardian.now o.0
+        (readers_of guardian.now.opening guardian.now.entries o.0)) ≢ None) }
 {
     let Some(readers) = guardian.holders(o) else {
         return Ok(None);
@@ -76,9 +82,11 @@ pub(crate) fn versions_text(
     guardian: &Guardian,
     o: ObjId,
 ) -> Result<Option<Vec<u8, Room>>, OutOfMemory>
-    ensures { IfOk result (λ told. option_map (λ t. t.items) told
+    ensures text { IfOk result (λ told. option_map (λ t. t.items) told
         ≡ option_map seen_lines (where_declared guardian.now o.0
         (versions_of guardian.now.opening guardian.now.entries o.0))) }
+    ensures there { OnErr result (option_map seen_lines (where_declared guardian.now o.0
+        (versions_of guardian.now.opening guardian.now.entries o.0)) ≢ None) }
 {
     let Some(versions) = guardian.versions(o) else {
         return Ok(None);

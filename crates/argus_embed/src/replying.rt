@@ -1,7 +1,8 @@
 //! The text that is kept, as the host gets it.
 
 ghost use Rattle.std.specs.Option.{option_map};
-ghost use Rattle.std.specs.Prelude.{IfOk, OnErr, OnOk, length, map, string_bytes, ◌++◌, ◌≡◌};
+ghost use Rattle.std.specs.Prelude.{IfOk, None, OnErr, OnOk, length, map, string_bytes, ◌++◌};
+ghost use Rattle.std.specs.Prelude.{◌≡◌, ◌≢◌};
 ghost use Rattle.argus_values.specs.Answer.{plain_answer};
 ghost use Rattle.argus_embed.specs.Kept.{IsAppended, IsCopied, IsPut};
 ghost use Rattle.argus_values.specs.Value.{plain_value};
@@ -21,10 +22,13 @@ impl Embedded {
     /// none, or before the first one. For a list of calls it is a line for each reply that has a
     /// text, in their order; if `resume` ended at `NotTheReply`, the journal's reply as its line
     /// has it. It can be read again as long as it is kept.
+    ///
+    /// `OutOfMemory`: there is a text, and no memory to make it.
     pub fn reply(&self, room: &mut [u8]) -> Result<Option<usize>, OutOfMemory>
         ensures copied { IfOk result (λ size. IsCopied self.now.text size room.old room.new) }
         ensures room { length room.new ≡ length room.old }
         ensures err { OnErr result (room.new ≡ room.old) }
+        ensures there { OnErr result (self.now.text ≢ None) }
     {
         match &self.kept {
             Kept::Nothing => Ok(None),
@@ -47,8 +51,9 @@ impl Embedded {
 
 /// The text that belongs to the reply, if any.
 fn reply_bytes(heap: Heap, reply: &Reply) -> Result<Option<Vec<u8, Room>>, OutOfMemory>
-    ensures { IfOk result (λ bytes. option_map (λ b. b.items) bytes
+    ensures text { IfOk result (λ bytes. option_map (λ b. b.items) bytes
         ≡ reply_text (plain_reply reply.now)) }
+    ensures there { OnErr result (reply_text (plain_reply reply.now) ≢ None) }
 {
     let mut text = String::new(heap.room());
     if append_text(reply, &mut text)? {
@@ -90,8 +95,9 @@ fn append_line(reply: &Reply, text: &mut String<Room>) -> Result<(), OutOfMemory
 
 /// Appends the text that belongs to the reply; false if there is none.
 fn append_text(reply: &Reply, text: &mut String<Room>) -> Result<bool, OutOfMemory>
-    ensures { IfOk result (λ is_there. IsAppended (reply_text (plain_reply reply.now)) is_there
-        (string_bytes text.old) (string_bytes text.new)) }
+    ensures appended { IfOk result (λ is_there. IsAppended (reply_text (plain_reply reply.now))
+        is_there (string_bytes text.old) (string_bytes text.new)) }
+    ensures there { OnErr result (reply_text (plain_reply reply.now) ≢ None) }
 {
     match reply {
         Reply::Answered(answer) => append_answer(answer, text),
@@ -101,8 +107,9 @@ fn append_text(reply: &Reply, text: &mut String<Room>) -> Result<bool, OutOfMemo
 
 /// Appends the written form of an answer that is a content, or a value that isn't a number.
 fn append_answer(answer: &Answer, text: &mut String<Room>) -> Result<bool, OutOfMemory>
-    ensures { IfOk result (λ is_there. IsAppended (answer_text (plain_answer answer.now)) is_there
-        (string_bytes text.old) (string_bytes text.new)) }
+    ensures appended { IfOk result (λ is_there. IsAppended (answer_text (plain_answer answer.now))
+        is_there (string_bytes text.old) (string_bytes text.new)) }
+    ensures there { OnErr result (answer_text (plain_answer answer.now) ≢ None) }
 {
     match answer {
         Answer::Val(value) => append_value(value, text),
@@ -115,8 +122,9 @@ fn append_answer(answer: &Answer, text: &mut String<Room>) -> Result<bool, OutOf
 }
 
 fn append_value(value: &Value, text: &mut String<Room>) -> Result<bool, OutOfMemory>
-    ensures { IfOk result (λ is_there. IsAppended (value_text (plain_value value.now)) is_there
-        (string_bytes text.old) (string_bytes text.new)) }
+    ensures appended { IfOk result (λ is_there. IsAppended (value_text (plain_value value.now))
+        is_there (string_bytes text.old) (string_bytes text.new)) }
+    ensures there { OnErr result (value_text (plain_value value.now) ≢ None) }
 {
     match value {
         Value::Bool(_) | Value::Int(_) => return Ok(false),

@@ -1,6 +1,6 @@
 //! `Life`: the entries between which an action is live.
 
-ghost use Rattle.std.specs.Prelude.{IfNone, IfSome, ◌≡◌, ◌≤◌};
+ghost use Rattle.std.specs.Prelude.{IfNone, IfSome, max, min, ◌<◌, ◌≡◌, ◌≤◌};
 
 /// The entries between which an action is live, from the one at which it began to the one at which
 /// it ended.
@@ -29,18 +29,24 @@ pub fn life_of(begin: u32, end: Option<u32>, last: u32) -> Life
     }
 }
 
-/// The part of a life that lies within another life; all of it if it lies within it entirely.
+/// The part of a life that lies within another life: from the later begin to the earlier end. If
+/// they have no entry in common, it is a single entry, the one of the outer life that is nearest.
 ///
 /// Condition: the outer life doesn't end before it begins.
+///
+/// ```text
+/// assert!(rt; life_within(Life { begin: 2, end: 9 }, Life { begin: 4, end: 6 }).end == 6);
+/// ```
 pub fn life_within(life: Life, outer: Life) -> Life
     requires { outer.begin ≤ outer.end }
     ensures begins { outer.begin ≤ result.begin }
     ensures ordered { result.begin ≤ result.end }
     ensures ends { result.end ≤ outer.end }
-    ensures same_begin { outer.begin ≤ life.begin → life.begin ≤ outer.end
-        → result.begin ≡ life.begin }
-    ensures same_end { outer.begin ≤ life.begin → life.begin ≤ life.end → life.end ≤ outer.end
-        → result.end ≡ life.end }
+    ensures begin { life.begin ≤ outer.end → result.begin ≡ max life.begin outer.begin }
+    ensures end { life.begin ≤ life.end → outer.begin ≤ life.end
+        → result.end ≡ min life.end outer.end }
+    ensures before { life.begin ≤ life.end → life.end < outer.begin → result.end ≡ outer.begin }
+    ensures behind { outer.end < life.begin → result.begin ≡ outer.end }
 {
     let begin = life.begin.max(outer.begin).min(outer.end);
     let end = life.end.max(begin).min(outer.end);

@@ -1,9 +1,9 @@
-//! `ListingFault`: the first faulty line of a listing.
+//! `ListingFault`: the first line of a listing that is refused.
 
 use crate::listing_fault_kind::ListingFaultKind;
 use thiserror::Error;
 
-/// The first faulty line of a listing, with its number from 1 on, and why it is refused.
+/// The first line of a listing that is refused, with its number from 1 on, and why.
 ///
 /// ```text
 /// line 3: NotNext

@@ -7,14 +7,16 @@ use thiserror::Error;
 /// | Kind | When |
 /// |---|---|
 /// | `TooLong` | a limit of [`limits`](crate::limits) is passed, at this line |
+/// | | its first word is `enter`, `coenter` or `if` while 128 blocks are open |
+/// | | its first word is `declare` while 65,535 objects are declared |
 /// | `BadWord` | not UTF-8 or not a command; too few or too many words; a bad name or int |
 /// | `Misplaced` | the line isn't allowed there |
 /// | `NameTwice` | the object is declared already |
-/// | `UnknownName` | no such object is declared, or it has no such field or tag |
+/// | `UnknownName` | no such object is declared |
+/// | | the record has no such field, or the variant no such tag |
 /// | `BadType` | the shape isn't a written form, or the access doesn't suit the object's kind |
 /// | `BadValue` | the value or the content isn't a written form |
-/// | `Unclosed` | no line is faulty, and blocks are open at the end; the line opened the innermost
-/// |
+/// | `Unclosed` | no line is faulty; this one opened the innermost block that is open at the end |
 ///
 /// ```text
 /// fault.kind == FaultKind::Misplaced          // `end` where no block is open

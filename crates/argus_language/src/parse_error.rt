@@ -3,8 +3,8 @@
 use crate::script_fault::ScriptFault;
 use thiserror::Error;
 
-/// Why there is no script: the first fault of its lines, or `OutOfMemory`, which may come in place
-/// of any other result.
+/// Why there is no script: the first fault of its lines, or `Memory`, which may come in place of
+/// any other result.
 ///
 /// ```text
 /// match parse(heap, b"foo") {

@@ -1,6 +1,6 @@
 //! A text that is written out and emptied whenever it has grown long.
 
-ghost use Rattle.std.specs.Prelude.{[], ◌≡◌, IfErr, OnErr, OnOk, false, string_bytes, true};
+ghost use Rattle.std.specs.Prelude.{[], ◌≡◌, ◌↔◌, IfErr, OnErr, OnOk, false, string_bytes, true};
 ghost use Rattle.argus_listings.specs.Flushing.{Added, Cut};
 ghost use Rattle.argus_listings.specs.declared.list_error.ListError.TheVariants.{Write};
 ghost use Rattle.argus_streams.specs.FailStop.{has_failed, inner_of};
@@ -24,7 +24,7 @@ pub(crate) fn flush_long<W: Write + Drop>(
     ensures fine { OnOk result (has_failed writer.new ≡ false) }
     ensures cut { OnErr result (Cut (W.contents (inner_of writer.old)) (string_bytes text.old)
         (W.contents (inner_of writer.new)) []) }
-    ensures failed { IfErr result (λ e. e ≡ Write → has_failed writer.new ≡ true) }
+    ensures failed { IfErr result (λ e. (e ≡ Write) ↔ (has_failed writer.new ≡ true)) }
 {
     if text.len() < LONG {
         return Ok(());
@@ -44,7 +44,7 @@ pub(crate) fn flush<W: Write + Drop>(
     ensures fine { OnOk result (has_failed writer.new ≡ false) }
     ensures cut { OnErr result (Cut (W.contents (inner_of writer.old)) (string_bytes text.old)
         (W.contents (inner_of writer.new)) []) }
-    ensures failed { IfErr result (λ e. e ≡ Write → has_failed writer.new ≡ true) }
+    ensures failed { IfErr result (λ e. (e ≡ Write) ↔ (has_failed writer.new ≡ true)) }
 {
     match write_whole(writer, text.as_bytes()) {
         Ok(()) => {

@@ -1,7 +1,7 @@
 //! The lines of a journal: of its opening, and of its entries.
 
 ghost use Rattle.std.specs.Prelude.{IfErr, OnErr, OnOk, false, length, string_bytes, true, ◌++◌};
-ghost use Rattle.std.specs.Prelude.{◌≡◌, ◌≤◌};
+ghost use Rattle.std.specs.Prelude.{◌≡◌, ◌≤◌, ◌↔◌};
 ghost use Rattle.argus_contents.specs.Content.{plain_option};
 ghost use Rattle.argus_contents.specs.declared.limits.TheConstants.{MAX_OBJECTS};
 ghost use Rattle.argus_entries.specs.Entry.{plain_entry};
@@ -37,7 +37,7 @@ pub(crate) fn write_opening<W: Write + Drop>(
     ensures fine { OnOk result (has_failed writer.new ≡ false) }
     ensures cut { OnErr result (Cut (W.contents (inner_of writer.old)) (string_bytes text.old)
         (W.contents (inner_of writer.new)) (opening_text (opening_of journal.now))) }
-    ensures failed { IfErr result (λ e. e ≡ Write → has_failed writer.new ≡ true) }
+    ensures failed { IfErr result (λ e. (e ≡ Write) ↔ (has_failed writer.new ≡ true)) }
 {
     if journal.first_entry() == 0 {
         return Ok(());
@@ -70,7 +70,7 @@ fn write_opened<W: Write + Drop>(
     ensures cut { OnErr result (Cut (W.contents (inner_of writer.old)) (string_bytes text.old)
         (W.contents (inner_of writer.new))
         (each_from opened_line 0 (opening_of journal.now).objects)) }
-    ensures failed { IfErr result (λ e. e ≡ Write → has_failed writer.new ≡ true) }
+    ensures failed { IfErr result (λ e. (e ≡ Write) ↔ (has_failed writer.new ≡ true)) }
 {
     let mut o = 0;
     while let Some((shape, content)) = journal.opening(ObjId(o)) {
@@ -112,7 +112,7 @@ pub(crate) fn write_entries<W: Write + Drop>(
     ensures cut { OnErr result (Cut (W.contents (inner_of writer.old)) (string_bytes text.old)
         (W.contents (inner_of writer.new))
         (entries_text (opening_of journal.now) (entries_of journal.now))) }
-    ensures failed { IfErr result (λ e. e ≡ Write → has_failed writer.new ≡ true) }
+    ensures failed { IfErr result (λ e. (e ≡ Write) ↔ (has_failed writer.new ≡ true)) }
 {
     for at in journal.first_entry()..journal.len() {
         let Some(entry) = journal.get(at) else {

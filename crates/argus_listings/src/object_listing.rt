@@ -1,7 +1,7 @@
 //! The lines of objects, in the order of their numbers.
 
 ghost use Rattle.std.specs.Prelude.{◌≡◌, ◌<◌, ◌^◌, ◌++◌, IfErr, OnErr, OnOk, false, length};
-ghost use Rattle.std.specs.Prelude.{string_bytes, true};
+ghost use Rattle.std.specs.Prelude.{string_bytes, true, ◌↔◌};
 ghost use Rattle.argus_journal.specs.Objects.{declared};
 ghost use Rattle.argus_listings.specs.Listing.{names_within, object_text, objects_text};
 ghost use Rattle.argus_listings.specs.Flushing.{Added, Cut};
@@ -35,7 +35,7 @@ pub(crate) fn write_objects<W: Write + Drop>(
     ensures fine { OnOk result (has_failed writer.new ≡ false) }
     ensures cut { OnErr result (Cut (W.contents (inner_of writer.old)) (string_bytes text.old)
         (W.contents (inner_of writer.new)) (objects_text listing names.now guardian.now)) }
-    ensures failed { IfErr result (λ e. e ≡ Write → has_failed writer.new ≡ true) }
+    ensures failed { IfErr result (λ e. (e ≡ Write) ↔ (has_failed writer.new ≡ true)) }
 {
     let mut o = 0;
     for name in declared_names(guardian, names) {

@@ -1,7 +1,8 @@
 //! `write_listing`: a listing of a guardian, written.
 
 ghost use Rattle.std.specs.Io.KnownBytes.{Appends};
-ghost use Rattle.std.specs.Prelude.{IfErr, OnErr, OnOk, false, string_bytes, take, true, ℕ, ◌≡◌};
+ghost use Rattle.std.specs.Prelude.{IfErr, OnErr, OnOk, false, string_bytes, take, true, ℕ};
+ghost use Rattle.std.specs.Prelude.{◌↔◌, ◌≡◌};
 ghost use Rattle.argus_listings.specs.Listing.{listing_of};
 ghost use Rattle.argus_listings.specs.Flushing.{Added, Cut};
 ghost use Rattle.argus_listings.specs.declared.list_error.ListError.TheVariants.{Write};
@@ -48,9 +49,10 @@ pub fn write_listing<W: Write + Drop>(
     requires { has_failed writer.old ≡ false }
     ensures written { OnOk result (Appends (W.contents (inner_of writer.old))
         (W.contents (inner_of writer.new)) (listing_of listing names.now guardian.now)) }
+    ensures fine { OnOk result (has_failed writer.new ≡ false) }
     ensures cut { OnErr result ((n : ℕ) × Appends (W.contents (inner_of writer.old))
         (W.contents (inner_of writer.new)) (take n (listing_of listing names.now guardian.now))) }
-    ensures failed { IfErr result (λ e. e ≡ Write → has_failed writer.new ≡ true) }
+    ensures failed { IfErr result (λ e. (e ≡ Write) ↔ (has_failed writer.new ≡ true)) }
 {
     let mut text = String::new(heap.room());
     write_lines(heap, guardian, names, listing, &mut text, writer)?;
@@ -73,7 +75,7 @@ fn write_lines<W: Write + Drop>(
     ensures fine { OnOk result (has_failed writer.new ≡ false) }
     ensures cut { OnErr result (Cut (W.contents (inner_of writer.old)) (string_bytes text.old)
         (W.contents (inner_of writer.new)) (listing_of listing names.now guardian.now)) }
-    ensures failed { IfErr result (λ e. e ≡ Write → has_failed writer.new ≡ true) }
+    ensures failed { IfErr result (λ e. (e ≡ Write) ↔ (has_failed writer.new ≡ true)) }
 {
     match listing {
         Listing::Bases | Listing::Stacks => {

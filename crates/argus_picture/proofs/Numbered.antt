@@ -17,15 +17,17 @@ entered (Ok x) at next line room numbered first entries =
     record { room = room; numbered = numbered; first = first; entries = entries }
 entered (Err e) at next line room numbered first entries = tt
 
-says_of_next : (e : LineError) (at : Place) (line : List ℕ) → IsNumbered (at.first + at.entries) line
+says_of_next : (e : LineError) (at : Place) (line : List ℕ) → at.entries < MAX_ENTRIES
+    → IsNumbered (at.first + at.entries) line
     → (e ≡ line_error.OutOfMemory) ⊎ (e ≡ line_error.Fault kind.Unlawful) → SaysOfLine e at line
-says_of_next e at line numbered (inl is) = subst (λ x. SaysOfLine x at line) (sym is) tt
-says_of_next e at line numbered (inr is) = subst (λ x. SaysOfLine x at line) (sym is) numbered
+says_of_next e at line room numbered (inl is) = subst (λ x. SaysOfLine x at line) (sym is) tt
+says_of_next e at line room numbered (inr is) = subst (λ x. SaysOfLine x at line) (sym is) (room, numbered)
 
 -- the next entry's line was refused: memory ran out, or no guardian gives this reply
-pub refused : (r : Result (Unit {0}) LineError) (at : Place) (line : List ℕ) → IsNumbered (at.first + at.entries) line
+pub refused : (r : Result (Unit {0}) LineError) (at : Place) (line : List ℕ) → at.entries < MAX_ENTRIES
+    → IsNumbered (at.first + at.entries) line
     → IfErr r (λ e. (e ≡ line_error.OutOfMemory) ⊎ (e ≡ line_error.Fault kind.Unlawful))
     → IfErr r (λ e. SaysOfLine e at line)
-refused r at line numbered says =
+refused r at line room numbered says =
     IfErr-weaker r (λ e. (e ≡ line_error.OutOfMemory) ⊎ (e ≡ line_error.Fault kind.Unlawful))
-    (λ e. SaysOfLine e at line) (λ e why. says_of_next e at line numbered why) says
+    (λ e. SaysOfLine e at line) (λ e why. says_of_next e at line room numbered why) says

@@ -11,6 +11,7 @@ use Rattle.argus_frame.specs.declared.listing_fault_kind.ListingFaultKind.TheVar
 use Rattle.argus_picture.specs.Faults.{IsFaultyLine, IsTorn, SaysOf, SaysOfLine, SaysOfListing, error_at}
 use Rattle.argus_picture.specs.declared.line_error.LineError.{LineError}
 use Rattle.argus_picture.specs.declared.line_error.LineError.TheVariants as line_error
+use Rattle.argus_picture.specs.declared.limits.TheConstants.{MAX_BYTES}
 use Rattle.argus_picture.specs.Listing.{IsListing, Leads, Place, Takes, parts, start}
 
 abbrev is_feed : ℕ → Bool
@@ -80,39 +81,54 @@ read_more at next line rest listing x more r e h = record {
   is = r.is ∙ ap (λ t. r.front ++ t) e ∙ sym (append_assoc r.front (x ∷ []) (parts more));
 }
 
-pub read_whole : (at : Place) (line : ℕ) (rest listing : List ℕ) → rest ≡ [] → ReadTo at line rest listing
-    → IsListing listing
-read_whole at line rest listing e r = record {
+pub read_whole : (at : Place) (line : ℕ) (rest listing : List ℕ) → length listing ≤ MAX_BYTES → rest ≡ []
+    → ReadTo at line rest listing → IsListing listing
+read_whole at line rest listing most e r = record {
+  most = most;
   lines = r.front;
   end = at;
   is = r.is ∙ ap (λ t. r.front ++ parts t) e;
   leads = r.leads;
 }
 
-pub read_torn : (at : Place) (line : ℕ) (rest listing : List ℕ) → 0 < length rest → parts rest ≡ rest ∷ []
-    → ReadTo at line rest listing → IsTorn listing (record { line = line; kind = kind.Torn })
-read_torn at line rest listing n e r = record {
+pub read_torn : (at : Place) (line : ℕ) (rest listing : List ℕ) → length listing ≤ MAX_BYTES → 0 < length rest
+    → parts rest ≡ rest ∷ [] → ReadTo at line rest listing
+    → IsTorn listing (record { line = line; kind = kind.Torn })
+read_torn at line rest listing most n e r = record {
   line = rest;
   place = at;
   some = λ none. omega (arith, n, ap length none);
-  at = record { front = r.front; number = r.number; leads = r.leads; is = r.is ∙ ap (λ t. r.front ++ t) e };
+  at = record {
+    most = most;
+    front = r.front;
+    number = r.number;
+    leads = r.leads;
+    is = r.is ∙ ap (λ t. r.front ++ t) e;
+  };
   is = refl;
 }
 
 read_faulty : (at : Place) (line : ℕ) (rest listing x more : List ℕ) (of : ListingFaultKind)
-    → ReadTo at line rest listing → parts rest ≡ x ∷ parts more → SaysOf of at x
+    → length listing ≤ MAX_BYTES → ReadTo at line rest listing → parts rest ≡ x ∷ parts more → SaysOf of at x
     → IsFaultyLine listing (record { line = line; kind = of })
-read_faulty at line rest listing x more of r e says = record {
+read_faulty at line rest listing x more of most r e says = record {
   line = x;
   place = at;
   behind = parts more;
   whole = some_parts more;
-  at = record { front = r.front; number = r.number; leads = r.leads; is = r.is ∙ ap (λ t. r.front ++ t) e };
+  at = record {
+    most = most;
+    front = r.front;
+    number = r.number;
+    leads = r.leads;
+    is = r.is ∙ ap (λ t. r.front ++ t) e;
+  };
   says = says;
 }
 
-pub read_refused : (at : Place) (line : ℕ) (rest listing x more : List ℕ) (e : LineError) → ReadTo at line rest listing
-    → parts rest ≡ x ∷ parts more → SaysOfLine e at x → SaysOfListing (error_at line e) listing
-read_refused at line rest listing x more line_error.OutOfMemory r e says = tt
-read_refused at line rest listing x more (line_error.Fault of) r e says =
-    inr (inr (read_faulty at line rest listing x more of r e says))
+pub read_refused : (at : Place) (line : ℕ) (rest listing x more : List ℕ) (e : LineError)
+    → length listing ≤ MAX_BYTES → ReadTo at line rest listing → parts rest ≡ x ∷ parts more → SaysOfLine e at x
+    → SaysOfListing (error_at line e) listing
+read_refused at line rest listing x more line_error.OutOfMemory most r e says = tt
+read_refused at line rest listing x more (line_error.Fault of) most r e says =
+    inr (inr (read_faulty at line rest listing x more of most r e says))

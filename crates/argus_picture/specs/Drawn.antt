@@ -21,16 +21,10 @@ pub record IsFaultRead (had has : Option (List ℕ)) (fault : ListingFault) : Ty
   pub read : ReadUpTo (MAX_BYTES + 1) had has bytes
   pub says : SaysOfListing (error.Fault fault) bytes
 
--- what an error says about the bytes that were read; only `Fault` says anything about them
+-- what an error says about the bytes that were read: after `Fault` they have this fault, and after
+-- `Write` they are a listing, since only then something is written
 abbrev pub RefusesListing : Option (List ℕ) → Option (List ℕ) → DrawError → Type 0
 RefusesListing had has (draw_error.Fault fault) = IsFaultRead had has fault
 RefusesListing had has draw_error.OutOfMemory = Unit {0}
 RefusesListing had has draw_error.Read = Unit {0}
-RefusesListing had has draw_error.Write = Unit {0}
-
--- the error may come from reading alone: a read failed, or there was no memory for the bytes
-abbrev pub IsOfReading : DrawError → Type 0
-IsOfReading (draw_error.Fault fault) = ⊥
-IsOfReading draw_error.OutOfMemory = Unit {0}
-IsOfReading draw_error.Read = Unit {0}
-IsOfReading draw_error.Write = ⊥
+RefusesListing had has draw_error.Write = ReadsListing had has

@@ -33,8 +33,9 @@ SaysOf (kind.NoText b) at line = (IsUtf8 line → ⊥) × IsValidUpTo line b
 SaysOf kind.NotAnOpening at line = IsOfOpening line × IsNoOpening at line
 SaysOf (kind.NoLine b) at line =
     (IsOfOpening line → ⊥) × (IsNoLine line b ⊎ LacksShape line b)
-SaysOf kind.NotNext at line = HasOtherNumber at line
-SaysOf kind.Unlawful at line = IsNumbered (at.first + at.entries) line
+SaysOf kind.NotNext at line = (at.entries < MAX_ENTRIES) × HasOtherNumber at line
+SaysOf kind.Unlawful at line =
+    (at.entries < MAX_ENTRIES) × IsNumbered (at.first + at.entries) line
 
 -- what an error says about such a line; `OutOfMemory` says nothing
 abbrev pub SaysOfLine : LineError → Place → List ℕ → Type 0
@@ -51,17 +52,19 @@ pub record IsTooLarge (listing : List ℕ) (fault : ListingFault) : Type 0 where
   pub more : MAX_BYTES < length listing
   pub is : fault ≡ record { line = 1; kind = kind.TooLong }
 
--- the fault is at this line: the lines before it, `front`, are a listing's, which has come to this
--- place; the fault's number counts lines from 1; `behind` are the parts after the line
+-- the text isn't too long, and the fault is at this line: the lines before it, `front`, are a
+-- listing's, which has come to this place; the fault's number counts lines from 1; `behind` are the
+-- parts after the line
 pub record IsAt (fault : ListingFault) (at : Place) (line : List ℕ) (behind : List (List ℕ))
     (text : List ℕ)
     : Type 0 where
+  pub most : length text ≤ MAX_BYTES
   pub front : List (List ℕ)
   pub number : fault.line ≡ length front + 1
   pub leads : Leads start front at
   pub is : parts text ≡ front ++ line ∷ behind
 
--- after the lines of a listing come bytes without a line feed
+-- the listing isn't too long, and after its lines come bytes without a line feed
 pub record IsTorn (listing : List ℕ) (fault : ListingFault) : Type 0 where
   pub line : List ℕ
   pub place : Place
@@ -69,7 +72,7 @@ pub record IsTorn (listing : List ℕ) (fault : ListingFault) : Type 0 where
   pub at : IsAt fault place line [] listing
   pub is : fault.kind ≡ kind.Torn
 
--- the fault is at the first whole line that can't come next in the listing
+-- the listing isn't too long, and the fault is at its first whole line that can't come next
 pub record IsFaultyLine (listing : List ℕ) (fault : ListingFault) : Type 0 where
   pub line : List ℕ
   pub place : Place

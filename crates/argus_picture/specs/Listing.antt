@@ -1,7 +1,7 @@
 -- The lines of a listing that can be drawn.
 use Rattle.std.specs.List.{slice_split}
-use Rattle.std.specs.Prelude.{List, Option, [], codes, true, ℕ, ◌+◌, ◌++◌, ◌<◌, ◌==◌, ◌^◌}
-use Rattle.std.specs.Prelude.{◌∷◌, ◌≡◌, ◌⊎◌}
+use Rattle.std.specs.Prelude.{List, Option, [], codes, length, true, ℕ, ◌+◌, ◌++◌, ◌<◌, ◌==◌, ◌^◌}
+use Rattle.std.specs.Prelude.{◌∷◌, ◌≡◌, ◌≤◌, ◌⊎◌}
 use Rattle.argus_contents.specs.Content.{PlainContent}
 use Rattle.argus_contents.specs.Shape.{PlainShape}
 use Rattle.argus_contents.specs.declared.limits.TheConstants.{MAX_OBJECTS}
@@ -12,7 +12,7 @@ use Rattle.argus_reading.specs.Line.{IsReadable}
 use Rattle.argus_texts.specs.Language.{Starts}
 use Rattle.argus_texts.specs.Languages.{Word}
 use Rattle.argus_picture.specs.Fitting.{may_fit}
-use Rattle.argus_picture.specs.declared.limits.TheConstants.{MAX_ENTRIES}
+use Rattle.argus_picture.specs.declared.limits.TheConstants.{MAX_BYTES, MAX_ENTRIES}
 
 -- a text split at its line feeds: one that ends in a line feed has an empty part at the end
 abbrev pub parts : List ℕ → List (List ℕ)
@@ -86,8 +86,9 @@ abbrev pub Leads : Place → List (List ℕ) → Place → Type 0
 Leads at [] next = at ≡ next
 Leads at (line ∷ lines) next = (between : Place) × Takes at between line × Leads between lines next
 
--- the text consists of the lines of a listing, each with its line feed
+-- the text isn't too long, and consists of the lines of a listing, each with its line feed
 pub record IsListing (text : List ℕ) : Type 0 where
+  pub most : length text ≤ MAX_BYTES
   pub lines : List (List ℕ)
   pub end : Place
   pub is : parts text ≡ lines ++ [] ∷ []

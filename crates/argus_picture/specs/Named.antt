@@ -1,5 +1,5 @@
 -- What `draw_named` has read: a script and a listing, or what an error says about them.
-use Rattle.std.specs.Prelude.{List, Option, ℕ, ◌+◌, ◌≡◌}
+use Rattle.std.specs.Prelude.{List, Option, ℕ, ◌+◌, ◌≡◌, ◌≢◌}
 use Rattle.argus_frame.specs.DrawError.{draw_status}
 use Rattle.argus_frame.specs.declared.draw_error.DrawError.TheVariants as draw_error
 use Rattle.argus_language.specs.Fault.{IsFaultOf, NoFault}
@@ -7,7 +7,7 @@ use Rattle.argus_language.specs.Lines.{lines_of}
 use Rattle.argus_language.specs.Script.{PlainScript, Spells}
 use Rattle.argus_language.specs.declared.limits.TheConstants.{MAX_SCRIPT_BYTES}
 use Rattle.argus_language.specs.declared.script_fault.ScriptFault.{ScriptFault}
-use Rattle.argus_picture.specs.Drawn.{RefusesListing}
+use Rattle.argus_picture.specs.Drawn.{ReadsListing, RefusesListing}
 use Rattle.argus_picture.specs.declared.named_draw_error.NamedDrawError.{NamedDrawError}
 use Rattle.argus_picture.specs.declared.named_draw_error.NamedDrawError.TheVariants as error
 use Rattle.argus_streams.specs.Input.{ReadUpTo}
@@ -30,12 +30,13 @@ pub record IsScriptFaultRead (had has : Option (List ℕ)) (fault : ScriptFault)
 abbrev pub ReadsSomeScript : Option (List ℕ) → Option (List ℕ) → Type 0
 ReadsSomeScript had has = (script : PlainScript) × ReadsScript had has script
 
--- what an error says about the script that was read
+-- what an error says about the script that was read: the listing's errors and those of the names
+-- come only if it is one; out of memory says nothing
 abbrev pub RefusesScript : Option (List ℕ) → Option (List ℕ) → NamedDrawError → Type 0
 RefusesScript had has (error.Script fault) = IsScriptFaultRead had has fault
 RefusesScript had has (error.Names fault) = ReadsSomeScript had has
 RefusesScript had has error.ScriptRead = Unit {0}
-RefusesScript had has (error.Draw e) = Unit {0}
+RefusesScript had has (error.Draw e) = e ≢ draw_error.OutOfMemory → ReadsSomeScript had has
 
 -- the error may come from reading the script alone: a faulty line, a read that failed, or out of
 -- memory
@@ -52,10 +53,10 @@ IsAboutScript (error.Names fault) = ⊥
 IsAboutScript error.ScriptRead = Unit {0}
 IsAboutScript (error.Draw e) = ⊥
 
--- what an error says about the listing that was read
+-- what an error says about the listing that was read: the names' errors come only if it is one
 abbrev pub RefusesNamedListing : Option (List ℕ) → Option (List ℕ) → NamedDrawError → Type 0
 RefusesNamedListing had has (error.Script fault) = Unit {0}
-RefusesNamedListing had has (error.Names fault) = Unit {0}
+RefusesNamedListing had has (error.Names fault) = ReadsListing had has
 RefusesNamedListing had has error.ScriptRead = Unit {0}
 RefusesNamedListing had has (error.Draw e) = RefusesListing had has e
 

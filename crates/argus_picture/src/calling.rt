@@ -89,7 +89,7 @@ impl<'a> Run<'a> {
                 self.abort(heap, self.ending(action, answer)?, true, line)
             }
             Call::Ask(action, object, _) => {
-                self.take_lock(self.live(action)?, reading(object), line)
+                self.take_lock(self.asking(action, answer)?, reading(object), line)
             }
             Call::Alter(action, object, change) => {
                 let place = self.altering(action, answer)?;
@@ -116,6 +116,15 @@ impl<'a> Run<'a> {
     // The place of the action that ends. It must be live, and the answer must be `Done`.
     fn ending(&self, action: ActionId, answer: &Answer) -> Result<usize, CallError> {
         if *answer != Answer::Done {
+            return Err(CallError::Unlawful);
+        }
+        self.live(action)
+    }
+
+    // The place of the action that makes a query. It must be live, and the answer must be one that
+    // a query can return.
+    fn asking(&self, action: ActionId, answer: &Answer) -> Result<usize, CallError> {
+        if *answer == Answer::Done {
             return Err(CallError::Unlawful);
         }
         self.live(action)
@@ -159,7 +168,8 @@ impl<'a> Run<'a> {
         Ok(())
     }
 
-    // Applies a test of a lock. With the answer `flag true` the action has got the lock.
+    // Applies a test of a lock on a declared object. With the answer `flag true` the action has got
+    // the lock.
     fn take_test(
         &mut self,
         action: ActionId,
@@ -170,9 +180,13 @@ impl<'a> Run<'a> {
         let place = self.live(action)?;
         match answer {
             Answer::Flag(true) => self.take_lock(place, asked, line),
-            Answer::Flag(false) => Ok(()),
-            Answer::Done | Answer::Val(_) | Answer::Num(_) | Answer::Body(_) | Answer::Signal(_) =>
-                Err(CallError::Unlawful),
+            Answer::Flag(false) if asked.object < self.objects.len() => Ok(()),
+            Answer::Flag(false)
+            | Answer::Done
+            | Answer::Val(_)
+            | Answer::Num(_)
+            | Answer::Body(_)
+            | Answer::Signal(_) => Err(CallError::Unlawful),
         }
     }
 

@@ -1,6 +1,6 @@
 //! `draw`: reads a listing from a reader, and writes its picture to a writer.
 
-ghost use Rattle.std.specs.Prelude.{◌+◌, ◌≡◌, ◌≢◌, false, true, IfErr, OnOk};
+ghost use Rattle.std.specs.Prelude.{◌+◌, ◌≡◌, ◌≢◌, ◌↔◌, false, true, IfErr, OnOk};
 ghost use Rattle.argus_frame.specs.declared.draw_error.DrawError.TheVariants as DrawError;
 ghost use Rattle.argus_picture.specs.Drawn.{ReadsListing, RefusesListing};
 ghost use Rattle.argus_picture.specs.declared.limits.TheConstants.{MAX_BYTES};
@@ -17,8 +17,10 @@ use std::io::{Read, Write};
 
 /// Reads a journal's listing, up to 67,108,865 bytes, and writes its whole picture.
 ///
-/// [`DrawError`]'s table says which error comes when. A stream that failed isn't tried again. Unless a
-/// write failed, nothing was written.
+/// [`DrawError`]'s table says which error comes when. A stream that failed isn't tried again.
+/// Unless a write failed, nothing was written.
+///
+/// Condition: the reader and the writer haven't failed before.
 ///
 /// ```text
 /// draw(heap, &mut FailStop::new(rt.stdin()), &mut FailStop::new(rt.stdout()))?;
@@ -34,8 +36,10 @@ pub fn draw<R: Read + Drop, W: Write + Drop>(
         (R.remaining (inner_of reader.new))) }
     ensures fault { IfErr result (RefusesListing (R.remaining (inner_of reader.old))
         (R.remaining (inner_of reader.new))) }
-    ensures read { IfErr result (λ e. e ≡ DrawError.Read → has_failed reader.new ≡ true) }
-    ensures written { IfErr result (λ e. e ≡ DrawError.Write → has_failed writer.new ≡ true) }
+    ensures reader_fine { OnOk result (has_failed reader.new ≡ false) }
+    ensures writer_fine { OnOk result (has_failed writer.new ≡ false) }
+    ensures read { IfErr result (λ e. (e ≡ DrawError.Read) ↔ (has_failed reader.new ≡ true)) }
+    ensures written { IfErr result (λ e. (e ≡ DrawError.Write) ↔ (has_failed writer.new ≡ true)) }
     ensures bounded { ReadAtMost (MAX_BYTES + 1) (R.remaining (inner_of reader.old))
         (R.remaining (inner_of reader.new)) }
     ensures unwritten { IfErr result (λ e. e ≢ DrawError.Write → writer.new ≡ writer.old) }

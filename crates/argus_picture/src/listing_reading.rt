@@ -1,8 +1,8 @@
 //! `read_listing`: the bytes of a listing, as far as a picture takes them.
 
-ghost use Rattle.std.specs.Prelude.{IfErr, IfOk, false, true, ◌+◌, ◌≡◌};
+ghost use Rattle.std.specs.Prelude.{IfErr, IfOk, OnOk, false, true, ◌+◌, ◌↔◌, ◌≡◌, ◌≢◌};
 ghost use Rattle.argus_frame.specs.declared.draw_error.DrawError.TheVariants as DrawError;
-ghost use Rattle.argus_picture.specs.Drawn.{IsOfReading};
+ghost use Rattle.argus_picture.specs.Drawn.{RefusesListing};
 ghost use Rattle.argus_picture.specs.declared.limits.TheConstants.{MAX_BYTES};
 ghost use Rattle.argus_streams.specs.FailStop.{has_failed, inner_of};
 ghost use Rattle.argus_streams.specs.Input.{ReadAtMost, ReadUpTo};
@@ -23,8 +23,11 @@ pub(crate) fn read_listing<R: Read + Drop>(
         (R.remaining (inner_of reader.old)) (R.remaining (inner_of reader.new)) bytes.items) }
     ensures bounded { ReadAtMost (MAX_BYTES + 1) (R.remaining (inner_of reader.old))
         (R.remaining (inner_of reader.new)) }
-    ensures failed { IfErr result (λ e. e ≡ DrawError.Read → has_failed reader.new ≡ true) }
-    ensures kind { IfErr result IsOfReading }
+    ensures fine { OnOk result (has_failed reader.new ≡ false) }
+    ensures failed { IfErr result (λ e. (e ≡ DrawError.Read) ↔ (has_failed reader.new ≡ true)) }
+    ensures fault { IfErr result (RefusesListing (R.remaining (inner_of reader.old))
+        (R.remaining (inner_of reader.new))) }
+    ensures unwritten { IfErr result (λ e. e ≢ DrawError.Write) }
 {
     match read_up_to(heap, reader, MAX_BYTES + 1) {
         Ok(listing) => Ok(listing),

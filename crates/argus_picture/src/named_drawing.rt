@@ -1,6 +1,6 @@
 //! `draw_named`: reads a script and a listing, and writes the picture with the script's names.
 
-ghost use Rattle.std.specs.Prelude.{IfErr, IfOk, OnOk, false, true, ◌+◌, ◌≡◌, ◌≢◌};
+ghost use Rattle.std.specs.Prelude.{IfErr, IfOk, OnOk, false, true, ◌+◌, ◌↔◌, ◌≡◌, ◌≢◌};
 ghost use Rattle.argus_frame.specs.declared.draw_error.DrawError.TheVariants as DrawError;
 ghost use Rattle.argus_language.specs.Script.{plain_script};
 ghost use Rattle.argus_picture.specs.Drawn.{ReadsListing, RefusesListing};
@@ -32,6 +32,8 @@ use std::io::{Read, Write};
 /// [`NamedDrawError`]'s table says which error comes when. A stream that failed isn't tried again,
 /// and after a faulty script the listing isn't read. Unless a write failed, nothing was written.
 ///
+/// Condition: the readers and the writer haven't failed before.
+///
 /// ```text
 /// draw_named(heap, &mut script, &mut FailStop::new(rt.stdin()), &mut FailStop::new(rt.stdout()))?;
 /// ```
@@ -52,12 +54,15 @@ pub fn draw_named<S: Read + Drop, R: Read + Drop, W: Write + Drop>(
         (S.remaining (inner_of script.new))) }
     ensures fault { IfErr result (RefusesNamedListing (R.remaining (inner_of reader.old))
         (R.remaining (inner_of reader.new))) }
+    ensures script_fine { OnOk result (has_failed script.new ≡ false) }
+    ensures reader_fine { OnOk result (has_failed reader.new ≡ false) }
+    ensures writer_fine { OnOk result (has_failed writer.new ≡ false) }
     ensures script_read { IfErr result
-        (λ e. e ≡ error.ScriptRead → has_failed script.new ≡ true) }
+        (λ e. (e ≡ error.ScriptRead) ↔ (has_failed script.new ≡ true)) }
     ensures read { IfErr result
-        (λ e. e ≡ error.Draw DrawError.Read → has_failed reader.new ≡ true) }
+        (λ e. (e ≡ error.Draw DrawError.Read) ↔ (has_failed reader.new ≡ true)) }
     ensures written { IfErr result
-        (λ e. e ≡ error.Draw DrawError.Write → has_failed writer.new ≡ true) }
+        (λ e. (e ≡ error.Draw DrawError.Write) ↔ (has_failed writer.new ≡ true)) }
     ensures script_bounded { ReadAtMost (MAX_SCRIPT_BYTES + 1) (S.remaining (inner_of script.old))
         (S.remaining (inner_of script.new)) }
     ensures bounded { ReadAtMost (MAX_BYTES + 1) (R.remaining (inner_of reader.old))
@@ -95,7 +100,8 @@ fn read_script<S: Read + Drop>(
         (S.remaining (inner_of script.new)) (plain_script read)) }
     ensures refused { IfErr result (RefusesScript (S.remaining (inner_of script.old))
         (S.remaining (inner_of script.new))) }
-    ensures read { IfErr result (λ e. e ≡ error.ScriptRead → has_failed script.new ≡ true) }
+    ensures fine { OnOk result (has_failed script.new ≡ false) }
+    ensures read { IfErr result (λ e. (e ≡ error.ScriptRead) ↔ (has_failed script.new ≡ true)) }
     ensures bounded { ReadAtMost (MAX_SCRIPT_BYTES + 1) (S.remaining (inner_of script.old))
         (S.remaining (inner_of script.new)) }
     ensures kind { IfErr result IsOfScript }
@@ -119,10 +125,11 @@ fn read_sketch<R: Read + Drop>(heap: Heap, reader: &mut FailStop<R>) -> Result<S
         (R.remaining (inner_of reader.new))) }
     ensures fault { IfErr result (RefusesListing (R.remaining (inner_of reader.old))
         (R.remaining (inner_of reader.new))) }
-    ensures read { IfErr result (λ e. e ≡ DrawError.Read → has_failed reader.new ≡ true) }
+    ensures fine { OnOk result (has_failed reader.new ≡ false) }
+    ensures read { IfErr result (λ e. (e ≡ DrawError.Read) ↔ (has_failed reader.new ≡ true)) }
     ensures bounded { ReadAtMost (MAX_BYTES + 1) (R.remaining (inner_of reader.old))
         (R.remaining (inner_of reader.new)) }
-    ensures kind { IfErr result (λ e. e ≢ DrawError.Write) }
+    ensures unwritten { IfErr result (λ e. e ≢ DrawError.Write) }
 {
     let listing = match read_listing(heap, reader) {
         Ok(listing) => listing,

@@ -16,7 +16,7 @@ use thiserror::Error;
 pub enum PictureError {
     #[error("out of memory")]
     OutOfMemory,
-    /// The first faulty line.
+    /// The first line that is refused.
     #[error("{0}")]
     Fault(ListingFault),
 }

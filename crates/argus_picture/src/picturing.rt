@@ -18,8 +18,8 @@ use std::fmt::Write;
 /// The picture of a journal's listing: an SVG 1.1 document, without scripts and links. Objects are
 /// called by their numbers.
 ///
-/// `Fault` says which line is the first faulty one, and why. `OutOfMemory` may be returned in place
-/// of any other result.
+/// `Fault` says which line is the first that is refused, and why. `OutOfMemory` may be returned in
+/// place of any other result.
 ///
 /// ```text
 /// let text = picture(heap, b"0 begin_top -> a0\n1 commit a0 -> done\n")?;

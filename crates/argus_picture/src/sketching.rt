@@ -16,8 +16,8 @@ use argus_memory::{Heap, OutOfMemory, Room};
 
 /// The picture of a journal's listing, in which the names of objects are filled in later.
 ///
-/// `Fault` says which line is the first faulty one, and why. `OutOfMemory` may be returned in place
-/// of any other result.
+/// `Fault` says which line is the first that is refused, and why. `OutOfMemory` may be returned in
+/// place of any other result.
 ///
 /// ```text
 /// let sketch = sketch_listing(heap, b"0 begin_top -> a0\n1 commit a0 -> done\n")?;

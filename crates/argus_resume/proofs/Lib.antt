@@ -20,5 +20,6 @@ pub mod Readable
 pub mod Folds
 pub mod NextLines
 pub mod Longest
+pub mod OneFault
 pub mod Crossing
 pub mod WellFormedValues

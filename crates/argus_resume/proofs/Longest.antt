@@ -97,13 +97,15 @@ module _ (journal other : JournalView) (listable : IsListable other) (left behin
       ∙ append_assoc (l.0 ++ 10 ∷ []) l.1 rest in
       feed_in l.0 (l.1 ++ rest) (subst HasNoFeed parts h.0.1)
   no_line_left l (read.Fault f) has failed is h n m =
-      let parts : (l.0 ++ 10 ∷ []) ++ (l.1 ++ rest) ≡ h.line ++ 10 ∷ (h.more ++ behind) =
+      let faulty = h.0 in
+      let parts : (l.0 ++ 10 ∷ []) ++ (l.1 ++ rest) ≡ faulty.line ++ 10 ∷ (faulty.more ++ behind) =
       sym (append_assoc (l.0 ++ 10 ∷ []) l.1 rest) ∙ ap (λ x. x ++ rest) (sym l.2) ∙ sym e
-      ∙ ap (λ (x : List ℕ). x ++ behind) h.is ∙ append_assoc h.line (10 ∷ h.more) behind in
-      let first = front_line l.0 h.line (h.more ++ behind) (l.1 ++ rest) h.whole parts in
-      let all : t ≡ h.line ++ 10 ∷ (first.0 ++ l.1) =
-      l.2 ∙ ap (λ x. x ++ l.1) first.1 ∙ append_assoc h.line (10 ∷ first.0) l.1 in
-      no_fault journal other listable h.line (first.0 ++ l.1) h.whole (subst (Behind journal other) all b) f h.says
+      ∙ ap (λ (x : List ℕ). x ++ behind) faulty.is ∙ append_assoc faulty.line (10 ∷ faulty.more) behind in
+      let first = front_line l.0 faulty.line (faulty.more ++ behind) (l.1 ++ rest) faulty.whole parts in
+      let all : t ≡ faulty.line ++ 10 ∷ (first.0 ++ l.1) =
+      l.2 ∙ ap (λ x. x ++ l.1) first.1 ∙ append_assoc faulty.line (10 ∷ first.0) l.1 in
+      no_fault journal other listable faulty.line (first.0 ++ l.1) faulty.whole (subst (Behind journal other) all b)
+      f faulty.says
   no_line_left l read.OutOfMemory has failed is h n m = n refl
   no_line_left l read.Read has failed is h n m = m refl
 

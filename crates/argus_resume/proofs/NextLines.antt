@@ -81,7 +81,7 @@ its_entry taken line n m d h of =
     one_line 16 m (next_entry taken) d n.z h n.low (of.readable.0.0, of.readable.1) (n.readable.0.0, n.readable.1)
     (sym of.is ∙ n.is)
 
-no_entry_of_opening : (n : ℕ) (e : PlainEntry) (line : List ℕ) → n < 2 ^ 64 → line ≡ entry_spelling n e
+pub no_entry_of_opening : (n : ℕ) (e : PlainEntry) (line : List ℕ) → n < 2 ^ 64 → line ≡ entry_spelling n e
     → IsOfOpening line → ⊥
 no_entry_of_opening n e line h is of =
     no_opening_line n e [] (112 ∷ 101 ∷ 110 ∷ 105 ∷ 110 ∷ 103 ∷ 32 ∷ of.rest) h
@@ -91,9 +91,9 @@ no_entry_fault : (taken : JournalView) (line : List ℕ) → NextEntry taken lin
     → IsLineFault f taken line → ⊥
 no_entry_fault taken line n (fault.NoText at) h =
     h.0 (subst IsUtf8 (sym n.is) (entry_clean (next_entry taken) n.z n.low n.readable).1)
-no_entry_fault taken line n fault.NotAnOpening h = no_entry_of_opening (next_entry taken) n.z line n.low n.is h.0
+no_entry_fault taken line n fault.NotAnOpening h = no_entry_of_opening (next_entry taken) n.z line n.low n.is h.1
 no_entry_fault taken line n (fault.NoLine at) h =
-    elim h.1 [ inl f ↦ f.fault.refused (its_line taken line n) | inr l ↦ l.refused (its_line taken line n) ]
+    elim h.2 [ inl f ↦ f.fault.refused (its_line taken line n) | inr l ↦ l.refused (its_line taken line n) ]
 no_entry_fault taken line n fault.NotNext h = h.other (its_entry taken line n h.number h.entry h.in_range h.of).0
 no_entry_fault taken line n fault.NotSound h = false≢true (sym h.unsound ∙ n.sound)
 no_entry_fault taken line n (fault.NotTheReply reply) h =
@@ -104,8 +104,8 @@ no_entry_fault taken line n (fault.NotTheReply reply) h =
 no_opening_fault : (taken : JournalView) (line : List ℕ) → IsNextOfOpening taken line → IsClean line → IsOfOpening line
     → next_entry taken < 2 ^ 64 → (f : LineFault) → IsLineFault f taken line → ⊥
 no_opening_fault taken line next c of low (fault.NoText at) h = h.0 c.1
-no_opening_fault taken line next c of low fault.NotAnOpening h = h.1 next
-no_opening_fault taken line next c of low (fault.NoLine at) h = h.0 of
+no_opening_fault taken line next c of low fault.NotAnOpening h = h.2 next
+no_opening_fault taken line next c of low (fault.NoLine at) h = h.1 of
 no_opening_fault taken line next c of low fault.NotNext h =
     no_entry_of_opening h.number h.entry line h.in_range h.of.is of
 no_opening_fault taken line next c of low fault.NotSound h =
@@ -271,10 +271,11 @@ module _ (journal listed : JournalView) (r : IsReadableJournal journal) (listabl
       let all : left ++ behind ≡ left = ap (λ (x : List ℕ). left ++ x) none ∙ append-nil left in
       absurd (behind_torn journal listed left h.0 (subst (Behind journal listed) all all_behind))
   ended (read.Fault f) has failed is h n m =
-      let all : left ++ behind ≡ h.line ++ 10 ∷ (h.more ++ behind) =
-      ap (λ (x : List ℕ). x ++ behind) h.is ∙ append_assoc h.line (10 ∷ h.more) behind in
-      absurd (no_fault journal listed listable h.line (h.more ++ behind) h.whole
-      (subst (Behind journal listed) all all_behind) f h.says)
+      let faulty = h.0 in
+      let all : left ++ behind ≡ faulty.line ++ 10 ∷ (faulty.more ++ behind) =
+      ap (λ (x : List ℕ). x ++ behind) faulty.is ∙ append_assoc faulty.line (10 ∷ faulty.more) behind in
+      absurd (no_fault journal listed listable faulty.line (faulty.more ++ behind) faulty.whole
+      (subst (Behind journal listed) all all_behind) f faulty.says)
   ended read.OutOfMemory has failed is h n m = absurd (n refl)
   ended read.Read has failed is h n m = absurd (m refl)
 

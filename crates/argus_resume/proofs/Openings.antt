@@ -3,7 +3,9 @@ use Rattle.std.proofs.Common.{◌≡◌, ℕ, ◌<◌, List, [], ◌∷◌, ◌+
 use Rattle.std.proofs.Common.{append_assoc, arith, true}
 use Rattle.std.proofs.lemmas.List.{append_cancel_left, append_cancel_right}
 use Rattle.std.specs.Fmt.{decimal}
+use Rattle.std.proofs.lemmas.Str.{IsUtf8-append}
 use Rattle.std.specs.Prelude.{Option, Some, codes}
+use Rattle.std.specs.Str.{IsUtf8}
 use Rattle.argus_contents.specs.Content.{PlainContent}
 use Rattle.argus_contents.specs.Shape.{PlainShape}
 use Rattle.argus_contents.specs.declared.limits.TheConstants.{MAX_OBJECTS}
@@ -15,8 +17,10 @@ use Rattle.argus_openings.proofs.Told.{object_told}
 use Rattle.argus_texts.specs.Language.{FormOf}
 use Rattle.argus_texts.specs.ShapeSpelling.{shape_spelling}
 use Rattle.argus_resume.specs.JournalText.{AreReadableObjects, IsReadableObject}
-use Rattle.argus_resume.specs.Lines.{AddsObject, BeginsOpening, IsNextOfOpening, IsOfOpening}
+use Rattle.argus_resume.specs.Lines.{AddsObject, BeginsOpening, IsLineFault, IsNextOfOpening, IsOfOpening}
 use Rattle.argus_resume.specs.Stage.{opened_alone, opening_line}
+use Rattle.argus_resume.specs.declared.line_fault.LineFault.TheVariants as fault
+use Rattle.argus_resume.proofs.Clean.{word_clean}
 
 -- FORMS
 
@@ -64,10 +68,13 @@ begins_form journal rest b = record {
 pub of_opening : (rest : List ℕ) → IsOfOpening (codes "opening " ++ rest)
 of_opening rest = record { thing = tt; rest = rest; reads = record { good = tt; ends = tt; is = refl } }
 
--- it says no object
-pub no_object : (s : Opening) (rest : List ℕ) → 0 < s.first_entry → (FormOf ObjectLines rest → ⊥)
-    → IsOfOpening (codes "opening " ++ rest) × (IsNextOfOpening (opened_alone s) (codes "opening " ++ rest) → ⊥)
-no_object s rest h n = (of_opening rest, no)
+pub opening_utf8 : (rest : List ℕ) → IsUtf8 rest → IsUtf8 (codes "opening " ++ rest)
+opening_utf8 rest u = IsUtf8-append (codes "opening ") rest (word_clean (codes "opening ") refl).1 u
+
+-- what follows the first word says no object
+pub no_object : (s : Opening) (rest : List ℕ) → 0 < s.first_entry → IsUtf8 rest → (FormOf ObjectLines rest → ⊥)
+    → IsLineFault fault.NotAnOpening (opened_alone s) (codes "opening " ++ rest)
+no_object s rest h u n = (opening_utf8 rest u, of_opening rest, no)
   where
     no : IsNextOfOpening (opened_alone s) (codes "opening " ++ rest) → ⊥
     no (inl b) = let z : next_entry (opened_alone s) ≡ 0 = b.first in omega arith
@@ -77,10 +84,10 @@ no_object s rest h n = (of_opening rest, no)
 
 -- it says an object that can't be added
 pub no_adding : (s : Opening) (rest : List ℕ) (o : ℕ) (object : PlainShape × Option PlainContent) → 0 < s.first_entry
-    → IsForm ObjectLines (o, object) rest
+    → IsUtf8 rest → IsForm ObjectLines (o, object) rest
     → ((o ≡ length s.objects) × (o < MAX_OBJECTS) × (fits_shape (Some object.0) MAX_OBJECTS object.1 ≡ true) → ⊥)
-    → IsOfOpening (codes "opening " ++ rest) × (IsNextOfOpening (opened_alone s) (codes "opening " ++ rest) → ⊥)
-no_adding s rest o object h f n = (of_opening rest, no)
+    → IsLineFault fault.NotAnOpening (opened_alone s) (codes "opening " ++ rest)
+no_adding s rest o object h u f n = (opening_utf8 rest u, of_opening rest, no)
   where
     no : IsNextOfOpening (opened_alone s) (codes "opening " ++ rest) → ⊥
     no (inl b) = let z : next_entry (opened_alone s) ≡ 0 = b.first in omega arith
@@ -94,9 +101,9 @@ no_adding s rest o object h f n = (of_opening rest, no)
         )
 
 -- it doesn't begin an opening, and none is there
-pub no_first : (journal : JournalView) (rest : List ℕ) → journal.opening.first_entry ≡ 0 → (FormOf FoldedLines rest → ⊥)
-    → IsOfOpening (codes "opening " ++ rest) × (IsNextOfOpening journal (codes "opening " ++ rest) → ⊥)
-no_first journal rest h n = (of_opening rest, no)
+pub no_first : (journal : JournalView) (rest : List ℕ) → journal.opening.first_entry ≡ 0 → IsUtf8 rest
+    → (FormOf FoldedLines rest → ⊥) → IsLineFault fault.NotAnOpening journal (codes "opening " ++ rest)
+no_first journal rest h u n = (opening_utf8 rest u, of_opening rest, no)
   where
     no : IsNextOfOpening journal (codes "opening " ++ rest) → ⊥
     no (inl b) = n (begins_form journal rest b)

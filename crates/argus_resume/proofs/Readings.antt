@@ -128,13 +128,14 @@ same_end a b e = ap (λ (o : Option ReadEnd). unwrap_or o a) e
 
 -- an end that comes before the reader's
 pub early_ends : (t : TakenEnd) (end : ReadEnd) (j : JournalView) (pending left : List ℕ) (has : Option (List ℕ))
-    (failed : Bool) → Some end ≡ early_end t → EndsChunk t j pending left → EndsReading end j left has failed
-early_ends taken.Whole end j pending left has failed e h = absurd (none-some end (sym e))
-early_ends taken.Torn end j pending left has failed e h = absurd (none-some end (sym e))
-early_ends (taken.Fault fault) end j pending left has failed e h =
-    subst (λ x. EndsReading x j left has failed) (sym (same_end end (end_of.Fault fault) e)) h
-early_ends taken.OutOfMemory end j pending left has failed e h =
-    subst (λ x. EndsReading x j left has failed) (sym (same_end end end_of.OutOfMemory e)) tt
+    (failed : Bool) → failed ≡ false → Some end ≡ early_end t → EndsChunk t j pending left
+    → EndsReading end j left has failed
+early_ends taken.Whole end j pending left has failed fine e h = absurd (none-some end (sym e))
+early_ends taken.Torn end j pending left has failed fine e h = absurd (none-some end (sym e))
+early_ends (taken.Fault fault) end j pending left has failed fine e h =
+    subst (λ x. EndsReading x j left has failed) (sym (same_end end (end_of.Fault fault) e)) (h, fine)
+early_ends taken.OutOfMemory end j pending left has failed fine e h =
+    subst (λ x. EndsReading x j left has failed) (sym (same_end end end_of.OutOfMemory e)) fine
 
 -- no end: what is left is pending
 pub no_end : (t : TakenEnd) (j : JournalView) (pending left : List ℕ) → None ≡ early_end t

@@ -3,16 +3,20 @@ use Rattle.std.specs.Prelude.{Bool, List, Option, Some, [], true, ℕ, ◌++◌,
 use Rattle.std.specs.Prelude.{length, ◌≤◌, ◌↔◌}
 use Rattle.argus_core.specs.Checkpoint.{after_checkpoint}
 use Rattle.argus_entries.specs.Call.{PlainCall}
+use Rattle.argus_entries.specs.Reply.{plain_reply}
+use Rattle.argus_entries.specs.declared.reply.Reply.{Reply}
 use Rattle.argus_journal.specs.JournalView.{JournalView, after, entry_of, next_entry}
 use Rattle.argus_journal.specs.Legal.{Legal}
 use Rattle.argus_journal.specs.Opening.{is_sound}
 use Rattle.argus_journal.specs.declared.limits.TheConstants.{MAX_FIRST_ENTRY}
 use Rattle.argus_resume.specs.JournalText.{AreReadable, IsEmptyOrReadable, IsReadableJournal}
 use Rattle.argus_resume.specs.JournalText.{journal_text}
+use Rattle.argus_resume.specs.Lines.{IsLineFault}
 use Rattle.argus_resume.specs.ReadableCalls.{HasReadableCall, HaveReadableCalls}
 use Rattle.argus_resume.specs.Resumed.{IsResumed}
 use Rattle.argus_resume.specs.Taking.{EndsTaking, IsFaulty}
 use Rattle.argus_resume.specs.declared.line_fault.LineFault.{LineFault}
+use Rattle.argus_resume.specs.declared.line_fault.LineFault.TheVariants as fault
 use Rattle.argus_resume.specs.declared.read_end.ReadEnd.TheVariants as read
 use Rattle.argus_resume.specs.declared.resumed.Resumed.{Resumed}
 use Rattle.argus_resume.specs.declared.taken_end.TakenEnd.{TakenEnd}
@@ -47,6 +51,22 @@ abbrev pub CheckpointsLeaveListable : Type 0
 CheckpointsLeaveListable =
     (journal : JournalView) → IsListable journal → next_entry journal ≤ MAX_FIRST_ENTRY
     → IsListable (after_checkpoint journal)
+
+-- the other fault is the same, at the same byte, or with the same reply
+abbrev pub IsSameFault : LineFault → LineFault → Type 0
+IsSameFault (fault.NoText at) other = other ≡ fault.NoText at
+IsSameFault fault.NotAnOpening other = other ≡ fault.NotAnOpening
+IsSameFault (fault.NoLine at) other = other ≡ fault.NoLine at
+IsSameFault fault.NotNext other = other ≡ fault.NotNext
+IsSameFault fault.NotSound other = other ≡ fault.NotSound
+IsSameFault (fault.NotTheReply reply) other =
+    (given : Reply) × (other ≡ fault.NotTheReply given) × (plain_reply given ≡ plain_reply reply)
+
+-- A line has at most one fault after a journal that has a next number.
+abbrev pub LinesHaveOneFault : Type 0
+LinesHaveOneFault =
+    (journal : JournalView) (line : List ℕ) (one other : LineFault) → next_entry journal < 2 ^ 64
+    → IsLineFault one journal line → IsLineFault other journal line → IsSameFault one other
 
 -- the text ends in a line feed
 abbrev pub EndsInFeed : List ℕ → Type 0

@@ -84,9 +84,10 @@ pub record HasOtherReply (journal : JournalView) (line : List ℕ) (given : Plai
 -- what a fault says of a line after a journal's listing
 abbrev pub IsLineFault : LineFault → JournalView → List ℕ → Type 0
 IsLineFault (fault.NoText at) journal line = (IsUtf8 line → ⊥) × IsValidUpTo line at
-IsLineFault fault.NotAnOpening journal line = IsOfOpening line × (IsNextOfOpening journal line → ⊥)
+IsLineFault fault.NotAnOpening journal line =
+    IsUtf8 line × IsOfOpening line × (IsNextOfOpening journal line → ⊥)
 IsLineFault (fault.NoLine at) journal line =
-    (IsOfOpening line → ⊥) × (IsNoLine line at ⊎ LacksShape line at)
+    IsUtf8 line × (IsOfOpening line → ⊥) × (IsNoLine line at ⊎ LacksShape line at)
 IsLineFault fault.NotNext journal line = HasOtherNumber journal line
 IsLineFault fault.NotSound journal line = IsBehindUnsound journal line
 IsLineFault (fault.NotTheReply reply) journal line = HasOtherReply journal line (plain_reply reply)

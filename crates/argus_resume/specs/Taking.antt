@@ -48,12 +48,13 @@ EndsTaking (taken.Fault fault) journal left = IsFaulty journal left fault
 EndsTaking taken.OutOfMemory journal left = Unit {0}
 
 -- what an end says of the bytes that were read and are left, of what the reader then has, and of
--- whether it has failed; out of memory says nothing
+-- whether it has failed, which it has exactly if the end is a failed read
 abbrev pub EndsReading : ReadEnd → JournalView → List ℕ → Option (List ℕ) → Bool → Type 0
 EndsReading read.Whole journal left has failed = (left ≡ []) × IsAtEnd has × (failed ≡ false)
 EndsReading read.Torn journal left has failed = IsTorn left × IsAtEnd has × (failed ≡ false)
-EndsReading (read.Fault fault) journal left has failed = IsFaulty journal left fault
-EndsReading read.OutOfMemory journal left has failed = Unit {0}
+EndsReading (read.Fault fault) journal left has failed =
+    IsFaulty journal left fault × (failed ≡ false)
+EndsReading read.OutOfMemory journal left has failed = failed ≡ false
 EndsReading read.Read journal left has failed = HasNoFeed left × (failed ≡ true)
 
 -- a journal became longer by the first bytes of what was read from a reader

@@ -3,14 +3,15 @@
 ghost use Rattle.argus_resume.specs.JournalText.{IsEmptyOrReadable, no_journal};
 ghost use Rattle.argus_resume.specs.Laws.{CallsLeaveListable, CheckpointsLeaveListable};
 ghost use Rattle.argus_resume.specs.Laws.{IsListable, JournalsAreReadable, ListingsAreResumed};
-ghost use Rattle.argus_resume.specs.Laws.{ListingsAreTakenBack, LongestListingIsResumed};
-ghost use Rattle.argus_resume.specs.Laws.{NoLongerFrontIsAListing};
+ghost use Rattle.argus_resume.specs.Laws.{LinesHaveOneFault, ListingsAreTakenBack};
+ghost use Rattle.argus_resume.specs.Laws.{LongestListingIsResumed, NoLongerFrontIsAListing};
 ghost use Rattle.argus_entries.specs.Call.{plain_call};
 ghost use Rattle.argus_resume.specs.ReadableCalls.{HaveReadableCalls, IsWellFormed};
 
 use crate::well_formed_calls::call_is_well_formed;
 use argus_core::Guardian;
 use argus_entries::Call;
+use argus_reading::laws::texts_have_one_error;
 
 /// Each entry of a legal journal can be read, with its reply, exactly if its call can be: what a
 /// reply has came in through a call or the opening, and keeps the limits of its shape. The opening
@@ -51,6 +52,14 @@ pub fn guardians_are_listable(guardian: &Guardian)
 {
     guardian.journal_is_legal();
     let _next = guardian.journal().journal().len();
+}
+
+/// The journal and the line alone decide why the line isn't the next one, and where: a line has at
+/// most one fault, since what each says excludes those before it.
+pub fn lines_have_one_fault()
+    ensures { LinesHaveOneFault }
+{
+    texts_have_one_error();
 }
 
 /// If a line was at fault, no listing is longer than what was taken: no prefix of the rest that

@@ -17,10 +17,11 @@ pub enum LineFault {
     /// The line isn't UTF-8: `at` is the length in bytes of its longest prefix that is.
     #[error("no text from byte {at} on")]
     NoText { at: usize },
-    /// The line begins like one of an opening, and can't be its next one. Entries came before it,
-    /// its number isn't the next one, a number is above its limit, no entry went before the
-    /// opening, a shape can't be made, or a content wouldn't fit its shape however many objects
-    /// there were.
+    /// The line begins like one of an opening, and can't be its next one. What follows `opening `
+    /// isn't the text of such a line (a value there has a depth of at most 16), an object comes
+    /// before the first line, a first line comes again, entries came before it, its number isn't
+    /// the next one, a number is above its limit, no entry went before the opening, a shape can't
+    /// be made, or a content wouldn't fit its shape however many objects there were.
     #[error("not a line of the opening")]
     NotAnOpening,
     /// The line isn't that of an entry. `at` is the length in bytes of its longest prefix that

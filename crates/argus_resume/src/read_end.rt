@@ -21,7 +21,8 @@ pub enum ReadEnd {
     Torn,
     /// The next line is at fault.
     Fault(LineFault),
-    /// There is no memory, for the bytes of a line or for what it says; or 2^63 bytes were read.
+    /// There is no memory, for the bytes of a line or for what it says; or there were 2^49 reads,
+    /// however short.
     OutOfMemory,
     /// A read failed.
     Read,

@@ -1,6 +1,6 @@
--- The line of the entry that was just made.
-use Rattle.std.proofs.Common.{List, None, Option, Some, [], ap, arith, false, get_or, length}
-use Rattle.std.proofs.Common.{nat_lt, slice_get, subst, sym, take, ℕ, ◌+◌, ◌-◌, ◌<◌, ◌∙◌, ◌∷◌, ◌≡◌}
+-- The line of the entry that was just made, and what was written of a run that came to a stop.
+use Rattle.std.proofs.Common.{Bool, List, None, Option, Some, [], ap, arith, false, get_or, inl, inr, length}
+use Rattle.std.proofs.Common.{nat_lt, slice_get, subst, sym, take, true, ℕ, ◌+◌, ◌-◌, ◌<◌, ◌∙◌, ◌∷◌, ◌≡◌}
 use Rattle.std.proofs.lemmas.List.{append-nil, get_or-reverse, length-reverse}
 use Rattle.std.proofs.lemmas.Option.{slice_get-get_or}
 use Rattle.std.specs.Io.KnownBytes.{Appends}
@@ -8,7 +8,7 @@ use Rattle.std.specs.Prelude.{if◌then◌else◌, reverse}
 use Rattle.argus_entries.specs.Call.{PlainCall}
 use Rattle.argus_entries.specs.Entry.{PlainEntry}
 use Rattle.argus_journal.specs.JournalView.{JournalView, after, entry_of, next_entry}
-use Rattle.argus_runs.specs.Lines.{Lacking, Written, line_at, line_if}
+use Rattle.argus_runs.specs.Lines.{KeepsText, Lacking, Written, WrittenAlmost, line_at, line_if}
 use Rattle.argus_entries.specs.EntrySpelling.{entry_line}
 
 newest : (e : PlainEntry) (older : List PlainEntry) → slice_get (reverse (e ∷ older)) (length older) ≡ Some e
@@ -52,3 +52,10 @@ lacking_one j k c at n t u e d p =
     let P : List ℕ → Type 0 = λ x. Appends t u (take n x) in
     let z : next_entry j ≡ next_entry j + 0 = omega arith in
     ([], entry_of j c, n, e, subst P (line_made j k c at e d ∙ ap (λ m. entry_line m (entry_of j c)) z) p)
+
+-- what a run has kept that came to a stop is what was written of it, whether a line was cut or not
+pub written_almost : (before cut : Bool) (j k : JournalView) (t u : Option (List ℕ)) → before ≡ false
+    → KeepsText before j t cut k u → WrittenAlmost j t k u
+written_almost false false j k t u e p = inl p
+written_almost false true j k t u e p = inr p
+written_almost true cut j k t u e p = cc

@@ -1,7 +1,7 @@
 -- The lines of entries, and what a run writes.
 use Rattle.std.specs.Prelude.{Bool, List, None, Option, Some, false, length, take, true, ℕ, ◌+◌}
 use Rattle.std.specs.Prelude.{◌≡◌}
-use Rattle.std.specs.Prelude.{[], ◌++◌, ◌∷◌}
+use Rattle.std.specs.Prelude.{[], ◌++◌, ◌∷◌, ◌⊎◌}
 use Rattle.std.specs.Io.KnownBytes.{Appends}
 use Rattle.argus_entries.specs.Entry.{PlainEntry}
 use Rattle.argus_entries.specs.EntrySpelling.{entry_line}
@@ -36,15 +36,15 @@ Lacking old text new text' = (made : List PlainEntry) × (last : PlainEntry) × 
     × Appends text text' (lines (next_entry old) made
     ++ take n (entry_line (next_entry old + length made) last))
 
--- What a run keeps. The flags say whether a line could not be written whole: after that nothing
--- more is called or written.
+-- What a run keeps, as its own code sees it. The flags say whether a line could not be written whole:
+-- after that nothing more is called or written.
 abbrev pub KeepsText : Bool → JournalView → Option (List ℕ) → Bool → JournalView → Option (List ℕ)
     → Type 0
 KeepsText false old text false new text' = Written old text new text'
 KeepsText false old text true new text' = Lacking old text new text'
 KeepsText true old text cut new text' = (cut ≡ true) × (new ≡ old) × (text' ≡ text)
 
--- what was written of a run that came to a stop: the lines of the entries made, perhaps with the
--- last line cut short or missing
+-- what was written of a run that came to a stop: the lines of the entries made, either all of them
+-- or all but the last one, which is cut short or missing
 abbrev pub WrittenAlmost : JournalView → Option (List ℕ) → JournalView → Option (List ℕ) → Type 0
-WrittenAlmost old text new text' = (cut : Bool) × KeepsText false old text cut new text'
+WrittenAlmost old text new text' = Written old text new text' ⊎ Lacking old text new text'

@@ -1,6 +1,6 @@
 //! `run_serial`: a script, run on a guardian, with the line of each call written.
 
-ghost use Rattle.std.specs.Prelude.{IfErr, OnErr, OnOk, false, true, ◌≡◌};
+ghost use Rattle.std.specs.Prelude.{IfErr, OnErr, OnOk, false, true, ◌↔◌, ◌≡◌};
 ghost use Rattle.argus_language.specs.Script.{plain_script};
 ghost use Rattle.argus_runs.specs.Lines.{Written, WrittenAlmost};
 ghost use Rattle.argus_runs.specs.Played.{IsPlay, play};
@@ -22,14 +22,14 @@ use std::io::Write;
 /// each call that it makes, with a line feed. Nothing is tried again after a failure.
 ///
 /// On `Ok` the journal is the one that the script's run leaves after the journal before (`played`),
-/// and what was written is the lines of the entries made (`written`). After a fault the journal is
-/// a prefix of that one (`early`), and what was written are the lines of the entries made, except
-/// that the last line may be cut short or missing (`cut`).
+/// what was written is the lines of the entries made (`written`), and the writer hasn't failed
+/// (`fine`). After a fault the journal is a prefix of that one (`early`), and what was written are
+/// the lines of the entries made, except that the last line may be cut short or missing (`cut`).
 ///
 /// | Error | When |
 /// |---|---|
 /// | `Memory` | there is no memory, for a call, for its line or for the run |
-/// | `Write` | the writer failed or accepted nothing, and only then |
+/// | `Write` | the writer failed or accepted nothing: then, and only then |
 ///
 /// Condition: the writer hasn't failed before.
 ///
@@ -50,11 +50,12 @@ pub fn run_serial<W: Write + Drop>(
     ensures played { OnOk result (IsPlay guardian.old (plain_script script.now) guardian.new) }
     ensures written { OnOk result (Written guardian.old (W.contents (inner_of writer.old))
         guardian.new (W.contents (inner_of writer.new))) }
+    ensures fine { OnOk result (has_failed writer.new ≡ false) }
     ensures early { OnErr result (IsRunPrefix IsJournalPrefix guardian.new
         (play (plain_script script.now) guardian.old)) }
     ensures cut { OnErr result (WrittenAlmost guardian.old (W.contents (inner_of writer.old))
         guardian.new (W.contents (inner_of writer.new))) }
-    ensures failed { IfErr result (λ e. e ≡ Write → has_failed writer.new ≡ true) }
+    ensures failed { IfErr result (λ e. (e ≡ Write) ↔ (has_failed writer.new ≡ true)) }
 {
     let owned = replace(guardian, Guardian::new(heap));
     let (owned, result) = run_lent(heap, owned, script, writer);
@@ -73,11 +74,12 @@ fn run_lent<W: Write + Drop>(
     ensures played { OnOk result.1 (IsPlay guardian (plain_script script.now) result.0) }
     ensures written { OnOk result.1 (Written guardian (W.contents (inner_of writer.old))
         result.0 (W.contents (inner_of writer.new))) }
+    ensures fine { OnOk result.1 (has_failed writer.new ≡ false) }
     ensures early { OnErr result.1 (IsRunPrefix IsJournalPrefix result.0
         (play (plain_script script.now) guardian)) }
     ensures cut { OnErr result.1 (WrittenAlmost guardian (W.contents (inner_of writer.old))
         result.0 (W.contents (inner_of writer.new))) }
-    ensures failed { IfErr result.1 (λ e. e ≡ Write → has_failed writer.new ≡ true) }
+    ensures failed { IfErr result.1 (λ e. (e ≡ Write) ↔ (has_failed writer.new ≡ true)) }
 {
     replace_with(
         writer,
@@ -103,11 +105,12 @@ fn run_owned<W: Write + Drop>(
     ensures played { OnOk result.1.1 (IsPlay guardian (plain_script script.now) result.0) }
     ensures written { OnOk result.1.1 (Written guardian (W.contents (inner_of writer))
         result.0 (W.contents (inner_of result.1.0))) }
+    ensures fine { OnOk result.1.1 (has_failed result.1.0 ≡ false) }
     ensures early { OnErr result.1.1 (IsRunPrefix IsJournalPrefix result.0
         (play (plain_script script.now) guardian)) }
     ensures cut { OnErr result.1.1 (WrittenAlmost guardian (W.contents (inner_of writer))
         result.0 (W.contents (inner_of result.1.0))) }
-    ensures failed { IfErr result.1.1 (λ e. e ≡ Write → has_failed result.1.0 ≡ true) }
+    ensures failed { IfErr result.1.1 (λ e. (e ≡ Write) ↔ (has_failed result.1.0 ≡ true)) }
 {
     let mut serial = WritingGuardian {
         guardian,
@@ -137,12 +140,13 @@ fn run_whole<W: Write + Drop>(
     ensures written { OnOk result (Written serial.old.guardian
         (W.contents (inner_of serial.old.writer)) serial.new.guardian
         (W.contents (inner_of serial.new.writer))) }
+    ensures fine { OnOk result (has_failed serial.new.writer ≡ false) }
     ensures early { OnErr result (IsRunPrefix IsJournalPrefix serial.new.guardian
         (play (plain_script script.now) serial.old.guardian)) }
     ensures cut { OnErr result (WrittenAlmost serial.old.guardian
         (W.contents (inner_of serial.old.writer)) serial.new.guardian
         (W.contents (inner_of serial.new.writer))) }
-    ensures failed { IfErr result (λ e. e ≡ Write → has_failed serial.new.writer ≡ true) }
+    ensures failed { IfErr result (λ e. (e ≡ Write) ↔ (has_failed serial.new.writer ≡ true)) }
 {
     match run_from_sources(serial, script, &heap) {
         Err(_) => Err(fault_of(&serial.writer)),
@@ -158,7 +162,7 @@ fn run_whole<W: Write + Drop>(
 
 // Why a run with this writer came to a stop.
 fn fault_of<W: Write + Drop>(writer: &FailStop<W>) -> RunFault
-    ensures { result ≡ Write → has_failed writer.now ≡ true }
+    ensures { (result ≡ Write) ↔ (has_failed writer.now ≡ true) }
 {
     if writer.has_failed() {
         RunFault::Write

@@ -16,7 +16,7 @@ use argus_language::{Script, Step};
 use argus_memory::{Heap, OutOfMemory};
 
 impl Caller for Guardian {
-    ghost use Rattle.std.specs.Prelude.{None, refl, true, ⊤};
+    ghost use Rattle.std.specs.Prelude.{None, refl, true};
     ghost use Rattle.argus_journal.specs.JournalView.{JournalView};
     ghost use Rattle.argus_runs.specs.Adding.{asked_grows, prefix_refl, prefix_trans};
     ghost use Rattle.argus_runs.specs.Played.{reply_from_journal};
@@ -30,7 +30,7 @@ impl Caller for Guardian {
 
     ghost arm_runner = { None };
 
-    ghost preserved = { λ _ _. ⊤ };
+    ghost preserved = { λ old new. IsJournalPrefix old new };
 
     ghost is_determined = { true };
 
@@ -46,9 +46,9 @@ impl Caller for Guardian {
 
     ghost call_extends = { λ _. asked_grows };
 
-    ghost preserved_refl = { λ _. tt };
+    ghost preserved_refl = { λ g. prefix_refl g };
 
-    ghost preserved_trans = { λ _ _ _ _ _. tt };
+    ghost preserved_trans = { λ x y z p q. prefix_trans x y z p q };
 
     fn call(&mut self, call: Call) -> Result<Reply, Stopped> {
         match self.call(call) {
@@ -71,7 +71,8 @@ impl Caller for Guardian {
 /// Runs a script on the guardian as `run_serial` does, and writes nothing.
 ///
 /// On `Ok` the journal is the one that the script's run leaves after the journal before (`played`);
-/// at `OutOfMemory` it is a prefix of that one (`early`).
+/// at `OutOfMemory` it is a prefix of that one (`early`). Whatever comes, the journal before is a
+/// prefix of it (`kept`): entries are only added.
 ///
 /// ```text
 /// let script = parse(heap, b"declare x atomic_record[n:int]\n")?;
@@ -87,6 +88,7 @@ pub fn run_without_output(
     ensures played { OnOk result (IsPlay guardian.old (plain_script script.now) guardian.new) }
     ensures early { OnErr result (IsRunPrefix IsJournalPrefix guardian.new
         (play (plain_script script.now) guardian.old)) }
+    ensures kept { IsJournalPrefix guardian.old guardian.new }
 {
     match run_from_sources(guardian, script, &heap) {
         Ok(()) => Ok(()),

@@ -58,6 +58,8 @@ impl<T: Drop> FailStop<T> {
 
 impl<R: Read + Drop> FailStop<R> {
     /// Reads once: this many bytes are in the buffer. `None` if the reader failed.
+    ///
+    /// Condition: the reader hasn't failed before.
     pub fn read_once(&mut self, buffer: &mut [u8]) -> Option<usize>
         requires { has_failed self.old ≡ false }
         ensures some { IfSome result (λ n. (n ≤ length buffer.new)
@@ -80,9 +82,13 @@ impl<R: Read + Drop> FailStop<R> {
 }
 
 impl<W: Write + Drop> FailStop<W> {
-    /// Writes once: this many bytes were accepted, at least one. `None` if the writer failed.
+    /// Writes once: this many bytes were accepted, at least one. `None` if the writer failed or
+    /// accepted nothing.
+    ///
+    /// Conditions: there is a byte to write, and the writer hasn't failed before.
     pub fn write_once(&mut self, bytes: &[u8]) -> Option<usize>
-        requires { has_failed self.old ≡ false }
+        requires some { 0 < length bytes.now }
+        requires fine { has_failed self.old ≡ false }
         ensures some { IfSome result (λ n. (0 < n) × (n ≤ length bytes.now)
             × Appends (W.contents (inner_of self.old)) (W.contents (inner_of self.new))
             (take n bytes.now)) }

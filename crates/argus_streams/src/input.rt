@@ -1,6 +1,6 @@
 //! Reading a bounded input.
 
-ghost use Rattle.std.specs.Prelude.{◌≡◌, true, false, IfOk, IfErr, OnErr};
+ghost use Rattle.std.specs.Prelude.{◌≡◌, ◌↔◌, true, false, IfOk, IfErr, OnErr, OnOk};
 ghost use Rattle.argus_streams.specs.Input.{ReadAtMost, ReadUpTo};
 ghost use Rattle.argus_streams.specs.FailStop.{has_failed, inner_of};
 ghost use Rattle.argus_streams.specs.declared.input_error.InputError.TheVariants as InputError;
@@ -18,6 +18,8 @@ const CHUNK: usize = 16_384;
 /// `Read`: a read failed. `OutOfMemory`: there is no memory for the bytes. After either, what was
 /// read is lost; it was no more than `limit` bytes.
 ///
+/// Condition: the reader hasn't failed before.
+///
 /// ```text
 /// let mut reader = FailStop::new(rt.stdin());
 /// let bytes = read_up_to(heap, &mut reader, 4_096)?;
@@ -30,7 +32,8 @@ pub fn read_up_to<R: Read + Drop>(
     requires { has_failed reader.old ≡ false }
     ensures read { IfOk result (λ bytes. ReadUpTo limit (R.remaining (inner_of reader.old))
         (R.remaining (inner_of reader.new)) bytes.items) }
-    ensures failed { IfErr result (λ e. e ≡ InputError.Read → has_failed reader.new ≡ true) }
+    ensures fine { OnOk result (has_failed reader.new ≡ false) }
+    ensures failed { IfErr result (λ e. (e ≡ InputError.Read) ↔ (has_failed reader.new ≡ true)) }
     ensures bounded { OnErr result (ReadAtMost limit (R.remaining (inner_of reader.old))
         (R.remaining (inner_of reader.new))) }
 {

@@ -20,6 +20,8 @@ pub struct NotWritten;
 /// Writes all the bytes. A write that fails or accepts nothing isn't tried again.
 ///
 /// `NotWritten` comes exactly if there was such a write; then a prefix of the bytes was written.
+///
+/// Condition: the writer hasn't failed before.
 pub fn write_whole<W: Write + Drop>(
     writer: &mut FailStop<W>,
     bytes: &[u8],

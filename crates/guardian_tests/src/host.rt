@@ -216,7 +216,8 @@ impl Host {
         }
     }
 
-    // The size that is returned for this much room, with the text or `too small`; or `none`.
+    // The size that is returned for this much room, and the room, with a `?` for each byte that isn't
+    // written, after `too small` if it is; or `none`.
     fn copied(&self, setting: Setting, room: &str) -> Result<String<Room>, RowFault> {
         let size = room.parse::<usize>()?;
         let mut buffer = Vec::from_elem(setting.texts.room(), b'?', size)?;
@@ -226,12 +227,11 @@ impl Host {
         let mut out = String::new(setting.texts.room());
         match copied? {
             None => out.push_str("none")?,
-            Some(needed) if needed <= buffer.len() => {
-                write!(out, "{needed} ")?;
-                push_lines(&buffer[..needed], &mut out)?;
-            }
             Some(needed) => {
-                write!(out, "{needed} too small")?;
+                write!(out, "{needed} ")?;
+                if needed > buffer.len() {
+                    out.push_str("too small")?;
+                }
                 push_lines(buffer.as_slice(), &mut out)?;
             }
         }

@@ -1,5 +1,6 @@
 //! Scripts, run: the lines that a run writes are compared; then each of its allocations is refused
-//! in turn, and it writes to a writer that is full after each byte.
+//! in turn, and it writes to a writer that is full after each byte. A run without output leaves the
+//! same journal, or the front of it for which there is memory, behind what was there before.
 
 ghost use Rattle.std.specs.Prelude.{false, ◌≡◌};
 ghost use Rattle.argus_commands.specs.FailStop.{has_failed};
@@ -7,7 +8,9 @@ ghost use Rattle.argus_commands.specs.FailStop.{has_failed};
 use crate::runs::run_row::RunRow;
 use crate::standing::guardian_after;
 use anyhow::{Result, bail, ensure};
-use argus_commands::{FailStop, RunFault, parse, run_serial};
+use argus_commands::{FailStop, RunFault, parse, run_serial, run_without_output};
+use argus_guardian::{Guardian, Listing, write_listing};
+use argus_values::{Heap, Room};
 use std::io::{Print, Write};
 use test_rows::{Full, Setting};
 
@@ -33,6 +36,7 @@ fn check_row<T: Print>(rt: &T, setting: Setting, row: RunRow<'_>) -> Result<()> 
     if !row.is_large {
         let refused = check_memory(setting, row)?;
         check_writer(setting, row)?;
+        check_without_output(setting, row)?;
         ensure!(refused > 3, "too few allocations are refused");
     }
     rt.println(format_args!("{} lines", row.lines.lines().count()))?;
@@ -111,6 +115,48 @@ fn check_full_writer(setting: Setting, row: RunRow<'_>, room: usize, fails: bool
     ensure!(full.taken.len() == room, "bytes are lacking");
     ensure!(is_front(full.taken.as_slice(), row.lines), "other bytes");
     Ok(())
+}
+
+// Each allocation of a run without output is refused in turn.
+fn check_without_output(setting: Setting, row: RunRow<'_>) -> Result<()> {
+    for n in 0..MANY {
+        if is_run_without_output(setting.allowing(n), row)? {
+            return Ok(());
+        }
+    }
+    bail!("there is never enough memory without output")
+}
+
+// Whether these allocations are enough. The journal gets the row's lines, or the first of them.
+fn is_run_without_output(setting: Setting, row: RunRow<'_>) -> Result<bool> {
+    let script = parse(setting.texts, row.script.as_bytes())?;
+    let mut guardian = guardian_after(setting.heap, setting.texts, row.before)?;
+    let before = journal_of(setting.texts, &guardian)?;
+    setting.limit();
+    let is_run = run_without_output(setting.heap, &mut guardian, &script).is_ok();
+    setting.lift();
+    let after = journal_of(setting.texts, &guardian)?;
+    let Some(added) = after.as_slice().strip_prefix(before.as_slice()) else {
+        bail!("entries are lost without output");
+    };
+    ensure!(is_front(added, row.lines), "other entries without output");
+    ensure!(
+        !is_run || is_whole(added, row.lines),
+        "entries are lacking without output"
+    );
+    Ok(is_run)
+}
+
+// The listing of the guardian's journal.
+fn journal_of(heap: Heap, guardian: &Guardian) -> Result<Vec<u8, Room>> {
+    let mut writer = FailStop::new(Vec::new(heap.room()));
+    if write_listing(heap, guardian, &[], Listing::Journal, &mut writer).is_err() {
+        bail!("a journal isn't listed");
+    }
+    match writer.into_inner() {
+        Some(listing) => Ok(listing),
+        None => bail!("a listing is lost"),
+    }
 }
 
 // Whether the bytes are the lines, each with its line feed. The row lacks the last one.

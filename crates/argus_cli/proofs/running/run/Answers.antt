@@ -9,7 +9,7 @@ pub returns-clause-failed : goal.returns-clause-failed
 returns-clause-failed g c = failed_before c.in-Err.fault c.args.options (MAX_SCRIPT_BYTES + 1)
     (streams g.R.Read.remaining g.W.Write.contents c.args.reader.now c.args.writer.now)
     (streams g.R.Read.remaining g.W.Write.contents c.read_up_to.new.reader c.args.writer.now)
-    c.in-Ok.bytes.items c.in-Ok.ensures.read refl
+    c.in-Ok.bytes.items (record { input = c.in-Ok.ensures.fine; output = c.requires.writer }) c.in-Ok.ensures.read refl
     (rw c.as_slice.ensures.value at c.in-Err.ensures.fault)
 
 pub returns-in-Ok-run_bytes-clause-ran : goal.returns-in-Ok-run_bytes-clause-ran

@@ -2,5 +2,5 @@
 use Rattle.std.proofs.Common.{rules}
 use Rattle.argus_embed.proofs.object_writing.readers_text.Goals as goal
 
-pub returns : goal.returns
-returns c = search rules
+pub returns-clause-text : goal.returns-clause-text
+returns-clause-text c = search rules

@@ -11,13 +11,13 @@ use Rattle.argus_resume.proofs.opening_taking.next_line.Goals as goal
 
 pub returns-in-Err-Left-clause-fault : goal.returns-in-Err-Left-clause-fault
 returns-in-Err-Left-clause-fault c =
-    no_object (opening_read c.args.lines.now) c.args.rest.now c.requires.readable.some
+    no_object (opening_read c.args.lines.now) c.args.rest.now c.requires.readable.some c.utf8.rest
     (rw c.in-Err-Left.field-0-is at c.in-Err-Left.ensures.stops)
 
 pub returns-then-not-may_add-clause-fault : goal.returns-then-not-may_add-clause-fault
 returns-then-not-may_add-clause-fault c =
     no_adding (opening_read c.args.lines.now) c.args.rest.now c.in-Ok.o (c.in-Ok.shape, plain_option c.in-Ok.content)
-    c.requires.readable.some c.in-Ok.ensures.read
+    c.requires.readable.some c.utf8.rest c.in-Ok.ensures.read
     (λ may. false≢true (sym c.if-not-may_add.true ∙ c.may_add.ensures.1
     (may.0 ∙ length-map c.args.lines.now.objects.items object_read, may.1, may.2)))
 

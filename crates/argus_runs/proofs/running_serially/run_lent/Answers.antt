@@ -11,6 +11,9 @@ returns-clause-played g c = search rules
 pub returns-clause-written : goal.returns-clause-written
 returns-clause-written g c = search rules
 
+pub returns-clause-fine : goal.returns-clause-fine
+returns-clause-fine g c = search rules
+
 pub returns-clause-early : goal.returns-clause-early
 returns-clause-early g c = search rules
 

@@ -28,7 +28,7 @@ returns-in-Some-early_end g c =
     (c.loop-turn.lines + t.result.lines) (16384 * (c.loop-turn.turn + 1)) left more c.in-Some-early_end.end
     (has_failed c.read_once.new.self)
     (early_ends t.result.end c.in-Some-early_end.end t.new.self t.new.pending.items left after
-    (has_failed c.read_once.new.self) c.in-Some-early_end.ensures t.ensures.end)
+    (has_failed c.read_once.new.self) c.in-Some.ensures.fine c.in-Some-early_end.ensures t.ensures.end)
 
 pub loop-turn-preserved : goal.loop-turn-preserved
 loop-turn-preserved g c =
