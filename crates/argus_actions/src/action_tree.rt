@@ -388,8 +388,8 @@ impl ActionTree {
 
     /// Aborts all live siblings of an action, each with its subactions, theirs, and so on. A
     /// sibling is another action with the same parent or creator, of either kind. Committed
-    /// siblings and those begun later are untouched, and nested topactions begun under a sibling go
-    /// on. It visits no sibling that is older than the oldest live one.
+    /// siblings are untouched, as are those that begin after this call, and nested topactions
+    /// begun under a sibling go on. It visits no sibling that is older than the oldest live one.
     ///
     /// Refusals: `NoAction`, `Over`, `ChildrenLive`, then `NoSiblings`.
     pub fn abort_others(&mut self, a: ActionId) -> Result<(), ActionRefusal>

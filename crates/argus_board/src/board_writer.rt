@@ -93,8 +93,9 @@ impl<N: Board, R: Wait + Drop> Model for BoardWriter<N, R> {
 
 impl<N: Board, R: Wait + Drop> BoardWriter<N, R> {
     /// Opens the board with these contents, in the order of the objects' numbers, and with places
-    /// for this many lookers. With 0 it is `without_places`, and the contents are dropped.
-    /// `OutOfMemory`: there is no board, and all that was passed in is consumed.
+    /// for this many lookers, at most 2^32 - 2. With 0 it is `without_places`: it takes no memory,
+    /// and the contents are dropped. `OutOfMemory`: there is no board, and all that was passed in is
+    /// consumed.
     pub fn new(
         rt: R,
         heap: Heap,
@@ -110,6 +111,7 @@ impl<N: Board, R: Wait + Drop> BoardWriter<N, R> {
         ensures published { IfOk result (λ board. board.published ≡ N.before) }
         ensures pending { IfOk result (λ board. board.pending ≡ []) }
         ensures places_left { IfOk result (λ board. board.places_left ≡ lookers) }
+        ensures places { OnErr result (0 < N.places) }
     {
         if lookers == 0 {
             return Ok(BoardWriter::without_places(rt, keeper));

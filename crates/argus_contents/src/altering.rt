@@ -17,8 +17,9 @@ use std::collections::VecDeque;
 
 /// The content that the change leaves, and its answer; [`Change`] has the table.
 ///
-/// An array that is present has to keep the limits, as `fits` tests; the result keeps them if the
-/// change's own content does. Nothing is changed. `OutOfMemory`: there was no memory for a copy.
+/// Condition: an array that is present keeps the limits, as `fits` tests. The result keeps them,
+/// too, if a content that the change creates does. Nothing is changed. `OutOfMemory`: there was no
+/// memory for a copy, or for a longer array.
 pub fn alter(
     heap: Heap,
     content: &Option<Content>,
@@ -33,9 +34,8 @@ pub fn alter(
     alter_copy(heap, content, change.duplicate(heap)?)
 }
 
-/// As [`alter`], for a change that is passed by value: its value is moved, not copied.
-///
-/// Nothing is changed. `OutOfMemory`: there was no memory for a copy, or for a longer array.
+/// As [`alter`], under the same condition, for a change that is passed by value: its value is
+/// moved, not copied.
 pub fn alter_copy(
     heap: Heap,
     content: &Option<Content>,
@@ -52,8 +52,9 @@ pub fn alter_copy(
     Ok((copy, answer))
 }
 
-/// Makes the change in place, with the meaning of [`alter`]. The change's value is moved, and
-/// nothing is copied. After `OutOfMemory` the content is unchanged.
+/// Makes the change in place, with the meaning of [`alter`] and under the same condition. The
+/// change's value is moved, and nothing is copied. After `OutOfMemory`, which only an `Addh` or
+/// `Addl` to an array returns, the content is unchanged.
 ///
 /// The time of a change doesn't depend on the array's length, except for `Trim`, which drops what
 /// it doesn't keep, and for an `Addh` or `Addl` that finds no room left and doubles the queue.

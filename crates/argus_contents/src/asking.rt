@@ -19,9 +19,9 @@ use std::collections::VecDeque;
 
 /// The answer to the query of the content; [`Query`] has the table.
 ///
-/// An array that is present has to keep the limits, as `fits` tests; a content that `alter` or
-/// `alter_in_place` left does. The answer is a copy, which owns its parts. `OutOfMemory`: there was
-/// no memory for it.
+/// Condition: an array that is present keeps the limits, as `fits` tests. A content that `alter` or
+/// `alter_in_place` left keeps them if every content that was created did. The answer is a copy,
+/// which owns its parts. `OutOfMemory`: there was no memory for it.
 pub fn ask(heap: Heap, content: &Option<Content>, query: &Query) -> Result<Answer, OutOfMemory>
     requires { KeepsLimits (plain_option content.now) }
     ensures { IfOk result (λ answer. plain_answer answer

@@ -50,7 +50,7 @@ use std::collections::VecDeque;
 /// | `Addl(v)` | `Limits` if there are 65,535 items or `low` is the least bound |
 /// | `Remh` | `Bounds` if it is empty |
 /// | `Reml` | `Bounds` if it is empty; `Limits` if `low` is the greatest bound |
-/// | `SetLow(i)` | `Limits` if `i` or `i + size - 1` isn't a bound |
+/// | `SetLow(i)` | `Limits` if `i` isn't a bound, or `i + size - 1` is past the greatest bound |
 /// | `Trim(i, n)` | `NegativeSize` if `n < 0` |
 /// | | `Bounds` if `i < low` or `i > high + 1` |
 /// | | `Limits` if `i` is past the greatest bound |

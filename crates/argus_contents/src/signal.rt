@@ -4,7 +4,8 @@
 ///
 /// | Signal | When |
 /// |---|---|
-/// | `Absent` | there is no content, or it isn't of the operation's kind |
+/// | `Absent` | there is no content, it isn't of the operation's kind, or it is a record without
+/// the field |
 /// | `Exists` | `Create` of an object that has a content |
 /// | `Bounds` | an index is out of bounds, or an array that has to have an item is empty |
 /// | `WrongTag` | `TagValue` of another tag than the variant has |

@@ -1,8 +1,9 @@
 -- Live topactions, and which are left after one more abort.
 use Rattle.std.proofs.Common.{Bool, List, None, [], ap, arith, cond, false, inl, inr, refl, subst, sym, true, ℕ}
 use Rattle.std.proofs.Common.{⊎_elim, ◌+◌, ◌-◌, ◌<◌, ◌∙◌, ◌∷◌, ◌≡◌, ◌≢◌, ◌≤◌, ◌++◌}
+use Rattle.std.proofs.Common.{Err, Ok, OnErr, Result}
 use Rattle.std.specs.List.{list_any}
-use Rattle.std.specs.Prelude.{filter, not, ◌&&◌, ◌==◌, ◌||◌}
+use Rattle.std.specs.Prelude.{filter, length, not, ◌&&◌, ◌==◌, ◌||◌}
 use Rattle.std.proofs.Math.Bool.{and_comm}
 use Rattle.std.proofs.lemmas.Bool.{and_from, and_parts, both_ways, cases_Bool, cases_eq, cases_lt, eq-eqb, eqb-true}
 use Rattle.std.proofs.lemmas.Bool.{lt-ltb, ne_eqb, not-true, or_cases, or_left, or_right}
@@ -94,6 +95,30 @@ neither true false n = refl
 neither false true n = refl
 neither false false n = refl
 
+-- a list with something in it isn't empty, in the program's numbers either
+some_in_program : (xs : List ℕ) (a : ℕ) → contains xs a ≡ true → all_in_program xs ≢ []
+some_in_program [] a m e = both_ways false refl m
+some_in_program (x ∷ xs) a m e = omega (arith, ap length e)
+
+-- the first live action has no parent
+module _ {V : Type 0} (h : History V) (a : ℕ) (w : Orderly h) (live : is_live h a ≡ true)
+    (low : (x : ℕ) → x < a → is_live h x ≡ false) where
+  top : parent h a ≡ 0
+  top =
+      ⊎_elim (λ e. e)
+      (λ n. let st = live_stands h w a live in
+      let q = parent_is h (parents_are_older h w) a st.0 st.1 in
+      absurd (both_ways (is_live h (parent h a)) (low (parent h a) q.0)
+      (sym (stands_is_live h w (parent h a) n) ∙ stands_upward h w (parent h a) a st.1 q.1)))
+      (cases_eq (parent h a) 0)
+
+  pub some_live : all_in_program (live_without_parent h) ≢ []
+  some_live =
+      some_in_program (live_without_parent h) a
+      (filter_contains (λ x. is_live h x && parent h x == 0) (begun_actions h) a
+      (and_from (is_live h a) (parent h a == 0) live (eq-eqb (parent h a) 0 top))
+      (begun_listed h a ∙ live_begun h a live))
+
 module _ {V : Type 0} (h : History V) (a : ℕ) (w : Orderly (Aborted (a ∷ []) ▹ h)) (live : is_live h a ≡ true) where
   real : a ≢ 0
   real = (live_stands h w.1 a live).0
@@ -140,22 +165,12 @@ module _ {V : Type 0} (h : History V) (a : ℕ) (w : Orderly (Aborted (a ∷ [])
   over_still x e = live_after_abort h (a ∷ []) w x ∙ ap (λ b. b && not (is_under h (a ∷ []) x)) e
 
   module _ (low : (x : ℕ) → x < a → is_live h x ≡ false) where
-    -- the first live action has no parent
-    top : parent h a ≡ 0
-    top =
-        ⊎_elim (λ e. e)
-        (λ n. let st = live_stands h w.1 a live in
-        let q = parent_is h (parents_are_older h w.1) a st.0 st.1 in
-        absurd (both_ways (is_live h (parent h a)) (low (parent h a) q.0)
-        (sym (stands_is_live h w.1 (parent h a) n) ∙ stands_upward h w.1 (parent h a) a st.1 q.1)))
-        (cases_eq (parent h a) 0)
-
     pub first_ends : live_without_parent h ≡ a ∷ live_without_parent (Aborted (a ∷ []) ▹ h)
     first_ends =
         first_left (λ x. is_live h x && parent h x == 0)
         (λ x. is_live (Aborted (a ∷ []) ▹ h) x && parent h x == 0) (begun_actions h) a (begun_rising h)
         (begun_listed h a ∙ live_begun h a live)
-        (and_from (is_live h a) (parent h a == 0) live (eq-eqb (parent h a) 0 top))
+        (and_from (is_live h a) (parent h a == 0) live (eq-eqb (parent h a) 0 (top h a w.1 live low)))
         (λ x lt. ap (λ b. b && parent h x == 0) (low x lt)) still
 
 -- a call that aborts a live action is answered, and says so
@@ -204,6 +219,14 @@ module _ (g : GuardianState) (k : StateInvariant g) where
   }
 
   module _ (old : JournalView) (a : ℕ) (so_far : IsOverBelow old (journal_view_of g) a) where
+    none_below : (x : ℕ) → x < a + 1 → is_live (history (opening_in g.journal) (entries_in g.journal)) x ≡ false
+    none_below x lt =
+        let h = history (opening_in g.journal) (entries_in g.journal) in
+        ⊎_elim (λ z. subst (λ y. is_live h y ≡ false) (sym z) (zero_not_live h))
+        (λ n. let up : (x - 1) + 1 ≡ x = omega (arith, n) in
+        subst (λ y. is_live h y ≡ false) up (so_far.none (x - 1) (omega (arith, lt, n))))
+        (cases_eq x 0)
+
     -- the next one isn't live
     pub over_next : is_live_at g.tree.folded g.tree.rows a ≡ false
         → IsOverBelow old (journal_view_of g) (a + 1)
@@ -215,6 +238,13 @@ module _ (g : GuardianState) (k : StateInvariant g) where
           (λ n. so_far.none x (omega (arith, lt, n))) (cases_eq x a);
       same = so_far.same;
     }
+
+    -- it is live, so that some topaction is
+    pub some_left : is_live_at g.tree.folded g.tree.rows a ≡ true → live_topactions (journal_view_of g) ≢ []
+    some_left e =
+        some_live (history (opening_in g.journal) (entries_in g.journal)) (a + 1)
+        (kept_orderly g.tree g.objects.items g.holdings (opening_in g.journal) (entries_in g.journal) k)
+        (live_told g k a ∙ e) none_below
 
     -- it is, and is aborted
     module _ (e : is_live_at g.tree.folded g.tree.rows a ≡ true) (g' : GuardianState) (k' : StateInvariant g')
@@ -238,17 +268,10 @@ module _ (g : GuardianState) (k : StateInvariant g) where
           subst (λ h. Orderly h) told
           (kept_orderly g'.tree g'.objects.items g'.holdings (opening_in g'.journal) (entries_in g'.journal) k')
 
-      low : (x : ℕ) → x < a + 1 → is_live (history s j) x ≡ false
-      low x lt =
-          ⊎_elim (λ z. subst (λ y. is_live (history s j) y ≡ false) (sym z) (zero_not_live (history s j)))
-          (λ n. let up : (x - 1) + 1 ≡ x = omega (arith, n) in
-          subst (λ y. is_live (history s j) y ≡ false) up (so_far.none (x - 1) (omega (arith, lt, n))))
-          (cases_eq x 0)
-
       left : live_topactions (journal_view_of g) ≡ a ∷ live_topactions (journal_view_of g')
       left =
           let n : (a + 1) - 1 ≡ a = omega arith in
-          ap all_in_program (first_ends (history s j) (a + 1) w live low)
+          ap all_in_program (first_ends (history s j) (a + 1) w live none_below)
           ∙ ap (λ x. x ∷ all_in_program (live_without_parent (Aborted ((a + 1) ∷ []) ▹ history s j))) n
           ∙ ap (λ h. a ∷ all_in_program (live_without_parent h)) (sym told)
 
@@ -308,6 +331,11 @@ module _ (g : GuardianState) (k : StateInvariant g) where
         so_far.partly.journal
         ∙ ap (after_aborts old) (sym (so_far.partly.in_turn ∙ ap (λ xs. so_far.partly.ended ++ xs) none
         ∙ append-nil so_far.partly.ended))
+
+-- what holds in any case holds after an error
+pub on_err : {T E P : Type 0} (r : Result T E) → P → OnErr r P
+on_err (Ok x) p = tt
+on_err (Err e) p = p
 
 -- the number that the next action gets, as the tree has it
 pub next_at : (g : GuardianState) → StateInvariant g

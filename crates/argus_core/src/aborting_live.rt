@@ -1,6 +1,6 @@
 //! Aborting all live actions.
 
-ghost use Rattle.std.specs.Prelude.{OnErr, OnOk, true, ◌≡◌};
+ghost use Rattle.std.specs.Prelude.{OnErr, OnOk, [], true, ◌≡◌, ◌≢◌};
 ghost use Rattle.argus_core.specs.AbortingLive.{IsPartlyAborted, after_aborts, live_topactions};
 ghost use Rattle.argus_core.specs.Checkpoint.{is_quiet};
 ghost use Rattle.argus_core.specs.GuardianState.{StateInvariant, journal_view_of};
@@ -22,6 +22,7 @@ fn abort_each(state: &mut GuardianState) -> Result<(), OutOfMemory>
     ensures quiet { OnOk result (is_quiet (journal_view_of state.new) ≡ true) }
     ensures err { OnErr result (IsPartlyAborted (journal_view_of state.old)
         (journal_view_of state.new)) }
+    ensures left { OnErr result (live_topactions (journal_view_of state.new) ≢ []) }
 {
     let first = state.journal.journal().first_action();
     for a in first..state.tree.len() {
@@ -37,8 +38,8 @@ impl Guardian {
     /// increasing number, so that their subactions are aborted with them. Each call makes its
     /// entry. A guardian of Argus does so when it comes back after a crash.
     ///
-    /// `OutOfMemory`: the first ones were aborted, and the others are still live; another call
-    /// aborts these.
+    /// `OutOfMemory`: the first ones were aborted, and the others, at least one, are still live;
+    /// another call aborts these. So it never comes where nothing is live.
     ///
     /// Source: actions that are active at a crash are aborted, Argus Reference Manual
     /// (MIT/LCS/TR-400, 1987).
@@ -53,6 +54,7 @@ impl Guardian {
         ensures ok { OnOk result (self.new ≡ after_aborts self.old (live_topactions self.old)) }
         ensures quiet { OnOk result (is_quiet self.new ≡ true) }
         ensures err { OnErr result (IsPartlyAborted self.old self.new) }
+        ensures left { OnErr result (live_topactions self.new ≢ []) }
     {
         abort_each(&mut self.state)
     }

@@ -34,8 +34,9 @@ impl Guardian {
     /// made in place.
     ///
     /// Refusals: `NoAction`, `Over`, `Suspended` if the action has a live child, `NoObject`,
-    /// `IllTyped` if the change doesn't suit the object's shape, `Conflict` if an action that isn't
-    /// its ancestor holds the object. After `OutOfMemory` nothing has changed.
+    /// `IllTyped` if the change doesn't suit the object's shape or has a value that refers to an
+    /// object which isn't declared, `Conflict` if an action that isn't its ancestor holds the
+    /// object. After `OutOfMemory` nothing has changed.
     pub fn alter(&mut self, a: ActionId, o: ObjId, change: Change) -> Result<Reply, OutOfMemory>
         ensures reply { IfOk result (λ reply. plain_reply reply
             ≡ reply_to self.old (alter a.0 o.0 (plain_change change))) }

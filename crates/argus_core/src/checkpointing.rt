@@ -101,7 +101,7 @@ impl Guardian {
     /// bases stay. It makes no entry.
     ///
     /// Errors, in this order: `Busy` if an action is live, `Full` if the next entry's number is
-    /// above `MAX_FIRST_ENTRY`, `OutOfMemory`. After an error nothing has changed.
+    /// above `MAX_FIRST_ENTRY`, `Memory`. After an error nothing has changed.
     ///
     /// Source: the stable state that a guardian is restored from, Argus Reference Manual
     /// (MIT/LCS/TR-400, 1987).

@@ -1,7 +1,7 @@
 -- What contracts see of an embedded guardian, and what it is after a call and a question.
 use Rattle.std.specs.Coded.{Coded, code_by, coded_list, coded_option, coded_ℕ, coded×}
 use Rattle.std.specs.List.{flat_map}
-use Rattle.std.specs.Prelude.{List, None, Option, Some, [], false, refl, true, ℕ, ◌++◌, ◌<◌, ◌∷◌, ◌≡◌}
+use Rattle.std.specs.Prelude.{List, None, Option, Some, [], false, refl, true, ℕ, ◌++◌, ◌<◌, ◌∷◌, ◌≡◌, ◌≢◌}
 use Rattle.argus_values.specs.Answer.{PlainAnswer, body, done, flag, num, signal, val}
 use Rattle.argus_values.specs.Value.{PlainValue}
 use Rattle.argus_values.specs.Value as value
@@ -116,10 +116,11 @@ abbrev pub after_abort_live : EmbeddedState → EmbeddedState
 after_abort_live state =
     record state { journal = after_aborts state.journal (live_topactions state.journal) }
 
--- the same with some of them aborted, from the first topaction on
+-- the same with some of them aborted, from the first topaction on, and others still live
 abbrev pub IsAbortedInPart : EmbeddedState → EmbeddedState → Type 0
 IsAbortedInPart old new =
-    IsPartlyAborted old.journal new.journal × (new.text ≡ old.text) × (new.taken ≡ old.taken)
+    IsPartlyAborted old.journal new.journal × (live_topactions new.journal ≢ [])
+    × (new.text ≡ old.text) × (new.taken ≡ old.taken)
 
 -- the outcome that a value is: an integer is a number, a truth value a flag
 abbrev pub value_outcome : PlainValue → Outcome

@@ -11,8 +11,8 @@ impl Embedded {
     /// Aborts all live actions: makes the call `abort` for each live topaction, nested ones too, in
     /// increasing number. Each is an entry of the journal. What is kept for the host stays.
     ///
-    /// `OutOfMemory`: the first ones were aborted, and the others are still live; another call
-    /// aborts these.
+    /// `OutOfMemory`: the first ones were aborted, and the others, at least one, are still live;
+    /// another call aborts these.
     pub fn abort_live(&mut self) -> Result<(), EmbedError>
         ensures ok { OnOk result (self.new ≡ after_abort_live self.old) }
         ensures quiet { OnOk result (IsBusy self.new → ⊥) }

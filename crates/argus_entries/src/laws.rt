@@ -8,8 +8,8 @@ pub fn entry_lines_are_unambiguous()
     ensures { EntryLinesAreUnambiguous }
 {}
 
-/// A change that suits a shape is no deeper than the shape's types, and so no deeper than what is
-/// read back from a line. That a shape can be made follows from its type
+/// A change that suits a shape which can be made has a depth of at most 16, and so is no deeper
+/// than what is read back from a line. That a shape can be made follows from its type
 /// ([`limits_are_kept`](argus_contents::Shape::limits_are_kept)).
 pub fn suiting_changes_keep_the_depth()
     ensures { SuitingChangesKeepTheDepth }

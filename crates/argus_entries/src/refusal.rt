@@ -11,8 +11,9 @@ use thiserror::Error;
 /// | `Over` | it has committed or was aborted | all that name an action |
 /// | `Suspended` | it has a live child | `Commit`, `AbortOthers`, `Ask`, `Alter`, `TestRead`,
 /// `TestWrite` |
-/// | `NoObject` | the object isn't declared | `Ask`, `Alter`, `TestRead`, `TestWrite` |
-/// | `IllTyped` | the operation doesn't suit the object's shape | `Ask`, `Alter` |
+/// | `NoObject` | the object that it names isn't declared | `Ask`, `Alter`, `TestRead`, `TestWrite` |
+/// | `IllTyped` | the operation doesn't suit the object's shape, or has a value that refers to an
+/// object which isn't declared | `Ask`, `Alter` |
 /// | `Conflict` | the lock rule denies the lock | `Ask` the read lock, `Alter` the write lock |
 /// | `TooDeep` | the parent has the greatest depth | `BeginSub` |
 /// | `TooMany` | as many are begun or declared as may be | `Declare`, `BeginTop`, `BeginSub`,
@@ -33,10 +34,11 @@ pub enum Refusal {
     /// The action has a live child.
     #[error("the action has a live child")]
     Suspended,
-    /// The object isn't declared.
+    /// The object that the call names isn't declared.
     #[error("the object isn't declared")]
     NoObject,
-    /// The operation doesn't suit the object's shape.
+    /// The operation doesn't suit the object's shape, or has a value that refers to an object which
+    /// isn't declared.
     #[error("the operation doesn't suit the object's shape")]
     IllTyped,
     /// Another action holds the object.

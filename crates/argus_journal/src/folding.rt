@@ -14,8 +14,8 @@ ghost use Rattle.argus_journal.specs.JournalFacts.{base_of, effects_of, next_act
 ghost use Rattle.argus_journal.specs.declared.limits.TheConstants.{MAX_FIRST_ENTRY};
 ghost use Rattle.argus_model.specs.Effects.{table};
 
-/// The fold is a sound opening: its contents fit, and it is within the limits. Without entries it
-/// is a legal journal.
+/// The fold is a sound opening: its contents fit. It is within the limits as long as the next
+/// entry's number is at most `MAX_FIRST_ENTRY`. Without entries it is a legal journal.
 pub fn a_fold_is_an_opening()
     ensures sound { (s : Opening) (j : List PlainEntry) → is_sound s ≡ true → Legal s j
         → is_sound (fold s j) ≡ true }

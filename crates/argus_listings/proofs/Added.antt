@@ -2,10 +2,11 @@
 -- to come.
 use Rattle.std.proofs.Common.{List, None, Option, Some, [], ap, append_assoc, length, refl, subst, suc, sym, take, ℕ}
 use Rattle.std.proofs.Common.{◌+◌, ◌++◌}
-use Rattle.std.proofs.Common.{Err, Ok, OnErr, Result, zero, ◌∙◌, ◌∷◌, ◌≡◌}
+use Rattle.std.proofs.Common.{zero, ◌∙◌, ◌∷◌, ◌≡◌}
 use Rattle.std.proofs.Math.Seq.{take-append-add}
 use Rattle.std.proofs.lemmas.List.{append-nil}
 use Rattle.std.specs.Io.KnownBytes.{Appends}
+pub use Rattle.argus_core.proofs.AbortingLive.{on_err}
 use Rattle.argus_listings.specs.Flushing.{Added, Cut}
 
 appends_none : (c : Option (List ℕ)) → Appends c c []
@@ -112,8 +113,3 @@ pub front_poured : (a : Option (List ℕ)) (s : List ℕ) (c : Option (List ℕ)
     (x : List ℕ) → s ≡ [] → Added a s c t x → Cut c t d [] → (n : ℕ) × Appends a d (take n x)
 front_poured a s c t d x e added cut =
     front_written a s d x e (subst (Cut a s d) (append-nil x) (cut_then a s c t d x [] added cut))
-
--- what holds in any case holds after an error
-pub on_err : {T E P : Type 0} (r : Result T E) → P → OnErr r P
-on_err (Ok x) p = tt
-on_err (Err e) p = p

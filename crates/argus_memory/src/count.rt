@@ -57,6 +57,15 @@ pub(crate) fn is_spent(count: &Count) -> bool {
 fn was_last(count: &Count) -> bool {
     count
         .word()
-        .fetch_update(Ordering::SeqCst, Ordering::SeqCst, |n| n.checked_sub(1))
+        .fetch_update(Ordering::SeqCst, Ordering::SeqCst, one_less)
         .is_err()
+}
+
+// What is left after one more. A limit that another thread removes meanwhile stays removed.
+fn one_less(left: u64) -> Option<u64> {
+    if left < UNLIMITED {
+        left.checked_sub(1)
+    } else {
+        Some(left)
+    }
 }

@@ -441,6 +441,18 @@ none_handed h s n nothing none x =
     objects_none (λ k. placed_objects h.lists.items k (place_at h.first h.places.items k)) s.0 [] nothing x
     ∙ ap (cond (eqb x.0 s.0) []) (nothing_handed h s n nothing none x)
 
+-- what is passed to one that has nothing is what it has then
+pub handed_whole : (h : Holdings) (s n : ActionId) (left : List ObjId) → s.0 ≢ n.0 → (noted_by h n).objects ≡ []
+    → passed (noted_by h s).objects [] ≡ (noted_by h s).objects
+    → left ≡ cond (eqb n.0 s.0) []
+    (cond (eqb n.0 n.0) (passed (noted_by h s).objects (noted_by h n).objects) (noted_by h n).objects)
+    → left ≡ (noted_by h s).objects
+handed_whole h s n left other none all is =
+    let p = passed (noted_by h s).objects (noted_by h n).objects in
+    is ∙ ap (λ b. cond b [] (cond (eqb n.0 n.0) p (noted_by h n).objects)) (ne_eqb n.0 s.0 (λ e. other (sym e)))
+    ∙ ap (λ b. cond b p (noted_by h n).objects) (eq-eqb n.0 n.0 refl)
+    ∙ ap (passed (noted_by h s).objects) none ∙ all
+
 -- what an action has that gets a list, and what it has whose place is emptied
 pub given_objects : (h : Holdings) (a : ActionId) (i : ℕ) (y : HeldList) (place : ActionId → Option ℕ)
     → i < length h.lists.items → y.holder.0 ≡ a.0 → IsOfNoOther h a i

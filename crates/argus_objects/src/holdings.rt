@@ -196,7 +196,8 @@ impl Holdings {
         requires other { s.0 ≢ parent.0 }
         requires none { objects_held_by self.old parent ≡ [] }
         requires place { HasPlace self.old parent }
-        ensures { PassedOn self.old s parent self.new }
+        ensures passed { PassedOn self.old s parent self.new }
+        ensures whole { objects_held_by self.new parent ≡ objects_held_by self.old s }
     {
         if self.of(s).is_empty() {
             self.clear(s);

@@ -1,7 +1,7 @@
 //! Reads what comes after the first word of an opening's lines.
 
 ghost use Rattle.std.specs.List.{list_all};
-ghost use Rattle.std.specs.Prelude.{IfErr, IfOk, nat_lt, true, ◌<◌, ◌^◌, ◌≡◌, ◌≤◌};
+ghost use Rattle.std.specs.Prelude.{IfErr, IfOk, nat_lt, true, ◌<◌, ◌^◌, ◌≡◌, ◌≢◌, ◌≤◌};
 ghost use Rattle.argus_contents.specs.Content.{plain_option};
 ghost use Rattle.argus_reading.specs.Combined.{Worded};
 ghost use Rattle.argus_openings.specs.OpeningLanguages.{FoldedLines, IsForm, ObjectLines};
@@ -9,6 +9,7 @@ ghost use Rattle.argus_openings.specs.OpeningLanguages.{OptionContents};
 ghost use Rattle.argus_texts.specs.Language.{FormOf, OnLeft, Reads, Stops};
 ghost use Rattle.argus_texts.specs.Languages.{Numbers};
 ghost use Rattle.argus_texts.specs.ShapeLanguages.{BeginsNo, Shapes};
+ghost use Rattle.argus_texts.specs.declared.stop.Stop.TheVariants as stop;
 
 use argus_contents::limits::MAX_ACTIONS;
 use argus_contents::{Content, Shape};
@@ -20,7 +21,8 @@ use argus_texts::front::{Stop, Unread, expect, number, one_content, one_shape, w
 const MOST_ACTIONS: u64 = MAX_ACTIONS as u64;
 
 /// How many entries, at least one, and how many actions the opening stands for. `Left`: the text
-/// isn't what comes after `opening ` in an opening's first line.
+/// isn't what comes after `opening ` in an opening's first line; which number comes with it isn't
+/// promised. It takes no memory.
 ///
 /// ```text
 /// let (entries, actions) = folded_numbers("entries 11 actions 3")?;
@@ -28,6 +30,7 @@ const MOST_ACTIONS: u64 = MAX_ACTIONS as u64;
 pub fn folded_numbers(text: &str) -> Result<(u64, u32), Stop>
     ensures read { IfOk result (λ r. IsForm FoldedLines (r.0, r.1) text.now) }
     ensures stops { IfErr result (λ e. OnLeft e (λ left. FormOf FoldedLines text.now → ⊥)) }
+    ensures no_memory { IfErr result (λ e. e ≢ stop.Memory) }
 {
     let (entries, rest) = number_behind(text, "entries ", 1, MAX_FIRST_ENTRY)?;
     let rest = expect(rest, b' ')?;
@@ -39,7 +42,8 @@ pub fn folded_numbers(text: &str) -> Result<(u64, u32), Stop>
 }
 
 /// The number of an object, its shape and its content, which is `None` for `absent`. `Left`: the
-/// text isn't what comes after `opening ` in an object's line.
+/// text isn't what comes after `opening ` in an object's line; which number comes with it isn't
+/// promised. `Memory`: there was none for the shape or the content.
 ///
 /// ```text
 /// let (o, shape, content) = object_line(heap, "o0 atomic_record[balance:int] {7}")?;
@@ -70,6 +74,7 @@ fn number_behind<'a>(
         (λ r. Reads (Worded before.now (Numbers least most)) text.now r.0 r.1.now) }
     ensures stops { IfErr result (λ e. OnLeft e
         (λ left. Stops (Worded before.now (Numbers least most)) text.now left)) }
+    ensures no_memory { IfErr result (λ e. e ≢ stop.Memory) }
 {
     let rest = word(text, before)?;
     let (number, rest) = number(rest, least, most)?;

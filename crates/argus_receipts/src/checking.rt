@@ -33,6 +33,8 @@ type Numbers = IndexSet<u64, BuildHasherDefault<FoldHasher>, Global>;
 /// order, then `Count`. `OutOfMemory` may come in place of any result. Its time grows with the size
 /// of the receipts only.
 ///
+/// Condition: the journal has had at least `start` entries, folded ones counted.
+///
 /// ```text
 /// check(heap, journal, 0, 3, receipts.as_slice())?;
 /// ```

@@ -15,8 +15,9 @@ use thiserror::Error;
 /// | `Folded` | a checkpoint has forgotten the entry | `entry 3 was folded` |
 /// | `OutOfMemory` | there is no memory | `out of memory` |
 ///
-/// An entry is the receipt's if it has its call and its reply. Entries and calls are counted from
-/// the beginning of the sharing. `OutOfMemory` may come in place of any other result.
+/// An entry is the receipt's if it has its call and its reply. The numbers of entries are the
+/// journal's, from its beginning; `Count` has how many entries and calls were made since the
+/// sharing began. `OutOfMemory` may come in place of any other result.
 ///
 /// Of one receipt `Folded` comes before `NotThere`, and that before `Twice`; of two receipts the
 /// earlier one's fault; `Count` after all receipts.

@@ -64,7 +64,7 @@ impl<N: Sharing, R: Wait + Drop> Locked<N, R> {
     /// Folds the journal's past into its opening, as `Guardian::checkpoint` does: nothing is lost
     /// from view, since the board is unchanged, and objects, shapes and bases stay. `Busy`: an
     /// action is live; `Full`: none is, but the next entry's number is past the limit; these and
-    /// `OutOfMemory` change nothing.
+    /// `Memory` change nothing.
     pub fn checkpoint(&mut self) -> Result<(), CheckpointError>
         ensures ok { OnOk result (self.new.journal ≡ after_checkpoint self.old.journal) }
         ensures busy { (result_err result ≡ Some Busy) ↔ (is_quiet self.old.journal ≡ false) }

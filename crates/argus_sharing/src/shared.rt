@@ -67,8 +67,8 @@ impl<N: Sharing, R: Wait + Drop> Drop for Shared<N, R> {
 }
 
 impl<N: Sharing, R: Wait + Drop> Shared<N, R> {
-    /// Shares the guardian among this many seats, with places for this many lookers. No seat has
-    /// made a call, and each looker has seen the effects of the journal so far. Without lookers no
+    /// Shares the guardian among this many seats, with places for this many lookers, at most
+    /// 2^32 - 2. No seat has made a call, and each looker has seen the effects of the journal so far. Without lookers no
     /// contents are kept for them, and a commit copies none. `NotShared`: there was no memory, and
     /// the guardian is unchanged.
     pub fn new(
@@ -250,7 +250,7 @@ impl<N: Sharing, R: Wait + Drop> Shared<N, R> {
 
     /// Folds the journal's past into its opening, as `Guardian::checkpoint` does. Lookers, board
     /// and seats are unchanged. `Busy`: an action is live; `Full`: none is, but the next entry's
-    /// number is past the limit; these and `OutOfMemory` change nothing.
+    /// number is past the limit; these and `Memory` change nothing.
     ///
     /// It may wait for other threads.
     pub fn checkpoint(&self, rt: &impl Wait) -> Result<(), CheckpointError>

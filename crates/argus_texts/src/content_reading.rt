@@ -55,7 +55,10 @@ fn whole_content(heap: Heap, text: &str) -> Result<Content, Stop>
     Ok(content)
 }
 
-/// The content at the front, and what comes after it.
+/// The content at the front, whose values have a depth of at most 16, and what comes after it.
+///
+/// `Left`: the text stops being the beginning of such a content where so many bytes are left.
+/// `Memory`: there was none for its parts.
 pub fn one_content(heap: Heap, text: &str) -> Result<(Content, &str), Stop>
     ensures read { IfOk result
         (λ r. Reads (Contents MAX_VALUE_DEPTH) text.now (plain_content r.0) r.1.now) }

@@ -24,8 +24,7 @@ pub fn contents_are_read_back()
     ensures { ContentsAreReadBack }
 {}
 
-/// A content that fits a shape is read back, too: it is no deeper than the shape's types, which
-/// have a depth of at most 16. For each [`Shape`],
+/// A content that fits a shape which can be made is read back, too. For each [`Shape`],
 /// [`limits_are_kept`](argus_contents::Shape::limits_are_kept) says that it can be made.
 ///
 /// [`Shape`]: argus_contents::Shape

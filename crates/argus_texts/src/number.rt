@@ -1,17 +1,22 @@
 //! The numbers of a text: digits without a leading zero, with a sign for an integer.
 
 ghost use Rattle.std.specs.Prelude.{◌≡◌, negsuc, ◌<◌, ◌≤◌, ◌+◌, ◌-◌, ◌*◌, ◌⊎◌, IfOk, IfErr};
-ghost use Rattle.std.specs.Prelude.{IfSome, IfNone};
+ghost use Rattle.std.specs.Prelude.{IfSome, IfNone, ◌≢◌};
 ghost use Rattle.argus_texts.specs.Language.{OnLeft, Reads, Stops};
 ghost use Rattle.argus_texts.specs.Languages.{Ints, Numbers};
+ghost use Rattle.argus_texts.specs.declared.stop.Stop.TheVariants as stop;
 
 use crate::scan::{split_ascii, strip};
 use crate::stop::Stop;
 
 /// The integer at the front, and what comes after it.
+///
+/// `Left`: the text stops being the beginning of an integer where so many bytes are left. It takes
+/// no memory.
 pub fn int(text: &str) -> Result<(i64, &str), Stop>
     ensures read { IfOk result (λ r. Reads Ints text.now r.0 r.1.now) }
     ensures stops { IfErr result (λ e. OnLeft e (λ left. Stops Ints text.now left)) }
+    ensures no_memory { IfErr result (λ e. e ≢ stop.Memory) }
 {
     let Some(others) = strip(text, b'-') else {
         let (number, rest) = number(text, 0, 9_223_372_036_854_775_807)?;
@@ -28,12 +33,16 @@ fn negative(number: u64) -> i64
     -1 - (number - 1) as i64
 }
 
-/// The number at the front, from least (0 or 1) to most, and what comes after it.
+/// The number at the front, from least (0 or 1) to most (9 or greater), and what comes after it.
+///
+/// `Left`: the text stops being the beginning of such a number where so many bytes are left. It
+/// takes no memory.
 pub fn number(text: &str, least: u8, most: u64) -> Result<(u64, &str), Stop>
     requires { (least ≤ 1) × (9 ≤ most) }
     ensures read { IfOk result (λ r. Reads (Numbers least most) text.now r.0 r.1.now) }
     ensures stops { IfErr result
         (λ e. OnLeft e (λ left. Stops (Numbers least most) text.now left)) }
+    ensures no_memory { IfErr result (λ e. e ≢ stop.Memory) }
 {
     let Some((first, others)) = split_ascii(text) else {
         return Err(Stop::Left(text.len()));

@@ -52,7 +52,12 @@ fn whole_value(heap: Heap, text: &str) -> Result<Value, Stop>
     Ok(value)
 }
 
-/// The value at the front, and what comes after it.
+/// The value at the front, of a depth of at most `levels`, and what comes after it.
+///
+/// `Left`: the text stops being the beginning of such a value where so many bytes are left.
+/// `Memory`: there was none for its parts.
+///
+/// Condition: `levels` is at least 1.
 #[cycle(reading)]
 pub fn one_value(heap: Heap, text: &str, levels: usize) -> Result<(Value, &str), Stop>
     requires { 0 < levels }

@@ -1,11 +1,12 @@
 //! The front of a text: its first byte, one byte that must come, a word that must come.
 
 ghost use Rattle.std.specs.Prelude.{◌≡◌, true, nat_lt, ◌<◌, ◌≤◌, ◌∷◌, ◌++◌, length, IfOk, IfErr};
-ghost use Rattle.std.specs.Prelude.{IfSome, IfNone};
+ghost use Rattle.std.specs.Prelude.{IfSome, IfNone, ◌≢◌};
 ghost use Rattle.std.specs.List.{list_all};
 ghost use Rattle.std.specs.Str.{IsUtf8};
 ghost use Rattle.argus_texts.specs.Language.{First, IsNot, OnLeft, Starts, Stops};
 ghost use Rattle.argus_texts.specs.Languages.{Word};
+ghost use Rattle.argus_texts.specs.declared.stop.Stop.TheVariants as stop;
 
 use crate::stop::Stop;
 
@@ -39,12 +40,15 @@ pub(crate) fn strip(text: &str, wanted: u8) -> Option<&str>
     Some(others)
 }
 
-/// What comes after the byte, which must be next.
+/// What comes after the byte, which is ASCII and must be next.
+///
+/// `Left`: another byte is next, or none; all of the text is left. It takes no memory.
 pub fn expect(text: &str, wanted: u8) -> Result<&str, Stop>
     requires { wanted < 128 }
     ensures read { IfOk result (λ rest. text.now ≡ wanted ∷ rest.now) }
     ensures stops { IfErr result
         (λ e. OnLeft e (λ left. (left ≡ length text.now) × IsNot wanted text.now)) }
+    ensures no_memory { IfErr result (λ e. e ≢ stop.Memory) }
 {
     match strip(text, wanted) {
         Some(rest) => Ok(rest),
@@ -61,10 +65,14 @@ pub(crate) fn strip_word<'a>(text: &'a str, word: &str) -> Option<&'a str>
 }
 
 /// What comes after the word, which is ASCII and must be next.
+///
+/// `Left`: the text stops being the beginning of the word where so many bytes are left. It takes no
+/// memory.
 pub fn word<'a>(text: &'a str, word: &str) -> Result<&'a str, Stop>
     requires { list_all (λ b. nat_lt b 128) word.now ≡ true }
     ensures read { IfOk result (λ rest. text.now ≡ word.now ++ rest.now) }
     ensures stops { IfErr result (λ e. OnLeft e (λ left. Stops (Word word.now) text.now left)) }
+    ensures no_memory { IfErr result (λ e. e ≢ stop.Memory) }
 {
     let mut rest = text;
     for byte in word.as_bytes() {

@@ -44,6 +44,9 @@ fn whole_shape(heap: Heap, text: &str) -> Result<Shape, Unread>
 }
 
 /// The shape at the front, and what comes after it.
+///
+/// `NoForm`: the text doesn't begin with the written form of a shape. `Memory`: there was none for
+/// its names and types.
 pub fn one_shape(heap: Heap, text: &str) -> Result<(Shape, &str), Unread>
     ensures read { IfOk result (λ r. Reads Shapes text.now r.0 r.1.now) }
     ensures refused { IfErr result (λ e. OnNoForm e (BeginsNo Shapes text.now)) }

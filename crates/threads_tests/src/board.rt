@@ -7,7 +7,7 @@ ghost use Rattle.argus_board.specs.Keeper.{StartsHistory};
 use crate::effects::{effect, number_at};
 use argus_board::{Board, BoardWriter, Keeper, LookFault, Looker, TellsEffects};
 use argus_contents::ObjId;
-use argus_memory::{Heap, OutOfMemory};
+use argus_memory::{Budget, Heap, OutOfMemory};
 use std::marker::Brand;
 use std::process::Abort;
 use std::sync::Wait;
@@ -114,6 +114,32 @@ fn publish_to_nobody<N: Board, R: Wait + Abort + Copy + Drop>(
     board.append(effect(heap, &[0, 3], 1)?)?;
     board.append_told::<u8, NoEffect>(&0);
     board.publish()?;
+    board.end();
+    Ok(())
+}
+
+#[test]
+fn a_board_for_no_lookers_takes_no_memory(rt: HostRuntime) -> Result<(), Fail> {
+    let budget = Budget::new(rt.alloc())?;
+    let heap = Heap::with_budget(rt.alloc(), budget);
+    budget.allow(0);
+    open_for_nobody::<Brand, _>(rt, heap, Keeper::new())?;
+    assert_eq!(rt; budget.left(), Some(0));
+    Ok(())
+}
+
+fn open_for_nobody<N: Board, R: Wait + Abort + Copy + Drop>(
+    rt: R,
+    heap: Heap,
+    keeper: Keeper,
+) -> Result<(), Fail>
+    requires places { N.places ≡ 0 }
+    requires keeper { StartsHistory N.history N.root keeper }
+    requires first { N.first ≡ [] }
+    requires leads { IsTableOf N.opening_contents N.before N.first }
+{
+    let board = BoardWriter::<N, R>::new(rt, heap, Vec::new(heap.room()), keeper, 0)?;
+    assert!(rt; !board.has_places());
     board.end();
     Ok(())
 }

@@ -1,7 +1,8 @@
 -- Each action that is live when its turn comes is a topaction, and is aborted; in the end none is live.
-use Rattle.std.proofs.Common.{arith, sym, ◌∙◌}
+use Rattle.std.proofs.Common.{ap, arith, sym, ◌∙◌}
 use Rattle.argus_core.proofs.AbortingLive.{all_aborted, all_quiet, next_at, over_aborted, over_folded}
-use Rattle.argus_core.proofs.AbortingLive.{over_next}
+use Rattle.argus_core.proofs.AbortingLive.{on_err, over_next, some_left}
+use Rattle.argus_core.specs.AbortingLive.{live_topactions}
 use Rattle.argus_core.proofs.aborting_live.abort_each.Goals as goal
 use Rattle.argus_core.proofs.aborting_live.abort_each.Goals.{else-is_live, then-is_live+in_ok-abort+in-Answered-1}
 use Rattle.argus_core.proofs.aborting_live.abort_each.Goals.{then-is_live+in_ok-abort+in-Object-1}
@@ -47,6 +48,14 @@ returns-clause-ok c =
     let past = c.loop-a-test.false in
     all_aborted c.loop-a.state c.loop-a.invariant.0 (journal_view_of c.args.state.now) c.loop-a.a
     c.loop-a.invariant.1 (omega (arith, e, n, past))
+
+pub returns-in_err-abort-clause-left : goal.returns-in_err-abort-clause-left
+returns-in_err-abort-clause-left c =
+    let v = c.loop-a.invariant in
+    on_err c.from_residual.result
+    (λ none. some_left c.loop-a.state v.0 (journal_view_of c.args.state.now) c.loop-a.a v.1
+    (sym c.is_live.ensures ∙ c.if-is_live.true)
+    (ap live_topactions (sym c.in_err-abort.ensures.err) ∙ none))
 
 pub returns-clause-quiet : goal.returns-clause-quiet
 returns-clause-quiet c =

@@ -6,11 +6,12 @@ use Rattle.argus_objects.specs.Holdings.{noted_by, place_at, placed_objects}
 use Rattle.argus_objects.specs.ObjectList.{NotedObjects, passed}
 use Rattle.argus_objects.specs.declared.held_list.HeldList.{HeldList}
 use Rattle.argus_objects.proofs.Distinct.{passed_to_none}
-use Rattle.argus_objects.proofs.Places.{handed_on, listed, none_handed, none_of_none, noted_read, nothing_handed, objects_handed, unlisted}
+use Rattle.argus_objects.proofs.Places.{handed_on, handed_whole, listed, none_handed, none_of_none, noted_read, nothing_handed, objects_handed}
+use Rattle.argus_objects.proofs.Places.{unlisted}
 use Rattle.argus_objects.proofs.holdings.Holdings.hand_up.Goals as goal
 
-pub returns-then-is_empty : goal.returns-then-is_empty
-returns-then-is_empty c =
+pub returns-then-is_empty-clause-passed : goal.returns-then-is_empty-clause-passed
+returns-then-is_empty-clause-passed c =
     let h = c.args.self.now in
     let few : length c.of.result.now ≡ 0 = eqb-true _ 0 (sym c.is_empty.ensures ∙ c.if-is_empty.true) in
     let nothing : (noted_by h c.args.s).objects ≡ [] =
@@ -18,20 +19,26 @@ returns-then-is_empty c =
     λ x. c.clear.ensures x ∙ ap (cond (eqb x.0 c.args.s.0) [])
     (nothing_handed h c.args.s c.args.parent nothing c.requires.none x)
 
-pub returns-in_default : goal.returns-in_default
-returns-in_default c =
+pub returns-in_default-clause-passed : goal.returns-in_default-clause-passed
+returns-in_default-clause-passed c =
     let h = c.args.self.now in
     none_handed h c.args.s c.args.parent
     (ap (λ (l : NotedObjects). l.objects) (unlisted h c.args.s (sym c.index_of.ensures ∙ c.in_default.is)))
     c.requires.none
+
+pub returns-in_default-clause-whole : goal.returns-in_default-clause-whole
+returns-in_default-clause-whole c =
+    c.requires.none
+    ∙ sym (ap (λ (l : NotedObjects). l.objects)
+    (unlisted c.args.self.now c.args.s (sym c.index_of.ensures ∙ c.in_default.is)))
 
 pub index_mut-requires : goal.index_mut-requires
 index_mut-requires c =
     let is = listed c.args.self.now c.args.s c.in-Some.index (sym c.index_of.ensures ∙ c.in-Some.is) in
     omega (arith, is.there)
 
-pub returns : goal.returns
-returns c =
+pub returns-clause-passed : goal.returns-clause-passed
+returns-clause-passed c =
     let h = c.args.self.now in
     let is = listed h c.args.s c.in-Some.index (sym c.index_of.ensures ∙ c.in-Some.is) in
     let read = noted_read h c.args.s c.in-Some.index c.index_mut.result.now is c.index_mut.ensures.value in
@@ -45,3 +52,11 @@ returns c =
     c.put.ensures.lists
     ∙ (objects_handed h c.args.s c.args.parent
     (λ z. placed_objects (set h.lists.items c.in-Some.index y) z.0 (place z)) handed c.requires.none all x)
+
+pub returns-clause-whole : goal.returns-clause-whole
+returns-clause-whole c =
+    let h = c.args.self.now in
+    let all : passed (noted_by h c.args.s).objects [] ≡ (noted_by h c.args.s).objects =
+    rw (← c.of.ensures.list) (passed_to_none c.of.result.now c.of.ensures.once) in
+    handed_whole h c.args.s c.args.parent _ c.requires.other c.requires.none all
+    (returns-clause-passed c c.args.parent)
