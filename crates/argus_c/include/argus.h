@@ -3,8 +3,8 @@
  * The functions argus_c_* are those of the proved archive, from which libargus.a and libargus.so are made. That the
  * declarations below are those of its source isn't proved: hosts/declarations.py compares the texts. They take no null
  * pointer. The functions after them are what a program calls: they return ARGUS_NULL for a null pointer, and each
- * answer as a status and a number. In C they are inline; both libraries also export them, for bindings of other
- * languages.
+ * answer as a status and a number. In C all but argus_open are inline; both libraries export them all, for bindings
+ * of other languages.
  *
  *     // An account of so much, or 0: and why.
  *     int open_account(argus_guardian *bank, const char *content) {
@@ -41,7 +41,7 @@
  *
  * Values are written and read by the functions of argus_values.h, which includes this file.
  *
- * Texts are UTF-8, without spaces, and each thing has one written form:
+ * Texts are UTF-8, without spaces outside quotes, and each thing has one written form:
  *
  *     value     null  true  false  -5  "text"  @3  [1,2]  {1,true}  <1:"no">
  *               which are of the types null, bool, int (64 bits), text, atomic (a reference to object 3, which is
@@ -137,7 +137,7 @@ typedef enum argus_status {
                               checkpoint had); the action wasn't begun; none is live; there is no reply with a text */
     ARGUS_BUSY = 19,       /* a checkpoint, or a renewal, while an action is live */
     ARGUS_FULL = 20,       /* a checkpoint, or a renewal, whose next entry's number would be above 2^63 - 1 */
-    ARGUS_NULL = 21,       /* a pointer was null. Only the inline functions return it */
+    ARGUS_NULL = 21,       /* a pointer was null. No function argus_c_* returns it */
     ARGUS_UNMET = 22,      /* of a list only: the outcome of the last call that was made isn't as demanded */
     ARGUS_NOT_BEGUN = 23,  /* of a call of a list: begun_by names no earlier call, or one that began no action */
     ARGUS_BAD_DEMAND = 24, /* of a call of a list: no demand has this number */
@@ -354,15 +354,15 @@ ARGUS_API const char *argus_status_name(uint32_t status) {
 /* ---- What the library exports. No pointer is null, except that of an empty text; no two overlap. ---- */
 
 /* Opens a guardian without objects, actions and entries. What was open in the handle is closed once the new one is
- * made, and stays at ARGUS_NO_MEMORY. If `beside` is open, both share one word for their memory; if it isn't, the new one leaves 8 bytes
- * behind. `beside` is another handle, and is unchanged. ARGUS_DONE, ARGUS_NO_MEMORY. */
+ * made, and stays at ARGUS_NO_MEMORY. If `beside` is open, both share one word for their memory; if it isn't, the new
+ * one leaves 8 bytes behind. `beside` is another handle, and is unchanged. ARGUS_DONE, ARGUS_NO_MEMORY. */
 uint32_t argus_c_open(argus_guardian *guardian, argus_guardian *beside);
 
 /* Closes the guardian and frees its memory. ARGUS_DONE; ARGUS_NOT_OPEN if it is closed already. */
 uint32_t argus_c_close(argus_guardian *guardian);
 
-/* Makes one call. Every reply, refusals included, is one entry of the journal. The reply is kept until the next call
- * that is made, or the next question whose answer is a text. `number` is written at each status: as the status says,
+/* Makes one call. Every reply, refusals included, is one entry of the journal. The reply is kept until something
+ * else is (argus_c_reply says what). `number` is written at each status: as the status says,
  * otherwise 0. It doesn't overlap the handle.
  * What `kind` says, or ARGUS_SIGNAL, ARGUS_REFUSED, or the first of these that applies: ARGUS_NOT_UTF8, ARGUS_NOT_OPEN,
  * ARGUS_BAD_KIND, ARGUS_BAD_NUMBER (of a kind that takes a field or a tag), ARGUS_BAD_TEXT and ARGUS_BAD_SHAPE (of a
@@ -389,7 +389,7 @@ uint32_t argus_c_tell(argus_guardian *guardian, uint32_t question, uint32_t acti
 
 /* Aborts all live actions: one call ARGUS_ABORT for each live topaction, nested ones too, in increasing number, each an
  * entry of the journal. What is kept stays. ARGUS_DONE; ARGUS_NOT_OPEN; ARGUS_NO_MEMORY: the first ones were aborted,
- * and another call aborts the others. */
+ * or none, and at least one is still live; another call aborts the others. */
 uint32_t argus_c_abort_live(argus_guardian *guardian);
 
 /* Folds the journal's entries away: objects keep their bases, and entries and actions their numbers.
@@ -513,7 +513,8 @@ static inline void argus_enter(argus_guardian *guardian) {
 }
 
 /* Opens a guardian without objects, actions and entries. A guardian that is open in the handle is closed once the new
- * one is made, and stays open at ARGUS_NO_MEMORY. This isn't an inline function, and several threads may call it at the same time. */
+ * one is made, and stays open at ARGUS_NO_MEMORY. This isn't an inline function, and several threads may call it at
+ * the same time. */
 argus_answer argus_open(argus_guardian *guardian);
 
 /* The same, but the new guardian shares with `other`, which is open, what argus_open lets all guardians share. At

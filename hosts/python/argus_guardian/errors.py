@@ -11,7 +11,8 @@ class ArgusError(Exception):
 
 
 class OutOfMemory(ArgusError, MemoryError):
-    """Out of memory. Nothing has changed, and nothing was journalled."""
+    """Out of memory. Nothing has changed, and nothing was journalled; but of a call whose result is a text, a compound
+    value or a content, and of a list, there may have been no memory for the result of a call that was made."""
 
     why = "out of memory"
 
