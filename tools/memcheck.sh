@@ -22,7 +22,7 @@ run() {
     [ -f "$crate/stdin" ] && input=$crate/stdin
     [ -f "$crate/status" ] && wanted=$(cat "$crate/status")
     cd "$crate/data" 2> /dev/null || cd "$work"
-    valgrind --quiet --leak-check=full --show-leak-kinds=definite,possible --log-file="$work/log" \
+    valgrind --quiet --error-exitcode=99 --errors-for-leak-kinds=none --leak-check=full --show-leak-kinds=definite,possible --log-file="$work/log" \
         "$crate/out/$1" "${words[@]}" < "$input" > "$work/out" 2> "$work/err"
     status=$?
     cd "$top"

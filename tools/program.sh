@@ -69,6 +69,8 @@ prove() {
     mkdir -p "$top/crates/$name/out"
     log=$top/crates/$name/out/build.log
     : > "$log"
+    begun=$top/crates/$name/out/begun
+    touch "$begun"
     total=$(crates | wc -l)
     number=0
     ticker=
@@ -88,7 +90,8 @@ prove() {
         kill "$ticker"
         ticker=
     done
-    touch "$program"
+    # What was saved since the proof began is newer: it may not have been read.
+    touch -r "$begun" "$program"
     say "proved and built in $((($(date +%s) - begin + 30) / 60)) min; it starts at once from now on"
 }
 
