@@ -6,6 +6,7 @@ use std::fs::{self, File, OpenOptions, TryLockError};
 use std::io::{self, Read};
 use std::os::unix::fs::FileExt;
 use std::path::{Path, PathBuf};
+use std::process;
 
 const LOCK: &str = "lock";
 
@@ -14,6 +15,10 @@ const LOCK: &str = "lock";
 ///
 /// The lock is advisory, on the file `lock` in the folder. Over NFS and the like it holds only if the server keeps
 /// locks.
+///
+/// A forked process has a copy of this value and of its lock. It may drop the copy: the folder stays locked by the
+/// process that has opened it. But until the copy is dropped, or that process has ended, it keeps the folder locked,
+/// even if the process that has opened it was killed.
 ///
 /// ```
 /// use argus_guardian::log::{Folder, OpenError};
@@ -30,6 +35,8 @@ pub struct Folder {
     path: PathBuf,
     // Its lock is the folder's.
     lock: File,
+    // The process that has opened it.
+    process: u32,
     // The file that was used last, and its name.
     open: Option<(String, File)>,
 }
@@ -56,6 +63,7 @@ impl Folder {
             Ok(()) => Ok(Folder {
                 path: path.to_owned(),
                 lock,
+                process: process::id(),
                 open: None,
             }),
             Err(TryLockError::WouldBlock) => Err(OpenError::Locked),
@@ -88,9 +96,12 @@ impl Folder {
 
 impl Drop for Folder {
     fn drop(&mut self) {
-        // A process that is just being started may have the file open, too: so it isn't enough to close it here.
-        #[allow(clippy::incompatible_msrv)]
-        let _ = self.lock.unlock();
+        // A forked process has the same lock: it would unlock the folder of the process that has opened it.
+        if self.process == process::id() {
+            // A process that is just being started may have the file open, too: so it isn't enough to close it here.
+            #[allow(clippy::incompatible_msrv)]
+            let _ = self.lock.unlock();
+        }
     }
 }
 

@@ -17,6 +17,7 @@ mod clock;
 mod dying_storage;
 mod failing;
 mod failing_storage;
+mod folders;
 #[cfg(feature = "logged")]
 mod full;
 #[cfg(feature = "logged")]
