@@ -3,7 +3,7 @@
 use crate::log::open_error::OpenError;
 use crate::log::storage::Storage;
 use std::fs::{self, File, OpenOptions, TryLockError};
-use std::io::{self, Read};
+use std::io::{self, ErrorKind, Read};
 use std::os::unix::fs::FileExt;
 use std::path::{Path, PathBuf};
 use std::process;
@@ -107,18 +107,40 @@ impl Drop for Folder {
 
 // Makes a folder, and those above it; their names survive a power cut.
 fn make(path: &Path) -> io::Result<()> {
-    if path.as_os_str().is_empty() || path.is_dir() {
+    let Some(above) = path.parent() else {
+        // The root, or the folder that the process is in.
         return Ok(());
-    }
-    let above = path.parent().unwrap_or(Path::new(""));
-    make(above)?;
-    fs::create_dir(path)?;
-    let above = if above.as_os_str().is_empty() {
-        Path::new(".")
-    } else {
-        above
     };
-    File::open(above)?.sync_all()
+    if path.is_dir() {
+        return keep_names(above);
+    }
+    make(above)?;
+    match fs::create_dir(path) {
+        Ok(()) => opened(above)?.sync_all(),
+        // Another process has made it in the meantime.
+        Err(error) if error.kind() == ErrorKind::AlreadyExists => keep_names(above),
+        Err(error) => Err(error),
+    }
+}
+
+// Syncs the names in a folder, since whoever has made the one that is there may have died before that. But the folder
+// above may be closed to this program, or lie in a file system that has nothing to sync.
+fn keep_names(path: &Path) -> io::Result<()> {
+    let Ok(folder) = opened(path) else {
+        return Ok(());
+    };
+    folder.sync_all().or_else(|error| match error.kind() {
+        ErrorKind::InvalidInput | ErrorKind::ReadOnlyFilesystem => Ok(()),
+        _ => Err(error),
+    })
+}
+
+fn opened(path: &Path) -> io::Result<File> {
+    if path.as_os_str().is_empty() {
+        File::open(".")
+    } else {
+        File::open(path)
+    }
 }
 
 impl Storage for Folder {

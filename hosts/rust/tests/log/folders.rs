@@ -5,7 +5,11 @@ use argus_guardian::log::{Folder, OpenError};
 use std::os::unix::process::CommandExt;
 use std::path::Path;
 use std::process::Command;
-use std::sync::{Arc, Mutex};
+use std::sync::{Arc, Barrier, Mutex};
+use std::thread;
+
+const THREADS: usize = 4;
+const ROUNDS: u32 = 20;
 
 type Kept = Arc<Mutex<Option<Folder>>>;
 
@@ -40,4 +44,30 @@ fn a_forked_process_that_drops_it_doesnt_unlock_it() {
     assert!(is_locked(scratch.path()));
     let_go(&kept);
     assert!(!is_locked(scratch.path()));
+}
+
+// What threads get that open it at once, when neither it nor the folder above it is there.
+fn opened_at_once() -> Vec<Result<Folder, OpenError>> {
+    let scratch = Scratch::new("made");
+    let path = scratch.path().join("above/log");
+    let begin = Barrier::new(THREADS);
+    let open = || {
+        begin.wait();
+        Folder::open(&path)
+    };
+    thread::scope(|scope| {
+        let threads = [(); THREADS].map(|()| scope.spawn(open));
+        threads.map(|it| it.join().expect("no panic")).into()
+    })
+}
+
+#[test]
+fn of_threads_that_make_it_at_once_one_has_it() {
+    for _ in 0..ROUNDS {
+        let opened = opened_at_once();
+        let (has_it, others): (Vec<_>, Vec<_>) = opened.iter().partition(|it| it.is_ok());
+        assert_eq!(has_it.len(), 1, "{opened:?}");
+        let is_locked = |it: &&Result<Folder, OpenError>| matches!(it, Err(OpenError::Locked));
+        assert!(others.iter().all(is_locked), "{opened:?}");
+    }
 }
