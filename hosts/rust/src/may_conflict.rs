@@ -1,10 +1,13 @@
 //! `MayConflict`: an error by which `Shared::run` knows whether to try again.
 
 use crate::error::Error;
+#[cfg(all(feature = "logged", unix))]
+use crate::log::LoggedError;
 use std::error;
 
-/// An error by which [`Shared::run`](crate::Shared::run) knows whether to try again. A program's
-/// own error asks the [`Error`] that it carries:
+/// An error by which [`Shared::run`](crate::Shared::run) and `Logged::run` know whether to try
+/// again. A box is asked if it has an [`Error`] or a `LoggedError`. A program's own error asks the
+/// [`Error`] that it carries:
 ///
 /// ```
 /// use argus_guardian::{Error, MayConflict, Refusal};
@@ -36,12 +39,21 @@ impl MayConflict for Error {
 
 impl MayConflict for Box<dyn error::Error> {
     fn is_conflict(&self) -> bool {
-        self.downcast_ref().is_some_and(Error::is_conflict)
+        is_conflict(self.as_ref())
     }
 }
 
 impl MayConflict for Box<dyn error::Error + Send + Sync> {
     fn is_conflict(&self) -> bool {
-        self.downcast_ref().is_some_and(Error::is_conflict)
+        is_conflict(self.as_ref())
     }
+}
+
+// Whether it is one of the crate's errors, and a refusal with `Conflict`.
+fn is_conflict(error: &(dyn error::Error + 'static)) -> bool {
+    #[cfg(all(feature = "logged", unix))]
+    if let Some(error) = error.downcast_ref::<LoggedError>() {
+        return error.is_conflict();
+    }
+    error.downcast_ref().is_some_and(Error::is_conflict)
 }

@@ -1,5 +1,7 @@
 //! Topactions that are tried again.
 
+#[cfg(all(feature = "logged", unix))]
+use argus_guardian::log::{Logged, LoggedError, LoggedOptions, MemoryStorage};
 use argus_guardian::{
     Change, Error, Guardian, MayConflict, ObjId, Refusal, Shared, SharedAction, Value,
 };
@@ -106,4 +108,37 @@ fn boxed_errors_say_whether_they_are_conflicts() {
     assert!(Box::<dyn error::Error>::from(conflict()).is_conflict());
     assert!(Box::<dyn error::Error + Send + Sync>::from(conflict()).is_conflict());
     assert!(!Box::<dyn error::Error>::from("sold out").is_conflict());
+}
+
+// A record is locked at the first try, and free at the second. How many tries it takes to lock it.
+#[cfg(all(feature = "logged", unix))]
+fn tries_until_free<E: From<LoggedError> + MayConflict>() -> Result<u32, E> {
+    let options = LoggedOptions {
+        patience: Duration::ZERO,
+        ..LoggedOptions::default()
+    };
+    let (logged, _) = Logged::open_in(MemoryStorage::default(), options).expect("opened");
+    let record = logged.declare("atomic_record[n:int]")?;
+    let holder = logged.topaction()?;
+    holder.lock(record)?;
+    let (mut holder, mut tried) = (Some(holder), 0);
+    logged.run(|top| {
+        tried += 1;
+        if tried == 2 {
+            drop(holder.take());
+        }
+        Ok::<_, E>(top.lock(record)?)
+    })?;
+    Ok(tried)
+}
+
+#[cfg(all(feature = "logged", unix))]
+#[test]
+fn boxed_errors_of_a_log_say_so_too() {
+    let over = LoggedError::from(Refusal::Over);
+    assert!(!Box::<dyn error::Error>::from(over).is_conflict());
+    let tries = tries_until_free::<Box<dyn error::Error>>();
+    assert_eq!(tries.expect("free"), 2);
+    let tries = tries_until_free::<Box<dyn error::Error + Send + Sync>>();
+    assert_eq!(tries.expect("free"), 2);
 }
