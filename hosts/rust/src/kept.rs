@@ -92,8 +92,21 @@ impl Kept {
 
     /// Wakes each thread that may go on, in order of arrival.
     pub(crate) fn wake(&mut self) {
+        self.wake_each(|_| true);
+    }
+
+    /// A thread that was woken can't go on, because another one came first. What was left to it goes to those whose
+    /// access may still be made.
+    pub(crate) fn pass_on(&mut self) {
+        // Two that wait until no action is live would wake each other for ever.
+        self.wake_each(|it| it.access().is_some());
+    }
+
+    // Wakes each of these that may go on.
+    fn wake_each(&mut self, is_meant: impl Fn(&Waiter) -> bool) {
         for place in 0..self.waiting.len() {
-            if !self.waiting[place].is_woken && self.may_go_on(place) {
+            let waiter = &self.waiting[place];
+            if !waiter.is_woken && is_meant(waiter) && self.may_go_on(place) {
                 self.waiting[place].wake();
             }
         }

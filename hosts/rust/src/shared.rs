@@ -122,6 +122,7 @@ impl Shared {
                 kept.leave(number);
                 return kept;
             }
+            kept.pass_on();
         }
     }
 

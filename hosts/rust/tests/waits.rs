@@ -146,6 +146,41 @@ fn who_gives_up_passes_its_lock_on() -> Result<(), Error> {
     Ok(())
 }
 
+// Two wait for the record, the first one to write and the second one to read. Once it is free a newcomer reads it,
+// mostly before the first one has made its call. Then the second one reads beside it, and doesn't wait for its end.
+fn a_newcomer_reads(shared: &Shared, record: ObjId) -> Result<(), Error> {
+    let (holder, newcomer) = (shared.topaction()?, shared.topaction()?);
+    let (first, second) = (shared.topaction()?, shared.topaction()?);
+    holder.lock(record)?;
+    let entries = shared.with(Guardian::entries);
+    thread::scope(|scope| {
+        let first = scope.spawn(move || {
+            first.lock(record)?;
+            first.commit()
+        });
+        until_entries(shared, entries + 1);
+        let second = scope.spawn(move || {
+            second.get(record, 0)?;
+            second.commit()
+        });
+        until_entries(shared, entries + 2);
+        holder.commit()?;
+        newcomer.get(record, 0)?;
+        second.join().expect("no panic")?;
+        newcomer.commit()?;
+        first.join().expect("no panic")
+    })
+}
+
+#[test]
+fn who_comes_too_late_passes_its_lock_on() -> Result<(), Error> {
+    let (guardian, records) = with_records(1)?;
+    let (shared, start) = (Shared::new(guardian, LONG), Instant::now());
+    (0..100).try_for_each(|_| a_newcomer_reads(&shared, records[0]))?;
+    assert!(start.elapsed() < LONG);
+    Ok(())
+}
+
 // Numbers as if by chance.
 struct Draws(u64);
 
