@@ -33,6 +33,34 @@ pub struct FoundLog<S> {
     pub(crate) segments: Vec<u64>,
     pub(crate) next: Position,
     pub(crate) last: Option<LastSegment>,
+    // Where its first batch is: an opening, or the very first entries.
+    begin: Place,
+}
+
+// Where a batch begins, or should begin.
+#[derive(Debug, Clone, Copy, Default)]
+struct Place {
+    segment: u64,
+    batch: u64,
+    byte: u64,
+}
+
+impl Place {
+    // This line of the batch isn't what the guardian writes there, or all of it isn't.
+    fn damaged(self, line: Option<u64>, why: String) -> OpenError {
+        let Place {
+            segment,
+            batch,
+            byte,
+        } = self;
+        OpenError::Damaged(Damage {
+            segment,
+            batch,
+            byte,
+            line,
+            defect: Defect::Line(why),
+        })
+    }
 }
 
 /// The end of a log's last segment.
@@ -61,6 +89,7 @@ impl<S: Storage> FoundLog<S> {
                 epoch: 0,
             }),
             last: None,
+            begin: Place::default(),
         };
         for segment in list.numbers() {
             log.read_segment(segment, list.following(segment), &mut each)?;
@@ -80,12 +109,15 @@ impl<S: Storage> FoundLog<S> {
         let bytes = self.storage.read(&segment_name(segment), u64::MAX)?;
         self.next.segment = segment;
         let mut reader = SegmentReader::new(&bytes, self.next, following)?;
+        if self.found.segments == 0 {
+            self.begin = place_of(&reader);
+        }
         loop {
-            let at = reader.tail().end;
+            let place = place_of(&reader);
             let Some(batch) = reader.next_batch()? else {
                 break;
             };
-            each(&batch).map_err(|error| not_taken(&batch, at, error))?;
+            each(&batch).map_err(|error| not_taken(place, error))?;
             self.count(&batch);
         }
         if reader.is_continued() && following.is_none() {
@@ -127,7 +159,8 @@ impl<S: Storage> FoundLog<S> {
         &self.found
     }
 
-    /// Why no guardian could be made of all batches together, as an error of the log.
+    /// Why no guardian could be made of all batches together, as an error of the log. It names the first batch: the
+    /// opening.
     ///
     /// ```
     /// use argus_guardian::log::{FileLog, LineError, MemoryStorage};
@@ -139,15 +172,35 @@ impl<S: Storage> FoundLog<S> {
     #[must_use]
     pub fn not_taken(&self, error: LineError) -> OpenError {
         match error {
-            LineError::Fault { why, .. } => OpenError::Damaged(Damage {
-                segment: self.next.segment,
-                batch: self.next.batch.saturating_sub(1),
-                byte: 0,
-                line: None,
-                defect: Defect::Line(why),
-            }),
+            LineError::Fault { why, .. } => self.begin.damaged(None, why),
             LineError::OutOfMemory => OpenError::Guardian(Error::OutOfMemory),
         }
+    }
+
+    /// Checks that this entry comes next in the log, as it does in the guardian of its lines. An opening's lines say
+    /// how many entries there were before it, and so does the head of its batch: if the two differ, no guardian can go
+    /// on with this log.
+    ///
+    /// # Errors
+    ///
+    /// [`OpenError::Damaged`].
+    ///
+    /// ```
+    /// use argus_guardian::log::{FileLog, MemoryStorage};
+    /// let log = FileLog::read(MemoryStorage::default(), |_| Ok(()))?;
+    /// log.check_next(0)?;
+    /// let error = log.check_next(4).expect_err("the log is empty").to_string();
+    /// assert!(error.ends_with("by the log's lines entry 4 comes next, and by its heads entry 0"), "{error}");
+    /// # Ok::<(), argus_guardian::log::OpenError>(())
+    /// ```
+    pub fn check_next(&self, entry: u64) -> Result<(), OpenError> {
+        let next = self.found.next;
+        if entry == next {
+            return Ok(());
+        }
+        let why =
+            format!("by the log's lines entry {entry} comes next, and by its heads entry {next}");
+        Err(self.begin.damaged(None, why))
     }
 
     /// Begins to write to the log: cuts off what is torn, writes the last batch again and syncs it, and
@@ -184,16 +237,20 @@ impl<S: Storage> FoundLog<S> {
     }
 }
 
-// Why a batch that begins at this byte wasn't taken.
-fn not_taken(batch: &Batch<'_>, byte: u64, error: LineError) -> OpenError {
+// Where the next batch begins.
+fn place_of(reader: &SegmentReader<'_>) -> Place {
+    let Position { segment, batch, .. } = reader.next();
+    Place {
+        segment,
+        batch,
+        byte: reader.tail().end,
+    }
+}
+
+// Why the batch there wasn't taken.
+fn not_taken(place: Place, error: LineError) -> OpenError {
     match error {
-        LineError::Fault { line, why } => OpenError::Damaged(Damage {
-            segment: batch.segment,
-            batch: batch.number,
-            byte,
-            line: Some(line),
-            defect: Defect::Line(why),
-        }),
+        LineError::Fault { line, why } => place.damaged(Some(line), why),
         LineError::OutOfMemory => OpenError::Guardian(Error::OutOfMemory),
     }
 }

@@ -119,6 +119,7 @@ impl Logged {
 
     /// Takes a guardian that a [`Recovery`](crate::log::Recovery) has restored from this log's lines: aborts what is
     /// live, and returns when the log has that, with the number of entries that it took. For logs other than files.
+    /// Check first that the guardian's next entry is the log's.
     ///
     /// # Errors
     ///
@@ -129,7 +130,8 @@ impl Logged {
     /// use std::time::Duration;
     /// let mut recovery = Recovery::new()?;
     /// let found = FileLog::read(MemoryStorage::default(), |batch| recovery.take(batch.lines))?;
-    /// let guardian = recovery.into_guardian().map_err(|error| found.not_taken(error))?;
+    /// let mut guardian = recovery.into_guardian().map_err(|error| found.not_taken(error))?;
+    /// found.check_next(guardian.entries())?;
     /// let log = Box::new(found.begin()?);
     /// let (logged, aborted) = Logged::resumed(guardian, log, Duration::from_secs(1))?;
     /// assert_eq!((logged.entries(), aborted), (0, 0));

@@ -16,10 +16,10 @@ use crate::taken_end::TakenEnd;
 pub(crate) fn recovered<S: Storage>(storage: S) -> Result<(FoundLog<S>, Guardian), OpenError> {
     let mut recovery = Recovery::new()?;
     let log = FileLog::read(storage, |batch| recovery.take(batch.lines))?;
-    match recovery.into_guardian() {
-        Ok(guardian) => Ok((log, guardian)),
-        Err(error) => Err(log.not_taken(error)),
-    }
+    let guardian = recovery.into_guardian();
+    let mut guardian = guardian.map_err(|error| log.not_taken(error))?;
+    log.check_next(guardian.entries())?;
+    Ok((log, guardian))
 }
 
 /// A guardian that is being restored from the lines of its log, by the library's proved call: each call is made again,

@@ -217,6 +217,32 @@ fn a_line_that_the_guardian_doesnt_confirm_is_named() {
     }
 }
 
+// A log whose second segment begins with this opening, before entry 2.
+fn log_with(opening: &str) -> FileLog<MemoryStorage> {
+    let mut log = FileLog::read(MemoryStorage::default(), |_| Ok(()))
+        .expect("new")
+        .begin()
+        .expect("begun");
+    let lines = "0 begin_top -> a0\n1 commit a0 -> done\n".to_owned();
+    let lines = EntryLines::new(0, lines).expect("whole lines");
+    log.append(&lines).expect("appended");
+    let opening = Opening::new(2, opening.to_owned()).expect("whole lines");
+    log.restart(&opening).expect("begun anew");
+    log
+}
+
+// What is wrong with such a log: it is its opening.
+fn damage_in(files: MemoryStorage) -> Damage {
+    let opened = Logged::open_in(files.clone(), LoggedOptions::default());
+    assert!(matches!(opened, Err(OpenError::Damaged(_))));
+    let error = Logged::check(files).expect_err("it isn't sound");
+    let OpenError::Damaged(damage) = error else {
+        panic!("{error}");
+    };
+    assert_eq!((damage.segment, damage.batch), (2, 1));
+    damage
+}
+
 #[test]
 fn an_opening_that_isnt_whole_is_named() {
     let rows = [
@@ -224,20 +250,34 @@ fn an_opening_that_isnt_whole_is_named() {
         "opening entries 2 actions 1\nopening o1 atomic_record[n:int] {1}\n",
     ];
     for opening in rows {
-        let mut log = FileLog::read(MemoryStorage::default(), |_| Ok(()))
-            .expect("new")
-            .begin()
-            .expect("begun");
-        let lines = "0 begin_top -> a0\n1 commit a0 -> done\n".to_owned();
-        let lines = EntryLines::new(0, lines).expect("whole lines");
-        log.append(&lines).expect("appended");
-        let opening = Opening::new(2, opening.to_owned()).expect("whole lines");
-        log.restart(&opening).expect("begun anew");
-        let error = Logged::check(log.into_storage()).expect_err("it isn't sound");
-        let OpenError::Damaged(damage) = error else {
-            panic!("{error}");
-        };
-        assert_eq!((damage.segment, damage.batch), (2, 1));
+        damage_in(log_with(opening).into_storage());
+    }
+}
+
+// Appends so many entries. A guardian takes them, as they follow the lines of an opening before entry 4.
+fn append_begins(log: &mut FileLog<MemoryStorage>, count: u64) {
+    for (entry, action) in (4..4 + count).zip(1..) {
+        let line = format!("{entry} begin_top -> a{action}\n");
+        let line = EntryLines::new(log.next(), line).expect("a whole line");
+        log.append(&line).expect("appended");
+    }
+}
+
+#[test]
+fn an_opening_before_another_entry_is_named() {
+    for count in 0..3 {
+        let opening = "opening entries 4 actions 1\nopening o0 atomic_record[n:int] {1}\n";
+        let mut log = log_with(opening);
+        append_begins(&mut log, count);
+        let files = log.into_storage();
+        let damage = damage_in(files.clone());
+        let (lines, heads) = (4 + count, 2 + count);
+        let why =
+            format!("by the log's lines entry {lines} comes next, and by its heads entry {heads}");
+        assert_eq!(damage.defect, Defect::Line(why));
+        let segment = &files.files["segment-000000000002.log"];
+        let place = usize::try_from(damage.byte).expect("small");
+        assert!(segment[place..].starts_with(b"#opening "));
     }
 }
 
