@@ -33,7 +33,8 @@ typedef int64_t argus_log_take(void *host, const char *lines, size_t size);
 
 /* Puts the journal's lines from an entry on into the room, as many whole ones as fit, by argus_lines, under the
  * guardian's mutex. Returns their size in bytes. If the first one doesn't fit, returns its size, which is more than
- * the room's; if it fails, returns 0, which breaks the log. */
+ * the room's; if it fails, returns 0, which breaks the log. So does a text that isn't the lines of entries from that
+ * one on. */
 typedef size_t argus_log_give(void *host, uint64_t from, char *room, size_t size);
 
 /* Folds the journal, under the guardian's mutex. It returns
@@ -41,7 +42,8 @@ typedef size_t argus_log_give(void *host, uint64_t from, char *room, size_t size
  *   them;
  * - 2 if an action is live or there is no memory: nothing is folded;
  * - 0 if it has folded the journal (argus_checkpoint) and set `opening` to the lines of the journal's listing that
- *   begin with "opening ". This text has to stay until the next call;
+ *   begin with "opening ". This text has to stay until the next call. It is the opening before entry `next`, so no
+ *   entry may be made between the comparison and the fold. Any other text breaks the log, which keeps what it had;
  * - 3 if the journal was folded but can't be listed: the log is broken. */
 typedef uint32_t argus_log_fold(void *host, uint64_t next, const char **opening, size_t *size);
 

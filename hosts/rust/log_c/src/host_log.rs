@@ -1,6 +1,7 @@
 //! `HostLog`: a log for whose entries the threads of a host wait together.
 
 use crate::callbacks::{Fold, Folded, Give, Host};
+use crate::numbers::{are_entries, are_opening};
 use argus_guardian::log::{EntryLines, Failure, FileLog, Folder, Opening as OpeningLines, Step};
 use std::io;
 use std::sync::{Condvar, Mutex, MutexGuard, PoisonError};
@@ -27,24 +28,36 @@ struct Writer {
     room: Vec<u8>,
 }
 
-fn failure(step: Step, words: &str) -> Failure {
-    Failure::new(step, io::Error::other(words.to_owned()))
+fn failure(words: impl Into<String>) -> Failure {
+    Failure::new(Step::TakeLines, io::Error::other(words.into()))
 }
 
 impl Writer {
     // Writes the next lines; from which entry on the log has none.
     fn write(&mut self, from: u64, give: Give, host: &Host) -> Result<u64, Failure> {
-        let mut size = host.give(give, from, &mut self.room);
-        if size > self.room.len() {
-            self.room.resize(size, 0);
-            size = host.give(give, from, &mut self.room);
-        }
+        let size = self.fill(from, give, host)?;
         let given = self.room.get(..size).filter(|it| !it.is_empty());
         let text = given.and_then(|it| str::from_utf8(it).ok());
+        // The room still has lines from before.
+        let text = text.filter(|it| are_entries(it, from));
         let lines = text.and_then(|it| EntryLines::new(from, it.to_owned()));
-        let lines = lines.ok_or_else(|| failure(Step::TakeLines, "the host gives no lines"))?;
+        let none = || failure(format!("the host gives no lines from entry {from} on"));
+        let lines = lines.ok_or_else(none)?;
         self.log.append(&lines)?;
         Ok(lines.next())
+    }
+
+    // Has the host put its next lines into the room, which is made larger if the first one doesn't fit; their size.
+    fn fill(&mut self, from: u64, give: Give, host: &Host) -> Result<usize, Failure> {
+        let size = host.give(give, from, &mut self.room);
+        let more = size.saturating_sub(self.room.len());
+        if more == 0 {
+            return Ok(size);
+        }
+        let reserved = self.room.try_reserve_exact(more);
+        reserved.map_err(|_| failure("no memory for the host's lines"))?;
+        self.room.resize(size, 0);
+        Ok(host.give(give, from, &mut self.room))
     }
 
     fn restart(&mut self, next: u64, opening: Vec<u8>) -> Result<(), Failure> {
@@ -52,10 +65,10 @@ impl Writer {
             return Ok(());
         }
         let text = String::from_utf8(opening).ok();
+        let text = text.filter(|it| are_opening(it, next));
         let opening = text.and_then(|it| OpeningLines::new(next, it));
-        let opening =
-            opening.ok_or_else(|| failure(Step::TakeLines, "the host gives no opening"))?;
-        self.log.restart(&opening)
+        let none = || failure(format!("the host gives no opening before entry {next}"));
+        self.log.restart(&opening.ok_or_else(none)?)
     }
 }
 
@@ -138,10 +151,7 @@ impl HostLog {
                 Folded::Opening(text) => (writer.restart(next, text).map(|()| next), Some(true)),
                 Folded::Behind => (writer.write(next, give, host), None),
                 Folded::Busy => (Ok(next), Some(false)),
-                Folded::Lost => (
-                    Err(failure(Step::TakeLines, "the host has no opening")),
-                    None,
-                ),
+                Folded::Lost => (Err(failure("the host has no opening")), None),
             };
             self.put_back(writer, &written);
             written?;

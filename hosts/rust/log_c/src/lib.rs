@@ -5,6 +5,7 @@
 
 mod callbacks;
 mod host_log;
+mod numbers;
 mod opening;
 mod status;
 mod words;
