@@ -20,7 +20,8 @@ typedef struct argus_log argus_log;
 enum {
     ARGUS_LOG_DONE = 0,
     ARGUS_LOG_LOCKED = 1,  /* another process has the log, or another part of this one */
-    ARGUS_LOG_DAMAGED = 2, /* it isn't as it was written, or the program has refused a line; its files are untouched */
+    ARGUS_LOG_DAMAGED = 2, /* it isn't as it was written, the program has refused a line, or its lines and the heads of
+                              its batches don't agree; its files are untouched */
     ARGUS_LOG_UNREAD = 3,  /* the files couldn't be read */
     ARGUS_LOG_BROKEN = 4,  /* a write or a sync has failed, now or before. Nothing is tried again: end the process, and
                               open the log again. What was waited for is in doubt: in the log, or not */

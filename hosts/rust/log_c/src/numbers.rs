@@ -19,3 +19,16 @@ pub(crate) fn are_opening(lines: &str, next: u64) -> bool {
     lines.starts_with(&format!("{OPENING}entries {next} "))
         && lines.lines().all(|line| line.starts_with(OPENING))
 }
+
+/// The number of the entry that comes after these lines, of entries or of an opening; `None` if they have no number.
+pub(crate) fn next_after(lines: &str) -> Option<u64> {
+    let last = lines.lines().next_back()?;
+    if last.starts_with(OPENING) {
+        return number(lines, 2);
+    }
+    number(last, 0)?.checked_add(1)
+}
+
+fn number(line: &str, word: usize) -> Option<u64> {
+    line.split(' ').nth(word)?.parse().ok()
+}

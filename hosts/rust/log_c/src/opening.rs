@@ -2,6 +2,7 @@
 
 use crate::callbacks::{Host, Take};
 use crate::host_log::HostLog;
+use crate::numbers::next_after;
 use argus_guardian::log::{FileLog, Folder, Found, LineError, OpenError};
 use std::ffi::{CStr, OsStr};
 use std::os::unix::ffi::OsStrExt;
@@ -13,12 +14,16 @@ const TAKEN: i64 = -1;
 /// Hands a log's lines to the host, and begins the log; what was found, in words.
 pub(crate) fn open(folder: &CStr, take: Take, host: &Host) -> Result<(HostLog, String), OpenError> {
     let path = Path::new(OsStr::from_bytes(folder.to_bytes()));
+    let mut next = 0;
     let found = FileLog::read(Folder::open(path)?, |batch| {
         match host.take(take, batch.lines) {
-            TAKEN => Ok(()),
-            line => Err(refused(batch.lines, line)),
+            TAKEN => next = next_after(batch.lines).unwrap_or(next),
+            line => return Err(refused(batch.lines, line)),
         }
+        Ok(())
     })?;
+    // The host's guardian has so many entries.
+    found.check_next(next)?;
     let said = said_of(found.found());
     Ok((HostLog::over(found.begin()?), said))
 }

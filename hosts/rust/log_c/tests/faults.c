@@ -1,5 +1,6 @@
 /* SPDX-License-Identifier: MIT */
-/* What a log does with a program whose functions have faults: it is broken, and keeps what it had.
+/* What a log does with a program whose functions have faults: it is broken, and keeps what it had. And what it does
+ * with files that such a program has left to it.
  *
  *     faults FOLDER      as of the repository: cc faults.c -I../include libargus_log.so
  *
@@ -9,6 +10,7 @@
 #include <stdio.h>
 #include <stdlib.h>
 #include <string.h>
+#include <sys/stat.h>
 
 /* What the functions return. */
 typedef struct host {
@@ -108,6 +110,33 @@ static void test_an_opening(const char *name, const char *opening) {
     check_broken(log, "the host gives no opening before entry 2", 2);
 }
 
+/* Earlier versions of the log took such an opening. */
+static const char wrong_opening[] =
+    "#segment format=1 version=0.1.0 epoch=1 segment=2 batch=1 first=2 begins=opening check=684c1d9e\n"
+    "#opening format=1 version=0.1.0 epoch=1 batch=1 first=2 entries=0 bytes=28 body=f4a4c1c3 check=83d5875d\n"
+    "opening entries 4 actions 1\n"
+    "#seal batch=1 body=f4a4c1c3 check=2065d1f1\n";
+
+/* The bytes of a log, with the zero after them. */
+static void write_segment(const char *name, const char *bytes, size_t size) {
+    char path[sizeof folder + 64];
+    snprintf(folder, sizeof folder, "%s/%s", above, name);
+    snprintf(path, sizeof path, "%s/segment-000000000002.log", folder);
+    demand(mkdir(folder, 0700) == 0, "a folder is made");
+    FILE *file = fopen(path, "wb");
+    demand(file != NULL, "a file is made");
+    demand(fwrite(bytes, 1, size, file) == size && fclose(file) == 0, "it is written");
+}
+
+static void test_a_log_with_a_wrong_opening(void) {
+    argus_log *log;
+    write_segment("wrong", wrong_opening, sizeof wrong_opening);
+    demand(open_again(&log) == ARGUS_LOG_DAMAGED, "it isn't opened");
+    demand(log == NULL, "there is no log");
+    const char *why = "by the log's lines entry 4 comes next, and by its heads entry 2";
+    demand(strstr(words, why) != NULL, why);
+}
+
 int main(int count, char **arguments) {
     if (count != 2) {
         fprintf(stderr, "faults FOLDER\n");
@@ -120,6 +149,7 @@ int main(int count, char **arguments) {
     test_lines_from_before_after_a_new_one();
     test_an_opening("later", "opening entries 4 actions 1\n");
     test_an_opening("lines", "opening entries 2 actions 1\n2 begin_top -> a1\n");
-    printf("the log was broken each time\n");
+    test_a_log_with_a_wrong_opening();
+    printf("each fault was noticed\n");
     return 0;
 }
