@@ -68,7 +68,11 @@ uint64_t argus_log_next(const argus_log *log);
 /* 1 if the log is broken, with the reason in `words`; otherwise 0. */
 uint32_t argus_log_broken(const argus_log *log, char *words, size_t room);
 
-/* Closes the log. No thread may be waiting for it. With a null pointer it does nothing. */
+/* Closes the log. No thread may be waiting for it. With a null pointer it does nothing.
+ *
+ * A forked process has a copy of the log. This is the only call that it may make on it: it closes the copy, and the log
+ * stays open and locked in the process that has opened it. If that one is killed, the folder stays locked until the
+ * forked one has closed its copy or has ended. Don't fork while a thread is in a call of the log. */
 void argus_log_close(argus_log *log);
 
 #ifdef __cplusplus

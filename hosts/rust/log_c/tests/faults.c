@@ -1,6 +1,6 @@
 /* SPDX-License-Identifier: MIT */
-/* What a log does with a program whose functions have faults: it is broken, and keeps what it had. And what it does
- * with files that such a program has left to it.
+/* What a log does with a program whose functions have faults: it is broken, and keeps what it had. What it does with
+ * files that such a program has left to it, and with a forked process.
  *
  *     faults FOLDER      as of the repository: cc faults.c -I../include libargus_log.so
  *
@@ -11,6 +11,8 @@
 #include <stdlib.h>
 #include <string.h>
 #include <sys/stat.h>
+#include <sys/wait.h>
+#include <unistd.h>
 
 /* What the functions return. */
 typedef struct host {
@@ -137,6 +139,23 @@ static void test_a_log_with_a_wrong_opening(void) {
     demand(strstr(words, why) != NULL, why);
 }
 
+/* It closes its copy of the log, which stays that of the process that has opened it. */
+static void test_a_forked_process(void) {
+    int status = 1;
+    argus_log *log = open_log("forked"), *other;
+    pid_t child = fork();
+    if (child == 0) {
+        argus_log_close(log);
+        _exit(0);
+    }
+    demand(child > 0 && waitpid(child, &status, 0) == child && status == 0, "a forked process closes the log");
+    demand(open_again(&other) == ARGUS_LOG_LOCKED, "the log is still locked");
+    append(log, 1, "0 begin_top -> a0\n");
+    argus_log_close(log);
+    demand(open_again(&log) == ARGUS_LOG_DONE, "now it is free");
+    argus_log_close(log);
+}
+
 int main(int count, char **arguments) {
     if (count != 2) {
         fprintf(stderr, "faults FOLDER\n");
@@ -150,6 +169,7 @@ int main(int count, char **arguments) {
     test_an_opening("later", "opening entries 4 actions 1\n");
     test_an_opening("lines", "opening entries 2 actions 1\n2 begin_top -> a1\n");
     test_a_log_with_a_wrong_opening();
+    test_a_forked_process();
     printf("each fault was noticed\n");
     return 0;
 }

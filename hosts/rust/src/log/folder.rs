@@ -16,9 +16,8 @@ const LOCK: &str = "lock";
 /// The lock is advisory, on the file `lock` in the folder. Over NFS and the like it holds only if the server keeps
 /// locks.
 ///
-/// A forked process has a copy of this value and of its lock. It may drop the copy: the folder stays locked by the
-/// process that has opened it. But until the copy is dropped, or that process has ended, it keeps the folder locked,
-/// even if the process that has opened it was killed.
+/// A forked process has a copy of this value. It may drop the copy: the folder stays locked by the process that has
+/// opened it. If that one is killed, the folder stays locked until the forked one has dropped its copy or has ended.
 ///
 /// ```
 /// use argus_guardian::log::{Folder, OpenError};
