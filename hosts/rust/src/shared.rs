@@ -115,8 +115,8 @@ impl Shared {
         loop {
             let left = patience.saturating_sub(start.elapsed());
             let sleeps = |kept: &mut Kept| !kept.is_woken(number);
-            let waited = condition.wait_timeout_while(kept, left, sleeps);
-            kept = waited.unwrap_or_else(PoisonError::into_inner).0;
+            let result = condition.wait_timeout_while(kept, left, sleeps);
+            kept = result.unwrap_or_else(PoisonError::into_inner).0;
             kept.look(number);
             if !still(&mut kept) || start.elapsed() >= patience {
                 kept.leave(number);
