@@ -1,6 +1,6 @@
 //! `Cluster`: some nodes of etcd on loopback, which are one etcd.
 
-use crate::node::Node;
+use crate::node::{Node, etcd};
 use crate::scratch::Scratch;
 use argus_guardian_etcd::{EtcdLog, EtcdOptions, Tls};
 use std::net::TcpListener;
@@ -17,8 +17,8 @@ pub(crate) struct Cluster {
 
 /// Whether etcd is there; else a line says that the test is left out.
 pub(crate) fn has_etcd(test: &str) -> bool {
-    let mut command = Command::new("etcd");
-    command.arg("--version").env_clear();
+    let mut command = etcd();
+    command.arg("--version");
     let ran = command.stdout(Stdio::null()).stderr(Stdio::null()).status();
     if ran.is_ok_and(|it| it.success()) {
         return true;

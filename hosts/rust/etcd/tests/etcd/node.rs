@@ -1,9 +1,18 @@
 //! `Node`: a node of etcd on loopback.
 
 use crate::signals::send;
+use std::env;
 use std::fs::File;
 use std::path::{Path, PathBuf};
 use std::process::{Child, Command, Stdio};
+
+/// etcd's program, wherever it is installed. It gets `PATH` alone: etcd takes options from the environment.
+pub(crate) fn etcd() -> Command {
+    let mut command = Command::new("etcd");
+    let path = env::var_os("PATH").unwrap_or_default();
+    command.env_clear().env("PATH", path);
+    command
+}
 
 /// A node of etcd on loopback, which is killed when it is dropped.
 pub(crate) struct Node {
@@ -38,9 +47,8 @@ impl Node {
         let log = self.folder.join(format!("{}.log", self.name));
         let log = File::options().create(true).append(true).open(log);
         let data = self.folder.join(&self.name);
-        let mut command = Command::new("etcd");
+        let mut command = etcd();
         command
-            .env_clear()
             .args(["--name", &self.name, "--data-dir"])
             .arg(data)
             .args(["--listen-client-urls", &self.endpoint])
