@@ -113,8 +113,10 @@ impl Leadership {
     /// ```
     pub fn confirm(&self) -> Result<(), EtcdError> {
         let mut client = self.0.client.lock().unwrap_or_else(PoisonError::into_inner);
-        let question = self.fenced(Transaction::default()).question();
-        let answer: Transacted = client.ask("kv/txn", &question)?;
+        // A node answers a transaction without any read out of its own store, though it may be cut off. With one it
+        // asks a majority first.
+        let asked = self.fenced(Transaction::default()).else_read(&self.0.key);
+        let answer: Transacted = client.ask("kv/txn", &asked.question())?;
         if answer.succeeded {
             Ok(())
         } else {

@@ -20,6 +20,7 @@ mod kept_log;
 mod leading;
 #[path = "../../../tests/log/ledger.rs"]
 mod ledger;
+mod majorities;
 mod network;
 mod node;
 #[path = "../../../tests/log/orders.rs"]
