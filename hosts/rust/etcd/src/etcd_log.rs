@@ -93,7 +93,8 @@ impl EtcdLog {
         Ok(reader.position)
     }
 
-    /// Reads a log as [`read`](Self::read) does, and goes on with it as the leader.
+    /// Reads a log as [`read`](Self::read) does, and goes on with it as the leader. Open one log with a leadership: its
+    /// late requests can be distinguished from those of other leaders, not from those of another log of its own.
     ///
     /// # Errors
     ///
@@ -134,7 +135,7 @@ impl EtcdLog {
     }
 
     /// The log with this head, all of which the leader has read. Batches that don't count are deleted: those before
-    /// a checkpoint, and those of one that wasn't finished.
+    /// a checkpoint, and those of one that wasn't finished. From then on the head has this leadership's epoch.
     pub(crate) fn begin(
         client: Client,
         leadership: Leadership,
@@ -153,11 +154,29 @@ impl EtcdLog {
             revision: 0,
             broken: None,
         };
-        let LogHead { begins, next, .. } = log.at();
-        let behind = Transaction::default().delete(&log.keys.batch(next), &log.keys.batches_end());
-        let before = behind.delete(&log.keys.batch(0), &log.keys.batch(begins));
-        log.transact(before, None)?;
+        let head = LogHead {
+            epoch: log.leadership.epoch(),
+            ..log.at()
+        };
+        log.begin_at(head)?;
         Ok(log)
+    }
+
+    // Deletes what doesn't count, and puts the head anew. So a copy of this request that comes late does nothing: else
+    // it would delete the first parts of an opening, which are behind the log until the last one moves the head.
+    fn begin_at(&mut self, head: LogHead) -> Result<(), EtcdError> {
+        let (begins, next) = (self.keys.batch(head.begins), self.keys.batch(head.next));
+        let put = Put {
+            key: self.keys.head(),
+            value: head.text(),
+        };
+        let transaction = Transaction::default()
+            .delete(&next, &self.keys.batches_end())
+            .delete(&self.keys.batch(0), &begins)
+            .put(&put.key, &put.value);
+        self.transact(transaction, Some(&put))?;
+        self.head = Some(head);
+        Ok(())
     }
 
     // What comes next.

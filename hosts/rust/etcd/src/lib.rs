@@ -41,8 +41,8 @@
 //!
 //! A batch has the same form as in files: a head with checksums, then whole lines of the journal. `head` says which
 //! batches count. An append is one transaction, which puts a batch and moves `head`, on condition that the leader's
-//! key still exists and that `head` is as this leader left it. After a checkpoint the log begins with batches
-//! `#opening`, and those before it are deleted.
+//! key still exists and that `head` is as this leader left it. A new leader begins with one that puts its epoch into
+//! `head`. After a checkpoint the log begins with batches `#opening`, and those before it are deleted.
 //!
 //! **Nothing here is proved.** What is promised by whom, what is tried, and what to do when something fails: see the
 //! repository's page docs/OUTLIVING.md.

@@ -13,7 +13,7 @@ pub(crate) struct LogHead {
     pub(crate) next: u64,
     /// The number of the next entry.
     pub(crate) entry: u64,
-    /// The number of the leadership under which the last batch was written.
+    /// The number of the leadership that moved it last: with a batch, or as it began.
     pub(crate) epoch: u64,
 }
 

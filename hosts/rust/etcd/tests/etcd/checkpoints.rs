@@ -1,10 +1,12 @@
-//! Checkpoints: whichever transaction of one is the last, the log is the old one or the new one.
+//! Checkpoints: whichever transaction of one is the last, and whatever comes late, the log is the old one or the new
+//! one.
 
 use crate::cluster::{Cluster, has_etcd};
 use crate::leading::{lead, lines, text_of};
 use crate::proxy::{Proxy, Way};
 use argus_guardian::log::{BatchLog, Opening};
-use argus_guardian_etcd::EtcdOptions;
+use argus_guardian_etcd::{Campaign, EtcdLog, EtcdOptions};
+use std::thread;
 use std::time::Duration;
 
 const OPENING: &str = "opening entries 3 actions 3\n\
@@ -116,4 +118,50 @@ fn go_on(cluster: &Cluster, options: &EtcdOptions, text: &str) {
         .expect("appended");
     assert_eq!(text_of(options).0, text.to_owned() + "3 begin_top -> a3\n");
     assert_eq!(batches_in(cluster, &options.prefix), 4);
+}
+
+// A leader that has begun by the other way, since the request by which it begins is held up on this one.
+fn begin_around(late: &Proxy, other: &Proxy, straight: EtcdOptions) -> EtcdLog {
+    let options = EtcdOptions {
+        endpoints: vec![late.endpoint().to_owned(), other.endpoint().to_owned()],
+        timeout: Duration::from_secs(2),
+        ..straight
+    };
+    let leadership = Campaign::begin(&options, "second").and_then(Campaign::wait);
+    // One transaction reads the log, the next one begins it.
+    late.cut_after(1);
+    let log = EtcdLog::open(&options, leadership.expect("elected"), |_| Ok(()));
+    let log = log.expect("begun by the other way");
+    late.await_cut();
+    log
+}
+
+#[test]
+fn a_beginning_that_comes_late_deletes_no_opening() {
+    if !has_etcd("late beginnings") {
+        return;
+    }
+    let cluster = Cluster::start("beginnings", 1);
+    // So small that each line of the opening is a batch.
+    let options = EtcdOptions {
+        batch: 48,
+        ..cluster.options()
+    };
+    let mut first = lead(&options, "first");
+    first.append(&lines(0, &BEFORE.concat())).expect("appended");
+    cluster.revoke_leases();
+    let [late, other] = [(); 2].map(|()| Proxy::before(cluster.nodes[0].endpoint()));
+    let mut log = begin_around(&late, &other, options.clone());
+    // Two parts of the opening come, and then what was held up; only then the last part, which moves the head.
+    other.cut_after(2);
+    thread::scope(|scope| {
+        let restarted = scope.spawn(|| log.restart(&opening()));
+        other.await_cut();
+        late.set(Way::Open);
+        thread::sleep(Duration::from_millis(500));
+        other.set(Way::Open);
+        restarted.join().expect("no panic").expect("begun anew");
+    });
+    assert_eq!(text_of(&options), (OPENING.to_owned(), 3));
+    assert_eq!(batches_in(&cluster, "argus"), 3);
 }

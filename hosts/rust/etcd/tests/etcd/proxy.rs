@@ -5,10 +5,11 @@ use std::net::{Ipv4Addr, Shutdown, TcpListener, TcpStream};
 use std::sync::Arc;
 use std::sync::atomic::{AtomicBool, AtomicI64, AtomicU8, Ordering};
 use std::thread;
-use std::time::Duration;
+use std::time::{Duration, Instant};
 
 const TICK: Duration = Duration::from_millis(10);
 const LINGER: Duration = Duration::from_millis(500);
+const LONG: Duration = Duration::from_secs(20);
 
 // How a request for a transaction begins.
 const TRANSACTION: &[u8] = b"POST /v3/kv/txn";
@@ -91,6 +92,15 @@ impl Proxy {
     /// Cuts the way before the transaction that comes after so many.
     pub(crate) fn cut_after(&self, transactions: i64) {
         self.shared.left.store(transactions, Ordering::SeqCst);
+    }
+
+    /// Waits until a transaction has come that cuts the way.
+    pub(crate) fn await_cut(&self) {
+        let limit = Instant::now() + LONG;
+        while !self.shared.is(Way::Cut) {
+            assert!(Instant::now() < limit, "no transaction comes");
+            thread::sleep(TICK);
+        }
     }
 }
 
