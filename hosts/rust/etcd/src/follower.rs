@@ -105,14 +105,17 @@ impl Follower {
     /// # Ok::<(), LogError>(())
     /// ```
     pub fn catch_up(&mut self) -> Result<Position, LogError> {
-        if let Some(stopped) = &self.stopped {
-            return Err(stopped.clone());
-        }
+        self.check_going()?;
         let taken = self.reader.take_all();
         if let Err(error @ (LogError::Damaged { .. } | LogError::Guardian(_))) = &taken {
             self.stopped = Some(error.clone());
         }
         taken.map(|()| self.position())
+    }
+
+    // That it hasn't stopped.
+    fn check_going(&self) -> Result<(), LogError> {
+        self.stopped.clone().map_or(Ok(()), Err)
     }
 
     /// How far it has read.
@@ -133,6 +136,7 @@ impl Follower {
     ///
     /// # Errors
     ///
+    /// Why the follower has stopped, if it has: its guardian may have made a call that the log doesn't say.
     /// [`LogError::Damaged`], if `what` made a call, so that the journal has grown: the follower has stopped then.
     /// Others as of [`follow`](Self::follow), if an opening was read in part.
     ///
@@ -147,6 +151,7 @@ impl Follower {
         &mut self,
         what: impl FnOnce(&mut Guardian) -> T,
     ) -> Result<(T, Position), LogError> {
+        self.check_going()?;
         if self.reader.is_opening {
             // A request failed in the midst of an opening, which makes a guardian only as a whole.
             self.catch_up()?;

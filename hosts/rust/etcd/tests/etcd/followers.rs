@@ -173,11 +173,13 @@ fn damage_after(
     let Err(LogError::Damaged { key, line, why }) = follower.catch_up() else {
         panic!("it went on");
     };
-    // It has stopped, and a new one, which the library reads for, stops at the same.
+    // It has stopped, and reads nothing any more; a new one, which the library reads for, stops at the same.
     assert!(matches!(
         follower.follow(LONG),
         Err(LogError::Damaged { .. })
     ));
+    let read = follower.read(|guardian| guardian.base(ObjId(0)));
+    assert!(matches!(read, Err(LogError::Damaged { .. })), "{read:?}");
     let mut other = Follower::begin(&options).expect("made");
     let stopped = other.catch_up();
     let is_opening = why.starts_with("the opening before it");
