@@ -33,7 +33,7 @@ impl FollowerService {
             records: Records::default(),
             taken: 0,
             current: Instant::now(),
-            damaged: false,
+            has_stopped: false,
         })))
     }
 
@@ -66,14 +66,15 @@ impl FollowerService {
             position.batch,
             position.epoch,
             following.current.elapsed().as_secs_f64(),
-            u8::from(following.damaged),
+            u8::from(following.has_stopped),
         ))
     }
 
     fn health(&self) -> Reply {
         let following = self.locked();
-        if following.damaged {
-            Reply::error(503, "damaged", "the log is damaged")
+        if following.has_stopped {
+            let words = "the log is damaged, or there was no memory for it";
+            Reply::error(503, "damaged", words)
         } else if following.current.elapsed() > LONGEST_LAG {
             Reply::error(503, "behind", "etcd doesn't answer")
         } else {
@@ -97,9 +98,10 @@ impl Service for FollowerService {
         let mut following = self.locked();
         if let Err(error) = following.follow() {
             eprintln!("argus-host: {error}");
-            following.damaged = matches!(error, LogError::Damaged { .. });
+            following.has_stopped =
+                matches!(error, LogError::Damaged { .. } | LogError::Guardian(_));
         }
-        following.damaged
+        following.has_stopped
     }
 
     fn end(&self) {}

@@ -18,7 +18,8 @@ pub(crate) struct Following {
     pub(crate) taken: u32,
     /// When it had all that etcd had.
     pub(crate) current: Instant,
-    pub(crate) damaged: bool,
+    /// Whether the follower has stopped for good.
+    pub(crate) has_stopped: bool,
 }
 
 impl Following {
