@@ -137,8 +137,9 @@ impl Follower {
     /// # Errors
     ///
     /// Why the follower has stopped, if it has: its guardian may have made a call that the log doesn't say.
-    /// [`LogError::Damaged`], if `what` made a call, so that the journal has grown: the follower has stopped then.
-    /// Others as of [`follow`](Self::follow), if an opening was read in part.
+    /// [`LogError::Damaged`] and [`LogError::Guardian`], if no guardian can be made of an opening; `Damaged`, if `what`
+    /// made a call, so that the journal has grown: the follower has stopped then. Others as of
+    /// [`follow`](Self::follow), if an opening was read in part.
     ///
     /// ```no_run
     /// # use argus_guardian::{Listing, Guardian};
@@ -156,8 +157,14 @@ impl Follower {
             // A request failed in the midst of an opening, which makes a guardian only as a whole.
             self.catch_up()?;
         }
-        let made = self.reader.takes.guardian();
-        let guardian = made.map_err(|_| Error::OutOfMemory)?;
+        let guardian = match self.reader.takes.guardian() {
+            Ok(guardian) => guardian,
+            Err(error) => {
+                let error = self.reader.not_taken(error);
+                self.stopped = Some(error.clone());
+                return Err(error);
+            }
+        };
         let entries = guardian.entries();
         let said = what(guardian);
         if guardian.entries() != entries {
@@ -190,6 +197,8 @@ impl Follower {
     ) -> Result<(Logged, Led), LogError> {
         // Earlier leaders append nothing any more: their keys are gone.
         self.catch_up()?;
+        // The guardian is made here, so that an opening of which none can be made is named.
+        self.read(|_| ())?;
         let LogReader {
             client,
             takes,

@@ -143,7 +143,8 @@ impl<T: Takes> LogReader<T> {
         match (batch.is_opening, begins) {
             (true, true) if is_next || is_first => {
                 self.is_opening = true;
-                self.takes.begin_anew(!is_first)
+                let begun = self.takes.begin_anew(!is_first);
+                begun.map_err(|error| self.not_taken(error))
             }
             (true, false) if is_next && self.is_opening => Ok(()),
             (false, begins) if is_next && (!begins || batch.number == 0) => self.end_opening(),
@@ -162,7 +163,8 @@ impl<T: Takes> LogReader<T> {
         ended.map_err(|error| self.not_taken(error))
     }
 
-    fn not_taken(&self, error: LineError) -> LogError {
+    /// Why a batch or an opening wasn't taken, as an error of the log.
+    pub(crate) fn not_taken(&self, error: LineError) -> LogError {
         match error {
             LineError::Fault { line, why } => self.damage(Some(line), &why),
             LineError::OutOfMemory => LogError::Guardian(Error::OutOfMemory),

@@ -1,6 +1,5 @@
 //! `Recovered`: a guardian made from the batches of a log.
 
-use crate::log_error::LogError;
 use crate::takes::Takes;
 use argus_guardian::log::{Batch, LineError, Recovery};
 use argus_guardian::{Call, Error, Guardian, Listing};
@@ -20,7 +19,7 @@ enum State {
     Recovering(Recovery),
     // Each call is made, and the line that the library writes of it is compared.
     Made(Guardian),
-    // It couldn't be made: out of memory.
+    // It couldn't be made.
     Lost,
 }
 
@@ -36,7 +35,9 @@ impl Recovered {
     pub(crate) fn guardian(&mut self) -> Result<&mut Guardian, LineError> {
         if let State::Recovering(_) = self.state {
             self.state = match std::mem::replace(&mut self.state, State::Lost) {
-                State::Recovering(recovery) => State::Made(recovery.into_guardian()?),
+                State::Recovering(recovery) => {
+                    State::Made(recovery.into_guardian().map_err(not_sound)?)
+                }
                 other => other,
             };
         }
@@ -44,6 +45,12 @@ impl Recovered {
             State::Made(guardian) => Ok(guardian),
             _ => Err(LineError::OutOfMemory),
         }
+    }
+
+    // What the objects hold.
+    fn bases(&mut self) -> Result<String, LineError> {
+        let listed = self.guardian()?.list(Listing::Bases);
+        listed.map_err(|_| LineError::OutOfMemory)
     }
 
     /// The same, and no more is taken.
@@ -57,14 +64,10 @@ impl Recovered {
 }
 
 impl Takes for Recovered {
-    fn begin_anew(&mut self, is_next: bool) -> Result<(), LogError> {
-        self.before = if is_next {
-            let guardian = self.guardian().map_err(|_| Error::OutOfMemory)?;
-            Some(guardian.list(Listing::Bases)?)
-        } else {
-            None
-        };
-        self.state = State::Recovering(Recovery::new()?);
+    fn begin_anew(&mut self, is_next: bool) -> Result<(), LineError> {
+        self.before = if is_next { Some(self.bases()?) } else { None };
+        let recovery = Recovery::new().map_err(|_| LineError::OutOfMemory)?;
+        self.state = State::Recovering(recovery);
         Ok(())
     }
 
@@ -82,8 +85,7 @@ impl Takes for Recovered {
         let Some(before) = self.before.take() else {
             return Ok(());
         };
-        let listed = self.guardian()?.list(Listing::Bases);
-        if listed.map_err(|_| LineError::OutOfMemory)? == before {
+        if self.bases()? == before {
             return Ok(());
         }
         let why = "the opening before it changes what objects hold";
@@ -121,6 +123,17 @@ fn make_again(guardian: &mut Guardian, line: u64, text: &str) -> Result<(), Line
         }
         None => no_entry(Error::OtherAnswer),
     })
+}
+
+// Why no guardian was made of an opening. It is found at the batch that comes next.
+fn not_sound(error: LineError) -> LineError {
+    match error {
+        LineError::Fault { line, .. } => {
+            let why = "the opening before it refers to objects that aren't there";
+            fault(line, why.to_owned())
+        }
+        LineError::OutOfMemory => LineError::OutOfMemory,
+    }
 }
 
 fn fault(line: u64, why: String) -> LineError {

@@ -1,13 +1,12 @@
 //! `Takes`: what takes the batches of a log that is read.
 
-use crate::log_error::LogError;
 use argus_guardian::log::{Batch, LineError};
 
 /// What takes the batches of a log that is read.
 pub(crate) trait Takes {
     /// The log begins anew with an opening, which comes next, in one batch or in several. `is_next`: everything before
     /// it was taken.
-    fn begin_anew(&mut self, is_next: bool) -> Result<(), LogError>;
+    fn begin_anew(&mut self, is_next: bool) -> Result<(), LineError>;
 
     /// Takes a batch.
     fn take(&mut self, batch: &Batch<'_>) -> Result<(), LineError>;
@@ -17,7 +16,7 @@ pub(crate) trait Takes {
 }
 
 impl<F: FnMut(&Batch<'_>) -> Result<(), LineError>> Takes for F {
-    fn begin_anew(&mut self, _: bool) -> Result<(), LogError> {
+    fn begin_anew(&mut self, _: bool) -> Result<(), LineError> {
         Ok(())
     }
 

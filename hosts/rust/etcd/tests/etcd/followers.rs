@@ -220,3 +220,42 @@ fn an_opening_that_changes_what_objects_hold_is_named() {
     });
     assert_eq!(why, "the opening before it changes what objects hold");
 }
+
+#[test]
+fn an_opening_that_refers_to_nothing_is_named() {
+    if !has_etcd("unsound openings") {
+        return;
+    }
+    let cluster = Cluster::start("unsound", 1);
+    let options = cluster.options();
+    let mut liar = lead(&options, "liar");
+    liar.append(&lines(0, "0 begin_top -> a0\n1 abort a0 -> done\n"))
+        .expect("appended");
+    let mut near = Follower::begin(&options).expect("made");
+    near.catch_up().expect("followed");
+    let text = "opening entries 2 actions 1\nopening o0 atomic_record[to:atomic] {@1}\n";
+    liar.restart(&Opening::new(2, text.to_owned()).expect("lines"))
+        .expect("begun anew");
+    // Who had read up to there compares it, and others make a guardian of it when they need one.
+    let mut far = Follower::begin(&options).expect("made");
+    far.catch_up().expect("its lines are lines of an opening");
+    cluster.revoke_leases();
+    let leadership = elected(&options, "next");
+    let next = Follower::begin(&options).expect("made");
+    let found = [
+        near.catch_up().err(),
+        far.read(|_| ()).err(),
+        far.catch_up().err(),
+        next.lead(leadership, Shared::PATIENCE).err(),
+    ];
+    for error in found {
+        let Some(LogError::Damaged { key, why, .. }) = error else {
+            panic!("{error:?}");
+        };
+        assert_eq!(key, "argus/batches/00000000000000000002");
+        assert_eq!(
+            why,
+            "the opening before it refers to objects that aren't there"
+        );
+    }
+}
