@@ -13,6 +13,9 @@ use std::process::ExitCode;
 
 const USAGE: &str = "usage: etcd_check [--prefix NAME] [--lines] ENDPOINT..";
 
+// What the lines of an opening begin with, and no later part of one.
+const OPENING: &str = "opening entries ";
+
 struct Asked {
     options: EtcdOptions,
     prints_lines: bool,
@@ -37,13 +40,12 @@ fn asked(words: impl Iterator<Item = String>) -> Option<Asked> {
 
 // Prints all lines of the log, as they are there.
 fn print_lines(options: &EtcdOptions) -> Result<Position, Box<dyn Error>> {
-    let (mut text, mut is_opening) = (String::new(), false);
+    let mut text = String::new();
     let read = EtcdLog::read(options, |batch| {
         // A checkpoint came meanwhile: what was before it doesn't count any more.
-        if batch.is_opening && !is_opening {
+        if batch.lines.starts_with(OPENING) {
             text.clear();
         }
-        is_opening = batch.is_opening;
         text.push_str(batch.lines);
         Ok(())
     })?;

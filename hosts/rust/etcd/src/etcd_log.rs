@@ -69,7 +69,8 @@ struct Put {
 impl EtcdLog {
     /// Reads a log, batch by batch, and changes nothing. Where it ends.
     ///
-    /// If a checkpoint is made meanwhile, its opening may follow batches that don't count any more.
+    /// If a checkpoint is made meanwhile, its opening may follow batches that don't count any more, among them parts of
+    /// an earlier opening. An opening begins with a batch whose lines begin with `opening entries `.
     ///
     /// # Errors
     ///

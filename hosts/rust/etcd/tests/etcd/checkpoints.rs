@@ -2,7 +2,7 @@
 //! one.
 
 use crate::cluster::{Cluster, has_etcd};
-use crate::leading::{lead, lines, text_of};
+use crate::leading::{begins_opening, lead, lines, text_of};
 use crate::proxy::{Proxy, Way};
 use argus_guardian::log::{BatchLog, Opening};
 use argus_guardian_etcd::{Campaign, EtcdLog, EtcdOptions};
@@ -14,7 +14,11 @@ const OPENING: &str = "opening entries 3 actions 3\n\
     opening o1 atomic_record[second:int] {6}\n";
 
 fn opening() -> Opening {
-    Opening::new(3, OPENING.to_owned()).expect("whole lines")
+    opening_of(OPENING)
+}
+
+fn opening_of(text: &str) -> Opening {
+    Opening::new(3, text.to_owned()).expect("whole lines")
 }
 
 // Three batches of an entry.
@@ -63,6 +67,39 @@ fn an_opening_takes_the_place_of_all_before() {
     let told = old.output().expect("etcdctl is there").stderr;
     let words = String::from_utf8_lossy(&told);
     assert!(words.contains("compacted"), "{words}");
+}
+
+#[test]
+fn a_reader_of_half_an_opening_finds_the_next_one() {
+    if !has_etcd("checkpoints that are read meanwhile") {
+        return;
+    }
+    let cluster = Cluster::start("meanwhile", 1);
+    let options = EtcdOptions {
+        batch: 48,
+        page: 1,
+        ..cluster.options()
+    };
+    let mut log = lead(&options, "first");
+    log.append(&lines(0, &BEFORE.concat())).expect("appended");
+    log.restart(&opening()).expect("begun anew");
+    let later = OPENING.replace("{5}", "{7}");
+    let (mut text, mut is_later, mut batches) = (String::new(), false, 0);
+    let read = EtcdLog::read(&options, |batch| {
+        if !is_later {
+            // With it, etcd forgets the rest of the opening that is being read.
+            log.restart(&opening_of(&later)).expect("begun anew");
+            is_later = true;
+        }
+        if begins_opening(batch) {
+            text.clear();
+        }
+        text.push_str(batch.lines);
+        batches += 1;
+        Ok(())
+    });
+    assert_eq!(read.expect("whole").entry, 3);
+    assert_eq!((text, batches), (later, 4));
 }
 
 #[test]

@@ -3,6 +3,7 @@
 use crate::cluster::Cluster;
 use crate::host::{Host, Said};
 use crate::kept_log::KeptLog;
+use crate::leading::begins_opening;
 use crate::ledger::Ledger;
 use crate::node::Node;
 use crate::replica::{options, sum_of};
@@ -184,7 +185,7 @@ impl Hosts {
 
     // The bank, made of the log as it is read now.
     fn read_anew(&self) -> Logged {
-        let (mut recovery, mut is_opening) = (Recovery::new().expect("made"), false);
+        let mut recovery = Recovery::new().expect("made");
         let endpoints = self
             .cluster
             .nodes
@@ -192,10 +193,9 @@ impl Hosts {
             .map(|it| Node::endpoint(it).to_owned());
         let options = options(endpoints.collect());
         EtcdLog::read(&options, |batch| {
-            if batch.is_opening && !is_opening {
+            if begins_opening(batch) {
                 recovery = Recovery::new().expect("made");
             }
-            is_opening = batch.is_opening;
             recovery.take(batch.lines)
         })
         .expect("whole");

@@ -1,6 +1,6 @@
 //! What tests of a log without a guardian have in common.
 
-use argus_guardian::log::{EntryLines, Failure};
+use argus_guardian::log::{Batch, EntryLines, Failure};
 use argus_guardian_etcd::{Campaign, EtcdError, EtcdLog, EtcdOptions};
 
 /// Leads, and reads the log.
@@ -13,6 +13,11 @@ pub(crate) fn lead(options: &EtcdOptions, name: &str) -> EtcdLog {
 
 pub(crate) fn lines(first: u64, text: &str) -> EntryLines {
     EntryLines::new(first, text.to_owned()).expect("whole lines")
+}
+
+/// Whether an opening begins with this batch: what was read before it doesn't count any more.
+pub(crate) fn begins_opening(batch: &Batch<'_>) -> bool {
+    batch.lines.starts_with("opening entries ")
 }
 
 /// What the log has, and in how many batches.
