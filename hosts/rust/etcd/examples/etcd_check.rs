@@ -1,5 +1,6 @@
 //! Reads a log in etcd and checks it: each call is made again, and its reply compared. With `--lines` it prints the
-//! journal's lines, which `./replay` checks and lists, or a backup keeps.
+//! journal's lines, which `./replay` checks and lists, or a backup keeps. The status is 1 where something is wrong, or
+//! there is no log.
 //!
 //! ```text
 //! cargo run --release --example etcd_check -- [--prefix NAME] [--lines] ENDPOINT..
@@ -57,7 +58,24 @@ fn check(options: &EtcdOptions) -> Result<Position, Box<dyn Error>> {
     if let Some((name, epoch)) = Maintenance::new(options)?.leader()? {
         eprintln!("{name} leads, epoch {epoch}");
     }
-    Ok(Follower::begin(options)?.catch_up()?)
+    let mut follower = Follower::begin(options)?;
+    follower.catch_up()?;
+    // A read makes the guardian, and finds an opening of which none can be made.
+    let ((), position) = follower.read(|_| ())?;
+    Ok(position)
+}
+
+fn read(asked: &Asked) -> Result<Position, Box<dyn Error>> {
+    let options = &asked.options;
+    let position = if asked.prints_lines {
+        print_lines(options)?
+    } else {
+        check(options)?
+    };
+    if position.revision == 0 {
+        return Err(format!("there is no log under the prefix {}", options.prefix).into());
+    }
+    Ok(position)
 }
 
 fn main() -> ExitCode {
@@ -65,12 +83,11 @@ fn main() -> ExitCode {
         eprintln!("{USAGE}");
         return ExitCode::from(2);
     };
-    let read = if asked.prints_lines {
-        print_lines(&asked.options)
-    } else {
-        check(&asked.options)
-    };
-    match read {
+    match read(&asked) {
+        Ok(position) if asked.prints_lines => {
+            eprintln!("all lines are printed {position}");
+            ExitCode::SUCCESS
+        }
         Ok(position) => {
             eprintln!("all lines are right {position}");
             ExitCode::SUCCESS

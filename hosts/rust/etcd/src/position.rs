@@ -17,7 +17,7 @@ pub struct Position {
     pub batch: u64,
     /// The number of the leadership under which the last batch was written; 0 if there is none.
     pub epoch: u64,
-    /// A revision of etcd at which the log ended here.
+    /// A revision of etcd at which the log ended here; 0 if there was no log yet.
     pub revision: i64,
 }
 

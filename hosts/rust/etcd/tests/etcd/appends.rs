@@ -3,7 +3,7 @@
 use crate::cluster::{Cluster, has_etcd};
 use crate::leading::{etcd_error, lead, lines, text_of};
 use argus_guardian::log::BatchLog;
-use argus_guardian_etcd::{Campaign, EtcdError, EtcdLog, EtcdOptions, LogError};
+use argus_guardian_etcd::{Campaign, EtcdError, EtcdLog, EtcdOptions, LogError, Position};
 
 #[test]
 fn what_is_appended_is_read_back() {
@@ -16,7 +16,11 @@ fn what_is_appended_is_read_back() {
         page: 2,
         ..cluster.options()
     };
+    let position = || EtcdLog::read(&options, |_| Ok(())).expect("read");
+    assert_eq!(position(), Position::default());
     let mut log = lead(&options, "first");
+    // A log without entries is a log.
+    assert!(position().revision > 0 && position().entry == 0);
     log.append(&lines(0, "0 begin_top -> a0\n1 commit a0 -> done\n"))
         .expect("appended");
     let wide = format!("2 declare atomic_record[{}:int] -> o0\n", "n".repeat(100));
