@@ -5,6 +5,9 @@ use std::fmt;
 
 /// Why a request to etcd failed.
 ///
+/// A request that etcd refuses writes nothing. But an earlier try of it whose answer was lost may have been carried
+/// out, and a long append is several requests: so an append that fails is in doubt, whatever the error.
+///
 /// The [`Failure`](argus_guardian::log::Failure) of a log in etcd carries one: `failure.error().get_ref()` can be
 /// downcast to it.
 ///
@@ -21,14 +24,14 @@ pub enum EtcdError {
     /// No node answered while patience lasted, or the nodes have no quorum; the words are those of the last try.
     /// The request may have been carried out.
     Unreached(String),
-    /// This host doesn't lead any more: its key is gone. Nothing was written.
+    /// This host doesn't lead any more: its key is gone. From then on it can write nothing.
     Deposed,
     /// This host leads, but the log's head isn't as it left it: a program other than the leader has written
-    /// there. Nothing was written.
+    /// there.
     Foreign,
-    /// etcd's quota is used up, and etcd refuses to write until its alarm NOSPACE is disarmed. Nothing was written.
+    /// etcd's quota is used up, and etcd refuses to write until its alarm NOSPACE is disarmed.
     NoSpace,
-    /// The request is larger than etcd accepts (`--max-request-bytes`). Nothing was written.
+    /// The request is larger than etcd accepts (`--max-request-bytes`).
     TooLarge,
     /// The revision to read at has been compacted.
     Compacted,
