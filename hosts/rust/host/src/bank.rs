@@ -12,9 +12,9 @@ use crate::slot::Slot;
 use crate::transfer::Transfer;
 use crate::transfer_end::TransferEnd;
 use argus_guardian::log::{Logged, LoggedAction, LoggedError};
-use argus_guardian::{Change, Content, ObjId, Value};
+use argus_guardian::{Change, Content, Guardian, ObjId, Value};
 use std::sync::{Mutex, MutexGuard, PoisonError, RwLock};
-use std::time::Instant;
+use std::time::{Duration, Instant};
 
 // So many records of keys are made at a time.
 const MADE_AT_ONCE: usize = 64;
@@ -77,9 +77,18 @@ pub(crate) fn balance_in(content: &Content) -> Option<i64> {
     }
 }
 
+/// Whether half of the numbers for actions are used: then a checkpoint renews them.
+pub(crate) fn is_half_used(logged: &Logged) -> bool {
+    logged.actions_left() <= Guardian::MAX_ACTIONS / 2
+}
+
 impl Bank {
     /// The bank of this guardian, which recognizes so many keys.
     pub(crate) fn over(logged: Logged, keys: usize) -> Result<Bank, LoggedError> {
+        if is_half_used(&logged) {
+            // No action is live yet. Later there may be no number left for an action that is needed here.
+            logged.checkpoint_waiting(Duration::ZERO)?;
+        }
         let mut records = Records::default();
         for number in 0..logged.objects()? {
             records.take(&logged.object(ObjId(number))?);
@@ -111,6 +120,9 @@ impl Bank {
             if self.logged.base(record)?.is_none() {
                 missing.push((record, content));
             }
+        }
+        if missing.is_empty() {
+            return Ok(());
         }
         self.logged.run(|top| {
             let mut missing = missing.iter();

@@ -1,6 +1,6 @@
 //! `BankService`: a bank's routes.
 
-use crate::bank::Bank;
+use crate::bank::{Bank, is_half_used};
 use crate::bank_error::BankError;
 use crate::carried::Carried;
 use crate::figures::Figures;
@@ -52,13 +52,14 @@ fn no_key() -> Reply {
 
 impl BankService {
     pub(crate) fn over(opened: Opened, asked: &ServeArguments) -> Result<BankService, LoggedError> {
-        let folded = AtomicU64::new(opened.logged.entries());
+        // Entries of earlier lives count, too: the log has had no checkpoint since.
+        let folded = opened.logged.entries().saturating_sub(opened.in_log);
         Ok(BankService {
             bank: Bank::over(opened.logged, asked.keys as usize)?,
             figures: opened.figures,
             epoch: opened.epoch,
             checkpoint: asked.checkpoint,
-            folded,
+            folded: AtomicU64::new(folded),
         })
     }
 
@@ -138,6 +139,13 @@ impl BankService {
         }
     }
 
+    // Whether there are as many entries as a checkpoint is to fold, or numbers for actions get few.
+    fn is_due(&self) -> bool {
+        let logged = &self.bank.logged;
+        let folded = self.folded.load(Ordering::Relaxed);
+        logged.entries().saturating_sub(folded) >= self.checkpoint || is_half_used(logged)
+    }
+
     fn fold(&self) {
         if self.bank.logged.checkpoint_waiting(PATIENCE).is_ok() {
             self.folded
@@ -164,8 +172,7 @@ impl Service for BankService {
             eprintln!("argus-host: {failure}");
             return true;
         }
-        let entries = self.bank.logged.entries();
-        if entries.saturating_sub(self.folded.load(Ordering::Relaxed)) >= self.checkpoint {
+        if self.is_due() {
             self.fold();
         }
         false

@@ -9,4 +9,6 @@ pub(crate) struct Opened {
     pub(crate) logged: Logged,
     pub(crate) figures: Arc<Figures>,
     pub(crate) epoch: u64,
+    /// How many entries the log has beside its opening.
+    pub(crate) in_log: u64,
 }

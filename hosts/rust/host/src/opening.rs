@@ -41,24 +41,29 @@ fn open_files(folder: &Path) -> Result<Opened, Box<dyn Error>> {
     let guardian = recovery
         .into_guardian()
         .map_err(|error| log.not_taken(error))?;
-    resumed(guardian, log.begin()?, found.epoch + 1)
+    resumed(guardian, log.begin()?, found.epoch + 1, found.entries)
 }
 
 fn open_etcd(options: &EtcdOptions, leadership: Leadership) -> Result<Opened, Box<dyn Error>> {
     let epoch = leadership.epoch();
-    let mut recovery = Recovery::new()?;
-    let log = EtcdLog::open(options, leadership, |batch| recovery.take(batch.lines))?;
+    let (mut recovery, mut entries) = (Recovery::new()?, 0);
+    let log = EtcdLog::open(options, leadership, |batch| {
+        entries += batch.entries;
+        recovery.take(batch.lines)
+    })?;
     let guardian = recovery.into_guardian().map_err(|error| match error {
         LineError::Fault { why, .. } => why,
         LineError::OutOfMemory => "out of memory".to_owned(),
     })?;
-    resumed(guardian, log, epoch)
+    resumed(guardian, log, epoch, entries)
 }
 
+// The guardian of a log that has so many entries.
 fn resumed(
     guardian: Guardian,
     log: impl BatchLog + 'static,
     epoch: u64,
+    entries: u64,
 ) -> Result<Opened, Box<dyn Error>> {
     let figures = Arc::new(Figures::default());
     let log = Measured {
@@ -74,6 +79,7 @@ fn resumed(
         logged,
         figures,
         epoch,
+        in_log: entries + aborted,
     })
 }
 

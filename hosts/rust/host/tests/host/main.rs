@@ -3,6 +3,7 @@
 mod bounds;
 #[path = "../../../etcd/tests/etcd/certificates.rs"]
 mod certificates;
+mod checkpoints;
 mod client;
 mod damaged;
 mod failing;
