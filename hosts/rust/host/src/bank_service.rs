@@ -11,6 +11,7 @@ use crate::request::Request;
 use crate::serve_arguments::ServeArguments;
 use crate::service::Service;
 use argus_guardian::log::LoggedError;
+use argus_guardian_etcd::{EtcdError, Leadership};
 use serde_json::json;
 use std::sync::Arc;
 use std::sync::atomic::{AtomicU64, Ordering};
@@ -30,6 +31,8 @@ pub(crate) struct BankService {
     checkpoint: u64,
     // The next entry after the last checkpoint.
     folded: AtomicU64,
+    // The right to append, where the log is in etcd.
+    leadership: Option<Leadership>,
 }
 
 /// The number of an account in a path.
@@ -39,6 +42,11 @@ pub(crate) fn account_in(path: &str) -> Option<u32> {
 
 pub(crate) fn no_account() -> Reply {
     Reply::error(404, "no_account", "no such account")
+}
+
+fn deposed() -> Reply {
+    let words = "this host doesn't lead any more; this request was not carried out";
+    Reply::error(503, "deposed", words)
 }
 
 fn is_key(key: &str) -> bool {
@@ -60,7 +68,14 @@ impl BankService {
             epoch: opened.epoch,
             checkpoint: asked.checkpoint,
             folded: AtomicU64::new(folded),
+            leadership: opened.leadership,
         })
+    }
+
+    // Whether the lease has ended, though nothing has failed yet: another host may lead, and balances here may be old.
+    fn is_deposed(&self) -> bool {
+        let is_over = self.leadership.as_ref().is_some_and(Leadership::is_over);
+        is_over && self.bank.logged.broken().is_none()
     }
 
     fn failed(&self, error: &BankError) -> Reply {
@@ -158,9 +173,10 @@ impl Service for BankService {
     fn answer(&self, request: &Request) -> Reply {
         let path = request.head.path.as_str();
         match (request.head.method.as_str(), path) {
+            ("GET", "/metrics") => self.metrics(),
+            _ if self.is_deposed() => deposed(),
             ("POST", "/accounts") => self.open_account(request),
             ("POST", "/orders") => self.order(request),
-            ("GET", "/metrics") => self.metrics(),
             ("GET", "/health") => self.health(),
             ("GET", _) => account_in(path).map_or_else(Reply::no_route, |it| self.balance(it)),
             _ => Reply::no_route(),
@@ -172,6 +188,10 @@ impl Service for BankService {
             eprintln!("argus-host: {failure}");
             return true;
         }
+        if self.is_deposed() {
+            eprintln!("argus-host: {}", EtcdError::Deposed);
+            return true;
+        }
         if self.is_due() {
             self.fold();
         }
@@ -179,8 +199,12 @@ impl Service for BankService {
     }
 
     fn end(&self) {
-        if self.bank.logged.broken().is_none() {
+        if self.bank.logged.broken().is_none() && !self.is_deposed() {
             self.fold();
+        }
+        if let Some(leadership) = &self.leadership {
+            // So another host may lead at once.
+            leadership.resign();
         }
     }
 }

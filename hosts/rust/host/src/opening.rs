@@ -45,9 +45,8 @@ fn open_files(folder: &Path) -> Result<Opened, Box<dyn Error>> {
 }
 
 fn open_etcd(options: &EtcdOptions, leadership: Leadership) -> Result<Opened, Box<dyn Error>> {
-    let epoch = leadership.epoch();
     let (mut recovery, mut entries) = (Recovery::new()?, 0);
-    let log = EtcdLog::open(options, leadership, |batch| {
+    let log = EtcdLog::open(options, leadership.clone(), |batch| {
         entries += batch.entries;
         recovery.take(batch.lines)
     })?;
@@ -55,7 +54,11 @@ fn open_etcd(options: &EtcdOptions, leadership: Leadership) -> Result<Opened, Bo
         LineError::Fault { why, .. } => why,
         LineError::OutOfMemory => "out of memory".to_owned(),
     })?;
-    resumed(guardian, log, epoch, entries)
+    let opened = resumed(guardian, log, leadership.epoch(), entries)?;
+    Ok(Opened {
+        leadership: Some(leadership),
+        ..opened
+    })
 }
 
 // The guardian of a log that has so many entries.
@@ -80,6 +83,7 @@ fn resumed(
         figures,
         epoch,
         in_log: entries + aborted,
+        leadership: None,
     })
 }
 

@@ -61,6 +61,32 @@ impl Node {
         Host::start(&mut self.command(words))
     }
 
+    fn etcdctl(&self, words: &[&str]) -> String {
+        let mut command = Command::new("etcdctl");
+        command
+            .env("ETCDCTL_API", "3")
+            .args(["--endpoints", &self.endpoint])
+            .args(["--command-timeout", "60s", "--dial-timeout", "30s"])
+            .args(words);
+        let ran = command.output().expect("etcdctl is there");
+        assert!(ran.status.success(), "{ran:?}");
+        String::from_utf8(ran.stdout).expect("UTF-8")
+    }
+
+    /// Revokes all leases: no host leads then.
+    pub(crate) fn revoke_leases(&self) {
+        let listed = self.etcdctl(&["lease", "list"]);
+        let leases = listed.lines().filter(|line| !line.contains(' '));
+        for lease in leases.filter(|line| !line.is_empty()) {
+            self.etcdctl(&["lease", "revoke", lease]);
+        }
+    }
+
+    /// The keys of hosts that lead or wait to lead, and their names.
+    pub(crate) fn leaders(&self) -> String {
+        self.etcdctl(&["get", "--prefix", "argus/leader/"])
+    }
+
     pub(crate) fn signal(&self, signal: &str) {
         let pid = self.process.id().to_string();
         let sent = Command::new("kill").args(["-s", signal, &pid]).status();

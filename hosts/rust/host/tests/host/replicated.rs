@@ -4,7 +4,7 @@ use crate::client::{code, read};
 use crate::node::Node;
 use crate::scratch::Scratch;
 use std::thread;
-use std::time::Duration;
+use std::time::{Duration, Instant};
 
 #[test]
 fn a_leader_and_a_follower() {
@@ -63,4 +63,51 @@ fn a_log_in_etcd_that_breaks() {
     assert_eq!(next.client.order("k", &[(0, 1, 2)]).0, 200);
     assert_eq!(next.client.balance(1), 7);
     assert!(next.stop().success());
+}
+
+#[test]
+fn a_host_that_is_deposed() {
+    let scratch = Scratch::new("etcd-deposed");
+    let Some(node) = Node::start(&scratch) else {
+        println!("a host that is deposed LEFT OUT: no etcd");
+        return;
+    };
+    let mut leader = node.host(&["serve", "--name", "one"]);
+    leader.client.open_accounts(1, 5);
+    node.revoke_leases();
+    // No order comes, and it finds out by itself.
+    let limit = Instant::now() + Duration::from_secs(60);
+    let told = loop {
+        let answer = leader.client.ask("GET /health");
+        if answer.0 != 200 {
+            break answer;
+        }
+        assert!(Instant::now() < limit, "it believes that it leads");
+        thread::sleep(Duration::from_millis(20));
+    };
+    assert_eq!(code(&told), (503, "deposed".into()));
+    // Another host may have changed what it knows.
+    let balance = leader.client.ask("GET /accounts/1");
+    assert_eq!(code(&balance), (503, "deposed".into()));
+    let order = leader.client.order("k", &[(0, 1, 2)]);
+    assert_eq!(code(&order), (503, "deposed".into()));
+    assert_eq!(leader.ended().code(), Some(4));
+    let next = node.host(&["serve", "--name", "two"]);
+    assert_eq!(next.client.balance(1), 5);
+    assert_eq!(next.client.order("k", &[(0, 1, 2)]).0, 200);
+    assert!(next.stop().success());
+}
+
+#[test]
+fn a_host_that_stops_leads_no_more() {
+    let scratch = Scratch::new("etcd-stops");
+    let Some(node) = Node::start(&scratch) else {
+        println!("a host over etcd that stops LEFT OUT: no etcd");
+        return;
+    };
+    let host = node.host(&["serve", "--name", "one"]);
+    host.client.open_accounts(1, 5);
+    assert!(host.stop().success());
+    // Nobody has to wait until its lease ends.
+    assert_eq!(node.leaders(), "");
 }
