@@ -20,6 +20,7 @@ use std::time::Duration;
 // So long a checkpoint waits until no order is under way.
 const PATIENCE: Duration = Duration::from_secs(1);
 
+const KEY: &str = "idempotency-key";
 const LONGEST_KEY: usize = 128;
 
 /// A bank's routes.
@@ -54,7 +55,7 @@ fn is_key(key: &str) -> bool {
 }
 
 fn no_key() -> Reply {
-    let words = "an order has one header Idempotency-Key: 1 to 128 visible characters of ASCII";
+    let words = "the header Idempotency-Key comes once, with 1 to 128 visible characters of ASCII";
     Reply::error(400, "no_key", words)
 }
 
@@ -86,8 +87,8 @@ impl BankService {
     }
 
     fn open_account(&self, request: &Request) -> Reply {
-        let key = request.head.header("idempotency-key");
-        if key.is_some_and(|it| !is_key(it)) {
+        let key = request.head.header(KEY);
+        if request.head.has(KEY) && !key.is_some_and(is_key) {
             return no_key();
         }
         match self.bank.open_account(key) {
@@ -110,7 +111,7 @@ impl BankService {
     }
 
     fn order(&self, request: &Request) -> Reply {
-        let key = request.head.header("idempotency-key").unwrap_or_default();
+        let key = request.head.header(KEY).unwrap_or_default();
         if !is_key(key) {
             return no_key();
         }

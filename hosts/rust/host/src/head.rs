@@ -44,17 +44,21 @@ impl Head {
         if found.next().is_some() { None } else { value }
     }
 
+    /// Whether the header of this name, in lower case, is there, once or more.
+    pub(crate) fn has(&self, name: &str) -> bool {
+        self.headers.iter().any(|it| it.0 == name)
+    }
+
     /// How long the body is: none where no header says so.
     pub(crate) fn body_length(&self, largest: usize) -> Result<usize, Reply> {
-        let has = |name: &str| self.headers.iter().any(|it| it.0 == name);
-        if has("transfer-encoding") {
+        if self.has("transfer-encoding") {
             return Err(Reply::error(
                 411,
                 "no_length",
                 "the body needs a Content-Length",
             ));
         }
-        if !has("content-length") {
+        if !self.has("content-length") {
             return Ok(0);
         }
         let length = self

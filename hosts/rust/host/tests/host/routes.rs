@@ -110,8 +110,10 @@ fn an_account_opened_once() {
     assert_eq!(host.client.order("k", &[(0, 3, 5)]).0, 200);
     let other = open(&host, "Idempotency-Key: k\r\n");
     assert_eq!(code(&other), (422, "other_order".into()));
-    let no_key = open(&host, "Idempotency-Key: a b\r\n");
-    assert_eq!(code(&no_key), (400, "no_key".into()));
+    // What is no key, and a key that comes twice, which isn't the same as none.
+    for wrong in ["Idempotency-Key: a b\r\n", &format!("{key}{key}")] {
+        assert_eq!(code(&open(&host, wrong)), (400, "no_key".into()));
+    }
     assert_eq!(
         read(&open(&host, "Idempotency-Key: other\r\n").1),
         account(4, false)
