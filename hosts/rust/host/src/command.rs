@@ -12,7 +12,7 @@ pub(crate) enum Command {
     /// Serves a bank over a log in files or in etcd
     Serve(ServeArguments),
     /// Reads a log in files, makes each call again, and says what is there; changes nothing.
-    /// Status 0: it is right, 1: it is damaged, 3: it can't be read
+    /// Status 0: it is right, 1: it is damaged, 3: there is none, or it can't be read
     Verify {
         /// The folder of the log
         folder: PathBuf,

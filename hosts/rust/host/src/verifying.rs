@@ -15,6 +15,10 @@ pub(crate) fn verify(folder: &Path) -> ExitCode {
         return ExitCode::from(NOT_READ);
     }
     match read(folder) {
+        Ok((found, _)) if found.segments == 0 => {
+            eprintln!("argus-host: {} has no log", folder.display());
+            ExitCode::from(NOT_READ)
+        }
         Ok((found, mut guardian)) => {
             print_found(&found, &mut guardian);
             ExitCode::SUCCESS

@@ -1,4 +1,4 @@
-//! `verify` of logs that are right, torn and damaged.
+//! `verify` of logs that are right, torn and damaged, and where there is none.
 
 use crate::host::{Host, PROGRAM};
 use crate::scratch::Scratch;
@@ -53,6 +53,17 @@ fn a_log_that_is_right() {
     assert!(text.contains("another process has the log"));
     host.kill();
     assert_eq!(verify(&scratch.path().join("elsewhere")).0, Some(3));
+}
+
+#[test]
+fn a_folder_without_a_log() {
+    let scratch = Scratch::new("empty");
+    for _ in 0..2 {
+        // The second time the folder has the file `lock`.
+        let (status, text) = verify(scratch.path());
+        assert_eq!(status, Some(3), "{text}");
+        assert!(text.ends_with("has no log\n"), "{text}");
+    }
 }
 
 #[test]
