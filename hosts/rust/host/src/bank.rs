@@ -16,7 +16,7 @@ use argus_guardian::{Change, Content, Guardian, ObjId, Value};
 use std::sync::{Mutex, MutexGuard, PoisonError, RwLock};
 use std::time::{Duration, Instant};
 
-// So many records of keys are made at a time.
+// So many records of keys are made at a time, or as many as are missing.
 const MADE_AT_ONCE: usize = 64;
 
 /// The order that opens an account, as its key keeps it.
@@ -281,9 +281,10 @@ impl Bank {
             keys.grow_no_more();
             return Ok(keys.reserve(key));
         }
+        let count = left.min(keys.missing());
         let records = self
             .logged
-            .declare_each([KEY; MADE_AT_ONCE].into_iter().take(left))?;
+            .declare_each([KEY; MADE_AT_ONCE].into_iter().take(count))?;
         self.logged
             .run(|top| records.iter().try_for_each(|it| create(top, *it, no_key())))?;
         keys.add_unused(records);

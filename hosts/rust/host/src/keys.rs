@@ -29,9 +29,14 @@ impl Keys {
         }
     }
 
-    /// How many keys are recognized at the most.
+    /// How many keys are recognized at the most: as many as was said, or as there are records for already.
     pub(crate) fn most(&self) -> usize {
-        self.most
+        self.most.max(self.made)
+    }
+
+    /// How many records are still to be made.
+    pub(crate) fn missing(&self) -> usize {
+        self.most.saturating_sub(self.made)
     }
 
     /// No more records can be made: the oldest one is used anew from now on.
@@ -63,7 +68,7 @@ impl Keys {
         }
         let (record, oldest) = if let Some(record) = self.unused.pop() {
             (record, None)
-        } else if self.made < self.most {
+        } else if self.missing() > 0 {
             return Known::NoSlot;
         } else if let Some((record, key)) = self.used.pop_front() {
             (record, Some(key))
@@ -101,5 +106,29 @@ impl Keys {
     /// The log failed before the order was known to be there.
     pub(crate) fn doubt(&mut self, key: &str) {
         self.states.insert(key.to_owned(), KeyState::InDoubt);
+    }
+}
+
+#[cfg(test)]
+mod tests {
+    use super::Keys;
+    use argus_guardian::ObjId;
+
+    #[test]
+    fn records_that_are_there_count() {
+        let mut keys = Keys::with_room(100);
+        keys.add_unused((0..64).map(ObjId));
+        assert_eq!((keys.most(), keys.missing()), (100, 36));
+        keys.add_unused((64..100).map(ObjId));
+        assert_eq!((keys.most(), keys.missing()), (100, 0));
+        // They were made when more were asked for.
+        let mut fewer = Keys::with_room(64);
+        fewer.add_unused((0..100).map(ObjId));
+        assert_eq!((fewer.most(), fewer.missing()), (100, 0));
+        // There is no room for more.
+        let mut full = Keys::with_room(100);
+        full.add_unused((0..64).map(ObjId));
+        full.grow_no_more();
+        assert_eq!((full.most(), full.missing()), (64, 0));
     }
 }

@@ -6,7 +6,8 @@ use std::fs;
 use std::path::{Path, PathBuf};
 use std::process::Command;
 
-fn verify(folder: &Path) -> (Option<i32>, String) {
+/// What `verify` says of a log, and its status.
+pub(crate) fn verify(folder: &Path) -> (Option<i32>, String) {
     let output = Command::new(PROGRAM)
         .arg("verify")
         .arg(folder)

@@ -1,6 +1,7 @@
 //! Each route, and orders that are sent again.
 
 use crate::client::{code, read};
+use crate::damaged::verify;
 use crate::host::Host;
 use crate::scratch::Scratch;
 use serde_json::json;
@@ -133,6 +134,21 @@ fn as_many_accounts_as_there_is_room_for() {
     let more = host.client.ask("POST /accounts");
     assert_eq!(code(&more), (507, "full".into()));
     assert_eq!(host.client.order("k", &[(0, 534, 1)]).0, 200);
+}
+
+#[test]
+fn as_many_records_of_keys_as_are_asked_for() {
+    let scratch = Scratch::new("keys");
+    let host = Host::serve(scratch.path(), &["--keys", "100"]);
+    for number in 0..65 {
+        let (status, _) = host.client.order(&format!("k{number}"), &[(0, 1, 1)]);
+        assert_eq!(status, 200);
+    }
+    assert!(host.stop().success());
+    // The first 64 weren't enough, and there is account 0.
+    let (status, text) = verify(scratch.path());
+    assert_eq!(status, Some(0), "{text}");
+    assert!(text.contains("objects 101\n"), "{text}");
 }
 
 #[test]
