@@ -5,7 +5,7 @@
 //! It reads the files, makes each call of the log again, and compares the replies. With `--bytes` it reads the files
 //! alone; with `--lines` it also prints the journal's lines, as `./replay` of the repository reads them. It is for a
 //! log that no process has, such as a copy: one that a process has is locked. The status is 1 where something is
-//! wrong.
+//! wrong, and where the folder has no log.
 
 use argus_guardian::log::{FileLog, Folder, Found, Logged, OpenError};
 use std::env;
@@ -59,6 +59,9 @@ fn run() -> Result<(), Box<dyn Error>> {
         [folder, "--lines"] => print_lines(open(folder)?)?,
         _ => return Err(USAGE.into()),
     };
+    if found.segments == 0 {
+        return Err("the folder has no log".into());
+    }
     print_found(&found);
     Ok(())
 }

@@ -20,7 +20,9 @@ use std::fmt;
 #[derive(Debug, Clone, PartialEq, Eq)]
 #[non_exhaustive]
 pub enum Error {
-    /// Out of memory. Nothing has changed, and nothing was journalled.
+    /// Out of memory. Nothing has changed, and nothing was journalled; but `abort_live` keeps the aborts that it has
+    /// made, `declare_each` the objects that it has declared, and a checkpoint with a log may have folded the journal:
+    /// then the log gets the opening at the next call that waits for it.
     OutOfMemory,
     /// A text isn't the written form of a value or content. Nothing has changed, and nothing was
     /// journalled.

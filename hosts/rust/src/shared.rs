@@ -250,7 +250,7 @@ impl Shared {
     /// all.
     ///
     /// **The work may run more than once**, so it must do nothing outside the guardian that mustn't
-    /// be done twice.
+    /// be done twice, and begin no nested topaction that mustn't: each try commits it again.
     ///
     /// # Errors
     ///

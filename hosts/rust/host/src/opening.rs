@@ -38,9 +38,10 @@ fn open_files(folder: &Path) -> Result<Opened, Box<dyn Error>> {
     if let Some(torn) = &found.torn {
         eprintln!("argus-host: cut off: {torn}");
     }
-    let guardian = recovery
+    let mut guardian = recovery
         .into_guardian()
         .map_err(|error| log.not_taken(error))?;
+    log.check_next(guardian.entries())?;
     resumed(guardian, log.begin()?, found.epoch + 1, found.entries)
 }
 

@@ -38,7 +38,8 @@ fn read(folder: &Path) -> Result<(Found, Guardian), OpenError> {
     let mut recovery = Recovery::new()?;
     let log = FileLog::read(Folder::open(folder)?, |batch| recovery.take(batch.lines))?;
     let guardian = recovery.into_guardian();
-    let guardian = guardian.map_err(|error: LineError| log.not_taken(error))?;
+    let mut guardian = guardian.map_err(|error: LineError| log.not_taken(error))?;
+    log.check_next(guardian.entries())?;
     Ok((log.found().clone(), guardian))
 }
 

@@ -359,7 +359,7 @@ impl<'l> LoggedAction<'l> {
     ///
     /// # Errors
     ///
-    /// As for [`SharedAction::abort`]; [`LoggedError::Broken`].
+    /// As for [`SharedAction::abort`]; [`LoggedError::Broken`]: it is aborted all the same.
     ///
     /// ```
     /// # use argus_guardian::log::{FileLog, Logged, MemoryStorage};

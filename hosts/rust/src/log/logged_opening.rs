@@ -21,7 +21,7 @@ impl Logged {
     ///
     /// # Errors
     ///
-    /// Any [`OpenError`]. Except at [`OpenError::Broken`] the log is unchanged.
+    /// Any [`OpenError`], which says when the log is unchanged.
     ///
     /// ```
     /// use argus_guardian::log::{Logged, LoggedError};

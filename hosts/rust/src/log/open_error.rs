@@ -7,7 +7,8 @@ use std::error;
 use std::fmt;
 use std::io;
 
-/// Why a log wasn't opened. Except at [`OpenError::Broken`] its files are unchanged.
+/// Why a log wasn't opened. At [`OpenError::Broken`], and where the guardian couldn't abort what was live, what is torn
+/// may have been cut off already, and leftovers removed. Otherwise its files are unchanged.
 ///
 /// ```
 /// use argus_guardian::log::OpenError;
