@@ -11,31 +11,15 @@ import os
 import time
 from collections.abc import Callable, Iterator
 from contextlib import contextmanager
-from pathlib import Path
 from typing import Any, TypeVar
 
 from .action import Action
 from .errors import ArgusError, Busy
 from .guardian import Guardian
 from .library import Question, Status
+from .log_library import FOLD, GIVE, TAKE, LogStatus, load
 
 _Done = TypeVar("_Done")
-
-NAME = "libargus_log.so"
-
-_DONE, _LOCKED, _DAMAGED, _UNREAD, _BROKEN, _BUSY = range(6)
-
-_TAKE = ctypes.CFUNCTYPE(ctypes.c_int64, ctypes.c_void_p, ctypes.c_void_p, ctypes.c_size_t)
-_GIVE = ctypes.CFUNCTYPE(
-    ctypes.c_size_t, ctypes.c_void_p, ctypes.c_uint64, ctypes.c_void_p, ctypes.c_size_t
-)
-_FOLD = ctypes.CFUNCTYPE(
-    ctypes.c_uint32,
-    ctypes.c_void_p,
-    ctypes.c_uint64,
-    ctypes.POINTER(ctypes.c_char_p),
-    ctypes.POINTER(ctypes.c_size_t),
-)
 
 
 class LogError(ArgusError):
@@ -58,7 +42,7 @@ class InDoubt(LogError):
     """The log failed during a wait: what was waited for is in the log, or it isn't."""
 
 
-_ERRORS = {_LOCKED: LogLocked, _DAMAGED: LogDamaged, _BROKEN: LogBroken}
+_ERRORS = {LogStatus.LOCKED: LogLocked, LogStatus.DAMAGED: LogDamaged, LogStatus.BROKEN: LogBroken}
 
 
 class Log:
@@ -81,12 +65,12 @@ class Log:
     """
 
     def __init__(self, folder: str | os.PathLike[str], patience: float = 1.0) -> None:
-        self._library = _load()
+        self._library = load()
         self._log = ctypes.c_void_p()
         self.guardian = Guardian(patience)
         # The library may call these as long as this object lives.
-        self._give = _GIVE(self._give_lines)
-        self._fold = _FOLD(self._fold_journal)
+        self._give = GIVE(self._give_lines)
+        self._fold = FOLD(self._fold_journal)
         self._opening = b""
         try:
             self.found = self._open(os.fsencode(folder))
@@ -96,10 +80,10 @@ class Log:
 
     def _open(self, folder: bytes) -> str:
         words = ctypes.create_string_buffer(1024)
-        take, log = _TAKE(self._take_lines), ctypes.byref(self._log)
+        take, log = TAKE(self._take_lines), ctypes.byref(self._log)
         status = self._library.argus_log_open(folder, take, None, log, words, len(words))
         said = words.value.decode(errors="replace")
-        if status != _DONE:
+        if status != LogStatus.DONE:
             raise _ERRORS.get(status, LogError)(said)
         status, dropped = self.guardian._archive.resumed()
         if status != Status.DONE or dropped:
@@ -158,7 +142,7 @@ class Log:
 
     def barrier(self) -> None:
         """Returns when all entries that the journal has now are on disk. InDoubt if that isn't known."""
-        if self._library.argus_log_wait(self._log, self.guardian.entries, self._give, None) != _DONE:
+        if self._library.argus_log_wait(self._log, self.guardian.entries, self._give, None) != LogStatus.DONE:
             raise InDoubt(self.broken())
 
     @contextmanager
@@ -195,7 +179,7 @@ class Log:
             guardian._folding += 1
         try:
             status = self._checkpoint()
-            while status == _BUSY and time.monotonic() < limit:
+            while status == LogStatus.BUSY and time.monotonic() < limit:
                 with guardian._lock:
                     guardian._wait_until(limit)
                 status = self._checkpoint()
@@ -203,32 +187,10 @@ class Log:
             with guardian._lock:
                 guardian._folding -= 1
                 guardian._wake()
-        if status == _BUSY:
+        if status == LogStatus.BUSY:
             raise Busy("an action is live")
-        if status != _DONE:
+        if status != LogStatus.DONE:
             raise LogBroken(self.broken())
 
     def _checkpoint(self) -> int:
         return int(self._library.argus_log_checkpoint(self._log, self._give, self._fold, None))
-
-
-def _load() -> ctypes.CDLL:
-    """The library for logs: the one that `ARGUS_LOG_LIBRARY` names, otherwise in this folder, or the system's."""
-    beside = Path(__file__).resolve().parent / NAME
-    named = os.environ.get("ARGUS_LOG_LIBRARY", "") or (str(beside) if beside.is_file() else NAME)
-    try:
-        library = ctypes.CDLL(named)
-    except OSError as error:
-        words = "cargo build --release in hosts/rust/log_c makes it, ARGUS_LOG_LIBRARY names it"
-        raise OSError(f"no library {NAME} is to be had: {words} ({error})") from None
-    log, host, text, size = ctypes.c_void_p, ctypes.c_void_p, ctypes.c_char_p, ctypes.c_size_t
-    calls: dict[str, tuple[Any, ...]] = {
-        "argus_log_open": (ctypes.c_char_p, _TAKE, host, ctypes.POINTER(log), text, size),
-        "argus_log_wait": (log, ctypes.c_uint64, _GIVE, host),
-        "argus_log_checkpoint": (log, _GIVE, _FOLD, host),
-        "argus_log_broken": (log, text, size),
-    }
-    for name, given in calls.items():
-        getattr(library, name).argtypes, getattr(library, name).restype = given, ctypes.c_uint32
-    library.argus_log_close.argtypes, library.argus_log_close.restype = (log,), None
-    return library
