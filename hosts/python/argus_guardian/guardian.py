@@ -160,12 +160,20 @@ class Guardian(Calling):
 
     def _fold(self) -> int:
         self._abort_dropped()
+        return self._fold_at_once()
+
+    def _fold_at_once(self) -> int:
+        """Folds the journal as it is: it makes no entry before."""
         if self._archive.told(Question.ACTIONS) >= self.MAX_ACTIONS // 2:
-            return self._begin_anew()
+            return self._renew_at_once()
         return self._archive.fold()
 
     def _begin_anew(self) -> int:
         self._abort_dropped()
+        return self._renew_at_once()
+
+    def _renew_at_once(self) -> int:
+        """Begins anew with the journal as it is: it makes no entry before."""
         status = self._archive.renew()
         if status == Status.DONE:
             self._renewals += 1

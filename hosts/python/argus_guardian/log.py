@@ -110,9 +110,11 @@ class Log:
         archive, result = self.guardian._archive, 2
         try:
             with self.guardian._lock:
+                # These are entries, which the log has to have before.
+                self.guardian._abort_dropped()
                 if archive.told(Question.ENTRIES) != entry:
                     result = 1
-                elif self.guardian._fold() == Status.DONE:
+                elif self.guardian._fold_at_once() == Status.DONE:
                     result = 3
                     self._opening = archive.told(Question.LIST_JOURNAL).encode()
                     opening[0], size[0] = self._opening, len(self._opening)

@@ -2,6 +2,7 @@
 
 from __future__ import annotations
 
+import gc
 import os
 import random
 import resource
@@ -130,6 +131,19 @@ class LogTest(unittest.TestCase):
         with open_bank(self.folder) as log:
             self.assertEqual([number_in(log, obj) for obj in range(3)], [100, 99, 101])
             self.assertEqual(log.found, f"2 entries in 3 batches, the next one is {entries + 2}")
+
+    def test_a_checkpoint_aborts_what_nobody_has(self) -> None:
+        with open_bank(self.folder) as log:
+            top = log.guardian.topaction()
+            log.barrier()
+            del top
+            gc.collect()
+            log.checkpoint()
+            entries = log.guardian.entries
+            carry_out(log, 0, 1)
+        with open_bank(self.folder) as log:
+            self.assertEqual([number_in(log, obj) for obj in range(6)], [100, 99, 101, 1, 0, 0])
+            self.assertEqual(log.guardian.first_entry, entries)
 
     def test_nothing_is_left_of_what_raises(self) -> None:
         with open_bank(self.folder) as log, self.assertRaises(KeyError):
