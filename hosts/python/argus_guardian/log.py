@@ -11,7 +11,7 @@ import os
 import time
 from collections.abc import Callable, Iterator
 from contextlib import contextmanager
-from typing import Any, TypeVar
+from typing import Any, NoReturn, TypeVar
 
 from .action import Action
 from .errors import ArgusError, Busy
@@ -45,6 +45,18 @@ class InDoubt(LogError):
 _ERRORS = {LogStatus.LOCKED: LogLocked, LogStatus.DAMAGED: LogDamaged, LogStatus.BROKEN: LogBroken}
 
 
+class LoggedGuardian(Guardian):
+    """The guardian of a log. Only the log folds its journal, since it has to start the files again, too."""
+
+    def checkpoint(self, patience: float = 0.0) -> NoReturn:
+        """Raises TypeError: call the log's `checkpoint`."""
+        raise TypeError("the journal is in a log: call the log's checkpoint")
+
+    def renew(self, patience: float = 0.0) -> NoReturn:
+        """Raises TypeError: call the log's `checkpoint`, which renews when half of the numbers are used."""
+        raise TypeError("the journal is in a log: call the log's checkpoint, which renews the guardian, too")
+
+
 class Log:
     """A guardian whose journal is in the files of a folder.
 
@@ -61,13 +73,15 @@ class Log:
     commits wait together.
 
     Other calls are the guardian's. Their results may come from commits that aren't on disk yet: `barrier`
-    returns when all earlier ones are. Raises LogError, and OSError if there is no library.
+    returns when all earlier ones are. The guardian's `checkpoint` and `renew` raise TypeError, since the files
+    have to be started again with the journal: `checkpoint` of the log does both. Raises LogError, and OSError
+    if there is no library.
     """
 
     def __init__(self, folder: str | os.PathLike[str], patience: float = 1.0) -> None:
         self._library = load()
         self._log = ctypes.c_void_p()
-        self.guardian = Guardian(patience)
+        self.guardian = LoggedGuardian(patience)
         # The library may call these as long as this object lives.
         self._give = GIVE(self._give_lines)
         self._fold = FOLD(self._fold_journal)
@@ -174,7 +188,8 @@ class Log:
     def checkpoint(self, patience: float = 1.0) -> None:
         """Folds the journal when no action is live, and starts the files again; Busy when patience is over.
 
-        Meanwhile it holds back each topaction, so don't wait here in a thread that has a live action.
+        Meanwhile it holds back each topaction, so don't wait here in a thread that has a live action. When half
+        of the numbers for actions are used, it also renews the guardian.
         """
         limit, guardian = time.monotonic() + patience, self.guardian
         with guardian._lock:

@@ -145,6 +145,18 @@ class LogTest(unittest.TestCase):
             self.assertEqual([number_in(log, obj) for obj in range(6)], [100, 99, 101, 1, 0, 0])
             self.assertEqual(log.guardian.first_entry, entries)
 
+    def test_the_guardian_is_folded_by_the_log_alone(self) -> None:
+        with open_bank(self.folder) as log:
+            for fold in log.guardian.checkpoint, log.guardian.renew:
+                with self.assertRaisesRegex(TypeError, "call the log's checkpoint"):
+                    fold()
+            carry_out(log, 0, 1)
+            log.guardian.MAX_ACTIONS = 2
+            log.checkpoint()
+            self.assertEqual(log.guardian.actions, 0)
+        with open_bank(self.folder) as log:
+            self.assertEqual(number_in(log, 3), 1)
+
     def test_nothing_is_left_of_what_raises(self) -> None:
         with open_bank(self.folder) as log, self.assertRaises(KeyError):
             with log.topaction() as top:
