@@ -17,7 +17,9 @@ from .action import Action
 from .errors import ArgusError, Busy
 from .guardian import Guardian
 from .library import Question, Status
+from .log_callbacks import Taking
 from .log_library import FOLD, GIVE, TAKE, LogStatus, load
+from .telling import error_of
 
 _Done = TypeVar("_Done")
 
@@ -93,24 +95,29 @@ class Log:
             raise
 
     def _open(self, folder: bytes) -> str:
-        words = ctypes.create_string_buffer(1024)
-        take, log = TAKE(self._take_lines), ctypes.byref(self._log)
+        taking, words = Taking(self.guardian._archive), ctypes.create_string_buffer(1024)
+        take, log = TAKE(taking.take), ctypes.byref(self._log)
         status = self._library.argus_log_open(folder, take, None, log, words, len(words))
         said = words.value.decode(errors="replace")
+        if taking.raised is not None:
+            raise taking.raised
         if status != LogStatus.DONE:
             raise _ERRORS.get(status, LogError)(said)
-        status, dropped = self.guardian._archive.resumed()
-        if status != Status.DONE or dropped:
-            raise LogDamaged("the guardian can't be made of the log's lines")
+        self._make_guardian()
         self.guardian.abort_live()
         self.barrier()
         return said
 
-    def _take_lines(self, _host: Any, lines: int, size: int) -> int:
-        status, _, taken = self.guardian._archive.take(ctypes.string_at(lines, size))
-        if status == Status.NO_MEMORY:
-            return -2
-        return -1 if status == Status.DONE else taken
+    def _make_guardian(self) -> None:
+        """Makes the guardian of the lines that were taken."""
+        status, dropped = self.guardian._archive.resumed()
+        if status != Status.DONE:
+            raise error_of(status)
+        if dropped:
+            raise LogDamaged("the guardian can't be made of the log's lines")
+        # An interrupt that comes before `take` can catch it leaves the library with any result.
+        if self.guardian.entries != self._library.argus_log_next(self._log):
+            raise LogError("not all lines were taken: open the log again")
 
     def _give_lines(self, _host: Any, entry: int, room: int, size: int) -> int:
         lines = self.guardian.lines(entry, size)

@@ -47,5 +47,6 @@ def load() -> ctypes.CDLL:
     }
     for name, given in calls.items():
         getattr(library, name).argtypes, getattr(library, name).restype = given, ctypes.c_uint32
+    library.argus_log_next.argtypes, library.argus_log_next.restype = (log,), ctypes.c_uint64
     library.argus_log_close.argtypes, library.argus_log_close.restype = (log,), None
     return library

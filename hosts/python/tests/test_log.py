@@ -14,11 +14,15 @@ import threading
 import time
 import unittest
 from pathlib import Path
+from typing import Any
+from unittest import mock
 
 sys.path.insert(0, str(Path(__file__).resolve().parents[1]))
 
-from argus_guardian import Action, Busy  # noqa: E402
-from argus_guardian.log import InDoubt, Log, LogBroken, LogDamaged, LogLocked  # noqa: E402
+from argus_guardian import Action, Busy, OutOfMemory  # noqa: E402
+from argus_guardian.archive import Archive  # noqa: E402
+from argus_guardian.library import Status  # noqa: E402
+from argus_guardian.log import InDoubt, Log, LogBroken, LogDamaged, LogError, LogLocked  # noqa: E402
 
 CLIENTS = 3
 
@@ -185,6 +189,35 @@ class LogTest(unittest.TestCase):
         with self.assertRaises(LogDamaged) as caught:
             Log(self.folder)
         self.assertIn("`0 begin_top -> a1`", str(caught.exception))
+
+    def open_while(self, name: str, outcome: Any) -> None:
+        """Opens the log while a call of the archive does this, and closes it."""
+        with mock.patch.object(Archive, name, side_effect=outcome):
+            Log(self.folder).close()
+
+    def test_an_opening_that_ends_early(self) -> None:
+        with open_bank(self.folder) as log:
+            carry_out(log, 0, 1)
+        no_memory = Status.NO_MEMORY
+        faults: list[tuple[str, Any, type[BaseException]]] = [
+            ("take", KeyboardInterrupt, KeyboardInterrupt),
+            ("take", [(no_memory, 0, 0)], OutOfMemory),
+            ("resumed", [(no_memory, 0)], OutOfMemory),
+            ("abort_live", [no_memory], OutOfMemory),
+        ]
+        for name, outcome, error in faults:
+            with self.subTest(name, error=error), self.assertRaises(error):
+                self.open_while(name, outcome)
+        with open_bank(self.folder) as log:
+            self.assertEqual(number_in(log, 3), 1)
+
+    def test_lines_that_werent_taken(self) -> None:
+        with open_bank(self.folder):
+            pass
+        with self.assertRaisesRegex(LogError, "not all lines were taken"):
+            self.open_while("take", lambda _: (Status.DONE, 0, 0))
+        with open_bank(self.folder) as log:
+            self.assertEqual(number_in(log, 0), 100)
 
     def test_killed(self) -> None:
         last = [0] * CLIENTS
