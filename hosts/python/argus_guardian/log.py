@@ -11,13 +11,13 @@ import os
 import time
 from collections.abc import Callable, Iterator
 from contextlib import contextmanager
-from typing import Any, NoReturn, TypeVar
+from typing import NoReturn, TypeVar
 
 from .action import Action
 from .errors import ArgusError, Busy
 from .guardian import Guardian
-from .library import Question, Status
-from .log_callbacks import Taking
+from .library import Status
+from .log_callbacks import Folding, Giving, Taking
 from .log_library import FOLD, GIVE, TAKE, LogStatus, load
 from .telling import error_of
 
@@ -84,10 +84,9 @@ class Log:
         self._library = load()
         self._log = ctypes.c_void_p()
         self.guardian = LoggedGuardian(patience)
-        # The library may call these as long as this object lives.
-        self._give = GIVE(self._give_lines)
-        self._fold = FOLD(self._fold_journal)
-        self._opening = b""
+        # The library may call it as long as this object lives.
+        self._giving = Giving(self.guardian)
+        self._give = GIVE(self._giving.give)
         try:
             self.found = self._open(os.fsencode(folder))
         except BaseException:
@@ -119,31 +118,6 @@ class Log:
         if self.guardian.entries != self._library.argus_log_next(self._log):
             raise LogError("not all lines were taken: open the log again")
 
-    def _give_lines(self, _host: Any, entry: int, room: int, size: int) -> int:
-        lines = self.guardian.lines(entry, size)
-        text = "".join(f"{line}\n" for line in lines).encode()
-        if len(text) <= size:
-            ctypes.memmove(room, text, len(text))
-        return len(text)
-
-    def _fold_journal(self, _host: Any, entry: int, opening: Any, size: Any) -> int:
-        # 1: the log hasn't got all entries. 2: an action is live. 3: folded, and the log is broken.
-        archive, result = self.guardian._archive, 2
-        try:
-            with self.guardian._lock:
-                # These are entries, which the log has to have before.
-                self.guardian._abort_dropped()
-                if archive.told(Question.ENTRIES) != entry:
-                    result = 1
-                elif self.guardian._fold_at_once() == Status.DONE:
-                    result = 3
-                    self._opening = archive.told(Question.LIST_JOURNAL).encode()
-                    opening[0], size[0] = self._opening, len(self._opening)
-                    result = 0
-        except ArgusError:
-            pass
-        return result
-
     def close(self) -> None:
         """Closes the log and the guardian. What isn't on disk is lost."""
         self._library.argus_log_close(self._log)
@@ -166,7 +140,7 @@ class Log:
     def barrier(self) -> None:
         """Returns when all entries that the journal has now are on disk. InDoubt if that isn't known."""
         if self._library.argus_log_wait(self._log, self.guardian.entries, self._give, None) != LogStatus.DONE:
-            raise InDoubt(self.broken())
+            raise InDoubt(self.broken()) from self._giving.raised
 
     @contextmanager
     def topaction(self) -> Iterator[Action]:
@@ -202,19 +176,26 @@ class Log:
         with guardian._lock:
             guardian._folding += 1
         try:
-            status = self._checkpoint()
-            while status == LogStatus.BUSY and time.monotonic() < limit:
+            is_folded = self._fold()
+            while not is_folded and time.monotonic() < limit:
                 with guardian._lock:
                     guardian._wait_until(limit)
-                status = self._checkpoint()
+                is_folded = self._fold()
         finally:
             with guardian._lock:
                 guardian._folding -= 1
                 guardian._wake()
-        if status == LogStatus.BUSY:
+        if not is_folded:
             raise Busy("an action is live")
-        if status != LogStatus.DONE:
-            raise LogBroken(self.broken())
 
-    def _checkpoint(self) -> int:
-        return int(self._library.argus_log_checkpoint(self._log, self._give, self._fold, None))
+    def _fold(self) -> bool:
+        """Folds the journal, and starts the files again; False if an action is live."""
+        folding = Folding(self.guardian)
+        status = self._library.argus_log_checkpoint(self._log, self._give, FOLD(folding.fold), None)
+        if status == LogStatus.BROKEN:
+            raise LogBroken(self.broken()) from folding.raised or self._giving.raised
+        if folding.raised is not None:
+            raise folding.raised
+        if folding.status not in (Status.DONE, Status.BUSY):
+            raise error_of(folding.status)
+        return folding.status == Status.DONE

@@ -10,10 +10,12 @@ import ctypes
 from typing import Any
 
 from .archive import Archive
-from .library import Status
+from .guardian import Guardian
+from .library import Question, Status
 from .telling import error_of
 
 _TAKEN, _STOPPED = -1, -2
+_FOLDED, _BEHIND, _NOT_FOLDED, _LOST = range(4)
 
 
 class Taking:
@@ -37,3 +39,56 @@ class Taking:
         except BaseException as error:
             self.raised = error
         return _STOPPED
+
+
+class Giving:
+    """Gives the lines of a guardian's journal to its log."""
+
+    def __init__(self, guardian: Guardian) -> None:
+        self._guardian = guardian
+        # Once this is set the log is broken.
+        self.raised: BaseException | None = None
+
+    def give(self, _host: Any, entry: int, room: int, size: int) -> int:
+        """The size of the lines that are in the room now, or that of the first one if it doesn't fit; 0: it failed."""
+        try:
+            lines = self._guardian.lines(entry, size)
+            text = "".join(f"{line}\n" for line in lines).encode()
+            if len(text) <= size:
+                ctypes.memmove(room, text, len(text))
+            return len(text)
+        except BaseException as error:
+            self.raised = error
+            return 0
+
+
+class Folding:
+    """Folds the journal of a guardian for one checkpoint of its log."""
+
+    def __init__(self, guardian: Guardian) -> None:
+        self._guardian = guardian
+        # What came of it: BUSY until it is tried.
+        self.status = Status.BUSY
+        self.raised: BaseException | None = None
+        # The library reads it here.
+        self._opening = b""
+
+    def fold(self, _host: Any, entry: int, opening: Any, size: Any) -> int:
+        """Whether it is folded; and if not, whether the log hasn't got all entries. If nobody knows, the log breaks."""
+        guardian, archive, result = self._guardian, self._guardian._archive, _NOT_FOLDED
+        try:
+            with guardian._lock:
+                # These are entries, which the log has to have before.
+                guardian._abort_dropped()
+                if archive.told(Question.ENTRIES) != entry:
+                    return _BEHIND
+                result = _LOST
+                self.status = guardian._fold_at_once()
+                if self.status != Status.DONE:
+                    return _NOT_FOLDED
+                self._opening = archive.told(Question.LIST_JOURNAL).encode()
+                opening[0], size[0] = self._opening, len(self._opening)
+                result = _FOLDED
+        except BaseException as error:
+            self.raised = error
+        return result

@@ -19,9 +19,9 @@ from unittest import mock
 
 sys.path.insert(0, str(Path(__file__).resolve().parents[1]))
 
-from argus_guardian import Action, Busy, OutOfMemory  # noqa: E402
+from argus_guardian import Action, Busy, Full, OutOfMemory  # noqa: E402
 from argus_guardian.archive import Archive  # noqa: E402
-from argus_guardian.library import Status  # noqa: E402
+from argus_guardian.library import Question, Status  # noqa: E402
 from argus_guardian.log import InDoubt, Log, LogBroken, LogDamaged, LogError, LogLocked  # noqa: E402
 
 CLIENTS = 3
@@ -148,6 +148,50 @@ class LogTest(unittest.TestCase):
         with open_bank(self.folder) as log:
             self.assertEqual([number_in(log, obj) for obj in range(6)], [100, 99, 101, 1, 0, 0])
             self.assertEqual(log.guardian.first_entry, entries)
+
+    def test_a_checkpoint_that_fails_at_once(self) -> None:
+        with open_bank(self.folder) as log:
+            carry_out(log, 0, 1)
+            for status, error in (Status.NO_MEMORY, OutOfMemory), (Status.FULL, Full):
+                with mock.patch.object(Archive, "fold", return_value=status), self.assertRaises(error):
+                    log.checkpoint(patience=float("inf"))
+            with mock.patch.object(log.guardian, "_abort_dropped", side_effect=KeyboardInterrupt):
+                with self.assertRaises(KeyboardInterrupt):
+                    log.checkpoint()
+            self.assertIsNone(log.broken())
+            log.checkpoint()
+            entries = log.guardian.entries
+        with open_bank(self.folder) as log:
+            self.assertEqual((log.guardian.first_entry, number_in(log, 3)), (entries, 1))
+
+    def test_a_journal_that_is_folded_and_cant_be_listed(self) -> None:
+        told = Archive.told
+
+        def without_listing(archive: Archive, question: int, *given: int, **named: int) -> Any:
+            if question == Question.LIST_JOURNAL:
+                raise MemoryError
+            return told(archive, question, *given, **named)
+
+        with open_bank(self.folder) as log:
+            carry_out(log, 0, 1)
+            with mock.patch.object(Archive, "told", without_listing), self.assertRaises(LogBroken) as caught:
+                log.checkpoint()
+            self.assertIsInstance(caught.exception.__cause__, MemoryError)
+            with self.assertRaises(LogBroken):
+                carry_out(log, 0, 2)
+        with open_bank(self.folder) as log:
+            self.assertEqual(number_in(log, 3), 1)
+
+    def test_lines_that_cant_be_given(self) -> None:
+        with open_bank(self.folder) as log:
+            with mock.patch.object(log.guardian, "lines", side_effect=MemoryError):
+                with self.assertRaises(InDoubt) as caught:
+                    carry_out(log, 0, 1)
+            self.assertIsInstance(caught.exception.__cause__, MemoryError)
+            with self.assertRaises(LogBroken):
+                carry_out(log, 0, 2)
+        with open_bank(self.folder) as log:
+            self.assertEqual(number_in(log, 3), 0)
 
     def test_the_guardian_is_folded_by_the_log_alone(self) -> None:
         with open_bank(self.folder) as log:
