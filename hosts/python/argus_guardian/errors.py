@@ -76,7 +76,7 @@ class NotThere(ArgusError, LookupError):
 
 
 class Closed(ArgusError):
-    """The guardian is closed, or was opened by a process that this one was forked from."""
+    """The guardian or the log is closed, or was opened by a process that this one was forked from."""
 
     why = "the guardian is closed, or it is that of the process from which this one was forked"
 

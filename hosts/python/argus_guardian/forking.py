@@ -1,4 +1,4 @@
-"""Guardians in a forked process.
+"""Guardians and logs in a forked process.
 
 The child has a copy of each, maybe in the middle of a call of a thread that the child hasn't got. So
 they are closed there, and their memory isn't touched.
@@ -8,22 +8,24 @@ from __future__ import annotations
 
 import os
 import weakref
-from typing import TYPE_CHECKING
-
-if TYPE_CHECKING:
-    from .guardian import Guardian
-
-_OPEN: weakref.WeakSet[Guardian] = weakref.WeakSet()
+from typing import Protocol
 
 
-def add(guardian: Guardian) -> None:
-    """From now on each forked process closes the guardian."""
-    _OPEN.add(guardian)
+class _Opened(Protocol):
+    def _leave_behind(self) -> None: ...
+
+
+_OPEN: weakref.WeakSet[_Opened] = weakref.WeakSet()
+
+
+def add(opened: _Opened) -> None:
+    """From now on each forked process closes the guardian, or the log."""
+    _OPEN.add(opened)
 
 
 def _close_all() -> None:
-    for guardian in list(_OPEN):
-        guardian._leave_behind()
+    for opened in list(_OPEN):
+        opened._leave_behind()
 
 
 # Without fork, there is nothing to do.

@@ -6,7 +6,6 @@ hosts/rust/log_c. None of this is proved; docs/OUTLIVING.md says what a log prom
 
 from __future__ import annotations
 
-import ctypes
 import os
 import time
 from collections.abc import Callable, Iterator
@@ -14,11 +13,12 @@ from contextlib import contextmanager
 from typing import NoReturn, TypeVar
 
 from .action import Action
-from .errors import ArgusError, Busy
+from .errors import ArgusError, Busy, Closed
 from .guardian import Guardian
 from .library import Status
 from .log_callbacks import Folding, Giving, Taking
-from .log_library import FOLD, GIVE, TAKE, LogStatus, load
+from .log_files import LogFiles
+from .log_library import FOLD, GIVE, TAKE, LogStatus
 from .telling import error_of
 
 _Done = TypeVar("_Done")
@@ -41,7 +41,7 @@ class LogBroken(LogError):
 
 
 class InDoubt(LogError):
-    """The log failed during a wait: what was waited for is in the log, or it isn't."""
+    """The log failed or was closed during a wait: what was waited for is in the log, or it isn't."""
 
 
 _ERRORS = {LogStatus.LOCKED: LogLocked, LogStatus.DAMAGED: LogDamaged, LogStatus.BROKEN: LogBroken}
@@ -81,8 +81,7 @@ class Log:
     """
 
     def __init__(self, folder: str | os.PathLike[str], patience: float = 1.0) -> None:
-        self._library = load()
-        self._log = ctypes.c_void_p()
+        self._files = LogFiles()
         self.guardian = LoggedGuardian(patience)
         # The library may call it as long as this object lives.
         self._giving = Giving(self.guardian)
@@ -94,10 +93,8 @@ class Log:
             raise
 
     def _open(self, folder: bytes) -> str:
-        taking, words = Taking(self.guardian._archive), ctypes.create_string_buffer(1024)
-        take, log = TAKE(taking.take), ctypes.byref(self._log)
-        status = self._library.argus_log_open(folder, take, None, log, words, len(words))
-        said = words.value.decode(errors="replace")
+        taking = Taking(self.guardian._archive)
+        status, said = self._files.open(folder, TAKE(taking.take))
         if taking.raised is not None:
             raise taking.raised
         if status != LogStatus.DONE:
@@ -115,14 +112,18 @@ class Log:
         if dropped:
             raise LogDamaged("the guardian can't be made of the log's lines")
         # An interrupt that comes before `take` can catch it leaves the library with any result.
-        if self.guardian.entries != self._library.argus_log_next(self._log):
+        if self.guardian.entries != self._files.next_entry:
             raise LogError("not all lines were taken: open the log again")
 
     def close(self) -> None:
-        """Closes the log and the guardian. What isn't on disk is lost."""
-        self._library.argus_log_close(self._log)
-        self._log = ctypes.c_void_p()
-        self.guardian.close()
+        """Closes the log and the guardian, when the log's calls of other threads have ended.
+
+        What isn't on disk is lost. Later calls raise Closed.
+        """
+        try:
+            self._files.close()
+        finally:
+            self.guardian.close()
 
     def __enter__(self) -> Log:
         return self
@@ -132,15 +133,25 @@ class Log:
 
     def broken(self) -> str | None:
         """Why the log is broken; None if it isn't."""
-        words = ctypes.create_string_buffer(1024)
-        if not self._library.argus_log_broken(self._log, words, len(words)):
-            return None
-        return words.value.decode(errors="replace")
+        return self._files.broken()
+
+    def _refuse_broken(self) -> None:
+        why = self.broken()
+        if why is not None:
+            raise LogBroken(why)
 
     def barrier(self) -> None:
         """Returns when all entries that the journal has now are on disk. InDoubt if that isn't known."""
-        if self._library.argus_log_wait(self._log, self.guardian.entries, self._give, None) != LogStatus.DONE:
-            raise InDoubt(self.broken()) from self._giving.raised
+        status, why = self._files.wait(self.guardian.entries, self._give)
+        if status != LogStatus.DONE:
+            raise InDoubt(why) from self._giving.raised
+
+    def _acknowledge(self) -> None:
+        """`barrier` after a commit: if the log is closed meanwhile, the commit is in doubt."""
+        try:
+            self.barrier()
+        except Closed as error:
+            raise InDoubt("the log was closed before the commit was known to be on disk") from error
 
     @contextmanager
     def topaction(self) -> Iterator[Action]:
@@ -150,20 +161,16 @@ class Log:
         in this process and the log failed. Any other exception is as without a log, and nothing is left
         of the topaction.
         """
-        broken = self.broken()
-        if broken is not None:
-            raise LogBroken(broken)
+        self._refuse_broken()
         with self.guardian.topaction() as top:
             yield top
-        self.barrier()
+        self._acknowledge()
 
     def run(self, work: Callable[[Action], _Done], tries: int = 20) -> _Done:
         """`Guardian.run`, which returns when the commit is on disk."""
-        broken = self.broken()
-        if broken is not None:
-            raise LogBroken(broken)
+        self._refuse_broken()
         done = self.guardian.run(work, tries)
-        self.barrier()
+        self._acknowledge()
         return done
 
     def checkpoint(self, patience: float = 1.0) -> None:
@@ -191,9 +198,9 @@ class Log:
     def _fold(self) -> bool:
         """Folds the journal, and starts the files again; False if an action is live."""
         folding = Folding(self.guardian)
-        status = self._library.argus_log_checkpoint(self._log, self._give, FOLD(folding.fold), None)
+        status, why = self._files.checkpoint(self._give, FOLD(folding.fold))
         if status == LogStatus.BROKEN:
-            raise LogBroken(self.broken()) from folding.raised or self._giving.raised
+            raise LogBroken(why) from folding.raised or self._giving.raised
         if folding.raised is not None:
             raise folding.raised
         if folding.status not in (Status.DONE, Status.BUSY):

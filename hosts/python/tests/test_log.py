@@ -13,16 +13,19 @@ import tempfile
 import threading
 import time
 import unittest
+from collections.abc import Iterator
+from contextlib import contextmanager
 from pathlib import Path
 from typing import Any
 from unittest import mock
 
 sys.path.insert(0, str(Path(__file__).resolve().parents[1]))
 
-from argus_guardian import Action, Busy, Full, OutOfMemory  # noqa: E402
+from argus_guardian import Action, Busy, Closed, Full, OutOfMemory  # noqa: E402
 from argus_guardian.archive import Archive  # noqa: E402
 from argus_guardian.library import Question, Status  # noqa: E402
 from argus_guardian.log import InDoubt, Log, LogBroken, LogDamaged, LogError, LogLocked  # noqa: E402
+from test_processes import in_child  # noqa: E402
 
 CLIENTS = 3
 
@@ -123,6 +126,86 @@ class LogTest(unittest.TestCase):
             self.assertEqual(log.found, "0 entries in 0 batches, the next one is 0")
             with self.assertRaises(LogLocked):
                 Log(self.folder)
+
+    def test_closed(self) -> None:
+        log = open_bank(self.folder)
+        log.close()
+        log.close()
+        calls = [log.broken, log.barrier, log.checkpoint, log.topaction().__enter__, lambda: log.run(lambda _: None)]
+        for call in calls:
+            with self.assertRaises(Closed):
+                call()
+
+    @contextmanager
+    def order_under_way(self, log: Log) -> Iterator[None]:
+        """An order of another thread is in the library until the block ends, and is acknowledged then."""
+        lines, begun, go_on = log.guardian.lines, threading.Event(), threading.Event()
+        done: list[None] = []
+
+        def lines_later(entry: int, size: int) -> list[str]:
+            begun.set()
+            go_on.wait()
+            return lines(entry, size)
+
+        thread = threading.Thread(target=lambda: done.append(carry_out(log, 0, 1)))
+        with mock.patch.object(log.guardian, "lines", lines_later):
+            thread.start()
+            begun.wait()
+            try:
+                yield
+            finally:
+                go_on.set()
+                thread.join()
+        self.assertEqual(done, [None])
+
+    def test_a_close_waits_for_other_threads(self) -> None:
+        log = open_bank(self.folder)
+        closing = threading.Thread(target=log.close)
+        with self.order_under_way(log):
+            closing.start()
+            closing.join(0.1)
+            self.assertTrue(closing.is_alive())
+        closing.join()
+        with open_bank(self.folder) as log:
+            self.assertEqual(number_in(log, 3), 1)
+
+    def test_a_close_within_a_call(self) -> None:
+        log = open_bank(self.folder)
+        lines = log.guardian.lines
+
+        def lines_of_closed(entry: int, size: int) -> list[str]:
+            log.close()
+            return lines(entry, size)
+
+        with mock.patch.object(log.guardian, "lines", lines_of_closed), self.assertRaises(InDoubt) as caught:
+            carry_out(log, 0, 1)
+        self.assertIsInstance(caught.exception.__cause__, Closed)
+        with open_bank(self.folder) as log:
+            self.assertEqual(number_in(log, 3), 0)
+
+    def test_a_close_after_the_commit(self) -> None:
+        log = open_bank(self.folder)
+        with self.assertRaises(InDoubt) as caught, log.topaction() as top:
+            top.commit()
+            log.close()
+        self.assertIsInstance(caught.exception.__cause__, Closed)
+
+    def test_in_a_forked_process_it_is_closed(self) -> None:
+        def work() -> None:
+            for call in log.broken, log.barrier, log.checkpoint:
+                with self.assertRaises(Closed):
+                    call()
+            log.close()
+
+        with open_bank(self.folder) as log:
+            with self.order_under_way(log):
+                self.assertEqual(in_child(work), 0)
+            self.assertEqual(in_child(work), 0)
+            with self.assertRaises(LogLocked):
+                Log(self.folder)
+            carry_out(log, 0, 2)
+        with open_bank(self.folder) as log:
+            self.assertEqual(number_in(log, 3), 2)
 
     def test_checkpoint(self) -> None:
         with open_bank(self.folder) as log:
