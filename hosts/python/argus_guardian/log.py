@@ -93,8 +93,13 @@ class Log:
             raise
 
     def _open(self, folder: bytes) -> str:
-        taking = Taking(self.guardian._archive)
-        status, said = self._files.open(folder, TAKE(taking.take))
+        taking = Taking(self.guardian)
+        try:
+            status, said = self._files.open(folder, TAKE(taking.take))
+        except BaseException as error:
+            # An interrupted call goes on until it wants to hand over more lines.
+            taking.raised = error
+            raise
         if taking.raised is not None:
             raise taking.raised
         if status != LogStatus.DONE:
@@ -111,7 +116,7 @@ class Log:
             raise error_of(status)
         if dropped:
             raise LogDamaged("the guardian can't be made of the log's lines")
-        # An interrupt that comes before `take` can catch it leaves the library with any result.
+        # An exception that comes before `take` can catch it leaves the library with any result.
         if self.guardian.entries != self._files.next_entry:
             raise LogError("not all lines were taken: open the log again")
 

@@ -1,7 +1,8 @@
 """What the library for logs calls: `argus_log.h` says what each function takes and returns.
 
 An exception can't go through the library, and ctypes would make up a result in its place. So each function
-catches every exception, keeps it in `raised`, and returns what stops the library.
+catches every exception, keeps it in `raised`, and returns what stops the library. One of a signal handler could
+come before that, and so no function is called in the main thread (log_files.py).
 """
 
 from __future__ import annotations
@@ -9,7 +10,6 @@ from __future__ import annotations
 import ctypes
 from typing import Any
 
-from .archive import Archive
 from .guardian import Guardian
 from .library import Question, Status
 from .telling import error_of
@@ -21,8 +21,8 @@ _FOLDED, _BEHIND, _NOT_FOLDED, _LOST = range(4)
 class Taking:
     """Takes the lines of a log that is being opened, for the guardian that will be made of them."""
 
-    def __init__(self, archive: Archive) -> None:
-        self._archive = archive
+    def __init__(self, guardian: Guardian) -> None:
+        self._guardian = guardian
         # Once this is set no more lines are taken.
         self.raised: BaseException | None = None
 
@@ -30,7 +30,9 @@ class Taking:
         """-1 if all lines were taken; the number of the first that isn't as it should be; -2 if `raised` says why."""
         try:
             if self.raised is None:
-                status, _, taken = self._archive.take(ctypes.string_at(lines, size))
+                # Another thread may close the guardian.
+                with self._guardian._lock:
+                    status, _, taken = self._guardian._archive.take(ctypes.string_at(lines, size))
                 if status == Status.DONE:
                     return _TAKEN
                 if status != Status.NO_MEMORY:

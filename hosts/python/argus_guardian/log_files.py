@@ -5,12 +5,15 @@ from __future__ import annotations
 import ctypes
 import threading
 from collections.abc import Callable, Iterator
+from concurrent.futures import Future
 from contextlib import contextmanager
-from typing import Any
+from typing import Any, TypeVar
 
 from . import forking
 from .errors import Closed
 from .log_library import LogStatus, load
+
+_Outcome = TypeVar("_Outcome")
 
 # After at most this many seconds a close looks again whether other threads use the log.
 _LOOK_AFTER = 0.05
@@ -38,9 +41,13 @@ class LogFiles:
     def open(self, folder: bytes, take: Any) -> tuple[int, str]:
         """Opens the log in the folder: the status, and what was found or what is wrong."""
         words = ctypes.create_string_buffer(1024)
-        with self._using() as log:
-            status = self._library.argus_log_open(folder, take, None, ctypes.byref(log), words, len(words))
-        return status, words.value.decode(errors="replace")
+
+        def make() -> tuple[int, str]:
+            with self._using() as log:
+                status = self._library.argus_log_open(folder, take, None, ctypes.byref(log), words, len(words))
+            return status, words.value.decode(errors="replace")
+
+        return _outside_the_main_thread(make)
 
     def wait(self, until: int, give: Any) -> tuple[int, str]:
         """Returns when all entries before this one are on disk: the status, and why the log is broken."""
@@ -51,10 +58,13 @@ class LogFiles:
         return self._made(lambda log: self._library.argus_log_checkpoint(log, give, fold, None))
 
     def _made(self, call: Callable[[ctypes.c_void_p], int]) -> tuple[int, str]:
-        with self._using() as log:
-            status = call(log)
-            why = None if status == LogStatus.DONE else self._broken(log)
-            return status, why or ""
+        def make() -> tuple[int, str]:
+            with self._using() as log:
+                status = call(log)
+                why = None if status == LogStatus.DONE else self._broken(log)
+                return status, why or ""
+
+        return _outside_the_main_thread(make)
 
     @property
     def next_entry(self) -> int:
@@ -113,3 +123,28 @@ class LogFiles:
         self._is_open = False
         self._log = ctypes.c_void_p()
         self._make_lock()
+
+
+def _outside_the_main_thread(call: Callable[[], _Outcome]) -> _Outcome:
+    """Makes a call of the library that calls functions of Python: in the main thread, another one makes it.
+
+    Signal handlers run in the main thread, and may raise an exception, as at Ctrl-C. Where the library has just
+    called a function of Python, that function couldn't catch it, and ctypes would make up a result. So it ends
+    only the wait for the call here: the call goes on to its end.
+    """
+    if threading.current_thread() is not threading.main_thread():
+        return call()
+    made: Future[_Outcome] = Future()
+
+    def make() -> None:
+        try:
+            made.set_result(call())
+        except BaseException as error:
+            made.set_exception(error)
+
+    try:
+        threading.Thread(target=make, name="argus_guardian.log").start()
+    except RuntimeError:
+        # No thread can be started, as when the interpreter ends.
+        return call()
+    return made.result()

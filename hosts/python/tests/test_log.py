@@ -13,7 +13,7 @@ import tempfile
 import threading
 import time
 import unittest
-from collections.abc import Iterator
+from collections.abc import Callable, Iterator
 from contextlib import contextmanager
 from pathlib import Path
 from typing import Any
@@ -345,6 +345,52 @@ class LogTest(unittest.TestCase):
             self.open_while("take", lambda _: (Status.DONE, 0, 0))
         with open_bank(self.folder) as log:
             self.assertEqual(number_in(log, 0), 100)
+
+    def interrupts(self) -> Callable[[], None]:
+        """What interrupts once, as Ctrl-C does, which the shell may have switched off."""
+        numbers = [signal.SIGUSR1]
+
+        def interrupted(*_: object) -> None:
+            raise KeyboardInterrupt
+
+        def interrupt() -> None:
+            while numbers:
+                os.kill(os.getpid(), numbers.pop())
+
+        self.addCleanup(signal.signal, signal.SIGUSR1, signal.signal(signal.SIGUSR1, interrupted))
+        return interrupt
+
+    def test_an_interrupt_during_a_wait(self) -> None:
+        interrupt = self.interrupts()
+        with open_bank(self.folder) as log:
+            lines = log.guardian.lines
+
+            def lines_interrupted(entry: int, size: int) -> list[str]:
+                interrupt()
+                return lines(entry, size)
+
+            with mock.patch.object(log.guardian, "lines", lines_interrupted), self.assertRaises(KeyboardInterrupt):
+                carry_out(log, 0, 1)
+            # It ended the wait alone.
+            log.barrier()
+            carry_out(log, 0, 2)
+        with open_bank(self.folder) as log:
+            self.assertEqual([number_in(log, obj) for obj in range(6)], [101, 99, 100, 2, 0, 0])
+
+    def test_an_interrupt_during_an_opening(self) -> None:
+        interrupt = self.interrupts()
+        with open_bank(self.folder) as log:
+            carry_out(log, 0, 1)
+        take = Archive.take
+
+        def take_interrupted(archive: Archive, text: bytes) -> tuple[int, int, int]:
+            interrupt()
+            return take(archive, text)
+
+        with mock.patch.object(Archive, "take", take_interrupted), self.assertRaises(KeyboardInterrupt):
+            Log(self.folder)
+        with open_bank(self.folder) as log:
+            self.assertEqual(number_in(log, 3), 1)
 
     def test_killed(self) -> None:
         last = [0] * CLIENTS
