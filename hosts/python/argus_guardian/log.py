@@ -106,6 +106,8 @@ class Log:
             raise _ERRORS.get(status, LogError)(said)
         self._make_guardian()
         self.guardian.abort_live()
+        # Nobody has these; a begin that fails aborts what comes after them.
+        self.guardian._begun = self.guardian.actions
         self.barrier()
         return said
 

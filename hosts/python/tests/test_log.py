@@ -21,7 +21,7 @@ from unittest import mock
 
 sys.path.insert(0, str(Path(__file__).resolve().parents[1]))
 
-from argus_guardian import Action, Busy, Closed, Full, OutOfMemory  # noqa: E402
+from argus_guardian import Action, Busy, Closed, Full, NoAction, OutOfMemory  # noqa: E402
 from argus_guardian.archive import Archive  # noqa: E402
 from argus_guardian.library import Question, Status  # noqa: E402
 from argus_guardian.log import InDoubt, Log, LogBroken, LogDamaged, LogError, LogLocked  # noqa: E402
@@ -120,6 +120,15 @@ class LogTest(unittest.TestCase):
             # What was live is aborted.
             self.assertEqual([number_in(log, obj) for obj in range(6)], [100, 99, 101, 0, 1, 0])
             self.assertTrue(log.found.endswith(f"the next one is {log.guardian.entries - 1}"), log.found)
+
+    def test_a_begin_that_is_refused_makes_one_entry(self) -> None:
+        with open_bank(self.folder) as log:
+            carry_out(log, 0, 1)
+        with open_bank(self.folder) as log:
+            entries = log.guardian.entries
+            with self.assertRaises(NoAction):
+                Action(log.guardian, 99).subaction()
+            self.assertEqual(log.guardian.entries, entries + 1)
 
     def test_new(self) -> None:
         with Log(self.folder) as log:
