@@ -44,6 +44,8 @@ def ready_commit(action: Action) -> Iterator[ReadyCommit]:
     guardian = action.guardian
     archive = guardian._archive
     with guardian._lock:
+        if guardian._owners.dropped:
+            guardian._abort_dropped()
         if action._renewals not in (None, guardian._renewals):
             raise errors.Over(f"{action}: {errors.Over.why}")
         try:

@@ -1,5 +1,6 @@
 """Tests of commits in two steps: ready, and then made or cancelled."""
 
+import gc
 import io
 import threading
 import unittest
@@ -58,6 +59,15 @@ class ReadyCommits(unittest.TestCase):
         self.assertEqual(self.guardian.entries, 7)
         sub.commit()
         self.top.commit()
+
+    def test_children_that_nobody_has_are_aborted_before(self):
+        self.top.subaction().lock(self.record)
+        gc.collect()
+        with self.top.ready_commit() as ready:
+            self.assertEqual(ready.line, "6 commit a0 -> done\n")
+            ready.make()
+        self.assertEqual(self.guardian.lines(5), ["5 abort a1 -> done", "6 commit a0 -> done"])
+        self.assertEqual(self.guardian.base(self.record), (5,))
 
     def test_once(self):
         with self.top.ready_commit() as ready:
