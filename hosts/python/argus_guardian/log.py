@@ -8,8 +8,8 @@ from __future__ import annotations
 
 import os
 import time
-from collections.abc import Callable, Iterator
-from contextlib import contextmanager
+from collections.abc import Callable
+from types import TracebackType
 from typing import NoReturn, TypeVar
 
 from .action import Action
@@ -160,18 +160,14 @@ class Log:
         except Closed as error:
             raise InDoubt("the log was closed before the commit was known to be on disk") from error
 
-    @contextmanager
-    def topaction(self) -> Iterator[Action]:
+    def topaction(self) -> LoggedTopaction:
         """A topaction for a `with` block, which ends when the commit is on disk.
 
         LogBroken if the log had failed earlier: nothing is begun. InDoubt if the topaction has committed
         in this process and the log failed. Any other exception is as without a log, and nothing is left
         of the topaction.
         """
-        self._refuse_broken()
-        with self.guardian.topaction() as top:
-            yield top
-        self._acknowledge()
+        return LoggedTopaction(self)
 
     def run(self, work: Callable[[Action], _Done], tries: int = 20) -> _Done:
         """`Guardian.run`, which returns when the commit is on disk."""
@@ -213,3 +209,24 @@ class Log:
         if folding.status not in (Status.DONE, Status.BUSY):
             raise error_of(folding.status)
         return folding.status == Status.DONE
+
+
+class LoggedTopaction:
+    """A topaction of a log, for one `with` block. If it is dropped within that, so is its `Action`, which aborts."""
+
+    def __init__(self, log: Log) -> None:
+        self._log = log
+        self._top: Action | None = None
+
+    def __enter__(self) -> Action:
+        self._log._refuse_broken()
+        self._top = self._log.guardian.topaction()
+        return self._top
+
+    def __exit__(
+        self, kind: type[BaseException] | None, error: BaseException | None, trace: TracebackType | None
+    ) -> None:
+        if self._top is not None:
+            self._top.__exit__(kind, error, trace)
+        if kind is None:
+            self._log._acknowledge()

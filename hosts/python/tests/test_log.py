@@ -297,6 +297,18 @@ class LogTest(unittest.TestCase):
         with open_bank(self.folder) as log:
             self.assertEqual(number_in(log, 3), 1)
 
+    def test_nothing_is_left_of_what_nobody_has(self) -> None:
+        with open_bank(self.folder) as log:
+            block = log.topaction()
+            top = block.__enter__()
+            top.lock(0)
+            # Whoever drops it may be in a call.
+            with log.guardian._lock:
+                del block, top
+                gc.collect()
+            carry_out(log, 0, 1)
+            self.assertIsNone(log.guardian.live())
+
     def test_nothing_is_left_of_what_raises(self) -> None:
         with open_bank(self.folder) as log, self.assertRaises(KeyError):
             with log.topaction() as top:
