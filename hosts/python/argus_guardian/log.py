@@ -77,13 +77,13 @@ class Log:
     Other calls are the guardian's. Their results may come from commits that aren't on disk yet: `barrier`
     returns when all earlier ones are. The guardian's `checkpoint` and `renew` raise TypeError, since the files
     have to be started again with the journal: `checkpoint` of the log does both. Raises LogError, and OSError
-    if there is no library.
+    if there is no library. A log to which no reference is left is closed, with a ResourceWarning.
     """
 
     def __init__(self, folder: str | os.PathLike[str], patience: float = 1.0) -> None:
         self._files = LogFiles()
         self.guardian = LoggedGuardian(patience)
-        # The library may call it as long as this object lives.
+        # The library may call it as long as this object lives, to which it has no reference.
         self._giving = Giving(self.guardian)
         self._give = GIVE(self._giving.give)
         try:

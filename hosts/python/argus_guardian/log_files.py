@@ -4,6 +4,7 @@ from __future__ import annotations
 
 import ctypes
 import threading
+import warnings
 from collections.abc import Callable, Iterator
 from concurrent.futures import Future
 from contextlib import contextmanager
@@ -118,6 +119,13 @@ class LogFiles:
                 self._library.argus_log_close(log)
             self._ended.notify_all()
 
+    def __del__(self, warn: Callable[..., None] = warnings.warn) -> None:
+        # No reference to it is left, so no thread uses the log.
+        if getattr(self, "_log", None):
+            self._library.argus_log_close(self._log)
+            self._log.value = None
+            warn(f"unclosed log {self!r}", ResourceWarning, source=self)
+
     def _leave_behind(self) -> None:
         """Closes it in a forked process. Its memory, its files and its lock are the parent's."""
         self._is_open = False
@@ -142,9 +150,13 @@ def _outside_the_main_thread(call: Callable[[], _Outcome]) -> _Outcome:
         except BaseException as error:
             made.set_exception(error)
 
+    thread = threading.Thread(target=make, name="argus_guardian.log")
     try:
-        threading.Thread(target=make, name="argus_guardian.log").start()
+        thread.start()
     except RuntimeError:
         # No thread can be started, as when the interpreter ends.
         return call()
-    return made.result()
+    outcome = made.result()
+    # Then it has no reference to the log any more.
+    thread.join()
+    return outcome

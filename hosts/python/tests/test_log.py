@@ -13,6 +13,7 @@ import tempfile
 import threading
 import time
 import unittest
+import warnings
 from collections.abc import Callable, Iterator
 from contextlib import contextmanager
 from pathlib import Path
@@ -28,6 +29,7 @@ from argus_guardian.log import InDoubt, Log, LogBroken, LogDamaged, LogError, Lo
 from test_processes import in_child  # noqa: E402
 
 CLIENTS = 3
+LEFT_OPEN: list[Log] = []
 
 
 def open_bank(folder: str) -> Log:
@@ -99,6 +101,13 @@ def break_log(folder: str) -> None:
         print(acknowledged, flush=True)
 
 
+def leave_open(folder: str) -> None:
+    """A process that ends without closing its log, to which a module has a reference."""
+    LEFT_OPEN.append(open_bank(folder))
+    carry_out(LEFT_OPEN[0], 0, 1)
+    print("open", flush=True)
+
+
 @unittest.skipUnless(os.environ.get("ARGUS_LOG_LIBRARY"), "ARGUS_LOG_LIBRARY names no library")
 class LogTest(unittest.TestCase):
     def setUp(self) -> None:
@@ -106,9 +115,9 @@ class LogTest(unittest.TestCase):
         self.addCleanup(room.cleanup)
         self.folder = str(Path(room.name) / "log")
 
-    def run_child(self, what: str) -> subprocess.Popen[str]:
+    def run_child(self, what: str, errors: int | None = None) -> subprocess.Popen[str]:
         words = [sys.executable, __file__, what, self.folder]
-        return subprocess.Popen(words, stdout=subprocess.PIPE, text=True)
+        return subprocess.Popen(words, stdout=subprocess.PIPE, stderr=errors, text=True)
 
     def test_opened_again(self) -> None:
         with open_bank(self.folder) as log:
@@ -144,6 +153,23 @@ class LogTest(unittest.TestCase):
         for call in calls:
             with self.assertRaises(Closed):
                 call()
+
+    def test_a_forgotten_close_is_told(self) -> None:
+        with warnings.catch_warnings(record=True) as told:
+            warnings.simplefilter("always")
+            Log(self.folder)
+            gc.collect()
+        self.assertEqual([it.category for it in told], [ResourceWarning, ResourceWarning])
+        # It isn't locked any more.
+        with open_bank(self.folder) as log:
+            carry_out(log, 0, 1)
+
+    def test_a_forgotten_close_at_the_end_of_the_process(self) -> None:
+        child = self.run_child("leave", errors=subprocess.STDOUT)
+        said, _ = child.communicate(timeout=60)
+        self.assertEqual((said, child.returncode), ("open\n", 0))
+        with open_bank(self.folder) as log:
+            self.assertEqual(number_in(log, 3), 1)
 
     @contextmanager
     def order_under_way(self, log: Log) -> Iterator[None]:
@@ -452,7 +478,8 @@ class LogTest(unittest.TestCase):
 
 
 if __name__ == "__main__":
-    if sys.argv[1:2] in (["serve"], ["break"]):
-        {"serve": serve, "break": break_log}[sys.argv[1]](sys.argv[2])
+    works = {"serve": serve, "break": break_log, "leave": leave_open}
+    if sys.argv[1:] and sys.argv[1] in works:
+        works[sys.argv[1]](sys.argv[2])
     else:
         unittest.main()
