@@ -48,7 +48,7 @@ _ERRORS = {LogStatus.LOCKED: LogLocked, LogStatus.DAMAGED: LogDamaged, LogStatus
 
 
 class LoggedGuardian(Guardian):
-    """The guardian of a log. Only the log folds its journal, since it has to start the files again, too."""
+    """The guardian of a log, which alone folds its journal: when all entries are in the files."""
 
     def checkpoint(self, patience: float = 0.0) -> NoReturn:
         """Raises TypeError: call the log's `checkpoint`."""
@@ -75,9 +75,9 @@ class Log:
     commits wait together.
 
     Other calls are the guardian's. Their results may come from commits that aren't on disk yet: `barrier`
-    returns when all earlier ones are. The guardian's `checkpoint` and `renew` raise TypeError, since the files
-    have to be started again with the journal: `checkpoint` of the log does both. Raises LogError, and OSError
-    if there is no library. A log to which no reference is left is closed, with a ResourceWarning.
+    returns when all earlier ones are. `checkpoint` and `renew` of the guardian raise TypeError, since they could
+    fold entries that the files haven't got: call `checkpoint` of the log. Raises LogError, and OSError if there
+    is no library. A log to which no reference is left is closed, with a ResourceWarning.
     """
 
     def __init__(self, folder: str | os.PathLike[str], patience: float = 1.0) -> None:
@@ -164,8 +164,8 @@ class Log:
         """A topaction for a `with` block, which ends when the commit is on disk.
 
         LogBroken if the log had failed earlier: nothing is begun. InDoubt if the topaction has committed
-        in this process and the log failed. Any other exception is as without a log, and nothing is left
-        of the topaction.
+        in this process, and then the log failed or was closed. After an interrupt (Ctrl-C) it may have
+        committed or not. Any other exception is as without a log, and nothing is left of the topaction.
         """
         return LoggedTopaction(self)
 
@@ -180,7 +180,8 @@ class Log:
         """Folds the journal when no action is live, and starts the files again; Busy when patience is over.
 
         Meanwhile it holds back each topaction, so don't wait here in a thread that has a live action. When half
-        of the numbers for actions are used, it also renews the guardian.
+        of the numbers for actions are used, it also renews the guardian. OutOfMemory and Full are raised at once,
+        and nothing is folded.
         """
         limit, guardian = time.monotonic() + patience, self.guardian
         with guardian._lock:
