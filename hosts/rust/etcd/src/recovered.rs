@@ -36,7 +36,7 @@ impl Recovered {
         if let State::Recovering(_) = self.state {
             self.state = match std::mem::replace(&mut self.state, State::Lost) {
                 State::Recovering(recovery) => {
-                    State::Made(recovery.into_guardian().map_err(not_sound)?)
+                    State::Made(recovery.into_guardian().map_err(|it| not_sound(&it))?)
                 }
                 other => other,
             };
@@ -126,11 +126,11 @@ fn make_again(guardian: &mut Guardian, line: u64, text: &str) -> Result<(), Line
 }
 
 // Why no guardian was made of an opening. It is found at the batch that comes next.
-fn not_sound(error: LineError) -> LineError {
+fn not_sound(error: &LineError) -> LineError {
     match error {
         LineError::Fault { line, .. } => {
             let why = "the opening before it refers to objects that aren't there";
-            fault(line, why.to_owned())
+            fault(*line, why.to_owned())
         }
         LineError::OutOfMemory => LineError::OutOfMemory,
     }
