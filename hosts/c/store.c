@@ -8,6 +8,9 @@
 #include <string.h>
 #include <time.h>
 
+/* Some thirty years: whoever is willing to wait for longer, also for ever, waits as long as that. */
+static const double LONGEST_PATIENCE = 1e9;
+
 /* Ends the process if the call returned another status. */
 static int64_t expect(argus_answer answer, uint32_t status, const char *what) {
     if (answer.status != status) {
@@ -67,6 +70,12 @@ uint32_t store_declare(store *it, int64_t number) {
     return object;
 }
 
+/* A fold was made. The mutex is held. */
+static void note_fold(store *it) {
+    it->folded_at = expect(argus_entries(&it->guardian), ARGUS_NUMBER, "entries");
+    pthread_cond_broadcast(&it->ended);
+}
+
 /* Folds the journal if it has grown by fold_after entries. It waits until all live topactions have
  * ended; until then no topaction begins. The mutex is held. */
 static void fold_where_due(store *it) {
@@ -78,9 +87,8 @@ static void fold_where_due(store *it) {
     while ((answer = argus_checkpoint(&it->guardian)).status == ARGUS_BUSY)
         pthread_cond_wait(&it->ended, &it->lock);
     expect(answer, ARGUS_DONE, "checkpoint");
-    it->folded_at = expect(argus_entries(&it->guardian), ARGUS_NUMBER, "entries");
     it->is_folding = 0;
-    pthread_cond_broadcast(&it->ended);
+    note_fold(it);
 }
 
 store_action store_begin_top(store *it) {
@@ -167,7 +175,8 @@ static int may_be_had(store *it, uint32_t question, const store_action *action, 
 static int wait_until_had(store *it, uint32_t question, const store_action *action, uint32_t object) {
     struct timespec limit;
     clock_gettime(CLOCK_MONOTONIC, &limit);
-    int64_t nanos = limit.tv_nsec + (int64_t)(it->patience * 1e9);
+    double patience = it->patience < LONGEST_PATIENCE ? it->patience : LONGEST_PATIENCE;
+    int64_t nanos = limit.tv_nsec + (int64_t)(patience * 1e9);
     limit.tv_sec += (time_t)(nanos / 1000000000);
     limit.tv_nsec = (long)(nanos % 1000000000);
     while (!may_be_had(it, question, action, object))
@@ -248,5 +257,6 @@ int64_t store_entries(store *it) {
 void store_fold(store *it) {
     pthread_mutex_lock(&it->lock);
     expect(argus_checkpoint(&it->guardian), ARGUS_DONE, "checkpoint");
+    note_fold(it);
     pthread_mutex_unlock(&it->lock);
 }

@@ -26,7 +26,8 @@ typedef struct store {
     argus_guardian guardian;
     pthread_mutex_t lock;  /* held around each call, and the reply that belongs to it */
     pthread_cond_t ended;  /* signalled after each commit, each abort and each fold */
-    double patience;       /* how many seconds an access waits for its lock at most; one at first */
+    double patience;       /* how many seconds an access waits for its lock at most; one at first. INFINITY: for
+                            * ever */
     int64_t fold_after;    /* the journal is folded after this many entries; 0: never by itself */
     int64_t folded_at;     /* how many entries there were at the last fold */
     int is_folding;        /* a fold waits until no action is live, and no topaction begins */

@@ -5,6 +5,7 @@
 #include "store.h"
 
 #include <inttypes.h>
+#include <math.h>
 #include <stdio.h>
 #include <stdlib.h>
 #include <string.h>
@@ -52,7 +53,7 @@ static void test_upgrade(int is_by_subaction) {
     pthread_barrier_t both;
     upgrade upgrades[2];
     store_open(&records, 0);
-    records.patience = 60;
+    records.patience = is_by_subaction ? 60 : INFINITY;
     uint32_t object = store_declare(&records, 5);
     pthread_barrier_init(&both, NULL, 2);
     double begin = clock_seconds();
@@ -81,6 +82,17 @@ static void test_patience(void) {
     CHECK(!store_get(&records, &waiter, object, &number));
     CHECK(!store_lock(&records, &waiter, object));
     CHECK(clock_seconds() - begin >= 0.04);
+    store_close(&records);
+}
+
+/* A fold that is asked for counts as the last one. */
+static void test_fold(void) {
+    store records;
+    store_open(&records, 1000);
+    store_declare(&records, 5);
+    CHECK(records.folded_at == 0);
+    store_fold(&records);
+    CHECK(records.folded_at == store_entries(&records));
     store_close(&records);
 }
 
@@ -321,5 +333,6 @@ int tests(void) {
     test_upgrade(0);
     test_upgrade(1);
     test_patience();
+    test_fold();
     return failed;
 }

@@ -512,6 +512,16 @@ static inline void argus_enter(argus_guardian *guardian) {
 #endif
 }
 
+/* The same for a guardian whose commit is ready. */
+static inline void argus_enter_ready(argus_ready *ready) {
+#ifdef ARGUS_SANITIZES_THREADS
+    volatile uint32_t *mark = &ready->mark;
+    *mark = *mark;
+#else
+    (void)ready;
+#endif
+}
+
 /* Opens a guardian without objects, actions and entries. A guardian that is open in the handle is closed once the new
  * one is made, and stays open at ARGUS_NO_MEMORY. This isn't an inline function, and several threads may call it at
  * the same time. */
@@ -522,6 +532,7 @@ argus_answer argus_open(argus_guardian *guardian);
 ARGUS_API argus_answer argus_open_beside(argus_guardian *guardian, argus_guardian *other) {
     if (guardian == NULL || other == NULL) return argus_answer_of(ARGUS_NULL, 0);
     argus_enter(guardian);
+    argus_enter(other);
     if (guardian == other || other->mark != 1) return argus_answer_of(ARGUS_NOT_OPEN, 0);
     return argus_answer_of(argus_c_open(guardian, other), 0);
 }
@@ -700,6 +711,7 @@ ARGUS_API argus_answer argus_reply(argus_guardian *guardian, void *room, size_t 
 ARGUS_API argus_answer argus_ready_commit(argus_guardian *guardian, argus_ready *ready, uint32_t action) {
     if (guardian == NULL || ready == NULL) return argus_answer_of(ARGUS_NULL, 0);
     argus_enter(guardian);
+    argus_enter_ready(ready);
     return argus_answer_of(argus_c_ready_commit(guardian, ready, action), 0);
 }
 
@@ -710,6 +722,7 @@ ARGUS_API argus_answer argus_ready_line(argus_ready *ready, void *room, size_t r
     uint32_t status;
     uint8_t none[1];
     if (ready == NULL || (room == NULL && room_size != 0)) return argus_answer_of(ARGUS_NULL, 0);
+    argus_enter_ready(ready);
     status = argus_c_ready_line(ready, room == NULL ? none : (uint8_t *)room, room_size, &size);
     return argus_answer_of(status, (int64_t)size);
 }
@@ -720,6 +733,7 @@ ARGUS_API argus_answer argus_make_ready(argus_ready *ready, argus_guardian *guar
     uint32_t status;
     if (ready == NULL || guardian == NULL) return argus_answer_of(ARGUS_NULL, 0);
     argus_enter(guardian);
+    argus_enter_ready(ready);
     status = argus_c_make_ready(ready, guardian, &number);
     return argus_answer_of(status, number);
 }
@@ -728,6 +742,7 @@ ARGUS_API argus_answer argus_make_ready(argus_ready *ready, argus_guardian *guar
 ARGUS_API argus_answer argus_cancel_ready(argus_ready *ready, argus_guardian *guardian) {
     if (ready == NULL || guardian == NULL) return argus_answer_of(ARGUS_NULL, 0);
     argus_enter(guardian);
+    argus_enter_ready(ready);
     return argus_answer_of(argus_c_cancel_ready(ready, guardian), 0);
 }
 
