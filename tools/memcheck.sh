@@ -26,7 +26,7 @@ run() {
         "$crate/out/$1" "${words[@]}" < "$input" > "$work/out" 2> "$work/err"
     status=$?
     cd "$top"
-    [ "$status" = "$wanted" ] || { echo "$1: status $status"; return 1; }
+    [ "$status" = "$wanted" ] || { echo "$1: status $status"; cat "$work/log"; return 1; }
     [ "$1" = argus_fuzz ] || cmp -s "$work/out" "$crate/stdout" || { echo "$1: prints something else"; return 1; }
     judge "$1"
 }

@@ -197,8 +197,15 @@ impl Follower {
     ) -> Result<(Logged, Led), LogError> {
         // Earlier leaders append nothing any more: their keys are gone.
         self.catch_up()?;
-        // The guardian is made here, so that an opening of which none can be made is named.
-        self.read(|_| ())?;
+        // The guardian is made here, so that an opening of which none can be made is named, or one before another entry.
+        let (lines, at) = self.read(Guardian::entries)?;
+        if lines != at.entry {
+            let head = at.entry;
+            let why = format!(
+                "by the log's lines entry {lines} comes next, and by its head entry {head}"
+            );
+            return Err(self.reader.damage(None, &why));
+        }
         let LogReader {
             client,
             takes,

@@ -46,7 +46,8 @@ pub(crate) fn no_account() -> Reply {
 }
 
 fn deposed() -> Reply {
-    let words = "this host doesn't lead any more; this request was not carried out";
+    let words = "this host doesn't lead any more; this request was not carried out, but one that was sent before \
+                 under the same key may be";
     Reply::error(503, "deposed", words)
 }
 

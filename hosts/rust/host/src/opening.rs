@@ -51,10 +51,16 @@ fn open_etcd(options: &EtcdOptions, leadership: Leadership) -> Result<Opened, Bo
         entries += batch.entries;
         recovery.take(batch.lines)
     })?;
-    let guardian = recovery.into_guardian().map_err(|error| match error {
+    let mut guardian = recovery.into_guardian().map_err(|error| match error {
         LineError::Fault { why, .. } => why,
         LineError::OutOfMemory => "out of memory".to_owned(),
     })?;
+    let (lines, head) = (guardian.entries(), log.next());
+    if lines != head {
+        let why =
+            format!("by the log's lines entry {lines} comes next, and by its head entry {head}");
+        return Err(why.into());
+    }
     let opened = resumed(guardian, log, leadership.epoch(), entries)?;
     Ok(Opened {
         leadership: Some(leadership),
