@@ -197,7 +197,8 @@ impl Follower {
     ) -> Result<(Logged, Led), LogError> {
         // Earlier leaders append nothing any more: their keys are gone.
         self.catch_up()?;
-        // The guardian is made here, so that an opening of which none can be made is named, or one before another entry.
+        // The guardian is made here, so that an opening of which none can be made is named, or one before another
+        // entry.
         let (lines, at) = self.read(Guardian::entries)?;
         if lines != at.entry {
             let head = at.entry;

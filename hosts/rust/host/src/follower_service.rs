@@ -20,7 +20,8 @@ pub(crate) struct FollowerService(Mutex<Following>);
 
 impl FollowerService {
     pub(crate) fn over(options: &EtcdOptions) -> Result<FollowerService, LogError> {
-        // While it asks etcd, no read is served: so a node has little time for an answer, and an answer has few batches.
+        // While it asks etcd, no read is served: so a node has little time for an answer, and an answer has few
+        // batches.
         let options = EtcdOptions {
             timeout: Duration::from_millis(500),
             patience: Duration::from_secs(1),
