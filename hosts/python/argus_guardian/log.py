@@ -11,6 +11,7 @@ import time
 from collections.abc import Callable
 from types import TracebackType
 from typing import NoReturn, TypeVar
+from weakref import ref
 
 from .action import Action
 from .errors import ArgusError, Busy, Closed
@@ -184,9 +185,11 @@ class Log:
         and nothing is folded.
         """
         limit, guardian = time.monotonic() + patience, self.guardian
-        with guardian._lock:
-            guardian._folding += 1
+        is_counted = False
         try:
+            with guardian._lock:
+                guardian._folding += 1
+                is_counted = True
             is_folded = self._fold()
             while not is_folded and time.monotonic() < limit:
                 with guardian._lock:
@@ -194,7 +197,7 @@ class Log:
                 is_folded = self._fold()
         finally:
             with guardian._lock:
-                guardian._folding -= 1
+                guardian._folding -= is_counted
                 guardian._wake()
         if not is_folded:
             raise Busy("an action is live")
@@ -218,10 +221,15 @@ class LoggedTopaction:
     def __init__(self, log: Log) -> None:
         self._log = log
         self._top: Action | None = None
+        self._dropped: ref[LoggedTopaction] | None = None
 
     def __enter__(self) -> Action:
         self._log._refuse_broken()
-        self._top = self._log.guardian.topaction()
+        guardian = self._log.guardian
+        self._top = guardian.topaction()
+        # An interrupt may come as the block ends, before `__exit__` has begun. Then the next call aborts it.
+        drop, owner = guardian._owners.drop, guardian._owners.live[self._top.number]
+        self._dropped = ref(self, lambda _: drop(owner))
         return self._top
 
     def __exit__(
@@ -229,5 +237,6 @@ class LoggedTopaction:
     ) -> None:
         if self._top is not None:
             self._top.__exit__(kind, error, trace)
+        self._dropped = None
         if kind is None:
             self._log._acknowledge()

@@ -2,12 +2,14 @@
 
 from __future__ import annotations
 
+import _thread
+import atexit
 import ctypes
+import sys
 import threading
+import time
 import warnings
-from collections.abc import Callable, Iterator
-from concurrent.futures import Future
-from contextlib import contextmanager
+from collections.abc import Callable
 from typing import Any, TypeVar
 
 from . import forking
@@ -16,8 +18,8 @@ from .log_library import LogStatus, load
 
 _Outcome = TypeVar("_Outcome")
 
-# After at most this many seconds a close looks again whether other threads use the log.
-_LOOK_AFTER = 0.05
+# After so many seconds a close looks again whether other threads use the log.
+_LOOK_AFTER = 0.002
 
 
 class LogFiles:
@@ -34,8 +36,8 @@ class LogFiles:
         forking.add(self)
 
     def _make_lock(self) -> None:
-        # It is notified when a call has ended.
-        self._ended = threading.Condition()
+        # A lock of C. A Condition's `with` runs functions of Python, in which an interrupt leaves the lock behind.
+        self._lock = threading.RLock()
         # The uses of the log that are under way, each with its thread.
         self._uses: dict[object, int] = {}
 
@@ -43,15 +45,16 @@ class LogFiles:
         """Opens the log in the folder: the status, and what was found or what is wrong."""
         words = ctypes.create_string_buffer(1024)
 
-        def make() -> tuple[int, str]:
-            with self._using() as log:
-                status = self._library.argus_log_open(folder, take, None, ctypes.byref(log), words, len(words))
+        def make(log: ctypes.c_void_p) -> tuple[int, str]:
+            status = self._library.argus_log_open(folder, take, None, ctypes.byref(log), words, len(words))
             return status, words.value.decode(errors="replace")
 
-        return _outside_the_main_thread(make)
+        return _outside_the_main_thread(lambda: self._used(make))
 
     def wait(self, until: int, give: Any) -> tuple[int, str]:
         """Returns when all entries before this one are on disk: the status, and why the log is broken."""
+        if until <= self.next_entry:
+            return LogStatus.DONE, ""
         return self._made(lambda log: self._library.argus_log_wait(log, until, give, None))
 
     def checkpoint(self, give: Any, fold: Any) -> tuple[int, str]:
@@ -59,24 +62,21 @@ class LogFiles:
         return self._made(lambda log: self._library.argus_log_checkpoint(log, give, fold, None))
 
     def _made(self, call: Callable[[ctypes.c_void_p], int]) -> tuple[int, str]:
-        def make() -> tuple[int, str]:
-            with self._using() as log:
-                status = call(log)
-                why = None if status == LogStatus.DONE else self._broken(log)
-                return status, why or ""
+        def make(log: ctypes.c_void_p) -> tuple[int, str]:
+            status = call(log)
+            why = None if status == LogStatus.DONE else self._broken(log)
+            return status, why or ""
 
-        return _outside_the_main_thread(make)
+        return _outside_the_main_thread(lambda: self._used(make))
 
     @property
     def next_entry(self) -> int:
         """All entries before this one are in the log."""
-        with self._using() as log:
-            return self._library.argus_log_next(log)
+        return self._used(self._library.argus_log_next)
 
     def broken(self) -> str | None:
         """Why the log is broken; None if it isn't."""
-        with self._using() as log:
-            return self._broken(log)
+        return self._used(self._broken)
 
     def _broken(self, log: ctypes.c_void_p) -> str | None:
         words = ctypes.create_string_buffer(1024)
@@ -84,16 +84,15 @@ class LogFiles:
             return None
         return words.value.decode(errors="replace")
 
-    @contextmanager
-    def _using(self) -> Iterator[ctypes.c_void_p]:
-        """The log, which isn't freed before the block has ended."""
+    def _used(self, call: Callable[[ctypes.c_void_p], _Outcome]) -> _Outcome:
+        """What the call of the log returns. The log isn't freed before."""
         use = object()
         try:
-            with self._ended:
+            with self._lock:
                 if not self._is_open:
                     raise Closed("the log is closed, or it is that of the process from which this one was forked")
                 self._uses[use] = threading.get_ident()
-            yield self._log
+            return call(self._log)
         finally:
             # If an interrupt comes in between, a thread that waits in `close` finds out by itself.
             self._uses.pop(use, None)
@@ -102,35 +101,43 @@ class LogFiles:
     def close(self) -> None:
         """Closes the log, when the calls of other threads have ended.
 
-        If the library calls what closes the log, the call of this thread that is under way closes it at its end.
+        If the library calls what closes the log, the last call that is under way closes it at its end: others may
+        be waiting in the library for that of this thread.
         """
         this = threading.get_ident()
-        with self._ended:
+        with self._lock:
             self._is_open = False
-            while set(self._uses.values()) - {this}:
-                self._ended.wait(_LOOK_AFTER)
+        while self._uses and this not in list(self._uses.values()):
+            time.sleep(_LOOK_AFTER)
         self._free_closed()
 
     def _free_closed(self) -> None:
         """Frees the log if it is closed and nobody uses it any more."""
-        with self._ended:
+        with self._lock:
             if not (self._is_open or self._uses):
                 log, self._log = self._log, ctypes.c_void_p()
                 self._library.argus_log_close(log)
-            self._ended.notify_all()
 
     def __del__(self, warn: Callable[..., None] = warnings.warn) -> None:
         # No reference to it is left, so no thread uses the log.
-        if getattr(self, "_log", None):
-            self._library.argus_log_close(self._log)
-            self._log.value = None
+        log, self._log = getattr(self, "_log", None), ctypes.c_void_p()
+        if log:
+            self._library.argus_log_close(log)
             warn(f"unclosed log {self!r}", ResourceWarning, source=self)
 
     def _leave_behind(self) -> None:
         """Closes it in a forked process. Its memory, its files and its lock are the parent's."""
         self._is_open = False
-        self._log = ctypes.c_void_p()
+        log, self._log = self._log, ctypes.c_void_p()
+        if not self._uses:
+            # No thread was in a call of it, so the copy may be closed: the folder stays the parent's.
+            self._library.argus_log_close(log)
         self._make_lock()
+        _UNDER_WAY.clear()
+
+
+# Those who make a call for the main thread: each has its lock until it has ended.
+_UNDER_WAY: set[Any] = set()
 
 
 def _outside_the_main_thread(call: Callable[[], _Outcome]) -> _Outcome:
@@ -138,25 +145,42 @@ def _outside_the_main_thread(call: Callable[[], _Outcome]) -> _Outcome:
 
     Signal handlers run in the main thread, and may raise an exception, as at Ctrl-C. Where the library has just
     called a function of Python, that function couldn't catch it, and ctypes would make up a result. So it ends
-    only the wait for the call here: the call goes on to its end.
+    only the wait for the call here: the call goes on to its end. For the same reason there is neither a Thread nor a
+    Future here: an interrupt in one of their functions would leave their locks behind.
     """
-    if threading.current_thread() is not threading.main_thread():
+    if threading.current_thread() is not threading.main_thread() or sys.is_finalizing():
         return call()
-    made: Future[_Outcome] = Future()
+    calls, ended = [call], threading.Lock()
+    made: list[_Outcome] = []
+    raised: list[BaseException] = []
+    ended.acquire()
 
     def make() -> None:
+        _UNDER_WAY.add(ended)
         try:
-            made.set_result(call())
+            # So it has no reference to the log any more when it has ended.
+            made.append(calls.pop()())
         except BaseException as error:
-            made.set_exception(error)
+            raised.append(error)
+        finally:
+            _UNDER_WAY.discard(ended)
+            ended.release()
 
-    thread = threading.Thread(target=make, name="argus_guardian.log")
     try:
-        thread.start()
+        _thread.start_new_thread(make, ())
     except RuntimeError:
         # No thread can be started, as when the interpreter ends.
         return call()
-    outcome = made.result()
-    # Then it has no reference to the log any more.
-    thread.join()
-    return outcome
+    with ended:
+        pass
+    if raised:
+        raise raised.pop()
+    return made.pop()
+
+
+@atexit.register
+def _await_all() -> None:
+    """The interpreter doesn't end while the library may call functions of Python."""
+    for ended in list(_UNDER_WAY):
+        with ended:
+            pass
