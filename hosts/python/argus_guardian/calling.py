@@ -49,8 +49,9 @@ class Calling(Asked):
         self._renewals = 0
 
     def _make_lock(self) -> None:
-        # The lock is held around each call with its reply. The condition is notified when actions end.
-        self._lock = threading.Lock()
+        # The lock is held around each call with its reply. The condition is notified when actions end. At the end of
+        # its wait no interrupt (Ctrl-C) keeps it from having a lock of this kind again.
+        self._lock = threading.RLock()
         self._ended = threading.Condition(self._lock)
         # How many threads wait for that, and how many of them in `checkpoint`.
         self._waiting = 0

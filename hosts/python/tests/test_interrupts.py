@@ -5,6 +5,7 @@ import random
 import signal
 import sys
 import threading
+import time
 import unittest
 from pathlib import Path
 
@@ -107,6 +108,34 @@ class Interrupts(unittest.TestCase):
                 self.guardian._end = interrupted_before
         self.guardian.checkpoint()
         self.assertEqual(self.guardian.base(self.record), (0,))
+
+
+class Waits(unittest.TestCase):
+    """Ctrl-C while the main thread waits for an object, and another thread has the mutex."""
+
+    def test_the_mutex_stays_with_the_other_thread(self):
+        guardian, record = with_record(patience=60)
+        self.addCleanup(guardian.close)
+        self.addCleanup(signal.signal, signal.SIGALRM, signal.signal(signal.SIGALRM, interrupt))
+        holder, main, found = guardian.topaction(), threading.main_thread().ident, []
+        holder.lock(record)
+
+        def hold():
+            while not guardian._waiting:
+                time.sleep(0.001)
+            with guardian._lock:
+                # Meanwhile the main thread's wait ends, and it wants the mutex again.
+                time.sleep(0.2)
+                signal.pthread_kill(main, signal.SIGALRM)
+                time.sleep(0.1)
+                found.append(guardian._ended._is_owned())
+
+        thread = threading.Thread(target=hold)
+        with self.assertRaises(KeyboardInterrupt), guardian.topaction() as top:
+            thread.start()
+            top.set_field(record, 0, 7)
+        thread.join()
+        self.assertEqual((found, guardian.live()), ([True], holder.number))
 
 
 class Forgotten(unittest.TestCase):
