@@ -2,14 +2,13 @@
 
 from __future__ import annotations
 
-from contextlib import AbstractContextManager
 from types import TracebackType
 from typing import TYPE_CHECKING, Any, NoReturn
 
 from .errors import ArgusError
 from .library import Kind
 from .ranges import U32, i64, u32
-from .ready_commit import ReadyCommit, ready_commit
+from .ready_commit import ReadyCommit
 from .values import Content, Object, Value, write_content, written
 
 if TYPE_CHECKING:
@@ -105,7 +104,7 @@ class Action:
             raise
         self._is_ended = True
 
-    def ready_commit(self) -> AbstractContextManager[ReadyCommit]:
+    def ready_commit(self) -> ReadyCommit:
         """Prepares its commit, for a `with` block that logs the commit and then makes it:
 
             with top.ready_commit() as ready:
@@ -114,10 +113,10 @@ class Action:
                 ready.make()
 
         If the block ends without `make`, by an exception too, nothing has changed, and the action is
-        live. In the block the guardian's mutex is held: calls of other threads wait, and a call of this
-        thread would wait for itself, so make none. May raise OutOfMemory or Closed.
+        live. In the block the guardian's mutex is held: calls of other threads wait, and another call of this
+        thread would cancel the commit, so make none. May raise OutOfMemory or Closed.
         """
-        return ready_commit(self)
+        return ReadyCommit(self)
 
     def abort(self) -> None:
         """Aborts it and all subactions under it."""

@@ -49,6 +49,8 @@ class Archive:
             raise error_of(status)
 
     def close(self) -> None:
+        # While a commit is ready, the library has the guardian closed.
+        self.cancel_ready()
         self._close(self._handle_at)
 
     def leave_behind(self) -> None:

@@ -47,6 +47,8 @@ class Calling(Asked):
         self._begun = 0
         # How often the numbers of actions began at 0 again.
         self._renewals = 0
+        # The identity of the commit that is ready and can be made; None if there is none.
+        self._readying: int | None = None
 
     def _make_lock(self) -> None:
         # The lock is held around each call with its reply. The condition is notified when actions end. At the end of
@@ -153,7 +155,10 @@ class Calling(Asked):
             self._owners.live.pop(action, None)
 
     def _abort_dropped(self) -> None:
-        """Aborts the actions to which no reference is left."""
+        """Aborts the actions to which no reference is left, and cancels a commit whose block has ended."""
+        self._readying = None
+        # If none is ready, this does nothing.
+        self._archive.cancel_ready()
         for number in self._owners.take_dropped():
             answer = self._archive.make(Kind.ABORT, number)
             self._note_end(Kind.ABORT, number, answer)

@@ -120,6 +120,8 @@ class Guardian(Calling):
         from the first one on, and another call aborts the others.
         """
         with self._lock:
+            if self._owners.dropped:
+                self._abort_dropped()
             status = self._archive.abort_live()
             self._wake()
             if status != Status.DONE:
@@ -208,6 +210,8 @@ class Guardian(Calling):
         """
         array = array_of(list(calls))
         with self._lock:
+            if self._owners.dropped:
+                self._abort_dropped()
             before = self._archive.told(Question.ACTIONS)
             try:
                 made = self._make_each(array)
@@ -218,8 +222,6 @@ class Guardian(Calling):
                 raise
 
     def _make_each(self, array: Any) -> CallsMade:
-        if self._owners.dropped:
-            self._abort_dropped()
         status, count = self._archive.make_each(array)
         made = array[:count]
         calls, outcomes = calls_of(made), [(it.status, it.number) for it in made]

@@ -20,9 +20,10 @@ class Owners:
     """
 
     def __init__(self) -> None:
-        # By their numbers. `drop` is called for each weak reference when its action is dropped.
+        # By their numbers. `drop` is called for each weak reference when its action is dropped. A None is that of
+        # a commit that was made ready: if it still is, the next call cancels it.
         self.live: dict[int, ref[Action]] = {}
-        self.dropped: collections.deque[ref[Action]] = collections.deque()
+        self.dropped: collections.deque[ref[Action] | None] = collections.deque()
         self.drop = self.dropped.append
 
     def take_dropped(self) -> Iterator[int]:

@@ -2,9 +2,8 @@
 
 from __future__ import annotations
 
-from collections.abc import Iterator
-from contextlib import contextmanager
-from typing import TYPE_CHECKING
+from collections.abc import Callable
+from typing import TYPE_CHECKING, Any
 
 from . import errors
 from .library import Kind, Status
@@ -14,45 +13,72 @@ if TYPE_CHECKING:
     from .action import Action
 
 
+class _GivingBack:
+    """The end of a block: the lock's own `__exit__`, a function of the interpreter, which no interrupt can precede.
+
+    So the mutex is never kept. The guardian's next call cancels the commit if it wasn't made.
+    """
+
+    def __get__(self, ready: ReadyCommit | None, kind: type[ReadyCommit]) -> Callable[..., None]:
+        return self if ready is None else ready._lock.__exit__
+
+    def __call__(self, ready: ReadyCommit, *error: Any) -> None:
+        ready._lock.__exit__(*error)
+
+
 class ReadyCommit:
     """A prepared commit, so that it is in a log before anybody can see what it leaves.
 
-    `Action.ready_commit` makes one for a `with` block. `line` is the line that the commit will have in the
-    journal's listing, with its line feed.
+    `Action.ready_commit` makes one for a `with` block, in which the guardian's mutex is held. `line` is the line
+    that the commit will have in the journal's listing, with its line feed.
     """
 
-    def __init__(self, action: Action, line: str) -> None:
-        self._action, self.line = action, line
+    def __init__(self, action: Action) -> None:
+        self._action, self.line = action, ""
+        # After a fork the guardian has another one.
+        self._lock: Any = action.guardian._lock
+
+    def __enter__(self) -> ReadyCommit:
+        lock, archive = self._lock, self._action.guardian._archive
+        try:
+            lock.acquire()
+            self._prepare()
+            return self
+        except BaseException:
+            # An interrupt may have come before it was had.
+            if lock._is_owned():
+                archive.cancel_ready()
+                lock.release()
+            raise
+
+    __exit__ = _GivingBack()
+
+    def _prepare(self) -> None:
+        action, guardian = self._action, self._action.guardian
+        if guardian._owners.dropped:
+            guardian._abort_dropped()
+        if action._renewals not in (None, guardian._renewals):
+            raise errors.Over(f"{action}: {errors.Over.why}")
+        # The next call opens the guardian again, however the block ends.
+        guardian._owners.dropped.append(None)
+        guardian._readying = id(self)
+        status = guardian._archive.ready_commit(action.number)
+        if status != Status.DONE:
+            raise error_of(status)
+        self.line = guardian._archive.ready_line()
 
     def make(self) -> None:
         """Makes the commit, which takes no memory. If it is refused, raises that; the journal has the refusal.
 
-        A second call raises Closed.
+        A second call raises Closed, and so does one after the block.
         """
-        action = self._action
-        guardian = action.guardian
+        action, guardian = self._action, self._action.guardian
+        lock: Any = guardian._lock
+        if guardian._readying != id(self) or not lock._is_owned():
+            raise errors.Closed("the commit isn't ready any more")
+        guardian._readying = None
         answer = guardian._archive.make_ready()
         guardian._note_end(Kind.COMMIT, action.number, answer)
         if answer[0] != Status.DONE:
             raise error_of_call(*answer, (Kind.COMMIT, action.number))
         action._is_ended = True
-
-
-@contextmanager
-def ready_commit(action: Action) -> Iterator[ReadyCommit]:
-    """The commit of the action, ready as long as the block lasts. The guardian's mutex is held."""
-    guardian = action.guardian
-    archive = guardian._archive
-    with guardian._lock:
-        if guardian._owners.dropped:
-            guardian._abort_dropped()
-        if action._renewals not in (None, guardian._renewals):
-            raise errors.Over(f"{action}: {errors.Over.why}")
-        try:
-            status = archive.ready_commit(action.number)
-            if status != Status.DONE:
-                raise error_of(status)
-            yield ReadyCommit(action, archive.ready_line())
-        finally:
-            # If it was made there is nothing to cancel, and this does nothing.
-            archive.cancel_ready()

@@ -61,6 +61,18 @@ class Interrupts(unittest.TestCase):
         self.order()
         self.assertGreater(self.guardian.base(self.record)[0], 0)
 
+    def test_none_keeps_the_mutex_where_a_commit_is_ready(self):
+        def order():
+            with self.guardian.topaction() as top:
+                with top.ready_commit() as ready:
+                    ready.make()
+
+        self.order = order
+        for _ in range(self.TIMES):
+            self.work_until_interrupted()
+            self.assertFalse(self.guardian._lock._is_owned())
+            self.guardian.checkpoint()
+
     def test_where_the_begin_alone_is_interrupted(self):
         for begin in self.guardian.topaction, self.guardian.topaction().subaction:
             archive, call = self.guardian._archive, self.guardian._archive.call

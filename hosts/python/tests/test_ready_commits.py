@@ -1,11 +1,13 @@
 """Tests of commits in two steps: ready, and then made or cancelled."""
 
+import contextlib
 import gc
 import io
 import threading
+import types
 import unittest
 
-from argus_guardian import Action, Closed, Guardian, NoAction, Over, Suspended
+from argus_guardian import Action, Busy, Closed, Guardian, Kind, Listed, NoAction, Over, Suspended
 
 
 class ReadyCommits(unittest.TestCase):
@@ -100,6 +102,75 @@ class ReadyCommits(unittest.TestCase):
         with self.assertRaises(Over), self.top.ready_commit():
             pass
         self.assertEqual(self.guardian.actions, 0)
+
+    def test_one_whose_block_has_ended_makes_no_other(self):
+        with self.top.ready_commit() as ready:
+            pass
+        with self.assertRaises(Closed):
+            ready.make()
+        other = self.guardian.topaction()
+        with self.top.ready_commit() as ready:
+            pass
+        with other.ready_commit():
+            with self.assertRaises(Closed):
+                ready.make()
+        self.assertEqual([self.guardian.status(it.number) for it in (self.top, other)], ["live", "live"])
+
+    def test_each_call_comes_after_a_block(self):
+        for call in (
+            self.guardian.checkpoint,
+            self.guardian.renew,
+            lambda: self.guardian.lines(0),
+            lambda: self.guardian.call_each([Listed(Kind.TEST_READ, 0, self.record)]),
+            self.top.subaction,
+            self.guardian.abort_live,
+            self.guardian.close,
+        ):
+            with self.subTest(call=call):
+                with self.top.ready_commit():
+                    pass
+                try:
+                    call()
+                except Busy:
+                    pass
+
+    def test_an_action_that_was_ready_may_be_forgotten(self):
+        with self.top.ready_commit() as ready:
+            pass
+        del self.top, ready
+        gc.collect()
+        self.assertIsNone(self.guardian.live())
+
+    def test_another_call_in_the_block_cancels_it(self):
+        with self.top.ready_commit() as ready:
+            self.assertEqual(self.guardian.entries, 3)
+            with self.assertRaises(Closed):
+                ready.make()
+        self.top.commit()
+
+    def test_an_interrupt_before_the_block_leaves_the_guardian_open(self):
+        archive = self.guardian._archive
+        for name in "ready_commit", "ready_line":
+            function = getattr(archive, name)
+
+            def interrupted_after(*given, name=name, function=function):
+                setattr(archive, name, function)
+                function(*given)
+                raise KeyboardInterrupt
+
+            setattr(archive, name, interrupted_after)
+            with self.assertRaises(KeyboardInterrupt), self.top.ready_commit():
+                pass
+            self.assertFalse(self.guardian._lock._is_owned())
+            self.assertEqual(self.guardian.entries, 3)
+
+    def test_no_interrupt_keeps_the_mutex_after_the_block(self):
+        # An interrupt comes at the earliest at the begin of a function of Python.
+        self.assertIsInstance(self.top.ready_commit().__exit__, types.BuiltinMethodType)
+        with contextlib.ExitStack() as stack:
+            stack.enter_context(self.top.ready_commit())
+            self.assertTrue(self.guardian._lock._is_owned())
+        self.assertFalse(self.guardian._lock._is_owned())
 
 
 if __name__ == "__main__":
