@@ -176,13 +176,15 @@ class Guardian(Calling):
 
     def _renew_at_once(self) -> int:
         """Begins anew with the journal as it is: it makes no entry before."""
-        status = self._archive.renew()
-        if status == Status.DONE:
-            self._renewals += 1
-            # All actions that were begun are over, and their numbers are used again.
-            self._owners.live.clear()
-            self._begun = 0
-        return status
+        try:
+            return self._archive.renew()
+        finally:
+            # An interrupt may have lost the status.
+            if self._archive.told(Question.ACTIONS) == 0:
+                self._renewals += 1
+                # All actions that were begun are over, and their numbers are used again.
+                self._owners.live.clear()
+                self._begun = 0
 
     def call(
         self, kind: int, action: int = 0, obj: Object = 0, first: int = 0, second: int = 0, text: str = ""

@@ -2,7 +2,7 @@
 
 import unittest
 
-from argus_guardian import Busy, Guardian, NotThere, Over
+from argus_guardian import Busy, Closed, Guardian, NotThere, Over
 
 
 class Told(unittest.TestCase):
@@ -96,6 +96,34 @@ class Renewals(unittest.TestCase):
         for other in others:
             self.assertEqual(self.guardian.status(other.number), "live")
             other.commit()
+
+    def test_what_was_begun_before_is_over_where_the_renewal_is_interrupted(self):
+        top, renew = self.guardian.topaction(), self.guardian._archive.renew
+        self.guardian.abort_live()
+
+        def interrupted_after():
+            self.guardian._archive.renew = renew
+            renew()
+            raise KeyboardInterrupt
+
+        self.guardian._archive.renew = interrupted_after
+        with self.assertRaises(KeyboardInterrupt):
+            self.guardian.renew()
+        others = [self.guardian.topaction() for _ in range(top.number + 1)]
+        with self.assertRaises(Over):
+            top.commit()
+        del top
+        self.assertEqual([self.guardian.status(other.number) for other in others], ["live", "live"])
+
+    def test_a_renewal_that_fails_changes_nothing(self):
+        top = self.guardian.topaction()
+        with self.assertRaises(Busy):
+            self.guardian.renew()
+        top.set_field(self.record, 0, 7)
+        top.commit()
+        self.guardian.close()
+        with self.assertRaises(Closed):
+            self.guardian.renew()
 
     def test_a_checkpoint_renews_once_half_of_the_numbers_are_gone(self):
         self.guardian.MAX_ACTIONS = 6
