@@ -55,9 +55,10 @@ class Calling(Asked):
         # its wait no interrupt (Ctrl-C) keeps it from having a lock of this kind again.
         self._lock = threading.RLock()
         self._ended = threading.Condition(self._lock)
-        # How many threads wait for that, and how many of them in `checkpoint`.
+        # How many threads wait for that.
         self._waiting = 0
-        self._folding = 0
+        # The checkpoints and renewals that are under way: they hold topactions back.
+        self._folds: set[object] = set()
         # For each object the lineages of the actions that wait to write it.
         self._writing: dict[int, list[set[int]]] = {}
 
@@ -70,7 +71,7 @@ class Calling(Asked):
                 above = parent.number
                 if parent._renewals != self._renewals:
                     self._be_since(parent, kind)
-            while self._folding and parent is None:
+            while self._folds and parent is None:
                 self._wait_until(time.monotonic() + _LOOK_AFTER)
             owners = self._owners
             if owners.dropped:

@@ -146,16 +146,16 @@ class Guardian(Calling):
         self._fold_waiting(patience, self._begin_anew)
 
     def _fold_waiting(self, patience: float, fold: Callable[[], int]) -> None:
-        limit = time.monotonic() + patience
+        limit, this = time.monotonic() + patience, object()
         with self._lock:
-            self._folding += 1
             try:
+                self._folds.add(this)
                 status = fold()
                 while status == Status.BUSY and time.monotonic() < limit:
                     self._wait_until(limit)
                     status = fold()
             finally:
-                self._folding -= 1
+                self._folds.discard(this)
                 self._wake()
             if status != Status.DONE:
                 raise error_of(status)

@@ -184,20 +184,18 @@ class Log:
         of the numbers for actions are used, it also renews the guardian. OutOfMemory and Full are raised at once,
         and nothing is folded.
         """
-        limit, guardian = time.monotonic() + patience, self.guardian
-        is_counted = False
+        limit, guardian, this = time.monotonic() + patience, self.guardian, object()
         try:
-            with guardian._lock:
-                guardian._folding += 1
-                is_counted = True
+            guardian._folds.add(this)
             is_folded = self._fold()
             while not is_folded and time.monotonic() < limit:
                 with guardian._lock:
                     guardian._wait_until(limit)
                 is_folded = self._fold()
         finally:
+            # If an interrupt comes in between, a topaction that waits finds out by itself.
+            guardian._folds.discard(this)
             with guardian._lock:
-                guardian._folding -= is_counted
                 guardian._wake()
         if not is_folded:
             raise Busy("an action is live")

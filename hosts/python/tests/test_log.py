@@ -282,6 +282,31 @@ class LogTest(unittest.TestCase):
         with open_bank(self.folder) as log:
             self.assertEqual((log.guardian.first_entry, number_in(log, 3)), (entries, 1))
 
+    def test_topactions_go_on_where_the_end_of_a_checkpoint_is_interrupted(self) -> None:
+        interrupt = self.interrupts()
+        with open_bank(self.folder) as log:
+            has_mutex = threading.Event()
+
+            def hold() -> None:
+                with log.guardian._lock:
+                    has_mutex.set()
+                    # Meanwhile the checkpoint ends, and wants the mutex.
+                    time.sleep(0.1)
+                    interrupt()
+                    time.sleep(0.1)
+
+            thread = threading.Thread(target=hold)
+
+            def fold() -> bool:
+                thread.start()
+                return has_mutex.wait()
+
+            with mock.patch.object(log, "_fold", fold), self.assertRaises(KeyboardInterrupt):
+                log.checkpoint()
+            thread.join()
+            self.assertEqual(log.guardian._folds, set())
+            carry_out(log, 0, 1)
+
     def test_a_journal_that_is_folded_and_cant_be_listed(self) -> None:
         told = Archive.told
 
