@@ -19,7 +19,7 @@ from .archive import Archive
 from .asked import Asked, actions_of
 from .library import ActionStatus, Kind, Question, Status
 from .owners import Owners
-from .ranges import i64
+from .ranges import i64, u32
 from .telling import Call, deed, error_of_call
 from .values import Object, object_number
 
@@ -185,8 +185,8 @@ class Calling(Asked):
         `renewals` is how often the guardian had been renewed when the action was begun: if it was renewed
         since, the action is over.
         """
-        named = kind, action, object_number(obj), i64(first, "number"), i64(second, "number")
-        call = *named, text.encode()
+        named = u32(kind, "kind"), u32(action, "action"), object_number(obj)
+        call = *named, i64(first, "number"), i64(second, "number"), text.encode()
         with self._lock:
             if renewals is None:
                 renewals = self._renewals

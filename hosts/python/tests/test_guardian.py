@@ -198,6 +198,9 @@ class Calls(unittest.TestCase):
                 lambda: guardian.entry(2**64),
                 lambda: guardian.entry(-1),
                 lambda: guardian.call(2**32 + 1),
+                lambda: guardian.access(2**32 + argus.Kind.SET_FIELD, top.number, self.record, text="7"),
+                lambda: guardian.access(argus.Kind.SET_FIELD, 2**32 + top.number, self.record, text="7"),
+                lambda: guardian.access(argus.Kind.SET_FIELD, -1, self.record, text="7"),
             ):
                 with self.assertRaises(OverflowError):
                     wrong()
