@@ -164,7 +164,7 @@ class Action:
             return shape.named(self.whole(obj))
         return self.field(obj, shape.number(name))
 
-    def set(self, obj: Object, **fields: Value) -> None:
+    def set(self, obj: Object, /, **fields: Value) -> None:
         """Sets fields of a record by their names: `top.set(seat, taken=True)`.
 
         AttributeError if the record's shape hasn't one of the names; then nothing was set.

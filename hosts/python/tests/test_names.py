@@ -24,6 +24,13 @@ class Names(unittest.TestCase):
         # Each field that is set is an entry of its own, in the order in which they are named.
         self.assertEqual(self.guardian.entry(3), '3 alter a0 o0 set_field 1 "Ann" -> done')
 
+    def test_fields_may_have_the_names_of_parameters(self):
+        record = self.guardian.declare("atomic_record[obj:int,self:int]")
+        with self.guardian.topaction() as top:
+            top.create(record, (0, 0))
+            top.set(record, obj=1, self=2)
+        self.assertEqual(self.guardian.base(record), (1, 2))
+
     def test_a_name_that_is_none(self):
         entries = self.guardian.entries
         with self.guardian.topaction() as top:
