@@ -157,7 +157,7 @@ class Action:
     def get(self, obj: Object, name: str | None = None) -> Any:
         """A record with its fields by name, as in `top.get(seat).taken`; or one field of it, by its name.
 
-        AttributeError if the record's shape hasn't the name.
+        AttributeError if the record's shape hasn't the name; TypeError if there is no name, and no record.
         """
         shape = self.guardian.shape_of(obj)
         if name is None:

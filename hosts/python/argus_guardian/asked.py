@@ -91,7 +91,10 @@ class Asked:
         return self._shapes[number]
 
     def get(self, obj: Object) -> Any:
-        """A record's base, with its fields by name: `guardian.get(seat).taken`; None as for `base`."""
+        """A record's base, with its fields by name: `guardian.get(seat).taken`; None as for `base`.
+
+        TypeError if it is no record.
+        """
         content = self.base(obj)
         return content if content is None else self.shape_of(obj).named(content)
 

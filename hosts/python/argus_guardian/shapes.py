@@ -19,9 +19,17 @@ class Shape(NamedTuple):
         raise AttributeError(f"no {name!r} among {', '.join(self.names) or 'no names'}")
 
     def named(self, content: tuple[Any, ...]) -> Any:
-        """The content of a record, with its fields by name too: a named tuple."""
-        kind = namedtuple("Record", self.names, rename=True)  # type: ignore[misc]
-        return kind(*content)
+        """The content of a record, with its fields by name too: a named tuple. TypeError if it isn't a record's."""
+        if self.kind != "record":
+            raise TypeError(f"not a record: {self.kind}")
+        return _record(self.names, content)
+
+
+def _record(names: tuple[str, ...], content: tuple[Any, ...]) -> Any:
+    """A named tuple, of a class of its own. To pickle and to copy it, its names are enough."""
+    kind: Any = namedtuple("Record", names, rename=True)  # type: ignore[misc]
+    kind.__reduce__ = lambda record: (_record, (names, tuple(record)))
+    return kind(*content)
 
 
 def read_shape(text: str) -> Shape:

@@ -1,8 +1,10 @@
 """Tests of fields by their names, which come from the shapes of objects."""
 
+import copy
+import pickle
 import unittest
 
-from argus_guardian import Absent, Guardian, IllTyped, NotThere, Shape
+from argus_guardian import Absent, Array, Choice, Guardian, IllTyped, NotThere, Shape
 
 
 class Names(unittest.TestCase):
@@ -23,6 +25,27 @@ class Names(unittest.TestCase):
         self.assertEqual(self.guardian.get(self.seat).by, "Ann")
         # Each field that is set is an entry of its own, in the order in which they are named.
         self.assertEqual(self.guardian.entry(3), '3 alter a0 o0 set_field 1 "Ann" -> done')
+
+    def test_what_is_got_is_pickled_and_copied(self):
+        with self.guardian.topaction() as top:
+            top.create(self.seat, (True, "Ann"))
+            got = top.get(self.seat)
+        for make in copy.copy, copy.deepcopy, lambda it: pickle.loads(pickle.dumps(it)):
+            made = make(got)
+            self.assertEqual((made, made.by, repr(made)), ((True, "Ann"), "Ann", "Record(taken=True, by='Ann')"))
+
+    def test_what_is_no_record_has_no_fields(self):
+        variant = self.guardian.declare("atomic_variant[no:null,yes:int]")
+        array = self.guardian.declare("atomic_array[int]")
+        with self.guardian.topaction() as top:
+            top.create(variant, Choice(1, 5))
+            top.create(array, Array(1, [3, 4]))
+            for obj in variant, array:
+                with self.assertRaisesRegex(TypeError, "not a record"):
+                    top.get(obj)
+        for obj in variant, array:
+            with self.assertRaisesRegex(TypeError, "not a record"):
+                self.guardian.get(obj)
 
     def test_fields_may_have_the_names_of_parameters(self):
         record = self.guardian.declare("atomic_record[obj:int,self:int]")
