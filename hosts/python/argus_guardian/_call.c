@@ -13,12 +13,21 @@ enum { ARGUS_DONE = 0, ARGUS_NUMBER = 3 };
 /* How many arguments there are; and with a text of so many bytes other threads of Python may go on meanwhile. */
 enum { ARGUMENTS = 7, LONG = 4096 };
 
-/* A number of 32 bits. Where it isn't one, an exception is set. */
-static uint32_t u32(PyObject *it) {
+/* Whether it is a number of 32 bits, which is put there. Where it isn't one, an exception is set. */
+static int u32(PyObject *it, uint32_t *there) {
     unsigned long long number = PyLong_AsUnsignedLongLong(it);
-    if (number > UINT32_MAX && !PyErr_Occurred())
-        PyErr_Format(PyExc_OverflowError, "%S is not within 0 to 4294967295", it);
-    return (uint32_t)number;
+    if (number > UINT32_MAX) {
+        if (!PyErr_Occurred()) PyErr_Format(PyExc_OverflowError, "%S is not within 0 to 4294967295", it);
+        return 0;
+    }
+    *there = (uint32_t)number;
+    return 1;
+}
+
+/* The same for a number of 64 bits, with a sign. */
+static int i64(PyObject *it, int64_t *there) {
+    *there = PyLong_AsLongLong(it);
+    return *there != -1 || !PyErr_Occurred();
 }
 
 /* None where it is done, an integer where that is the answer; else the status with its number. */
@@ -42,12 +51,11 @@ static PyObject *call(PyObject *function, PyObject *const *given, Py_ssize_t cou
         return NULL;
     }
     guardian = PyLong_AsVoidPtr(given[0]);
-    kind = u32(given[1]);
-    action = u32(given[2]);
-    object = u32(given[3]);
-    first = PyLong_AsLongLong(given[4]);
-    second = PyLong_AsLongLong(given[5]);
-    if (PyErr_Occurred() || PyBytes_AsStringAndSize(given[6], &text, &size) < 0) return NULL;
+    /* With an exception set nothing more of Python may be called. */
+    if (guardian == NULL && PyErr_Occurred()) return NULL;
+    if (!u32(given[1], &kind) || !u32(given[2], &action) || !u32(given[3], &object)) return NULL;
+    if (!i64(given[4], &first) || !i64(given[5], &second)) return NULL;
+    if (PyBytes_AsStringAndSize(given[6], &text, &size) < 0) return NULL;
     if (size < LONG) {
         status = made(guardian, kind, action, object, first, second, text, (size_t)size, &number);
         return answer_of(status, number);

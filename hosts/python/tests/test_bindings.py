@@ -7,7 +7,7 @@ from pathlib import Path
 
 sys.path.insert(0, str(Path(__file__).resolve().parents[1]))
 
-from argus_guardian.library import Answer, Handle, Kind, Status, load  # noqa: E402
+from argus_guardian.library import Answer, Handle, Kind, Status, _call, load, quick  # noqa: E402
 
 # What argus.h has and no answer of this package can be.
 NULL = 21
@@ -50,6 +50,24 @@ class Bindings(unittest.TestCase):
         self.assertEqual(self.answer("argus_ask", at, 0, 0, Kind.FIELD, zero), (Status.NUMBER, -7))
         self.assertEqual(self.answer("argus_commit", at, 0), (Status.DONE, 0))
         self.assertEqual(self.answer("argus_close", at), (Status.DONE, 0))
+
+    @unittest.skipIf(_call is None, "_call.c isn't built")
+    def test_after_a_wrong_argument_none_is_converted(self):
+        converted = []
+
+        class Number:
+            def __index__(self):
+                converted.append(self)
+                return 0
+
+        handle = Handle()
+        call = quick(self.library)
+        number = Number()
+        for wrong in (2**32, 0, 0, 0), (0, -1, 0, 0), (0, 0, "0", 0), (0, 0, 0, 2**63):
+            with self.subTest(wrong=wrong), self.assertRaises((OverflowError, TypeError)):
+                call(ctypes.addressof(handle), *wrong, number, b"")
+        self.assertEqual(converted, [])
+        self.assertEqual(call(ctypes.addressof(handle), 0, 0, 0, number, -1, b"")[0], Status.NOT_OPEN)
 
     def test_names(self):
         self.assertEqual(self.name("argus_status_name", NULL), b"ARGUS_NULL")
