@@ -70,7 +70,8 @@ def _pieces(lines: Iterable[str]) -> Iterator[bytes]:
         text = line.removesuffix("\n")
         if "\n" in text:
             raise BadLine(number, "a line feed is in it")
-        piece += text.encode() + b"\n"
+        # The library says which line isn't UTF-8.
+        piece += text.encode(errors="surrogatepass") + b"\n"
         if len(piece) >= _PIECE:
             yield bytes(piece)
             piece.clear()

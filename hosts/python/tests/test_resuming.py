@@ -77,6 +77,7 @@ class Resumed(unittest.TestCase):
         faults = [
             ([begun, "opening entries 1 actions 0"], 1, "not a line of the opening"),
             ([begun, "1 comit a0 -> done"], 1, "no entry from byte 5 on"),
+            ([begun, "1 commit a0 \ud800-> done"], 1, "not UTF-8 from byte 12 on"),
             ([begun, "2 commit a0 -> done"], 1, "not the number of the next entry, 1"),
             ([*OPENING, "4 begin_top -> a1"], 3, "the opening refers to objects that aren't there"),
             ([begun, "1 commit a0 -> refused Over"], 1, "not the reply of the journal before it, done"),
