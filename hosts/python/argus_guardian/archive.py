@@ -6,7 +6,7 @@ import ctypes
 from collections.abc import Iterator
 from typing import Any
 
-from .errors import Refused, Signal
+from .errors import OutOfMemory, Refused, Signal
 from .library import Handle, Question, Ready, Status, address, bare, load, opening, quick
 from .telling import Call, error_of, error_of_call, error_of_question
 from .values import read_content, read_value
@@ -197,7 +197,10 @@ class Archive:
 
     def _make_room(self, size: int) -> None:
         self._room: Any
-        self._room, self._room_size = ctypes.create_string_buffer(size), ctypes.c_size_t(size)
+        try:
+            self._room, self._room_size = ctypes.create_string_buffer(size), ctypes.c_size_t(size)
+        except MemoryError:
+            raise OutOfMemory() from None
 
 
 def _value(written: bytes) -> Any:

@@ -1,5 +1,6 @@
 """What the package makes of the library: each call once, and what it raises."""
 
+import ctypes
 import random
 import sys
 import threading
@@ -7,6 +8,7 @@ import time
 import unittest
 from concurrent.futures import ThreadPoolExecutor
 from pathlib import Path
+from unittest import mock
 
 sys.path.insert(0, str(Path(__file__).resolve().parents[1]))
 
@@ -206,6 +208,17 @@ class Calls(unittest.TestCase):
                     wrong()
             self.assertEqual(guardian.entries, before)
         self.assertEqual(guardian.base(self.record), (5, "a"))
+
+    def test_no_memory_for_a_result(self):
+        with self.guardian.topaction() as top:
+            top.set_field(self.record, 1, 300 * "a")
+            before = self.guardian.entries
+            with mock.patch.object(ctypes, "create_string_buffer", side_effect=MemoryError):
+                with self.assertRaises(argus.OutOfMemory):
+                    top.whole(self.record)
+            # The call was made.
+            self.assertEqual(self.guardian.entries, before + 1)
+            self.assertEqual(top.field(self.record, 1), 300 * "a")
 
     def test_what_is_no_number(self):
         with self.guardian.topaction() as top:
