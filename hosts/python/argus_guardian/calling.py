@@ -267,10 +267,14 @@ class Calling(Asked):
 
     def _wait_until(self, limit: float) -> None:
         # A dropped action notifies nobody, so it looks from time to time.
+        lock: Any = self._lock
         self._waiting += 1
         try:
             self._ended.wait(min(limit - time.monotonic(), _LOOK_AFTER))
         finally:
+            # An interrupt at the begin of the wait may have come just after it gave the lock back.
+            if not lock._is_owned():
+                lock.acquire()
             self._waiting -= 1
 
     def _wake(self) -> None:

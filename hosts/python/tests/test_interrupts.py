@@ -8,6 +8,7 @@ import threading
 import time
 import unittest
 from pathlib import Path
+from unittest import mock
 
 sys.path.insert(0, str(Path(__file__).resolve().parents[1]))
 
@@ -148,6 +149,23 @@ class Waits(unittest.TestCase):
             top.set_field(record, 0, 7)
         thread.join()
         self.assertEqual((found, guardian.live()), ([True], holder.number))
+
+    def test_the_mutex_is_had_again_where_the_begin_of_the_wait_is_interrupted(self):
+        guardian, record = with_record()
+        self.addCleanup(guardian.close)
+        holder = guardian.topaction()
+        holder.lock(record)
+
+        def interrupted(_):
+            guardian._lock.release()
+            raise KeyboardInterrupt
+
+        with mock.patch.object(guardian._ended, "wait", interrupted), self.assertRaises(KeyboardInterrupt):
+            with guardian.topaction() as top:
+                top.lock(record)
+        self.assertEqual((guardian.live(), guardian._waiting), (holder.number, 0))
+        self.assertIsNone(guardian.live(holder.number + 1))
+        self.assertFalse(guardian._lock._is_owned())
 
 
 class Forgotten(unittest.TestCase):
