@@ -49,6 +49,13 @@ fn time<R: Print + Clock>(rt: &R, heap: Heap, kind: Kind, size: u32) -> Result<(
     Ok(())
 }
 
+fn time_each<R: Print + Clock>(rt: &R, heap: Heap, size: u32) -> Result<()> {
+    for kind in KINDS {
+        time(rt, heap, kind, size)?;
+    }
+    Ok(())
+}
+
 fn main(rt: HostRuntime) -> Result<()> {
     let heap = Heap::new(rt.alloc())?;
     let mut words = env::args(&rt)?;
@@ -56,10 +63,7 @@ fn main(rt: HostRuntime) -> Result<()> {
     let mut sized = false;
     for word in words {
         sized = true;
-        let size = word.as_str().parse::<u32>()?;
-        for kind in KINDS {
-            time(&rt, heap, kind, size)?;
-        }
+        time_each(&rt, heap, word.as_str().parse::<u32>()?)?;
     }
     if sized { Ok(()) } else { tell(&rt, heap) }
 }

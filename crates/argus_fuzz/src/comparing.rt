@@ -179,15 +179,20 @@ pub(crate) fn compare_audits(
     guardian: &Guardian,
     family: &Family,
 ) -> Result<(), Difference> {
+    compare_owners(guardian, family)?;
+    for o in 0..guardian.objects() {
+        compare_replays(heap, guardian, family, ObjId(o))?;
+    }
+    Ok(())
+}
+
+fn compare_owners(guardian: &Guardian, family: &Family) -> Result<(), Difference> {
     let journal = guardian.journal().journal();
     for a in 0..=family.next() {
         must(
             owner_of(journal, ActionId(a)) == family.owner(a),
             Difference::Owner,
         )?;
-    }
-    for o in 0..guardian.objects() {
-        compare_replays(heap, guardian, family, ObjId(o))?;
     }
     Ok(())
 }

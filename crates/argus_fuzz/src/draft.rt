@@ -29,14 +29,19 @@ impl Draft {
             places: Vec::new(heap.room()),
             lines: Vec::new(heap.room()),
         };
-        for o in 0..OBJECTS {
-            draft.put(Line::Declare(o))?;
-        }
+        draft.declare()?;
         let length = 10 + chance.below(40);
         for _ in 0..length {
             draft.add(chance)?;
         }
         draft.close()
+    }
+
+    fn declare(&mut self) -> Result<(), OutOfMemory> {
+        for o in 0..OBJECTS {
+            self.put(Line::Declare(o))?;
+        }
+        Ok(())
     }
 
     // Ends all blocks that are open.

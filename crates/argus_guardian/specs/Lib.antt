@@ -9,6 +9,7 @@ pub use Rattle.argus_receipts.specs.Receipt
 pub use Rattle.argus_board.specs.BoardView
 pub use Rattle.argus_board.specs.Effects
 pub use Rattle.argus_board.specs.Keeper
+pub use Rattle.argus_sharing.specs.CallEach
 pub use Rattle.argus_sharing.specs.Checkpoint as SharedCheckpoint
 pub use Rattle.argus_sharing.specs.Following
 pub use Rattle.argus_sharing.specs.Locked
@@ -21,6 +22,7 @@ pub use Rattle.argus_reading.specs.Line as EntryLine
 pub use Rattle.argus_resume.specs.JournalText
 pub use Rattle.argus_resume.specs.Laws as ResumeLaws
 pub use Rattle.argus_resume.specs.Lines
+pub use Rattle.argus_resume.specs.ReadableCalls
 pub use Rattle.argus_resume.specs.Resumed
 pub use Rattle.argus_resume.specs.SoundFront
 pub use Rattle.argus_resume.specs.Taking
