@@ -372,14 +372,14 @@ impl ActionTree {
         match self.abort_refusal(a) {
             Some(refusal) => Err(refusal),
             None => {
-                self.abort_live(a);
+                self.abort_ready(a);
                 Ok(())
             }
         }
     }
 
     /// Aborts a live action, as `abort` does, without testing that again.
-    pub fn abort_live(&mut self, a: ActionId)
+    pub fn abort_ready(&mut self, a: ActionId)
         requires { abort_refusal self.old a.0 ≡ None }
         ensures { self.new ≡ after_abort self.old a.0 }
     {

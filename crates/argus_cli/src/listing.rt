@@ -17,8 +17,8 @@ use std::io::Write;
 ///
 /// | Error | When | What was written |
 /// |---|---|---|
-/// | `Memory` | there is no memory | the front of the listing |
-/// | `Write` | a write failed, or accepted nothing; it isn't tried again | its front |
+/// | `Memory` | there is no memory | a prefix of the listing |
+/// | `Write` | a write failed, or accepted nothing; it isn't tried again | a prefix of it |
 ///
 /// The writer has failed exactly at `Write`. Condition: the writer hasn't failed before.
 ///

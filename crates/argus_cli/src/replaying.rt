@@ -30,16 +30,16 @@ use std::io::{Read, Write};
 ///
 /// `None`: the text is the listing of a journal, to its end. A faulty line comes only if the
 /// options take a prefix: the listing is that of the longest prefix of whole lines that is a
-/// journal's listing, and this is the line after those that were taken. (Of an opening that refers
-/// to objects that didn't come, only the first objects are in that prefix, as many as refer to none
-/// but one another.)
+/// journal's listing, and this is the line after those that were taken. (If the text ends within an
+/// opening, only the longest prefix of the objects is listed in which none refers to one outside
+/// it.)
 ///
 /// | Error | When | What was written |
 /// |---|---|---|
 /// | `Line` | because of this line the text isn't a listing, and no prefix will do | nothing |
-/// | `OutOfMemory` | there is no memory | nothing, or the listing's front |
+/// | `OutOfMemory` | there is no memory | nothing, or a prefix of the listing |
 /// | `Read` | a read failed; it isn't tried again | nothing |
-/// | `Write` | a write failed, or accepted nothing; it isn't tried again | its front |
+/// | `Write` | a write failed, or accepted nothing; it isn't tried again | a prefix of it |
 ///
 /// The reader has failed exactly at `Read`, and the writer exactly at `Write`.
 ///

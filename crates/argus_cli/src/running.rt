@@ -37,9 +37,9 @@ use std::thread::Threads;
 /// | Error | When | What was written |
 /// |---|---|---|
 /// | `Script` | this is the first faulty line of what was read | nothing |
-/// | `Memory` | no memory, or a worker can't be started | nothing, or the listing's front |
+/// | `Memory` | no memory, or a worker can't be started | nothing, or a prefix of the listing |
 /// | `Read` | a read failed; it isn't tried again | nothing |
-/// | `Write` | a write failed, or accepted nothing; it isn't tried again | its front |
+/// | `Write` | a write failed, or accepted nothing; it isn't tried again | a prefix of it |
 ///
 /// The reader has failed exactly at `Read`, and the writer exactly at `Write`.
 ///

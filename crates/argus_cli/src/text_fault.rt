@@ -6,7 +6,7 @@ use argus_guardian::LineFault;
 ///
 /// ```text
 /// match fault.fault {
-///     TextFault::Torn => ..,                      // the text ends in the midst of the line
+///     TextFault::Torn => ..,                      // the text ends in the middle of the line
 ///     TextFault::Line(line) => ..,
 /// }
 /// ```

@@ -11,7 +11,7 @@
 //! | names of a record, variant, struct or oneof | 1 to `MAX_NAMES`, all distinct |
 //! | bytes of a name | 1 to `MAX_NAME_BYTES`, of `[a-z0-9_]` |
 //! | ancestors of an action, itself included | `MAX_ACTION_DEPTH` |
-//! | actions ever begun | `MAX_ACTIONS`, with the numbers 0 to 999,999 |
+//! | actions begun, also before checkpoints | `MAX_ACTIONS`, with the numbers 0 to 999,999 |
 //! | objects ever declared | `MAX_OBJECTS`, with the numbers 0 to 65,534 |
 
 /// The least low bound of an array.
@@ -35,7 +35,7 @@ pub const MAX_NAME_BYTES: usize = 32;
 /// The greatest depth of an action.
 pub const MAX_ACTION_DEPTH: u32 = 64;
 
-/// How many actions may ever be begun.
+/// How many actions may be begun, with those before checkpoints.
 pub const MAX_ACTIONS: u32 = 1_000_000;
 
 /// How many objects may ever be declared.

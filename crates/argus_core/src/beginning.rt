@@ -14,7 +14,8 @@ use argus_memory::OutOfMemory;
 impl Guardian {
     /// Begins a topaction, and returns its number.
     ///
-    /// Refusal: `TooMany`. After `OutOfMemory` nothing has changed.
+    /// Refusal: `TooMany` if 1,000,000 actions have been begun, also before checkpoints. After
+    /// `OutOfMemory` nothing has changed.
     pub fn begin_top(&mut self) -> Result<Reply, OutOfMemory>
         ensures reply { IfOk result (λ reply. plain_reply reply ≡ reply_to self.old begin_top) }
         ensures ok { OnOk result (self.new ≡ after self.old begin_top) }
@@ -25,8 +26,8 @@ impl Guardian {
 
     /// Begins a subaction of this parent, and returns its number.
     ///
-    /// Refusals: `NoAction`, `Over`, `TooDeep` if the parent has 64 ancestors, `TooMany`. After
-    /// `OutOfMemory` nothing has changed.
+    /// Refusals: `NoAction`, `Over`, `TooDeep` if the parent has 64 ancestors, itself included,
+    /// `TooMany` as in `begin_top`. After `OutOfMemory` nothing has changed.
     pub fn begin_sub(&mut self, parent: ActionId) -> Result<Reply, OutOfMemory>
         ensures reply { IfOk result (λ reply. plain_reply reply
             ≡ reply_to self.old (begin_sub parent.0)) }
@@ -39,7 +40,8 @@ impl Guardian {
     /// Begins a nested topaction that this action creates, and returns its number. It has no
     /// privilege from its creator.
     ///
-    /// Refusals: `NoAction`, `Over`, `TooMany`. After `OutOfMemory` nothing has changed.
+    /// Refusals: `NoAction`, `Over`, `TooMany` as in `begin_top`. After `OutOfMemory` nothing has
+    /// changed.
     pub fn begin_nested(&mut self, creator: ActionId) -> Result<Reply, OutOfMemory>
         ensures reply { IfOk result (λ reply. plain_reply reply
             ≡ reply_to self.old (begin_nested creator.0)) }

@@ -98,7 +98,7 @@ impl Guardian {
     /// Folds the journal's past into its opening: the objects with their shapes and bases, the
     /// number of the next action and that of the next entry. All actions so far are over and
     /// forgotten, and the entries are dropped with the room of their list. Objects, shapes and
-    /// bases stay. It makes no entry.
+    /// bases stay; the opening has copies of these. It makes no entry.
     ///
     /// Errors, in this order: `Busy` if an action is live, `Full` if the next entry's number is
     /// above `MAX_FIRST_ENTRY`, `Memory`. After an error nothing has changed.

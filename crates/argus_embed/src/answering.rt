@@ -27,8 +27,9 @@ impl Embedded {
     /// Answers a question, by what the journal says. A text is kept; nothing else changes.
     ///
     /// `NotThere` if the object isn't declared, the journal doesn't have the entry, the action
-    /// wasn't begun, or no action from that number on is live. `OutOfMemory` comes only in place of
-    /// a text that there is. After an error nothing has changed, and what was kept stays.
+    /// wasn't begun, or no action from that number on is live; never of `CanRead` and `CanWrite`,
+    /// which are false then. `OutOfMemory` comes only in place of a text that there is. After an
+    /// error nothing has changed, and what was kept stays.
     pub fn answer_question(&mut self, question: Question) -> Result<Outcome, EmbedError>
         ensures told { IfOk result (λ outcome. IsAnswerTo question self.old self.new outcome) }
         ensures untold { IfErr result (λ e. IsUnanswered self.old.journal question e) }

@@ -12,7 +12,7 @@ use argus_values::ObjId;
 ///
 /// | Kind | Question | Answer |
 /// |---|---|---|
-/// | 0, 1 | `CanRead`, `CanWrite` | whether the test would return yes now |
+/// | 0, 1 | `CanRead`, `CanWrite` | whether the test would return yes now, and isn't refused |
 /// | 2, 3, 4 | `Objects`, `Actions`, `Entries` | how many were declared, begun, journalled |
 /// | 5 | `Base` | the text of the object's base, or `absent` |
 /// | 6 | `Readers` | its read holders: a line `a1` each, in increasing number |

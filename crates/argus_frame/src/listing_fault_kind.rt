@@ -15,11 +15,12 @@ use thiserror::Error;
 /// | `Unlawful` | it is the next entry's line, but no guardian gives this reply (below) |
 ///
 /// No guardian gives the reply if the action isn't live, if the object isn't declared, if the
-/// object or action in the reply doesn't have the next number, if an action that it began is live
-/// at its commit, or if no call of this kind has a reply of this kind (`done` for a query). At the
-/// commit that makes an action's changes permanent it also comes if one of them doesn't suit its
-/// object, or if that object's content refers to an object that isn't declared; a change that is
-/// undone is never looked at. Whether the reply is the right one isn't checked, nor a refused call.
+/// object or action in the reply doesn't have the next number, if an action commits while one that
+/// it began is live, or if no call of this kind has a reply of this kind (`done` for a query). At
+/// the commit that makes an action's changes permanent it also comes if one of them doesn't suit
+/// its object, or if that object's content refers to an object that isn't declared; a change that
+/// is undone is never looked at. Whether the reply is the right one isn't checked, nor a refused
+/// call.
 ///
 /// ```text
 /// fault.kind == ListingFaultKind::NotNext            // `1 begin_top -> a0` as the first line

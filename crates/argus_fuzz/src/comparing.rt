@@ -68,7 +68,7 @@ fn compare_base(
 
 fn compare_readers(guardian: &Guardian, family: &Family, o: ObjId) -> Result<(), Difference> {
     let journal = guardian.journal().journal();
-    match guardian.holders(o) {
+    match guardian.readers(o) {
         Some(readers) => must(
             are_readers(journal, family, readers, o),
             Difference::Readers,

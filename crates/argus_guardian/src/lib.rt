@@ -3,8 +3,8 @@
 //! It re-exports `argus_core` (the guardian of one thread), `argus_sharing` (the guardian that
 //! threads share), `argus_receipts` (receipts of its calls), `argus_board` (the readers' board),
 //! `argus_listings` (listings of a guardian), `argus_reading` (a line of the journal's listing read
-//! back) and `argus_resume` (a guardian rebuilt from such lines). It also re-exports the reader
-//! that a listing comes from and the writer that it goes to.
+//! back) and `argus_resume` (a guardian rebuilt from such lines). It also re-exports `FailStop` of
+//! `argus_streams`, in which a listing's reader or writer is passed.
 //!
 //! ```text
 //! use argus_guardian::{Guardian, Keeper, Looker, Seat, Shared};

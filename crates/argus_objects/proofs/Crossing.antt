@@ -21,7 +21,7 @@ pub holdings_syncs : IsSync holdings_row
 holdings_syncs = holdings.the_sync
 
 pub cell_sends : IsSend cell_row
-cell_sends = search (sendable, contents.crosses, version_sends, version_syncs) depth 12
+cell_sends = search (sendable, contents.crosses, version_sends) depth 12
 
 pub cell_syncs : IsSync cell_row
 cell_syncs = search (sendable, contents.crosses, version_sends, version_syncs) depth 12

@@ -9,7 +9,8 @@ ghost use Rattle.argus_actions.specs.Refusals.{begin_nested_refusal, begin_sub_r
 ghost use Rattle.argus_actions.specs.Refusals.{begin_top_refusal, commit_refusal};
 ghost use Rattle.argus_actions.specs.Rows.{is_live_at, under_at};
 ghost use Rattle.argus_actions.specs.Tree.{SameActions, Tree, after_abort, after_abort_others};
-ghost use Rattle.argus_actions.specs.Tree.{after_begin, after_commit, depth_of, has_live_child};
+ghost use Rattle.argus_actions.specs.Tree.{after_begin, after_commit, creator_of, depth_of};
+ghost use Rattle.argus_actions.specs.Tree.{has_live_child};
 ghost use Rattle.argus_actions.specs.Tree.{is_ancestor, next, parent_of, status_of};
 ghost use Rattle.argus_actions.specs.declared.action_id.ActionId.{ActionId};
 ghost use Rattle.argus_actions.specs.declared.origin.Origin as tree_origin;
@@ -46,7 +47,10 @@ pub fn a_tree_refines_the_history()
     ensures parent { (t : Tree) (s : Opening) (j : List PlainEntry) (a : ℕ) → Legal s j
         → IsTree t (history s j) → is_begun (history s j) (in_history a) ≡ true
         → option_map (λ (p : ActionId). p.0) (parent_of t a) ≡ parent_in s j a }
-    ensures creator { (t : Tree) (s : Opening) (j : List PlainEntry) (a : ℕ) → Legal s j
+    ensures creator { (t : Tree) (s : Opening) (j : List PlainEntry) (a : ℕ) (c : ActionId)
+        → Legal s j → IsTree t (history s j) → is_begun (history s j) (in_history a) ≡ true
+        → creator_of t a ≡ Some c → begun_by_in s j a ≡ Some c.0 }
+    ensures begun_by { (t : Tree) (s : Opening) (j : List PlainEntry) (a : ℕ) → Legal s j
         → IsTree t (history s j) → is_begun (history s j) (in_history a) ≡ true
         → under_at t.folded t.rows a ≡ begun_by_in s j a }
     ensures child { (t : Tree) (s : Opening) (j : List PlainEntry) (a : ℕ) → Legal s j

@@ -10,7 +10,8 @@ use argus_core::Guardian;
 #[derive(Drop)]
 pub struct Opened {
     pub guardian: Guardian,
-    /// How many of the bytes that were taken aren't in its listing: those of an opening that refers
-    /// to objects that didn't come, behind its first objects that refer to none but one another.
+    /// How many of the bytes that were taken aren't in its listing: of an opening that refers to
+    /// objects that didn't come, those after its longest prefix in which no object refers to one
+    /// outside it.
     pub dropped: u64,
 }

@@ -20,8 +20,9 @@ pub struct Resumed {
     pub bytes: u64,
     /// How many lines these are. So a line at fault is the next one after these.
     pub lines: u64,
-    /// How many of the bytes aren't in the guardian's listing: those of an opening that refers to
-    /// objects that didn't come, behind its first objects that refer to none but one another.
+    /// How many of the bytes aren't in the guardian's listing: of an opening that refers to objects
+    /// that didn't come, those after its longest prefix in which no object refers to one outside
+    /// it.
     pub dropped: u64,
     pub end: ReadEnd,
 }

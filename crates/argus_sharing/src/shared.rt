@@ -141,9 +141,12 @@ impl<N: Sharing, R: Wait + Drop> Shared<N, R> {
         receipt
     }
 
-    /// Makes a call for the seat once it wouldn't be refused with `Conflict`, or after this many
-    /// wake-ups: all waiting threads are woken after each call that ended actions, and a spurious
-    /// wake-up counts too. The rest is as in `call`, also for `OutOfMemory`.
+    /// Makes a call for the seat. While it would be refused with `Conflict` it waits, at most for
+    /// this many wake-ups, and then makes the call all the same; with 0 it doesn't wait.
+    ///
+    /// All waiting threads are woken after each call that ended actions, and a spurious wake-up
+    /// counts too. There is no limit of time: if no action ends, it waits for ever. The rest is as
+    /// in `call`, also for `OutOfMemory`.
     pub fn call_waiting(
         &self,
         rt: &impl Wait,

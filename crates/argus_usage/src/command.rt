@@ -8,7 +8,7 @@ use clap::error::ErrorKind;
 use clap::{Command, Error};
 use std::alloc::Global;
 
-/// The version of the project, which both programs have.
+/// The version of the project, which all three programs have.
 pub const VERSION: &str = "0.1.0";
 
 /// The command of a program that takes `--help` and `--version` and nothing else yet. Help begins

@@ -4,7 +4,7 @@ use crate::answering::tell_answer;
 use crate::listing::{names_in, tell_listing};
 use crate::row::Row;
 use crate::row_reading::row_of;
-use crate::starting::later;
+use crate::starting::{last, later};
 use argus_guardian::{CheckpointError, Guardian};
 use argus_journal::{Call, Entry, Journal, Reply, write_entry};
 use argus_values::{OutOfMemory, Room};
@@ -29,25 +29,30 @@ pub(crate) fn tell_row(
     row: Row,
     asked: &str,
     out: &mut String<Room>,
-) -> Result<(), OutOfMemory> {
+) -> Result<(), RowFault> {
     match row {
-        Row::Call(call) => tell_call(guardian, call, asked, out),
-        Row::Checkpoint => tell_checkpoint(guardian.checkpoint(), out),
+        Row::Call(call) => tell_call(guardian, call, asked, out)?,
+        Row::Checkpoint => tell_checkpoint(guardian.checkpoint(), out)?,
         Row::AbortLive => {
             guardian.abort_live()?;
-            tell_word("done", out)
+            tell_word("done", out)?;
         }
         Row::Later => {
             *guardian = later(setting.heap)?;
-            tell_word("done", out)
+            tell_word("done", out)?;
         }
-        Row::Question(question) => tell_answer(guardian, setting.heap, question, out),
+        Row::Last => {
+            *guardian = last(setting.heap)?;
+            tell_word("done", out)?;
+        }
+        Row::Question(question) => tell_answer(guardian, setting.heap, question, out)?,
         Row::List(listing) => {
             let names = names_in(setting.texts, asked)?;
             let (heap, texts) = (setting.heap, setting.texts);
-            tell_listing(guardian, heap, texts, names.as_slice(), listing, out)
+            tell_listing(guardian, heap, texts, names.as_slice(), listing, out)?;
         }
     }
+    Ok(())
 }
 
 // Makes the call, and adds the reply of the one entry that it has to add.

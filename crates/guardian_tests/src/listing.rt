@@ -17,13 +17,13 @@ pub(crate) fn listing_of(text: &str) -> Result<Listing, RowFault> {
 }
 
 /// The names in a row after `list` and the listing's word.
-pub(crate) fn names_in(texts: Heap, asked: &str) -> Result<Vec<Name, Room>, OutOfMemory> {
+pub(crate) fn names_in(texts: Heap, asked: &str) -> Result<Vec<Name, Room>, RowFault> {
     let mut names = Vec::new(texts.room());
     for word in asked.split(' ').skip(2) {
         match Name::new(texts, word) {
             Ok(name) => names.push(name)?,
-            Err(NameError::OutOfMemory) => return Err(OutOfMemory),
-            Err(NameError::BadName) => {}
+            Err(NameError::OutOfMemory) => return Err(RowFault::OutOfMemory),
+            Err(NameError::BadName) => return Err(RowFault::NotSpelled),
         }
     }
     Ok(names)

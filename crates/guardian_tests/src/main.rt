@@ -11,6 +11,7 @@ mod caller;
 mod calling_each;
 mod closing;
 mod crowd;
+mod first_reads;
 mod host;
 mod host_lists;
 mod host_ready;
@@ -110,6 +111,8 @@ fn test_alone<R: Threads + Wait + Files + Print + AllocGlobal + Copy + Drop + Se
     }
     resuming::resume_listings(setting)?;
     rt.println("listings_are_resumed_each_front_each_byte_changed_and_without_memory")?;
+    first_reads::read_within_one(setting)?;
+    rt.println("a_first_read_makes_room_for_a_reader_alone")?;
     tester.tell_counts(&rt)?;
     println!(rt; "{resumed} tests once more, from the listing of their journals")?;
     println!(rt; "{by_seat} tests once more, from it, and by the seat of a shared guardian")?;

@@ -146,7 +146,7 @@ fn stands(guardian: &Guardian, length: u64, holder: Option<ActionId>) -> bool {
 fn is_held(guardian: &Guardian, o: ObjId, holder: Option<ActionId>) -> bool {
     let (Some(base), Some([]), Some(versions)) = (
         guardian.base(o),
-        guardian.holders(o),
+        guardian.readers(o),
         guardian.versions(o),
     ) else {
         return false;

@@ -36,7 +36,7 @@ pub(crate) fn tell_readers(
     o: ObjId,
     out: &mut String<Room>,
 ) -> Result<(), OutOfMemory> {
-    match guardian.holders(o) {
+    match guardian.readers(o) {
         Some([]) => tell_word("none", out),
         Some(readers) => tell_actions(readers, out),
         None => tell_word("undeclared", out),

@@ -19,6 +19,8 @@ pub(crate) enum Row {
     AbortLive,
     /// From here on it's another guardian, which goes on where this one ended.
     Later,
+    /// The same; its next entry has the greatest number with which a journal may begin.
+    Last,
     /// A question, after which nothing has changed.
     Question(Question),
     /// A listing, after which nothing has changed; the names are in the row.

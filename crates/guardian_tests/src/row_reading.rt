@@ -14,6 +14,7 @@ pub(crate) fn row_of(heap: Heap, text: &str) -> Result<Row, RowFault> {
         "checkpoint" => return Ok(Row::Checkpoint),
         "abort_live" => return Ok(Row::AbortLive),
         "later" => return Ok(Row::Later),
+        "last" => return Ok(Row::Last),
         _ => {}
     }
     if word == "list" {

@@ -4,7 +4,7 @@ use crate::alone::tell_row;
 use crate::picture::picture;
 use crate::row_reading::row_of;
 use argus_guardian::Guardian;
-use argus_values::{Heap, OutOfMemory, Room};
+use argus_values::{Heap, Room};
 use test_rows::{RowFault, Setting, Subject};
 
 /// A guardian that answers rows.
@@ -50,11 +50,11 @@ impl TestedGuardian {
         let told = tell_row(&mut self.guardian, setting, row, asked, out);
         setting.lift();
         match told {
-            Ok(()) => Ok(()),
-            Err(OutOfMemory) => {
+            Err(RowFault::OutOfMemory) => {
                 self.compare(setting.texts)?;
                 Err(RowFault::OutOfMemory)
             }
+            Ok(()) | Err(_) => told,
         }
     }
 

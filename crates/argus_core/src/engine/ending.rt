@@ -147,7 +147,7 @@ pub(crate) fn abort(state: &mut GuardianState, a: ActionId) -> Result<Reply, Out
         &state.tree,
         a,
     );
-    state.tree.abort_live(a);
+    state.tree.abort_ready(a);
     state.journal.push(Entry {
         call: Call::Abort(a),
         reply: Reply::Answered(Answer::Done),

@@ -62,7 +62,7 @@ pub(crate) fn note_if(is_new: bool, holdings: &mut Holdings, a: ActionId, o: Obj
 }
 
 /// Makes room for one more reader of the object, and for the object on the action's list, and says
-/// whether it is new there.
+/// whether it is new there. It makes no room for a version.
 #[inline(always)]
 fn reserve_read(
     objects: &mut [AtomicObject],
@@ -77,6 +77,9 @@ fn reserve_read(
     requires listed { IsListedIfHeld objects.old holdings.old a o }
     ensures same { IsAsBefore o objects.old objects.new holdings.old holdings.new }
     ensures ok { IfOk result (λ is_new. HasReadRoom objects.new holdings.new a o is_new) }
+    ensures version_room { (d : AtomicObject)
+        → (slice_index_or objects.new o.0 d).cell.version_room
+        ≡ (slice_index_or objects.old o.0 d).cell.version_room }
 {
     let is_new = reserve_list(objects, holdings, tree, a, o)?;
     let object = &mut objects[o.0 as usize];

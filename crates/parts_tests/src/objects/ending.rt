@@ -25,7 +25,7 @@ pub(crate) fn ended(
 pub(crate) fn ended_ready(tree: &mut ActionTree, word: &str, a: ActionId) -> Result<(), RowFault> {
     match word {
         "commit_ready" => commit_ready(tree, a),
-        "abort_live" => abort_live(tree, a),
+        "abort_ready" => abort_ready(tree, a),
         "abort_others_ready" => abort_others_ready(tree, a),
         _ => Err(RowFault::NotSpelled),
     }
@@ -41,10 +41,10 @@ fn commit_ready(tree: &mut ActionTree, a: ActionId) -> Result<(), RowFault> {
     }
 }
 
-fn abort_live(tree: &mut ActionTree, a: ActionId) -> Result<(), RowFault> {
+fn abort_ready(tree: &mut ActionTree, a: ActionId) -> Result<(), RowFault> {
     match tree.abort_refusal(a) {
         None => {
-            tree.abort_live(a);
+            tree.abort_ready(a);
             Ok(())
         }
         Some(_) => Err(RowFault::NotSpelled),

@@ -45,7 +45,7 @@ impl Subject for Trees {
             "commit" | "abort" | "abort_others" => {
                 self.end(word, action(rest)?, &mut out)?;
             }
-            "commit_ready" | "abort_live" | "abort_others_ready" => {
+            "commit_ready" | "abort_ready" | "abort_others_ready" => {
                 ended_ready(&mut self.tree, word, action(rest)?)?;
                 tell_word("done", &mut out)?;
             }

@@ -1,4 +1,5 @@
-//! `draw` on a row's listing: with each read, each write and each allocation failing in turn.
+//! `draw` on a row's listing: with each read and each allocation failing in turn, and with a writer
+//! that is full after 0, 97, 194, .. bytes.
 
 ghost use Rattle.argus_commands.specs.FailStop.{has_failed};
 

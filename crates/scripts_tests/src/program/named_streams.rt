@@ -1,4 +1,5 @@
-//! `draw_named` on a row's listing and script: with each read of either and each write failing in turn.
+//! `draw_named` on a row's listing and script: with each read of either failing in turn, and with a
+//! writer that is full after 0, 997, 1,994, .. bytes.
 
 ghost use Rattle.argus_commands.specs.FailStop.{has_failed};
 
@@ -80,19 +81,26 @@ pub(crate) fn check_writer(heap: Heap, listing: &str, script: &str) -> Result<()
     }
     let text = writer.get_ref().as_slice();
     for room in (0..text.len()).step_by(STEP) {
-        check_full_writer(heap, listing, script, &text[..room])?;
+        check_full_writer(heap, listing, script, &text[..room], false)?;
+        check_full_writer(heap, listing, script, &text[..room], true)?;
     }
     Ok(())
 }
 
-// To a writer that has room for just this prefix, and then fails.
-fn check_full_writer(heap: Heap, listing: &str, script: &str, front: &[u8]) -> Result<()> {
+// To a writer that has room for just this prefix, and then fails or accepts nothing.
+fn check_full_writer(
+    heap: Heap,
+    listing: &str,
+    script: &str,
+    front: &[u8],
+    fails: bool,
+) -> Result<()> {
     let mut names = FailStop::new(script.as_bytes());
     let mut reader = FailStop::new(listing.as_bytes());
     let mut writer = FailStop::new(Full {
         taken: Vec::new(heap.room()),
         room: front.len(),
-        fails: true,
+        fails,
         writes_behind: 0,
     });
     let result = draw_named(heap, &mut names, &mut reader, &mut writer);

@@ -1,5 +1,5 @@
 //! Listings with scripts by rows: how objects are called in the picture, or why they have no names;
-//! then each allocation, each read and each write fails in turn.
+//! then each allocation and each read fails in turn, and the writer is full after 0, 997, .. bytes.
 
 use crate::program::command_lines::is_comment;
 use crate::program::heaps::Heaps;

@@ -1,5 +1,5 @@
 //! Listings by rows: whether a picture is drawn of each, or which line is faulty; then each
-//! allocation, each read and each write fails in turn.
+//! allocation and each read fails in turn, and the writer is full after 0, 97, .. bytes.
 
 use crate::program::command_lines::is_comment;
 use crate::program::drawing::check_draw;

@@ -13,8 +13,8 @@ use Rattle.argus_journal.specs.Numbering.{unless_base}
 use Rattle.argus_journal.specs.Opening.{Opening}
 use Rattle.argus_journal.specs.JournalFacts.{begun_by_in, parent_in}
 use Rattle.argus_refinement.proofs.CellHolders.{orderly}
-use Rattle.argus_refinement.proofs.TreeAnswers.{ancestor_is, child_is, depth_of_is, live_is, next_is, no_parent_is}
-use Rattle.argus_refinement.proofs.TreeAnswers.{parent_is}
+use Rattle.argus_refinement.proofs.TreeAnswers.{ancestor_is, child_is, creator_is, depth_of_is, live_is, next_is}
+use Rattle.argus_refinement.proofs.TreeAnswers.{no_parent_is, parent_is}
 use Rattle.argus_refinement.proofs.TreeAnswers.{status_is, under_is, under_none_is}
 use Rattle.argus_refinement.proofs.tree_laws.a_tree_refines_the_history.Goals as goal
 use Rattle.argus_refinement.specs.TreeRefinement.{IsTree}
@@ -36,10 +36,10 @@ parent_told t s j a l is b None e = sym (ap unless_base (no_parent_is t (history
 parent_told t s j a l is b (Some p) e =
     sym (ap unless_base (parent_is t (history s j) is (now s j l) a p b e) ∙ above_base p.0)
 
-creator_told : (t : Tree) (s : Opening) (j : List PlainEntry) (a : ℕ) → Legal s j → IsTree t (history s j)
+begun_by_told : (t : Tree) (s : Opening) (j : List PlainEntry) (a : ℕ) → Legal s j → IsTree t (history s j)
     → is_begun (history s j) (a + 1) ≡ true → (q : Option ℕ) → under_at t.folded t.rows a ≡ q → q ≡ begun_by_in s j a
-creator_told t s j a l is b None e = sym (ap unless_base (under_none_is t (history s j) is (now s j l) a b e))
-creator_told t s j a l is b (Some u) e =
+begun_by_told t s j a l is b None e = sym (ap unless_base (under_none_is t (history s j) is (now s j l) a b e))
+begun_by_told t s j a l is b (Some u) e =
     sym (ap unless_base (under_is t (history s j) is (now s j l) a u b e) ∙ above_base u)
 
 pub returns : goal.returns
@@ -48,7 +48,8 @@ returns c = record {
   live = λ t s j a l is. sym (live_is t (history s j) is (now s j l) a);
   ancestor = λ t s j x a l is. ancestor_is t (history s j) is (now s j l) x a;
   parent = λ t s j a l is b. parent_told t s j a l is b (parent_of t a) refl;
-  creator = λ t s j a l is b. creator_told t s j a l is b (under_at t.folded t.rows a) refl;
+  creator = λ t s j a c l is b e. ap unless_base (creator_is t (history s j) is (now s j l) a c b e) ∙ above_base c.0;
+  begun_by = λ t s j a l is b. begun_by_told t s j a l is b (under_at t.folded t.rows a) refl;
   child = λ t s j a l is. child_is t (history s j) is (now s j l) a;
   depth = λ t s j a l is b. depth_of_is t (history s j) is (now s j l) a b;
   status = λ t s j a l is b. status_is t (history s j) is (now s j l) a b;

@@ -41,6 +41,6 @@ returns-clause-kept c =
       c.reserve.ensures.entries,
       c.reserve.ensures.opening,
     )
-    (kept_abort p.tree c.abort_live.new.self p.objects.items new p.holdings held s j c.args.a c.requires
-    (sym c.abort_refusal.ensures ∙ c.in-None.is) c.abort_live.ensures
+    (kept_abort p.tree c.abort_ready.new.self p.objects.items new p.holdings held s j c.args.a c.requires
+    (sym c.abort_refusal.ensures ∙ c.in-None.is) c.abort_ready.ensures
     (rw (c.as_mut_slice.ensures.value) at c.discard_under.ensures))

@@ -2,5 +2,5 @@
 use Rattle.std.proofs.Common.{rules}
 use Rattle.argus_sharing.proofs.shared.Shared.brief.Goals as goal
 
-pub returns-clause-all : goal.returns-clause-all
-returns-clause-all g c = search rules
+pub returns-clause-rest : goal.returns-clause-rest
+returns-clause-rest g c = search rules

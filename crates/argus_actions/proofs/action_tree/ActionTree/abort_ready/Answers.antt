@@ -8,7 +8,7 @@ use Rattle.argus_actions.specs.Nodes.{rows_of}
 use Rattle.argus_actions.proofs.InStep.{above_down, in_step_aborted}
 use Rattle.argus_actions.proofs.NodesLemmas.{length-rows_of}
 use Rattle.argus_actions.proofs.Accepted.{live_is_begun}
-use Rattle.argus_actions.proofs.action_tree.ActionTree.abort_live.Goals as goal
+use Rattle.argus_actions.proofs.action_tree.ActionTree.abort_ready.Goals as goal
 
 pub abort_under-requires-clause-held : goal.abort_under-requires-clause-held
 abort_under-requires-clause-held c =
