@@ -98,7 +98,8 @@ in_common() {
     refuses "error: unexpected argument '--version --help' found" "$1" '--version --help'
     refuses "error: unexpected argument 'ä' found" "$1" 'ä'
     finds_no_memory "$1"
-    mentions "$1" 'Exit status:' '  0  ' '  2  ' '  3  ' '  4  ' '  5  ' 'from standard input' 'to standard output'
+    mentions "$1" 'Exit status:' '  0  done' '  2  a mistake in the command line' '  3  the ' '  4  out of memory' \
+        '  5  a read or a write failed' 'from standard input' 'to standard output'
 }
 
 of_argus() {
@@ -106,7 +107,7 @@ of_argus() {
     in_common "$argus" argus
     shows 'Runs a script from standard input' "$argus" --help
     shows 'Runs a script from standard input' "$argus" -h
-    mentions "$argus" 'With several workers: how many wake-ups' 'With several workers and --patience, a run may wait for ever'
+    mentions "$argus" "  4  out of memory, or a worker couldn't be started" 'With several workers: how many wake-ups' 'With several workers and --patience, a run may wait for ever'
     tried "$script" 0 "$(cat "$top/crates/argus/stdout")" '' "$argus"
     tried "$script" 0 "$(cat "$top/crates/argus/stdout")" '' "$argus" --patience 5 --
     tried "$script" 0 'acct base {7}' '' "$argus" --list stacks
@@ -287,6 +288,16 @@ journals_come_back() {
     if [ "$whole" = "$wanted" ]; then passed=$((passed + 1)); else failed=$((failed + 1)); fi
 }
 
+# Counts a script of tools/ that tries the programs, too: by_script NAME
+by_script() {
+    if "$top/tools/$1" > "$room/tried" 2>&1; then
+        passed=$((passed + 1))
+    else
+        failed=$((failed + 1))
+        sed "s/^/command lines: FAILED: $1: /" "$room/tried"
+    fi
+}
+
 for program in "$argus" "$picture" "$replay"; do
     if [ ! -x "$program" ]; then
         echo "command lines: no program $program: .ci/run leaves it, and ./${program##*/} --prove"
@@ -298,6 +309,12 @@ of_argus
 of_picture
 of_replay
 journals_come_back
+if [ -e /dev/full ]; then by_script streams.sh; else echo "command lines: streams LEFT OUT: no /dev/full"; fi
+if [ "$(id -u)" != 0 ] || command -v setpriv > /dev/null; then
+    by_script threads.sh
+else
+    echo "command lines: threads LEFT OUT: no setpriv"
+fi
 echo "command lines: $((passed + failed)) tried"
 echo "$passed passed, $failed failed"
 [ "$failed" = 0 ]

@@ -1,5 +1,5 @@
-/* Each status, signal and refusal of argus.h, returned once, and a null pointer passed to each
- * inline function. Those of lists are left out: each.c tests them. */
+/* Each status, signal and refusal of argus.h, returned once, and null pointers passed to the
+ * functions that look for them. Those of lists are left out: each.c tests them. */
 #include "argus.h"
 #include "modes.h"
 

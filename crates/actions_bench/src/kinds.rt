@@ -12,6 +12,8 @@ pub enum Kind {
     Chains,
     /// One topaction has all others as its subactions.
     Wide,
+    /// As `Wide`, and each subaction aborts its siblings when it has begun.
+    Siblings,
 }
 
 impl Kind {
@@ -20,6 +22,7 @@ impl Kind {
             Kind::Flat => "flat",
             Kind::Chains => "chains",
             Kind::Wide => "wide",
+            Kind::Siblings => "siblings",
         }
     }
 }
@@ -31,11 +34,19 @@ pub fn begun(heap: Heap, kind: Kind, size: u32) -> Result<ActionTree, ActionErro
         let begun = match kind {
             Kind::Chains if number % 64 > 0 => tree.begin_sub(ActionId(number - 1)),
             Kind::Wide if number > 0 => tree.begin_sub(ActionId(0)),
+            Kind::Siblings if number > 0 => begin_alone(&mut tree),
             _ => tree.begin_top(),
         };
         let _number = begun?;
     }
     Ok(tree)
+}
+
+// Begins a subaction of the first action, and aborts its siblings.
+fn begin_alone(tree: &mut ActionTree) -> Result<ActionId, ActionError> {
+    let begun = tree.begin_sub(ActionId(0))?;
+    tree.abort_others(begun)?;
+    Ok(begun)
 }
 
 /// Of how many actions the first of its chain is an ancestor.
@@ -51,7 +62,7 @@ pub fn ask(tree: &ActionTree) -> u32 {
 
 /// Ends all actions, and counts the calls that it took: commits from the newest on, or one abort.
 pub fn end(mut tree: ActionTree, kind: Kind) -> Result<u32, ActionError> {
-    if kind == Kind::Wide {
+    if kind == Kind::Wide || kind == Kind::Siblings {
         tree.abort(ActionId(0))?;
         return Ok(1);
     }

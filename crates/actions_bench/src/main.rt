@@ -1,9 +1,10 @@
 //! Times the tree of actions: `actions_bench SIZE..` prints nanoseconds a call for each number of
 //! actions.
 //!
-//! Three kinds of tree: all topactions (flat), chains of 64 actions each of which is the subaction
-//! of the one before, and one topaction with all others as its subactions, which is then aborted
-//! (wide). Without a size it makes one small tree of each kind and prints what became of it.
+//! Four kinds of tree: all topactions (flat), chains of 64 actions each of which is the subaction
+//! of the one before, and one topaction with all others as its subactions, which is then aborted,
+//! without more (wide), or each of which first aborts its siblings (siblings). Without a size it
+//! makes one small tree of each kind and prints what became of it.
 #![tactic(auto)]
 
 mod kinds;
@@ -17,7 +18,7 @@ use std::rt::{Clock, Env};
 
 const SMALL: u32 = 640;
 
-const KINDS: [Kind; 3] = [Kind::Flat, Kind::Chains, Kind::Wide];
+const KINDS: [Kind; 4] = [Kind::Flat, Kind::Chains, Kind::Wide, Kind::Siblings];
 
 fn tell<R: Print>(rt: &R, heap: Heap) -> Result<()> {
     for kind in KINDS {

@@ -6,7 +6,7 @@
  * answer as a status and a number. In C all but argus_open are inline; both libraries export them all, for bindings
  * of other languages.
  *
- *     // An account of so much, or 0: and why.
+ *     // Declares an account and creates it with this content. Returns 1; or says why not, and returns 0.
  *     int open_account(argus_guardian *bank, const char *content) {
  *         argus_answer account = argus_declare(bank, "atomic_record[balance:int]"), top, answer;
  *         if (account.status != ARGUS_OBJECT) return fprintf(stderr, "%s\n", argus_answer_name(account)), 0;
@@ -245,10 +245,12 @@ typedef struct argus_listed_call {
     size_t text_size;  /* in bytes */
 } argus_listed_call;
 
-/* The questions, which aren't journalled and change nothing. */
+/* The questions, which aren't journalled. A text takes the place of the reply that is kept for argus_c_reply; nothing
+ * else changes. */
 typedef enum argus_question {
-    ARGUS_CAN_READ = 0,     /* action, object: whether ARGUS_TEST_READ would return true now. ARGUS_FLAG */
-    ARGUS_CAN_WRITE = 1,    /* action, object: whether ARGUS_TEST_WRITE would return true now. ARGUS_FLAG */
+    ARGUS_CAN_READ = 0,     /* action, object: whether ARGUS_TEST_READ would return true now; 0, too, if it would be
+                               refused. ARGUS_FLAG */
+    ARGUS_CAN_WRITE = 1,    /* action, object: the same of ARGUS_TEST_WRITE. ARGUS_FLAG */
     ARGUS_OBJECTS = 2,      /* how many objects are declared. ARGUS_NUMBER */
     ARGUS_ACTIONS = 3,      /* how many actions are begun: the next one's number. ARGUS_NUMBER */
     ARGUS_ENTRIES = 4,      /* how many entries the journal has had: the next one's number. ARGUS_NUMBER */
@@ -361,9 +363,9 @@ uint32_t argus_c_open(argus_guardian *guardian, argus_guardian *beside);
 /* Closes the guardian and frees its memory. ARGUS_DONE; ARGUS_NOT_OPEN if it is closed already. */
 uint32_t argus_c_close(argus_guardian *guardian);
 
-/* Makes one call. Every reply, refusals included, is one entry of the journal. The reply is kept until something
- * else is (argus_c_reply says what). `number` is written at each status: as the status says,
- * otherwise 0. It doesn't overlap the handle.
+/* Makes one call. Every reply, refusals included, is one entry of the journal. The reply is kept for argus_c_reply
+ * until something else is kept (see there). `number` is written at each status: as the status says, otherwise 0. It
+ * doesn't overlap the handle.
  * What `kind` says, or ARGUS_SIGNAL, ARGUS_REFUSED, or the first of these that applies: ARGUS_NOT_UTF8, ARGUS_NOT_OPEN,
  * ARGUS_BAD_KIND, ARGUS_BAD_NUMBER (of a kind that takes a field or a tag), ARGUS_BAD_TEXT and ARGUS_BAD_SHAPE (of a
  * kind that takes such a text), or ARGUS_NO_MEMORY, which may come in place of these two. */
@@ -375,15 +377,17 @@ uint32_t argus_c_call(argus_guardian *guardian, uint32_t kind, uint32_t action, 
  * status and its number, and so does the one that failed; the others are unchanged.
  * ARGUS_DONE: all were made. ARGUS_UNMET: the last one that was made isn't as demanded. Any other status is that of the
  * call after those that were made, which failed: it changes nothing, and the outcomes of those before it stay.
- * It is ARGUS_NO_MEMORY (also of the first call, if there is no memory for as many replies), ARGUS_NOT_UTF8,
- * ARGUS_BAD_TEXT, ARGUS_BAD_SHAPE, ARGUS_BAD_NUMBER, ARGUS_BAD_KIND, ARGUS_NOT_BEGUN, ARGUS_BAD_DEMAND. ARGUS_NOT_OPEN
- * is that of the handle: no call gets a status.
+ * It is the first of these that applies: ARGUS_BAD_DEMAND, ARGUS_NOT_BEGUN, ARGUS_NOT_UTF8, ARGUS_BAD_KIND,
+ * ARGUS_BAD_NUMBER, ARGUS_BAD_TEXT and ARGUS_BAD_SHAPE, or ARGUS_NO_MEMORY, which may come in place of these two (and
+ * of any at the first call, if there is no memory for as many replies). ARGUS_NOT_OPEN is that of the handle: no call
+ * gets a status.
  * What is kept for argus_c_reply is a line, with its line feed, for each reply that has a text, in their order; no
  * written form has a line feed in it. If no call was made, what was kept stays. */
 uint32_t argus_c_call_each(argus_guardian *guardian, argus_listed_call *calls, size_t count, size_t *made);
 
 /* Answers a question. A text is kept in place of the reply, as a reply is. `number` is written at each status.
- * What `question` says, or ARGUS_NO_MEMORY, ARGUS_NOT_OPEN, ARGUS_BAD_KIND, ARGUS_NOT_THERE. */
+ * What `question` says, or the first of these that applies: ARGUS_BAD_KIND, ARGUS_NOT_OPEN, ARGUS_NOT_THERE, or
+ * ARGUS_NO_MEMORY, which may come in place of a text. */
 uint32_t argus_c_tell(argus_guardian *guardian, uint32_t question, uint32_t action, uint32_t object, uint64_t entry,
                       int64_t *number);
 
@@ -419,8 +423,8 @@ uint32_t argus_c_resume(argus_guardian *guardian, const uint8_t *text, size_t te
 
 /* Puts the guardian whose journal's listing was taken in place of the one that is held; what comes next is taken for
  * another one, from its first line on. No text is kept. If the opening came without entries and refers to objects that
- * didn't come, the guardian has as many of its first objects as refer to none but one another, and `dropped` is how
- * many bytes the lines of the others have; otherwise it is 0. `dropped` doesn't overlap the handle.
+ * didn't come, the guardian has the longest prefix of its objects in which none refers to one outside it, and
+ * `dropped` is how many bytes the lines of the others have; otherwise it is 0. `dropped` doesn't overlap the handle.
  * ARGUS_DONE; ARGUS_NO_MEMORY: nothing has changed; ARGUS_NOT_OPEN. */
 uint32_t argus_c_resumed(argus_guardian *guardian, uint64_t *dropped);
 
@@ -557,7 +561,8 @@ ARGUS_API argus_answer argus_call(argus_guardian *guardian, uint32_t kind, uint3
     return argus_answer_of(status, number);
 }
 
-/* Points each text that is null at an empty one. How many calls come before one whose text is null and has a size. */
+/* Points each text that is null at an empty one. Returns how many calls come before the first that has a null text
+ * with a size. */
 static inline size_t argus_texts_given(argus_listed_call *calls, size_t count) {
     static const uint8_t empty[1] = {0};
     size_t at;
@@ -690,7 +695,7 @@ ARGUS_API argus_answer argus_reply(argus_guardian *guardian, void *room, size_t 
 
 /* A commit in two steps, so that it is in a log before anybody can see it:
  *
- *     // Whether the action has committed. What became of it is in the log before.
+ *     // Commits the action, once its line is in the log. Returns whether it has committed.
  *     int commit_logged(argus_guardian *bank, uint32_t action, FILE *log) {
  *         char line[64];
  *         argus_ready ready = ARGUS_NOTHING_READY;
@@ -715,8 +720,7 @@ ARGUS_API argus_answer argus_ready_commit(argus_guardian *guardian, argus_ready 
     return argus_answer_of(argus_c_ready_commit(guardian, ready, action), 0);
 }
 
-/* Puts the line that the commit is going to be into the room; the number is its size in bytes. No zero is put after
- * it. */
+/* Puts the line that the commit will have into the room; the number is its size in bytes. No zero is put after it. */
 ARGUS_API argus_answer argus_ready_line(argus_ready *ready, void *room, size_t room_size) {
     size_t size = 0;
     uint32_t status;

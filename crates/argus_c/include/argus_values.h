@@ -31,9 +31,9 @@
  *     }
  *
  * A text that has a zero byte in it is handed to argus_call with its size, since argus_alter takes a text up to its
- * first zero byte. Whether a value suits its object's shape, and whether it is UTF-8, the guardian says. A reader is
- * for what the library has written: it doesn't look whether each bracket is closed by its own kind. No pointer is null
- * where nothing else is said.
+ * first zero byte. The guardian checks whether a value suits its object's shape and is UTF-8. A reader is for what
+ * the library has written: it doesn't look whether each bracket is closed by its own kind. Pass no null pointer unless
+ * a function's comment allows it: most of these don't check.
  */
 #ifndef ARGUS_VALUES_H
 #define ARGUS_VALUES_H
@@ -46,7 +46,7 @@ extern "C" {
 
 /* ---- Writing. ---- */
 
-/* As deep as brackets stand in one another: those of a value, and those of a content around it. */
+/* How deep brackets may nest: 16 for a value, and one for the content around it. */
 enum { ARGUS_DEPTH = 17 };
 
 /* A text that is put together in a room of the program. It begins as argus_writer_of. */
@@ -60,7 +60,7 @@ typedef struct argus_writer {
     char is_wrong;              /* whether too many brackets were opened, or closed */
 } argus_writer;
 
-/* Begins a text in a room of so many bytes; a size of 0 may come with a null room. */
+/* Begins a text in a room of this many bytes; a size of 0 may come with a null room. */
 ARGUS_API argus_writer argus_writer_of(char *room, size_t room_size) {
     argus_writer it;
     memset(&it, 0, sizeof it);
@@ -130,7 +130,7 @@ ARGUS_API void argus_write_reference(argus_writer *it, uint32_t object) {
     argus_put_number(it, object);
 }
 
-/* A text of so many bytes, with its quotes. A size of 0 may come with a null text. */
+/* A text of this many bytes, with its quotes. A size of 0 may come with a null text. */
 ARGUS_API void argus_write_text(argus_writer *it, const char *text, size_t text_size) {
     size_t at;
     argus_put_comma(it);
@@ -185,8 +185,8 @@ ARGUS_API const char *argus_written(argus_writer *it) {
     return it->room;
 }
 
-/* Puts the written form of an integer into the room, with a zero after it. How many bytes it has without the zero:
- * where these aren't fewer than the room's, it didn't fit. 21 bytes are enough for each. */
+/* Puts the written form of an integer into the room, with a zero after it. Returns its size without the zero; if that
+ * isn't less than the room's size, it didn't fit. 21 bytes hold any integer. */
 ARGUS_API size_t argus_value_int(char *room, size_t room_size, int64_t number) {
     argus_writer it = argus_writer_of(room, room_size);
     argus_write_int(&it, number);
@@ -194,7 +194,7 @@ ARGUS_API size_t argus_value_int(char *room, size_t room_size, int64_t number) {
     return it.size;
 }
 
-/* The same of a text of so many bytes, with its quotes. Twice as many bytes and three are enough for each. */
+/* The same for a text, with its quotes; 2 * text_size + 3 bytes hold any. */
 ARGUS_API size_t argus_text_quote(char *room, size_t room_size, const char *text, size_t text_size) {
     argus_writer it = argus_writer_of(room, room_size);
     argus_write_text(&it, text, text_size);
@@ -202,8 +202,8 @@ ARGUS_API size_t argus_text_quote(char *room, size_t room_size, const char *text
     return it.size;
 }
 
-/* ---- Reading. Each call says whether it has read what it is named for. Where it hasn't, all is as before, and what
- * stands there may be read by another call. ---- */
+/* ---- Reading. Each returns 1 if it has read what its name says. Otherwise it returns 0, the reader is unchanged, and
+ * another function may read what is there. ---- */
 
 /* What is left to read of a text. It begins as argus_reader_of. */
 typedef struct argus_reader {
@@ -368,7 +368,8 @@ static inline int argus_take_byte(argus_reader *it, char *byte) {
 
 /* A text, without quotes and escapes, which is put into the room with a zero after it. `text_size` is how many bytes it
  * has, without the zero; it may have zeros in it. Where it doesn't fit, nothing is read, the room has a part of it, and
- * `text_size` isn't below the room's size; where no text is there, it is 0 and the room stays. */
+ * `text_size` isn't below the room's size. Where no whole text is there, nothing is read, and it is 0; of a text
+ * without its closing quote the room may have a part. */
 ARGUS_API int argus_read_text(argus_reader *it, char *room, size_t room_size, size_t *text_size) {
     argus_reader then = *it;
     size_t size = 0;

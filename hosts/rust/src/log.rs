@@ -40,11 +40,11 @@
 //! ```
 //!
 //! `body` is the CRC-32 of a batch's lines, `check` that of the words before it on its own line. An epoch is one
-//! opening of the log by a writer. A seal is written when its batch is on disk, and before the next one is begun. So
-//! the first thing that isn't as it was written is a torn write, if no seal, later batch or later segment follows it,
-//! and the file has its zeros; otherwise it is [`Damage`]. A full segment ends with `#continued segment=2`. After a
-//! checkpoint a segment begins with a batch `#opening`, whose lines are the opening of the journal's listing, and the
-//! segments before it are removed.
+//! writer's time with the log, from when it opens it. A seal is written when its batch is on disk, and before the next
+//! one is begun. So the first thing that isn't as it was written is a torn write, if no seal, later batch or later
+//! segment follows it, and the file has its zeros; otherwise it is [`Damage`]. A full segment ends with
+//! `#continued segment=2`. After a checkpoint a segment begins with a batch `#opening`, whose lines are the opening of
+//! the journal's listing, and the segments before it are removed.
 //!
 //! [`Storage`] is what a log needs from the system, and [`BatchLog`] what a guardian needs from a log.
 //!
